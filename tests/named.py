@@ -137,9 +137,9 @@ MUTANTS = [
     ("A log is loaded once more than the command needs.", edit("bugnet", "a_log_is_loaded_twice")),
     (
         "A failed save is made again, and the other file's name is told.",
-        edit("bugnet", "a_failed_save_is_made_again"),
+        edit("log_commands", "a_failed_save_is_made_again"),
     ),
-    ("The list of turns is saved under the log's name.", edit("bugnet", "the_list_is_saved_under_the_logs_name")),
+    ("The list of turns is saved under the log's name.", edit("log_commands", "the_list_is_saved_under_the_logs_name")),
     ("A failed write is made again.", edit("bn_outside", "a_failed_write_is_made_again")),
     ("A failed read within a load is made again.", edit("bn_outside", "a_failed_read_is_made_again")),
     ("A load reads on past its limit.", edit("bn_outside", "bytes_past_the_limit_are_read_on")),

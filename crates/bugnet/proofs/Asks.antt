@@ -6,7 +6,7 @@ use Rattle.bugnet.specs.Asks.{LineSaves, FitsLine}
 use Rattle.bugnet.specs.Laws.{IsReadOnly}
 use Rattle.log_commands.specs.Outside.{IsPrinted}
 use Rattle.log_commands.specs.declared.answer.Answer.{Answer}
-use Rattle.log_commands.specs.declared.answer.Answer.TheVariants.{Recorded, Interval, Joined, Listed, Checked, Agreed, Renewed, Shown, Halted}
+use Rattle.log_commands.specs.declared.answer.Answer.TheVariants.{Recorded, Interval, Joined, Listed, Checked, Agreed, Renewed, Shown}
 use Rattle.log_commands.proofs.SaveCounts.{no-saves}
 
 -- a line that is refused before anything is saved
@@ -34,7 +34,6 @@ printed (Checked d) status before mid after p same saves = saves ∙ same
 printed Agreed status before mid after p same saves = saves ∙ same
 printed (Renewed n) status before mid after p same saves = absurd p
 printed (Shown text) status before mid after p same saves = saves ∙ same
-printed (Halted error) status before mid after p same saves = saves ∙ same
 
 -- a log that was made of another
 renewed : (answer : Answer) (status before mid after : ℕ) → IsRenewed answer → mid ≡ before → AnswerSaves answer status mid after → SavesEach true status before after
@@ -46,7 +45,6 @@ renewed (Checked d) status before mid after is same saves = absurd is
 renewed Agreed status before mid after is same saves = absurd is
 renewed (Renewed n) status before mid after is same saves = subst (λ (m : ℕ). SavesEach true status m after) same saves
 renewed (Shown text) status before mid after is same saves = absurd is
-renewed (Halted error) status before mid after is same saves = absurd is
 
 -- a line whose answer was acted on
 pub line-acts : (line : Line) (answer : Answer) (status before mid after : ℕ) → FitsLine line answer → (IsReadOnly (Some line) → IsPrinted answer) → mid ≡ before
@@ -59,7 +57,6 @@ line-acts (RecordLine r) (Checked d) status before mid after records prints same
 line-acts (RecordLine r) Agreed status before mid after records prints same saves = absurd records
 line-acts (RecordLine r) (Renewed n) status before mid after records prints same saves = absurd records
 line-acts (RecordLine r) (Shown text) status before mid after records prints same saves = absurd records
-line-acts (RecordLine r) (Halted error) status before mid after records prints same saves = absurd records
 line-acts (ReplayLine log elf hart interval) answer status before mid after records prints same saves = printed answer status before mid after (prints tt) same saves
 line-acts (JointLine log elf) answer status before mid after records prints same saves = printed answer status before mid after (prints tt) same saves
 line-acts (DebugLine log elf) answer status before mid after records prints same saves = printed answer status before mid after (prints tt) same saves

@@ -8,6 +8,7 @@ use Rattle.bn_base.specs.declared.settings.RawSettings.{RawSettings}
 use Rattle.bn_outside.specs.Counts.{Counts}
 use Rattle.bn_outside.specs.Files.{Files}
 use Rattle.elf_loader.specs.Loaded.{image_of}
+use Rattle.le_numbers.specs.Numbers.{AreBytes}
 use Rattle.elf_loader.specs.declared.error.ElfError.{ElfError}
 use Rattle.run_model.specs.declared.start.Start.{Start}
 use Rattle.log_commands.specs.Refusals.{name_refusal}
@@ -17,6 +18,7 @@ use Rattle.log_commands.specs.Commands.{WithFile, IsByInput}
 use Rattle.log_commands.specs.Names.{FileNames, name_of}
 use Rattle.log_commands.specs.Outside.{WithFiles, FetchTells, ProgramTells, GivesBy, ResultCause, CauseBy, told_of, told_of_recording}
 use Rattle.bugnet.specs.Recordings.{IsRun}
+use Rattle.bugnet.specs.Saves.{HoldsBytes}
 use Rattle.bugnet.specs.Starts.{BeginsBy}
 use Rattle.log_commands.specs.Told.{Told, refused}
 use Rattle.log_commands.specs.declared.answer.Answer.{Answer}
@@ -52,6 +54,11 @@ pub begins-loaded : (known : Option Files) (names : FileNames) (how : Manner) (r
     → WithFiles known (λ files. BeginsBy names how (λ f. WithFile f names role limit (Go f)) files result)
 begins-loaded None names how role limit bytes result Go h go = tt
 begins-loaded (Some files) names how role limit bytes result Go h go = with-bytes files names how role limit bytes result Go h go
+
+-- its bytes are bytes
+pub holds-bytes : (known : Option Files) (name : List ℕ) (role : Role) (limit : ℕ) (bytes : Vec ℕ Global) → AreBytes bytes.items → WithFiles known (λ files. FetchTells role limit (files name) (Ok bytes)) → WithFiles known (λ files. HoldsBytes (files name))
+holds-bytes None name role limit bytes are h = tt
+holds-bytes (Some files) name role limit bytes are h = subst (λ (there : Option (List ℕ)). HoldsBytes there) (sym h.0) are
 
 -- ---- the input
 

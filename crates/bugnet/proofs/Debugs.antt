@@ -26,10 +26,10 @@ use Rattle.step_debugger.specs.declared.error.DebugError.TheVariants as stop
 use Rattle.step_debugger.specs.declared.session.Ending.{Ending}
 use Rattle.step_debugger.specs.declared.session.Ending.TheVariants as ending
 use Rattle.log_commands.specs.Names.{FileNames}
-use Rattle.log_commands.specs.Refusals.{status_of}
+use Rattle.log_commands.specs.Refusals.{status_of, joint_refusal}
 use Rattle.log_commands.specs.Told.{Told, refused}
 use Rattle.log_commands.specs.Commands.{Either}
-use Rattle.log_commands.specs.Joined.{joint_status, joined}
+use Rattle.log_commands.specs.Joined.{joined}
 use Rattle.log_commands.specs.Pairs.{LoadedPair, HasPair}
 use Rattle.bugnet.specs.Answers.{names_in, names_by, IsAnswer}
 use Rattle.bugnet.specs.DebugSessions.{ShowsRun, SessionsShowTheRun, session_of, DoneSession, ShowsSession, RecordingsCanBeDebugged, PrefixesCanBeDebugged, CanBegin, SessionIs, DebugsFiles, Debugs as DebugsLine}
@@ -59,7 +59,7 @@ use Rattle.bugnet.proofs.LineTells.{early-free}
 
 -- ---- the status by the end of a session
 
-joint-is : (e : JointError) → (joint_status (Some e) ≡ 9) ⊎ ((joint_status (Some e) ≡ 14) ⊎ (joint_status (Some e) ≡ 15))
+joint-is : (e : JointError) → (status_of (joint_refusal e) ≡ 9) ⊎ ((status_of (joint_refusal e) ≡ 14) ⊎ (status_of (joint_refusal e) ≡ 15))
 joint-is (Replay (replay.NoInterval hart interval)) = inr (inl refl)
 joint-is (Replay (replay.LoadMissing hart ic addr)) = inr (inr refl)
 joint-is (Replay (replay.ScMissing hart ic)) = inr (inr refl)
@@ -115,7 +115,7 @@ other-ends stop.ReadFault status o h = absurd o
 other-ends stop.WriteFault status o h = absurd o
 other-ends (stop.LineTooLong n) status o (inl h) = at-18 status h
 other-ends (stop.TooMuch n) status o (inl h) = at-18 status h
-other-ends (stop.Joint e) status o (inl h) = at-joint status (joint_status (Some e)) h (joint-is e)
+other-ends (stop.Joint e) status o (inl h) = at-joint status (status_of (joint_refusal e)) h (joint-is e)
 other-ends stop.OutOfMemory status o (inl h) = at-9 status h
 other-ends (stop.LineTooLong n) status o (inr h) = at-9 status h
 other-ends (stop.TooMuch n) status o (inr h) = at-9 status h

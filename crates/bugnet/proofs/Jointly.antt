@@ -1,6 +1,6 @@
 -- The answer to the joint replay of a recording's log is the text of one that says the run.
 use Rattle.std.proofs.Common.{◌≡◌, ◌≤◌, ℕ, Bool, true, false, List, length, nat_lt, Option, Some, None, ◌∙◌, ap, subst, sym, refl, inl, inr, ◌⊎◌, arith}
-use Rattle.std.specs.Prelude.{◌==◌, Result, Ok}
+use Rattle.std.specs.Prelude.{◌==◌, Result, Ok, option_map}
 use Rattle.std.specs.Io.KnownBytes.{Appends}
 use Rattle.sha2.specs.Sha256.{sha256}
 use Rattle.bn_base.specs.Programs.{Program}
@@ -24,9 +24,10 @@ use Rattle.run_files.specs.Files.{file_of}
 use Rattle.joint_laws.specs.Recordings.{Recording, IsRecorded, IsLogOf, begin}
 use Rattle.joint_laws.specs.Laws.{SaysTheRun, JointReplaysSayTheRun}
 use Rattle.log_commands.specs.Names.{FileNames}
-use Rattle.log_commands.specs.Told.{Told, refused, printed}
+use Rattle.log_commands.specs.Told.{Told, refused, printed, printed_until}
 use Rattle.log_commands.specs.Commands.{Either, WithFile, IsByLog}
-use Rattle.log_commands.specs.Joined.{joint_status, joint_line, ran_told, joint_with, IsJoint}
+use Rattle.log_commands.specs.Joined.{ran_told, joint_with, IsJoint}
+use Rattle.log_commands.specs.Refusals.{joint_refusal}
 use Rattle.log_commands.specs.Pairs.{ByPair, pair_loaded, pair_same, pair_of, IsPairOf, IsPair, HoldsLog, ArePair}
 use Rattle.bugnet.specs.Answers.{names_in, names_by, IsAnswer}
 use Rattle.bugnet.specs.Jointly.{HasRun, JoinsRun, TellsRun, IsJoined, JointHeadline, RecordingsCanBeJoined, recording_of, RecordingsAreJoined, DoneJointly, PrintsJointly}
@@ -80,7 +81,7 @@ read-within limits bytes d reads = within limits bytes d reads.0 (in-version (is
 -- ---- the answer
 
 abbrev told_at : FileNames → List ℕ → Option JointError → Told
-told_at names text stopped = record { status = joint_status stopped; out = text; err = joint_line names stopped; saved = None }
+told_at names text stopped = printed_until names text (option_map joint_refusal stopped)
 
 -- a joint replay that isn't stopped is printed
 told-joint : (names : FileNames) (x : Ran) → x.stopped ≡ None → ran_told names x ≡ printed (joint_text x)

@@ -19,30 +19,30 @@ use Rattle.joint_replay.specs.declared.error.JointError.{JointError}
 use Rattle.joint_replay.specs.declared.error.JointError.TheVariants.{Replay, Stuck}
 use Rattle.joint_replay.specs.declared.error.JointError.TheVariants as joint
 use Rattle.joint_replay.specs.Joining.{run_all}
+use Rattle.joint_replay.specs.Texts.{joint_text}
 use Rattle.log_order.specs.Content.{Content}
 use Rattle.bn_base.specs.Programs.{Program}
 use Rattle.bn_base.specs.declared.end_mark.EndMark.{EndMark}
 use Rattle.log_commands.specs.Names.{FileNames, no_names}
 use Rattle.bugnet.specs.Answers.{names_in, names_by, manner_of, setting_refusal, refusal_in, refusal_by}
-use Rattle.log_commands.specs.Refusals.{name_refusal, replay_status}
+use Rattle.log_commands.specs.Refusals.{name_refusal, replay_status, joint_refusal}
 use Rattle.log_commands.specs.SaveCounts.{IsRenewed, IsRecordedRun, IsMade}
 use Rattle.bugnet.specs.Asks.{FitsLine}
-use Rattle.log_commands.specs.FileCalls.{FileCall, Saves, store_call, noted_after, loads_of, saves_of, input_roles, record_roles, elf_roles, origin_roles, saves_in, IsOfContent, StopsAt, LoadsUpTo, CallsTo, LoadsTo, CallsBy, IsOfSave, SavesUpTo, SavesTo, SaveRefused, SavesTold}
+use Rattle.log_commands.specs.FileCalls.{FileCall, Saves, store_call, noted_after, loads_of, saves_of, input_roles, record_roles, elf_roles, origin_roles, saves_in, IsOfContent, StopsAt, LoadsUpTo, CallsTo, LoadsTo, CallsBy, IsOfSave, SaveRefused, SavesTold}
 use Rattle.bugnet.specs.LineCalls.{line_roles, needed_roles, line_saves, calls_of, needed_of, is_printed, is_replayed, is_recorded, line_past, past_of, RefusedAfter, CallsSo, CallsOnly, TellsRefusal, HasShape, AnswersDemo, TellsDemo}
 use Rattle.log_commands.specs.Command.Audit.{roles_of}
 use Rattle.bugnet.specs.Command.Record.{is_clash}
 use Rattle.log_commands.specs.Commands.{replay_found, ended}
-use Rattle.log_commands.specs.Joined.{joint_status, ran_told, joined, joint_with}
+use Rattle.log_commands.specs.Joined.{ran_told, joined, joint_with}
 use Rattle.bugnet.specs.Laws.{IsReadOnly, IsNoSession}
 use Rattle.log_commands.specs.Outside.{CauseBy, IsPrinted, ToldRefusal, told_of}
 use Rattle.log_commands.specs.Pairs.{pair_roles}
-use Rattle.log_commands.specs.RaceAnswers.{halted}
 use Rattle.log_commands.specs.RunEnds.{end_status}
 use Rattle.log_commands.specs.Effects.{Call, IsFree, Tells, Done}
 use Rattle.bugnet.specs.Sessions.{is_begun}
-use Rattle.log_commands.specs.Told.{Told, refused, printed}
+use Rattle.log_commands.specs.Told.{Told, refused, printed, printed_until}
 use Rattle.log_commands.specs.declared.answer.Answer.{Answer}
-use Rattle.log_commands.specs.declared.answer.Answer.TheVariants.{Recorded, Interval, Joined, Listed, Checked, Agreed, Renewed, Shown, Halted}
+use Rattle.log_commands.specs.declared.answer.Answer.TheVariants.{Recorded, Interval, Joined, Listed, Checked, Agreed, Renewed, Shown}
 use Rattle.log_commands.specs.declared.answer.RunEnd.{RunEnd}
 use Rattle.log_commands.specs.declared.answer.RunEnd.TheVariants as run_end
 use Rattle.bugnet.specs.declared.manner.Manner.{Manner}
@@ -129,32 +129,6 @@ record-calls A note names r how has before after result e m input h =
 
 -- ---- saves
 
--- the second of two
-pub next-save-stops : (note : ℕ → StoreCall → ℕ) (names : FileNames) (first last : Role) (before mid after : ℕ) (r : Refusal) → mid ≡ note before (store_call names (Saves first)) → after ≡ note mid (store_call names (Saves last))
-    → (r ≡ OutOfMemory) ⊎ (r ≡ StoreFailed last) → SavesUpTo names (Saves first ∷ Saves last ∷ []) note before after r
-next-save-stops note names first last before mid after r f e is = record {
-  made = Saves first ∷ Saves last ∷ [];
-  left = [];
-  parts = refl;
-  noted = e ∙ ap (λ (n : ℕ). note n (store_call names (Saves last))) f;
-  at = by is;
-}
-  where
-    by : (r ≡ OutOfMemory) ⊎ (r ≡ StoreFailed last) → IsOfSave r (Saves first ∷ Saves last ∷ [])
-    by (inl memory) = inl memory
-    by (inr is) = inr (last, (Saves first ∷ [], refl), is)
-
--- whether there is a list decides
-pub lean-saves : (lean known : Bool) (note : ℕ → StoreCall → ℕ) (names : FileNames) (A : Type 0) (before after : ℕ) (result : Result A Refusal) → lean ≡ known
-    → SavesTo names (saves_of known) note before after result → SavesTo names (saves_of lean) note before after result
-lean-saves lean known note names A before after result e h = subst (λ (b : Bool). SavesTo names (saves_of b) note before after result) (sym e) h
-
--- the first was refused, whichever follows
-pub log-save-stops : (lean : Bool) (note : ℕ → StoreCall → ℕ) (names : FileNames) (before after : ℕ) (r : Refusal) → after ≡ note before (store_call names (Saves role.Log))
-    → (r ≡ OutOfMemory) ⊎ (r ≡ StoreFailed role.Log) → SavesUpTo names (saves_of lean) note before after r
-log-save-stops true note names before after r e is = one-save-stops note names role.Log [] before after r e is
-log-save-stops false note names before after r e is = one-save-stops note names role.Log (Saves role.Book ∷ []) before after r e is
-
 -- a recording's end is none of the store
 pub end-other : (e : RunEnd) → end_status e ≢ 3
 end-other run_end.Done = λ e. omega (arith, e)
@@ -172,7 +146,6 @@ printed-none (Checked d) p = refl
 printed-none Agreed p = refl
 printed-none (Renewed n) p = absurd p
 printed-none (Shown text) p = refl
-printed-none (Halted error) p = refl
 
 renewed-one : (answer : Answer) → IsRenewed answer → saves_in answer ≡ saves_of true
 renewed-one (Recorded r) is = absurd is
@@ -183,7 +156,6 @@ renewed-one (Checked d) is = absurd is
 renewed-one Agreed is = absurd is
 renewed-one (Renewed n) is = refl
 renewed-one (Shown text) is = absurd is
-renewed-one (Halted error) is = absurd is
 
 recorded-so : (lean : Bool) (answer : Answer) → IsRecordedRun lean answer → saves_in answer ≡ saves_of lean
 recorded-so lean (Recorded r) is = ap saves_of is
@@ -194,7 +166,6 @@ recorded-so lean (Checked d) is = absurd is
 recorded-so lean Agreed is = absurd is
 recorded-so lean (Renewed n) is = absurd is
 recorded-so lean (Shown text) is = absurd is
-recorded-so lean (Halted error) is = absurd is
 
 answer-saves : (line : Line) (answer : Answer) → FitsLine line answer → (IsReadOnly (Some line) → IsPrinted answer) → saves_in answer ≡ line_saves line
 answer-saves (RecordLine r) answer records prints = recorded-so r.lean answer records
@@ -219,7 +190,6 @@ made-printed (Ok (Checked n)) p = tt
 made-printed (Ok Agreed) p = tt
 made-printed (Ok (Renewed n)) p = absurd p
 made-printed (Ok (Shown text)) p = tt
-made-printed (Ok (Halted error)) p = absurd p
 made-printed (Err e) p = tt
 
 -- ---- what an answer ends with
@@ -251,11 +221,11 @@ replay-past (replay.RecordsLeft hart left) begun = refl
 replay-past (replay.EndDiffers hart said found) begun = refl
 replay-past replay.OutOfMemory begun = refl
 
-joint-past : (o : Option JointError) → StopsBegun o → is_replayed (joint_status o) ≡ true
-joint-past None begun = refl
-joint-past (Some (Replay e)) begun = replay-past e begun
-joint-past (Some (Stuck positions)) begun = refl
-joint-past (Some joint.OutOfMemory) begun = refl
+until-past : (names : FileNames) (text : List ℕ) (o : Option JointError) → StopsBegun o → is_replayed (printed_until names text (option_map joint_refusal o)).status ≡ true
+until-past names text None begun = refl
+until-past names text (Some (Replay e)) begun = replay-past e begun
+until-past names text (Some (Stuck positions)) begun = refl
+until-past names text (Some joint.OutOfMemory) begun = refl
 
 outcome-past : (names : FileNames) (hart interval : ℕ) (mark : EndMark) (text : List ℕ) (o : Outcome) → is_begun_end o ≡ true → is_replayed (ended names hart interval mark text o).status ≡ true
 unfolding ended
@@ -270,23 +240,10 @@ found-past names hart interval d i None status k e done =
 found-past names hart interval d i (Some v) status k e done =
     inl (past-at is_replayed status _ done.status_is (outcome-past names hart interval v.mark _ (replayed i d.records hart interval).outcome (replays_begin i d.records hart interval v e)))
 
--- the joint replay of `races` stopped, which prints nothing
-halted-past : (names : FileNames) (error : JointError) (status : ℕ) (k : Call) → Done names (halted names error) status k → Replays names status k
-unfolding halted
-halted-past names (Replay (replay.NoInterval hart interval)) status k done =
-    inr (record { refusal = ReplayStopped (replay.NoInterval hart interval); own = λ before now. tt; out = done.out; told = inl (done.status_is, done.err) })
-halted-past names (Replay (replay.LoadMissing hart ic addr)) status k done = inl (past-at is_replayed status 15 done.status_is refl)
-halted-past names (Replay (replay.ScMissing hart ic)) status k done = inl (past-at is_replayed status 15 done.status_is refl)
-halted-past names (Replay (replay.RecordsLeft hart left)) status k done = inl (past-at is_replayed status 15 done.status_is refl)
-halted-past names (Replay (replay.EndDiffers hart said found)) status k done = inl (past-at is_replayed status 15 done.status_is refl)
-halted-past names (Replay replay.OutOfMemory) status k done = inl (past-at is_replayed status 15 done.status_is refl)
-halted-past names (Stuck positions) status k done = inl (past-at is_replayed status 15 done.status_is refl)
-halted-past names joint.OutOfMemory status k done = inl (past-at is_replayed status 9 done.status_is refl)
-
 joined-past : (names : FileNames) (d : Content) (i : Program) (status : ℕ) (k : Call) → Done names (joint_with names d i) status k → Replays names status k
 unfolding ran_told
 joined-past names d i status k done =
-    inl (past-at is_replayed status _ done.status_is (joint-past (run_all (joined d i)).stopped (joint_replays_begin i d.head.settings.harts d.records)))
+    inl (past-at is_replayed status _ done.status_is (until-past names (joint_text (run_all (joined d i))) (run_all (joined d i)).stopped (joint_replays_begin i d.head.settings.harts d.records)))
 
 printed-past : (names : FileNames) (answer : Answer) (status : ℕ) (k : Call) → IsPrinted answer → Done names (told_of names answer) status k → Replays names status k
 printed-past names (Recorded r) status k p done = absurd p
@@ -297,7 +254,6 @@ printed-past names (Checked n) status k p done = inl (past-at is_replayed status
 printed-past names Agreed status k p done = inl (past-at is_replayed status 0 done.status_is refl)
 printed-past names (Renewed n) status k p done = absurd p
 printed-past names (Shown text) status k p done = inl (past-at is_replayed status 0 done.status_is refl)
-printed-past names (Halted error) status k p done = halted-past names error status k done
 
 made-past : (names : FileNames) (answer : Answer) → IsMade answer → is_printed (told_of names answer).status ≡ true
 made-past names (Recorded r) p = absurd p
@@ -308,7 +264,6 @@ made-past names (Checked n) p = refl
 made-past names Agreed p = refl
 made-past names (Renewed n) p = absurd p
 made-past names (Shown text) p = refl
-made-past names (Halted error) p = absurd p
 
 renewed-past : (names : FileNames) (answer : Answer) → IsRenewed answer → is_printed (told_of names answer).status ≡ true
 renewed-past names (Recorded r) p = absurd p
@@ -319,7 +274,6 @@ renewed-past names (Checked n) p = absurd p
 renewed-past names Agreed p = absurd p
 renewed-past names (Renewed n) p = refl
 renewed-past names (Shown text) p = absurd p
-renewed-past names (Halted error) p = absurd p
 
 recorded-past : (lean : Bool) (names : FileNames) (answer : Answer) → IsRecordedRun lean answer → is_recorded (told_of names answer).status ≡ true
 recorded-past lean names (Recorded r) p = end-past r.end
@@ -330,7 +284,6 @@ recorded-past lean names (Checked n) p = absurd p
 recorded-past lean names Agreed p = absurd p
 recorded-past lean names (Renewed n) p = absurd p
 recorded-past lean names (Shown text) p = absurd p
-recorded-past lean names (Halted error) p = absurd p
 
 -- once all its calls are made a line ends so, or it is refused before it prints, and then these are the calls that it needs
 abbrev Ends : (past : ℕ → Bool) → (calls needed : List FileCall) → FileNames → (status : ℕ) → Call → Type 0
@@ -355,7 +308,7 @@ line-ends (DebugLine log elf) names answer status k fits prints other done = abs
 line-ends (ListLine log) names answer status k fits prints other done = inl (answer-past is_printed names answer status k done (made-past names answer fits))
 line-ends (CheckLine log) names answer status k fits prints other done = inl (answer-past is_printed names answer status k done (made-past names answer fits))
 line-ends (AuditLine log elf book input) names answer status k fits prints other done = inl (answer-past is_printed names answer status k done (made-past names answer fits))
-line-ends (RacesLine log elf most) names answer status k fits prints other done = replay-ends names status k (printed-past names answer status k (prints tt) done)
+line-ends (RacesLine log elf most) names answer status k fits prints other done = inl (answer-past is_printed names answer status k done (made-past names answer fits))
 line-ends (SliceLine log elf hart interval ic) names answer status k fits prints other done = inl (answer-past is_printed names answer status k done (made-past names answer fits))
 line-ends (ConvertLine log copy) names answer status k fits prints other done = inl (answer-past is_printed names answer status k done (renewed-past names answer fits))
 line-ends (SalvageLine log copy) names answer status k fits prints other done = inl (answer-past is_printed names answer status k done (renewed-past names answer fits))

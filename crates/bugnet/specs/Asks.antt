@@ -21,7 +21,7 @@ LineSaves (Some (SalvageLine log copy)) status before after = SavesEach true sta
 LineSaves (Some (DemoLine seed)) status before after = after ≡ before
 
 -- the answer to a line that records is a recording, and that to one that makes a log of another is such a log. Only
--- `replay`, `joint`, `debug` and `races` have a replay that may stop as it is printed, or a joint one that stopped
+-- `replay`, `joint` and `debug` have a replay that may stop as it is printed
 abbrev pub FitsLine : Line → Answer → Type 0
 FitsLine (RecordLine r) answer = IsRecordedRun r.lean answer
 FitsLine (ReplayLine log elf hart interval) answer = Unit {0}
@@ -30,7 +30,7 @@ FitsLine (DebugLine log elf) answer = Unit {0}
 FitsLine (ListLine log) answer = IsMade answer
 FitsLine (CheckLine log) answer = IsMade answer
 FitsLine (AuditLine log elf book input) answer = IsMade answer
-FitsLine (RacesLine log elf most) answer = Unit {0}
+FitsLine (RacesLine log elf most) answer = IsMade answer
 FitsLine (SliceLine log elf hart interval ic) answer = IsMade answer
 FitsLine (ConvertLine log copy) answer = IsRenewed answer
 FitsLine (SalvageLine log copy) answer = IsRenewed answer

@@ -1,57 +1,45 @@
--- What a command does that records nothing and reads no commands, and what it does before its refusal is told.
-use Rattle.std.specs.Prelude.{◌≡◌, ◌≢◌, ◌≤◌, ◌⊎◌, ℕ, true, List, Option, Some, Result, Ok, Err}
-use Rattle.bn_outside.specs.Counts.{Rose}
+-- What a command does, and what it does before its refusal is told.
+use Rattle.std.specs.Prelude.{◌≡◌, ◌≢◌, ◌≤◌, ◌⊎◌, ℕ, true, List, Option, Some, Result}
+use Rattle.bn_outside.specs.Counts.{Counts, Rose}
+use Rattle.bn_outside.specs.Files.{Files}
 use Rattle.command_words.specs.Words.{Line}
 use Rattle.bugnet.specs.Asks.{LineSaves}
 use Rattle.bugnet.specs.DebugSessions.{CanBegin, Debugs}
 use Rattle.bugnet.specs.Laws.{IsReadOnly, IsNoSession}
 use Rattle.bugnet.specs.LineCalls.{CallsOnly, TellsDemo}
 use Rattle.bugnet.specs.Run.{Obeys}
+use Rattle.bugnet.specs.Saves.{LeavesRun}
 use Rattle.bugnet.specs.Sessions.{is_begun}
-use Rattle.log_commands.specs.Effects.{Call, Acts}
-use Rattle.log_commands.specs.FileCalls.{Note, saves_in, SavesTold}
+use Rattle.log_commands.specs.Acting.{World, between, with_err}
+use Rattle.log_commands.specs.Effects.{IsClosed}
+use Rattle.log_commands.specs.FileCalls.{Note}
 use Rattle.log_commands.specs.Names.{FileNames}
-use Rattle.log_commands.specs.Outside.{Stream, Refuses, WithFiles, IsPrinted, told_of}
-use Rattle.log_commands.specs.SaveCounts.{AnswerSaves}
-use Rattle.log_commands.specs.declared.answer.Answer.{Answer}
+use Rattle.log_commands.specs.Outside.{Stream, WithFiles}
 use Rattle.log_commands.specs.declared.refusal.Refusal.{Refusal}
 
--- what an answer says is done, printed and saved
-pub record ActsOn (names : FileNames) (answer : Answer) (status : ℕ) (note : Note) (saves_old saves_new noted_old noted_new : ℕ) (k : Call) : Type 0 where
-  pub acts : Acts names (told_of names answer) status k
-  pub still : IsPrinted answer → k.new.files ≡ k.old.files
-  pub saves : AnswerSaves answer status saves_old saves_new
-  pub calls : SavesTold names (saves_in answer) status note noted_old noted_new k
-
--- a status is the end; a refusal is told on err, and gives it
-abbrev pub IsEnded : FileNames → Result ℕ Refusal → (status : ℕ) → (err end : Stream) → Type 0
-IsEnded names (Ok value) status err end = (status ≡ value) × (end ≡ err)
-IsEnded names (Err refusal) status err end = Refuses names refusal status err end
-
--- what err tells after a call
-abbrev pub err_of : Call → Stream
-err_of k = record { text = k.new.err; faults = k.new.err_faults }
-
--- a call after which err was given more
-abbrev pub ended : Call → Stream → Call
-ended k end = record {
-  old = k.old;
-  new = record { files = k.new.files; counts = k.new.counts; out = k.new.out; out_faults = k.new.out_faults; err = end.text; err_faults = end.faults };
-}
-
--- so it is once the refusal, if there is one, is told
-abbrev pub ClosesTo : FileNames → Result ℕ Refusal → Call → (ℕ → Call → Type 0) → Type 0
-ClosesTo names result k P = (status : ℕ) (end : Stream) → IsEnded names result status (err_of k) end → P status (ended k end)
-
-pub record Replies (line : Line) (status : ℕ) (note : Note) (saves_old saves_new noted_old noted_new : ℕ) (k : Call) : Type 0 where
-  pub obeys : Obeys (Some line) status k
-  pub still : IsReadOnly (Some line) → k.new.files ≡ k.old.files
-  pub saves : LineSaves (Some line) status saves_old saves_new
-  pub calls : CallsOnly (Some line) status note noted_old noted_new k
-  pub demo : TellsDemo (Some line) status k
+-- a command that reads no commands
+pub record Replies (line : Line) (status : ℕ) (note : Note) (old new : World) : Type 0 where
+  pub obeys : Obeys (Some line) status (between old new)
+  pub still : IsReadOnly (Some line) → new.store.files ≡ old.store.files
+  pub saves : LineSaves (Some line) status old.store.saves new.store.saves
+  pub calls : CallsOnly (Some line) status note old.store.noted new.store.noted (between old new)
+  pub demo : TellsDemo (Some line) status (between old new)
+  pub recorded : LeavesRun (Some line) status old.store.files new.store.files
   pub read : status ≢ 12
 
+-- so it is once the refusal, if there is one, is told
+abbrev pub RepliesTo : Line → FileNames → Note → (old new : World) → Result ℕ Refusal → Type 0
+RepliesTo line names note old new result = (status : ℕ) (end : Stream) → IsClosed names result status new.err end → Replies line status note old (with_err new end)
+
 -- ---- with what it reads
+
+-- what a store, out and err tell
+abbrev pub world_of : {S O X : Type 0} → (S → Option Files) → (S → ℕ) → (S → Counts) → (S → ℕ) → (O → Option (List ℕ)) → (O → ℕ) → (X → Option (List ℕ)) → (X → ℕ) → S → O → X → World
+world_of files saves counts noted out out_faults err err_faults s o e = record {
+  store = record { files = files s; saves = saves s; counts = counts s; noted = noted s };
+  out = record { text = out o; faults = out_faults o };
+  err = record { text = err e; faults = err_faults e };
+}
 
 -- an input before a call and after it: itself, what it has left, and how often a read failed and was asked for
 pub record Reading (I : Type 0) : Type 0 where
@@ -76,16 +64,20 @@ reading left faults reads i j = record {
   reads_new = reads j;
 }
 
--- any command, but for what a recording leaves
-pub record Does {I : Type 0} (line : Line) (status : ℕ) (note : Note) (saves_old saves_new noted_old noted_new : ℕ) (i : Reading I) (k : Call) : Type 0 where
-  pub obeys : Obeys (Some line) status k
-  pub still : IsReadOnly (Some line) → k.new.files ≡ k.old.files
-  pub saves : LineSaves (Some line) status saves_old saves_new
-  pub calls : CallsOnly (Some line) status note noted_old noted_new k
-  pub demo : TellsDemo (Some line) status k
-  pub session : Debugs (Some line) status i.left_old i.left_new i.faults_old i.faults_new i.reads_old i.reads_new k
+-- any command
+pub record Does {I : Type 0} (line : Line) (status : ℕ) (note : Note) (i : Reading I) (old new : World) : Type 0 where
+  pub obeys : Obeys (Some line) status (between old new)
+  pub still : IsReadOnly (Some line) → new.store.files ≡ old.store.files
+  pub saves : LineSaves (Some line) status old.store.saves new.store.saves
+  pub calls : CallsOnly (Some line) status note old.store.noted new.store.noted (between old new)
+  pub demo : TellsDemo (Some line) status (between old new)
+  pub recorded : LeavesRun (Some line) status old.store.files new.store.files
+  pub session : Debugs (Some line) status i.left_old i.left_new i.faults_old i.faults_new i.reads_old i.reads_new (between old new)
   pub first : (is_begun status ≡ true) ⊎ (i.new ≡ i.old)
-  pub begins : (i.new ≡ i.old) ⊎ WithFiles k.old.files (λ files. CanBegin (Some line) files)
+  pub begins : (i.new ≡ i.old) ⊎ WithFiles old.store.files (λ files. CanBegin (Some line) files)
   pub unread : IsNoSession (Some line) → i.new ≡ i.old
   pub read : status ≡ 12 → Rose i.faults_old i.faults_new
   pub read_later : i.faults_old ≤ i.faults_new
+
+abbrev pub DoesTo : {I : Type 0} → Line → FileNames → Note → Reading I → (old new : World) → Result ℕ Refusal → Type 0
+DoesTo line names note i old new result = (status : ℕ) (end : Stream) → IsClosed names result status new.err end → Does line status note i old (with_err new end)

@@ -17,10 +17,11 @@ use Rattle.step_debugger.specs.declared.error.DebugError.{DebugError}
 use Rattle.step_debugger.specs.declared.error.DebugError.TheVariants.{ReadFault, WriteFault, TooMuch}
 use Rattle.step_debugger.specs.declared.error.DebugError.TheVariants as stop
 use Rattle.log_commands.specs.Names.{FileNames}
-use Rattle.log_commands.specs.Refusals.{line_of, status_of}
+use Rattle.log_commands.specs.Refusals.{line_of, status_of, joint_refusal}
 use Rattle.log_commands.specs.Told.{Told}
 use Rattle.log_commands.specs.Pairs.{IsPair, ArePair}
-use Rattle.log_commands.specs.Joined.{joint_status, joint_line, joined}
+use Rattle.log_commands.specs.Joined.{joined}
+use Rattle.log_commands.specs.declared.refusal.Refusal.{Refusal}
 use Rattle.log_commands.specs.declared.refusal.Refusal.TheVariants as why
 
 -- ---- the commands
@@ -76,14 +77,17 @@ ReadsAll left now_left bytes = ConsumesAll left now_left bytes × NoneEnds (inpu
 
 -- ---- how a session ends
 
--- the status by the end of a session
+-- the refusal by the end of a session
+abbrev pub stop_refusal : DebugError → Refusal
+stop_refusal ReadFault = why.ReadFailed
+stop_refusal WriteFault = why.WriteFailed
+stop_refusal (stop.LineTooLong n) = why.LineTooLong
+stop_refusal (TooMuch n) = why.CommandsTooLong
+stop_refusal (stop.Joint e) = joint_refusal e
+stop_refusal stop.OutOfMemory = why.OutOfMemory
+
 abbrev pub stop_status : DebugError → ℕ
-stop_status ReadFault = status_of why.ReadFailed
-stop_status WriteFault = status_of why.WriteFailed
-stop_status (stop.LineTooLong n) = status_of why.LineTooLong
-stop_status (TooMuch n) = status_of why.CommandsTooLong
-stop_status (stop.Joint e) = joint_status (Some e)
-stop_status stop.OutOfMemory = status_of why.OutOfMemory
+stop_status e = status_of (stop_refusal e)
 
 abbrev pub session_status : Result (Unit {0}) DebugError → ℕ
 session_status (Ok u) = 0
@@ -141,17 +145,9 @@ pub record AreRead (c : Commands) (status : ℕ) (left now_left : Option (List �
 -- ---- what is told
 
 -- the line on err by the end of a session
-abbrev pub stop_line : FileNames → DebugError → List ℕ
-stop_line names ReadFault = line_of names why.ReadFailed
-stop_line names WriteFault = line_of names why.WriteFailed
-stop_line names (stop.LineTooLong n) = line_of names why.LineTooLong
-stop_line names (TooMuch n) = line_of names why.CommandsTooLong
-stop_line names (stop.Joint e) = joint_line names (Some e)
-stop_line names stop.OutOfMemory = line_of names why.OutOfMemory
-
 abbrev pub session_line : FileNames → Result (Unit {0}) DebugError → List ℕ
 session_line names (Ok u) = []
-session_line names (Err e) = stop_line names e
+session_line names (Err e) = line_of names (stop_refusal e)
 
 -- the text of a session, and how it ended
 unfoldable pub session_told : FileNames → Transcript → Told

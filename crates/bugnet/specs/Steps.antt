@@ -1,23 +1,19 @@
 -- How the command `debug` goes: the end of a session, one with a log and its program, and one by their names.
-use Rattle.std.specs.Prelude.{◌≡◌, ◌⊎◌, ℕ, List, Option}
+use Rattle.std.specs.Prelude.{◌⊎◌, ℕ, List, Option}
 use Rattle.bn_outside.specs.Counts.{Counts}
 use Rattle.bn_outside.specs.Files.{Files}
 use Rattle.joint_replay.specs.Joining.{Joining}
 use Rattle.step_debugger.specs.Transcript.{transcript}
 use Rattle.step_debugger.specs.declared.error.DebugError.{DebugError}
 use Rattle.log_commands.specs.Names.{FileNames}
-use Rattle.log_commands.specs.Refusals.{line_of}
-use Rattle.log_commands.specs.Outside.{WithFiles, Wrote}
+use Rattle.log_commands.specs.Outside.{WithFiles, ToldRefusal}
 use Rattle.bugnet.specs.DebugSessions.{SessionIs}
-use Rattle.bugnet.specs.Sessions.{Commands, AreRead, IsUnread, SessionOver, input_in, stop_status, stop_line, session_told, IsSession, IsDebug}
+use Rattle.bugnet.specs.Sessions.{Commands, AreRead, IsUnread, SessionOver, input_in, stop_refusal, session_told, IsSession, IsDebug}
 use Rattle.log_commands.specs.Effects.{Call, printing, SomeTold, Tells, StoppedBy}
-use Rattle.log_commands.specs.declared.refusal.Refusal.TheVariants as why
 
--- the end of a session was told, or its line found no memory
+-- the end of a session was told
 abbrev pub ToldStop : FileNames → DebugError → ℕ → Option (List ℕ) → Option (List ℕ) → ℕ → ℕ → Type 0
-ToldStop names e status old new before now =
-    ((status ≡ stop_status e) × Wrote old new before now (stop_line names e))
-    ⊎ ((status ≡ 9) × Wrote old new before now (line_of names why.OutOfMemory))
+ToldStop names e status old new before now = ToldRefusal names (stop_refusal e) status old new before now
 
 -- a session over a joint replay: commands were read, and what they make it tell is told
 abbrev pub DebugsPair : {O X : Type 0} → FileNames → Joining → (status : ℕ) → (left now_left : Option (List ℕ)) → (before now reads now_reads : ℕ)

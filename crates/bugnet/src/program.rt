@@ -1,11 +1,12 @@
 //! The program: it reads its words, loads, answers, saves and prints.
 ghost use Rattle.std.specs.Prelude.{◌≡◌, ◌≤◌, ◌⊎◌, true, Some, None};
 ghost use Rattle.bn_outside.specs.Counts.{Rose, NoneFell};
-ghost use Rattle.command_words.specs.Words.{command_in, seen, seen_recording};
+ghost use Rattle.command_words.specs.Words.{command_in, seen};
 ghost use Rattle.std.specs.Str.{bytes_eq};
-ghost use Rattle.bugnet.specs.Answers.{names_in, manner_of, refusal_in, IsOn, KindOf};
+ghost use Rattle.bugnet.specs.Answers.{names_in, refusal_in, IsOn, KindOf};
 ghost use Rattle.bugnet.specs.LineAnswers.{AnswersLine};
-ghost use Rattle.bugnet.specs.Replies.{ActsOn, ClosesTo, Replies, Does, reading};
+ghost use Rattle.bugnet.specs.Replies.{RepliesTo, Does, DoesTo, world_of, reading};
+ghost use Rattle.log_commands.specs.Acting.{world};
 ghost use Rattle.log_commands.specs.Answering.{Answers};
 ghost use Rattle.log_commands.specs.Inputs.{bytes_of};
 ghost use Rattle.log_commands.specs.Names.{FileNames};
@@ -26,27 +27,26 @@ ghost use Rattle.bugnet.specs.Run.{TellsAnswer, ByWords, Keeps, ChangesFew};
 
 use crate::commands::debug::debug_files;
 use crate::commands::demo;
-use crate::commands::record::{keep, record_files};
+use crate::commands::record;
 use crate::laws::{
     audits_agree, converted_files_keep_to_the_limit, each_can_be_done, files_keep_to_their_size,
     headline, joint_headline, one_answer, seeds_are_whole, sessions_show_the_run,
 };
-use crate::manner::Manner;
 use bn_outside::{Gate, Sink, Source, Store};
 use command_words::{Command, RecordOptions, WordsError, read_words};
 use file_laws::logs_are_contents;
 use log_blocks::laws::saved_files_keep_to_the_limit;
 use log_blocks::readings::{files_are_read, readings_are_unique};
+use log_commands::acting::act;
 use log_commands::answer::Answer;
 use log_commands::commands::{
     audit, check, convert, joint, list, races, replay, salvage, slice,
 };
 use log_commands::inputs::{Inputs, load_inputs};
 use log_commands::names::{Names, Role};
-use log_commands::new_log::keep_new;
-use log_commands::outside::StoreExt;
+use log_commands::outside::{SinkExt, StoreExt};
 use log_commands::refusal::Refusal;
-use log_commands::send::{close, refuse, send};
+use log_commands::send::{close, refuse};
 use std::alloc::Global;
 use std::sync::Wait;
 use std::thread::Threads;
@@ -86,16 +86,6 @@ fn names_of<'a>(command: &Command<'a>) -> Names<'a>
         Command::Convert { log, new } => Names::of_new(log, new),
         Command::Salvage { log, new } => Names::of_new(log, new),
         Command::Demo { .. } => Names::none(),
-    }
-}
-
-// How a recording is made.
-fn manner_of(recording: &RecordOptions) -> Manner
-    ensures { result ≡ manner_of (seen_recording recording.now) }
-{
-    Manner {
-        seed: recording.seed,
-        lean: recording.lean,
     }
 }
 
@@ -228,34 +218,8 @@ fn answer_to<S: StoreExt>(
     }
 }
 
-// Does what an answer says, and gives the status that the process ends with.
-fn act<S: Store, O: Sink, X: Sink>(
-    alloc: Global,
-    names: &Names,
-    answer: &Answer,
-    store: &mut S,
-    out: &mut O,
-    err: &mut X,
-) -> u8
-    ensures { ActsOn names.now answer.now result S.note (S.saves store.old) (S.saves store.new) (S.noted store.old) (S.noted store.new)
-        (call S.files S.counts O.written O.faults X.written X.faults store.old out.old err.old store.new out.new err.new) }
-{
-    match answer {
-        Answer::Interval(reading) => close(alloc, names, replay::print_interval(alloc, reading, out), err),
-        Answer::Joined(reading) => joint::print_joint(alloc, names, reading, out, err),
-        Answer::Listed(log) => close(alloc, names, list::send_list(alloc, log, out), err),
-        Answer::Checked(log) => close(alloc, names, check::send_check(alloc, log, out), err),
-        Answer::Agreed => close(alloc, names, audit::send_agreement(alloc, out), err),
-        Answer::Renewed(new) => close(alloc, names, keep_new(alloc, names, new, store, out), err),
-        Answer::Shown(text) => close(alloc, names, send(out, text), err),
-        Answer::Halted(error) => joint::stop(alloc, names, error, err),
-        Answer::Recorded(recording) => keep(alloc, names, recording, store, out, err),
-    }
-}
-
-// Does what a command asks for, where it records nothing and reads no commands. A refusal is given up, and not
-// told yet.
-fn attempt<S: Store, O: Sink, X: Sink>(
+// Does what a command asks for, where it records nothing and reads no commands.
+fn reply<S: StoreExt, O: SinkExt, X: SinkExt>(
     alloc: Global,
     command: &Command,
     names: &Names,
@@ -266,31 +230,10 @@ fn attempt<S: Store, O: Sink, X: Sink>(
     requires named { names.now ≡ names_in (seen command.now) }
     requires no_session { IsNoSession (Some (seen command.now)) }
     requires no_recording { IsNoRecording (Some (seen command.now)) }
-    ensures { ClosesTo names.now result (call S.files S.counts O.written O.faults X.written X.faults store.old out.old err.old store.new out.new err.new)
-        (λ status k. Replies (seen command.now) status S.note (S.saves store.old) (S.saves store.new) (S.noted store.old) (S.noted store.new) k) }
+    ensures { RepliesTo (seen command.now) names.now S.note (world (S.stored store.old) (O.stream out.old) (X.stream err.old)) (world (S.stored store.new) (O.stream out.new) (X.stream err.new)) result }
 {
     let answer = answer_to(alloc, command, names, store)?;
-    Ok(act(alloc, names, &answer, store, out, err))
-}
-
-// The same, with its refusal told.
-fn reply<S: Store, O: Sink, X: Sink>(
-    alloc: Global,
-    command: &Command,
-    names: &Names,
-    store: &mut S,
-    out: &mut O,
-    err: &mut X,
-) -> u8
-    requires named { names.now ≡ names_in (seen command.now) }
-    requires no_session { IsNoSession (Some (seen command.now)) }
-    requires no_recording { IsNoRecording (Some (seen command.now)) }
-    ensures { Replies (seen command.now) result S.note (S.saves store.old) (S.saves store.new) (S.noted store.old) (S.noted store.new) (call S.files S.counts O.written O.faults X.written X.faults store.old out.old err.old store.new out.new err.new) }
-{
-    match attempt(alloc, command, names, store, out, err) {
-        Ok(status) => status,
-        Err(refusal) => refuse(alloc, names, &refusal, err),
-    }
+    act(alloc, names, &answer, store, out, err)
 }
 
 /// Does what a command other than `record` asks for. It may neither wait nor
@@ -298,14 +241,15 @@ fn reply<S: Store, O: Sink, X: Sink>(
 pub fn perform<S: Store, I: Source, O: Sink, X: Sink>(
     alloc: Global,
     command: &Command,
+    names: &Names,
     store: &mut S,
     input: &mut I,
     out: &mut O,
     err: &mut X,
-) -> u8
+) -> Result<u8, Refusal>
+    requires named { names.now ≡ names_in (seen command.now) }
     requires no_recording { IsNoRecording (Some (seen command.now)) }
-    ensures { Does (seen command.now) result S.note (S.saves store.old) (S.saves store.new) (S.noted store.old) (S.noted store.new) (reading I.left I.faults I.reads input.old input.new)
-        (call S.files S.counts O.written O.faults X.written X.faults store.old out.old err.old store.new out.new err.new) }
+    ensures { DoesTo (seen command.now) names.now S.note (reading I.left I.faults I.reads input.old input.new) (world_of S.files S.saves S.counts S.noted O.written O.faults X.written X.faults store.old out.old err.old) (world_of S.files S.saves S.counts S.noted O.written O.faults X.written X.faults store.new out.new err.new) result }
 {
     // Laws:
     readings_are_unique();
@@ -315,15 +259,42 @@ pub fn perform<S: Store, I: Source, O: Sink, X: Sink>(
     converted_files_keep_to_the_limit();
     files_are_read();
     refusals_stay();
-    let names = names_of(command);
     // What `debug` prints depends on what it reads meanwhile, so it has no answer that is made first.
     match command {
-        Command::Debug { .. } => debug_files(alloc, &names, store, input, out, err),
-        _ => reply(alloc, command, &names, store, out, err),
+        Command::Debug { .. } => Ok(debug_files(alloc, names, store, input, out, err)),
+        _ => reply(alloc, command, names, store, out, err),
     }
 }
 
 // Does what a command asks for. Only a recording may wait: its harts are in threads, which wait for each other.
+fn attempt<S: Store, I: Source, O: Sink, X: Sink, G: Gate, R: Threads + Wait + Sync>(
+    rt: &R,
+    alloc: Global,
+    command: &Command,
+    names: &Names,
+    store: &mut S,
+    input: &mut I,
+    out: &mut O,
+    err: &mut X,
+    gate: &G,
+) -> Result<u8, Refusal>
+    requires { names.now ≡ names_in (seen command.now) }
+    ensures { DoesTo (seen command.now) names.now S.note (reading I.left I.faults I.reads input.old input.new) (world_of S.files S.saves S.counts S.noted O.written O.faults X.written X.faults store.old out.old err.old) (world_of S.files S.saves S.counts S.noted O.written O.faults X.written X.faults store.new out.new err.new) result }
+{
+    // Laws:
+    seeds_are_whole();
+    files_keep_to_their_size();
+    logs_are_contents();
+    match command {
+        Command::Record(options) => {
+            let answer = record::evaluate(rt, alloc, names, options, store, gate)?;
+            act(alloc, names, &answer, store, out, err)
+        }
+        _ => perform(alloc, command, names, store, input, out, err),
+    }
+}
+
+// The same, with its refusal told: each error but that of reading the words ends here.
 fn obey<S: Store, I: Source, O: Sink, X: Sink, G: Gate, R: Threads + Wait + Sync>(
     rt: &R,
     alloc: Global,
@@ -334,27 +305,11 @@ fn obey<S: Store, I: Source, O: Sink, X: Sink, G: Gate, R: Threads + Wait + Sync
     err: &mut X,
     gate: &G,
 ) -> u8
-    ensures does { Does (seen command.now) result S.note (S.saves store.old) (S.saves store.new) (S.noted store.old) (S.noted store.new) (reading I.left I.faults I.reads input.old input.new)
-        (call S.files S.counts O.written O.faults X.written X.faults store.old out.old err.old store.new out.new err.new) }
-    ensures recorded { LeavesRun (Some (seen command.now)) result (S.files store.old) (S.files store.new) }
+    ensures { Does (seen command.now) result S.note (reading I.left I.faults I.reads input.old input.new) (world_of S.files S.saves S.counts S.noted O.written O.faults X.written X.faults store.old out.old err.old) (world_of S.files S.saves S.counts S.noted O.written O.faults X.written X.faults store.new out.new err.new) }
 {
-    // Laws:
-    seeds_are_whole();
-    files_keep_to_their_size();
-    logs_are_contents();
-    match command {
-        Command::Record(recording) => {
-            let names = names_of(command);
-            let how = manner_of(recording);
-            let has_input = recording.input.is_some();
-            let settings = &recording.settings;
-            match record_files(rt, alloc, &names, settings, &how, has_input, store, gate) {
-                Err(refusal) => refuse(alloc, &names, &refusal, err),
-                Ok(answer) => act(alloc, &names, &answer, store, out, err),
-            }
-        }
-        _ => perform(alloc, command, store, input, out, err),
-    }
+    let names = names_of(command);
+    let ending = attempt(rt, alloc, command, &names, store, input, out, err, gate);
+    close(alloc, &names, ending, err)
 }
 
 /// The program. It reads its words, of which the first is its own name, loads what they name,

@@ -1,16 +1,19 @@
 -- How a command that has its answer ends, from how its text was sent and what was told.
-use Rattle.std.proofs.Common.{◌≡◌, ◌≢◌, ◌≤◌, ℕ, List, Option, refl, sym, subst, arith, inl, inr}
+use Rattle.std.proofs.Common.{◌≡◌, ◌≢◌, ◌≤◌, ◌⊎◌, ℕ, List, Option, Some, None, refl, sym, subst, arith, inl, inr}
 use Rattle.std.specs.Prelude.{Result, Ok, Err}
+use Rattle.std.specs.Io.KnownBytes.{Appends}
 use Rattle.bn_outside.specs.Counts.{Counts, Rose, NoneFell}
 use Rattle.bn_outside.specs.Files.{Files}
+use Rattle.bn_outside.specs.Streams.{AppendsPart}
 use Rattle.log_commands.specs.Names.{FileNames}
-use Rattle.log_commands.specs.Outside.{Stream, Sends, Always}
-use Rattle.log_commands.specs.Told.{Told, printed}
+use Rattle.log_commands.specs.Outside.{Stream, SendStops, Sends, SendsUntil, Always, ToldRefusal}
+use Rattle.log_commands.specs.Told.{Told, printed, printed_until}
 use Rattle.log_commands.specs.declared.refusal.Refusal.{Refusal}
-use Rattle.log_commands.specs.Effects.{Call, Tells, NoWriteFell, Prints, Acts, printing_to, printing_on, IsClosed, PrintsTo}
-use Rattle.log_commands.proofs.Causes.{Sends as Stops, sends-told}
-use Rattle.log_commands.proofs.Prints.{appends-nothing}
-use Rattle.log_commands.proofs.Tells.{untouched, printed-told, stopped-told}
+use Rattle.log_commands.specs.declared.refusal.Refusal.TheVariants.{OutOfMemory}
+use Rattle.log_commands.specs.Effects.{Call, Tells, NoWriteFell, Prints, Acts, printing_to, printing_on, PrintsTo}
+use Rattle.log_commands.proofs.Causes.{Sends as Stops, sends-told, IsStop, sends-stop}
+use Rattle.log_commands.proofs.Prints.{appends-nothing, part-none, part-whole}
+use Rattle.log_commands.proofs.Tells.{untouched, printed-told, stopped-told, wanting}
 
 pub sends-done : (before now : ℕ) → Stops before now 0
 sends-done before now = record {
@@ -67,3 +70,41 @@ sent-prints text old new (Err r) h = λ names files had status err end closed.
     (stopped-told names (printed text) r status (printing_on files had old new err end) h.sent (untouched files) closed.0)
     (record { out = h.later; err = closed.1 })
     (sends-told names r status err.text end.text err.faults end.faults old.faults new.faults h.sent.1 closed.0)
+
+-- ---- a text, and then a refusal, if there is one
+
+-- all was sent, and then it was refused
+refused-prints : (text : List ℕ) (r : Refusal) (old new : Stream) → IsStop r → Appends old.text new.text text → old.faults ≤ new.faults → PrintsTo {A = Unit {0}} (λ names. printed_until names text (Some r)) old new (Err r)
+refused-prints text r old new is sent later = λ names files had status err end closed.
+    let k = printing_on files had old new err end in
+    prints-so names (printed_until names text (Some r)) status k (told names files had status err end closed.0) (record { out = later; err = closed.1 })
+    (sends-stop names r status err.text end.text err.faults end.faults old.faults new.faults is closed.0)
+  where
+    told : (names : FileNames) (files : Option Files) (had : Counts) (status : ℕ) (err end : Stream) → ToldRefusal names r status err.text end.text err.faults end.faults
+        → Tells names (printed_until names text (Some r)) status (printing_on files had old new err end)
+    told names files had status err end (inl h) = inl (record { status_is = h.0; out = sent; err = h.1; files = untouched files })
+    told names files had status err end (inr h) =
+        inr (wanting names (printed_until names text (Some r)) status (printing_on files had old new err end) (part-whole old.text new.text text sent) (untouched files) (inl h))
+
+-- sending it stopped
+stopped-prints : (text : List ℕ) (stop : Option Refusal) (r : Refusal) (old new : Stream) → AppendsPart old.text new.text text × SendStops old.faults new.faults r → old.faults ≤ new.faults
+    → PrintsTo {A = Unit {0}} (λ names. printed_until names text stop) old new (Err r)
+stopped-prints text None r old new h later = sent-prints text old new (Err r) (record { sent = h; later = later })
+stopped-prints text (Some x) r old new h later = λ names files had status err end closed.
+    let k = printing_on files had old new err end in
+    prints-so names (printed_until names text (Some x)) status k (stopped-told names (printed_until names text (Some x)) r status k h (untouched files) closed.0) (record { out = later; err = closed.1 })
+    (sends-told names r status err.text end.text err.faults end.faults old.faults new.faults h.1 closed.0)
+
+pub until-prints : (text : List ℕ) (stop : Option Refusal) (old new : Stream) (result : Result (Unit {0}) Refusal) → ((r : Refusal) → stop ≡ Some r → IsStop r) → SendsUntil text stop old new result
+    → PrintsTo (λ names. printed_until names text stop) old new result
+until-prints text stop old new (Ok u) is h =
+    subst (λ (o : Option Refusal). PrintsTo {A = Unit {0}} (λ names. printed_until names text o) old new (Ok u)) (sym h.sent.1) (sent-prints text old new (Ok u) (record { sent = (h.sent.0, tt); later = h.later }))
+until-prints text stop old new (Err r) is h = by h.sent
+  where
+    by : (Appends old.text new.text text × (stop ≡ Some r)) ⊎ (AppendsPart old.text new.text text × SendStops old.faults new.faults r) → PrintsTo {A = Unit {0}} (λ names. printed_until names text stop) old new (Err r)
+    by (inl (sent, e)) = subst (λ (o : Option Refusal). PrintsTo {A = Unit {0}} (λ names. printed_until names text o) old new (Err r)) (sym e) (refused-prints text r old new (is r e) sent h.later)
+    by (inr s) = stopped-prints text stop r old new s h.later
+
+-- there was no memory to begin
+pub memory-prints : (text : List ℕ) (stop : Option Refusal) (old : Stream) → PrintsTo {A = Unit {0}} (λ names. printed_until names text stop) old old (Err OutOfMemory)
+memory-prints text stop old = stopped-prints text stop OutOfMemory old old (part-none old.text text, tt) (omega arith)

@@ -6,15 +6,13 @@ use Rattle.bn_outside.specs.Counts.{Counts, Rose}
 use Rattle.hart_replay.specs.declared.error.ReplayError.{ReplayError}
 use Rattle.hart_replay.specs.declared.error.ReplayError.TheVariants as replay
 use Rattle.joint_replay.specs.declared.error.JointError.{JointError}
-use Rattle.joint_replay.specs.declared.error.JointError.TheVariants.{Replay, Stuck}
 use Rattle.joint_replay.specs.declared.error.JointError.TheVariants as joint
 use Rattle.log_commands.specs.Names.{FileNames}
-use Rattle.log_commands.specs.Refusals.{status_of, replay_status}
+use Rattle.log_commands.specs.Refusals.{status_of, replay_status, joint_refusal}
 use Rattle.log_commands.specs.Outside.{SendStops, ToldRefusal, RefusalCause, CauseBy}
-use Rattle.log_commands.specs.JointEnds.{ToldEnd}
 use Rattle.log_commands.specs.Effects.{Call, IsByWords}
 use Rattle.log_commands.specs.declared.refusal.Refusal.{Refusal}
-use Rattle.log_commands.specs.declared.refusal.Refusal.TheVariants.{WordsRefused, OutOfRange, SameName, StoreFailed, Missing, TooLong, ElfRefused, LogRefused, ProgramDiffers, OutOfMemory, WriteFailed, ReplayStopped, ReadFailed, LineTooLong, CommandsTooLong, BookRefused, FileDiffers, NothingLeft, TooManyRaces, NoRow}
+use Rattle.log_commands.specs.declared.refusal.Refusal.TheVariants.{WordsRefused, OutOfRange, SameName, StoreFailed, Missing, TooLong, ElfRefused, LogRefused, ProgramDiffers, OutOfMemory, WriteFailed, ReplayStopped, JointStuck, ReadFailed, LineTooLong, CommandsTooLong, BookRefused, FileDiffers, NothingLeft, TooManyRaces, NoRow}
 
 -- the statuses of the store come where its counts rose, and this isn't that of a write or of a read
 pub record Causes (before now : Counts) (status : ℕ) : Type 0 where
@@ -75,6 +73,7 @@ by-files before now (ProgramDiffers kept found) status c h = high before now sta
 by-files before now OutOfMemory status c h = high before now status 9 h (omega arith) (λ e. omega (arith, e)) (λ e. omega (arith, e))
 by-files before now WriteFailed status c h = absurd c
 by-files before now (ReplayStopped x) status c h = high before now status (replay_status x) h (replay-high x).0 (replay-high x).1 (replay-high x).2
+by-files before now (JointStuck positions) status c h = high before now status 15 h (omega arith) (λ e. omega (arith, e)) (λ e. omega (arith, e))
 by-files before now ReadFailed status c h = absurd c
 by-files before now LineTooLong status c h = absurd c
 by-files before now CommandsTooLong status c h = absurd c
@@ -142,7 +141,7 @@ pub record Sends (before now status : ℕ) : Type 0 where
   pub long : status ≢ 5
   pub write : status ≡ 13 → Rose before now
 
-sends-high : (before now status n : ℕ) → status ≡ n → 6 ≤ n → n ≢ 12 → (n ≡ 13 → Rose before now) → Sends before now status
+pub sends-high : (before now status n : ℕ) → status ≡ n → 6 ≤ n → n ≢ 12 → (n ≡ 13 → Rose before now) → Sends before now status
 sends-high before now status n is low d f = record {
   words = λ e. omega (arith, e, is, low);
   read = λ e. d (sym is ∙ e);
@@ -171,6 +170,7 @@ sends-told names r status old new m n before now s (inl h) = by r s h.0
     by OutOfMemory s h = sends-memory before now status h
     by WriteFailed s h = sends-high before now status 13 h (omega arith) (λ e. omega (arith, e)) (λ e. s)
     by (ReplayStopped e) s h = absurd s
+    by (JointStuck positions) s h = absurd s
     by ReadFailed s h = absurd s
     by LineTooLong s h = absurd s
     by CommandsTooLong s h = absurd s
@@ -194,18 +194,15 @@ sends-absent names e P r status old new m n before now (inl h) told =
 sends-absent names e P r status old new m n before now (inr h) told =
     sends-told names OutOfMemory status old new m n before now tt (subst (λ (x : Refusal). ToldRefusal names x status old new m n) h told)
 
--- the end of a joint replay
-pub sends-end : (names : FileNames) (o : Option JointError) (status : ℕ) (old new : Option (List ℕ)) (m n before now : ℕ) → ToldEnd names o status old new m n → Sends before now status
-sends-end names None status old new m n before now (inl h) = record {
-  words = λ e. omega (arith, e, h.0);
-  read = λ e. omega (arith, e, h.0);
-  failed = λ e. omega (arith, e, h.0);
-  missing = λ e. omega (arith, e, h.0);
-  long = λ e. omega (arith, e, h.0);
-  write = λ e. absurd (omega (arith, e, h.0));
-}
-sends-end names (Some (Replay e)) status old new m n before now (inl h) =
-    sends-high before now status (replay_status e) h.0 (replay-high e).0 (replay-high e).2 (λ x. absurd ((replay-high e).1 x))
-sends-end names (Some (Stuck ps)) status old new m n before now (inl h) = sends-high before now status 15 h.0 (omega arith) (λ e. omega (arith, e)) (λ e. absurd (omega (arith, e)))
-sends-end names (Some joint.OutOfMemory) status old new m n before now (inl h) = sends-memory before now status h.0
-sends-end names o status old new m n before now (inr h) = sends-memory before now status h.0
+-- a replay that stopped, of one hart or of all
+abbrev pub IsStop : Refusal → Type 0
+IsStop r = (6 ≤ status_of r) × (status_of r ≢ 13) × (status_of r ≢ 12)
+
+pub joint-stop : (e : JointError) → IsStop (joint_refusal e)
+joint-stop (joint.Replay e) = replay-high e
+joint-stop (joint.Stuck positions) = (omega arith, λ e. omega (arith, e), λ e. omega (arith, e))
+joint-stop joint.OutOfMemory = (omega arith, λ e. omega (arith, e), λ e. omega (arith, e))
+
+pub sends-stop : (names : FileNames) (r : Refusal) (status : ℕ) (old new : Option (List ℕ)) (m n before now : ℕ) → IsStop r → ToldRefusal names r status old new m n → Sends before now status
+sends-stop names r status old new m n before now is (inl h) = sends-high before now status (status_of r) h.0 is.0 is.2 (λ e. absurd (is.1 e))
+sends-stop names r status old new m n before now is (inr h) = sends-memory before now status h.0

@@ -12,7 +12,7 @@ use Rattle.log_commands.specs.Outside.{WithFiles, FetchTells, unless, without, R
 use Rattle.log_commands.specs.declared.inputs.Inputs.{Inputs}
 use Rattle.log_commands.specs.declared.names.Role.{Role}
 use Rattle.log_commands.specs.declared.refusal.Refusal.{Refusal}
-use Rattle.log_commands.specs.declared.refusal.Refusal.TheVariants.{WordsRefused, OutOfRange, SameName, StoreFailed, Missing, TooLong, ElfRefused, LogRefused, ProgramDiffers, OutOfMemory, WriteFailed, ReplayStopped, ReadFailed, LineTooLong, CommandsTooLong, BookRefused, FileDiffers, NothingLeft, TooManyRaces, NoRow}
+use Rattle.log_commands.specs.declared.refusal.Refusal.TheVariants.{WordsRefused, OutOfRange, SameName, StoreFailed, Missing, TooLong, ElfRefused, LogRefused, ProgramDiffers, OutOfMemory, WriteFailed, ReplayStopped, JointStuck, ReadFailed, LineTooLong, CommandsTooLong, BookRefused, FileDiffers, NothingLeft, TooManyRaces, NoRow}
 use Rattle.log_commands.proofs.Loads.{passes, fits}
 use Rattle.log_commands.proofs.Prints.{rose-later}
 use Rattle.log_commands.proofs.FileCalls.{CalledSoFar}
@@ -130,6 +130,7 @@ cause-later a b c (Err (LogRefused e)) h k = tt
 cause-later a b c (Err (ProgramDiffers kept found)) h k = tt
 cause-later a b c (Err OutOfMemory) h k = tt
 cause-later a b c (Err (ReplayStopped e)) h k = tt
+cause-later a b c (Err (JointStuck positions)) h k = tt
 cause-later a b c (Err (BookRefused e)) h k = tt
 cause-later a b c (Err (FileDiffers place)) h k = tt
 cause-later a b c (Err NothingLeft) h k = tt

@@ -1,11 +1,11 @@
 -- The calls that a command makes of its store.
-use Rattle.std.proofs.Common.{◌≡◌, ◌≢◌, ℕ, List, [], ◌∷◌, ◌++◌, ◌∙◌, ap, subst, sym, refl, arith, inl, inr, ◌⊎◌, append_assoc}
+use Rattle.std.proofs.Common.{◌≡◌, ◌≢◌, ℕ, Bool, true, false, List, [], ◌∷◌, ◌++◌, ◌∙◌, ap, subst, sym, refl, arith, inl, inr, ◌⊎◌, append_assoc}
 use Rattle.std.specs.Prelude.{Result, Ok, Err}
 use Rattle.std.specs.Io.KnownBytes.{Appends}
 use Rattle.std.proofs.lemmas.List.{append-nil}
 use Rattle.bn_outside.specs.StoreCalls.{StoreCall, LoadCall}
 use Rattle.log_commands.specs.Names.{FileNames, name_of}
-use Rattle.log_commands.specs.FileCalls.{FileCall, Loads, Saves, store_call, noted_after, loads_of, EndsWith, StopsAt, LoadsUpTo, CallsTo, LoadsTo, IsOfLoad, SavesUpTo, SavesTold}
+use Rattle.log_commands.specs.FileCalls.{FileCall, Loads, Saves, store_call, noted_after, loads_of, EndsWith, StopsAt, LoadsUpTo, CallsTo, LoadsTo, IsOfLoad, IsOfSave, SavesUpTo, SavesTo, SavesTold, saves_of}
 use Rattle.log_commands.specs.Inputs.{limit_of}
 use Rattle.log_commands.specs.Outside.{IsOwn, ToldRefusal}
 use Rattle.log_commands.specs.Effects.{Call}
@@ -125,6 +125,32 @@ pub one-save-stops : (note : ℕ → StoreCall → ℕ) (names : FileNames) (rol
     → (r ≡ OutOfMemory) ⊎ (r ≡ StoreFailed role) → SavesUpTo names (Saves role ∷ saves) note before after r
 one-save-stops note names role saves before after r e (inl memory) = record { made = Saves role ∷ []; left = saves; parts = refl; noted = e; at = inl memory }
 one-save-stops note names role saves before after r e (inr is) = record { made = Saves role ∷ []; left = saves; parts = refl; noted = e; at = inr (role, ([], refl), is) }
+
+-- the second of two
+pub next-save-stops : (note : ℕ → StoreCall → ℕ) (names : FileNames) (first last : Role) (before mid after : ℕ) (r : Refusal) → mid ≡ note before (store_call names (Saves first)) → after ≡ note mid (store_call names (Saves last))
+    → (r ≡ OutOfMemory) ⊎ (r ≡ StoreFailed last) → SavesUpTo names (Saves first ∷ Saves last ∷ []) note before after r
+next-save-stops note names first last before mid after r f e is = record {
+  made = Saves first ∷ Saves last ∷ [];
+  left = [];
+  parts = refl;
+  noted = e ∙ ap (λ (n : ℕ). note n (store_call names (Saves last))) f;
+  at = by is;
+}
+  where
+    by : (r ≡ OutOfMemory) ⊎ (r ≡ StoreFailed last) → IsOfSave r (Saves first ∷ Saves last ∷ [])
+    by (inl memory) = inl memory
+    by (inr is) = inr (last, (Saves first ∷ [], refl), is)
+
+-- whether there is a list decides
+pub lean-saves : (lean known : Bool) (note : ℕ → StoreCall → ℕ) (names : FileNames) (A : Type 0) (before after : ℕ) (result : Result A Refusal) → lean ≡ known
+    → SavesTo names (saves_of known) note before after result → SavesTo names (saves_of lean) note before after result
+lean-saves lean known note names A before after result e h = subst (λ (b : Bool). SavesTo names (saves_of b) note before after result) (sym e) h
+
+-- the first was refused, whichever follows
+pub log-save-stops : (lean : Bool) (note : ℕ → StoreCall → ℕ) (names : FileNames) (before after : ℕ) (r : Refusal) → after ≡ note before (store_call names (Saves role.Log))
+    → (r ≡ OutOfMemory) ⊎ (r ≡ StoreFailed role.Log) → SavesUpTo names (saves_of lean) note before after r
+log-save-stops true note names before after r e is = one-save-stops note names role.Log [] before after r e is
+log-save-stops false note names before after r e is = one-save-stops note names role.Log (Saves role.Book ∷ []) before after r e is
 
 -- an answer whose saves were refused
 pub saves-refused : (note : ℕ → StoreCall → ℕ) (names : FileNames) (saves : List FileCall) (r : Refusal) (status : ℕ) (before after : ℕ) (k : Call) → SavesUpTo names saves note before after r

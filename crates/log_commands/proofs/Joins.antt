@@ -1,9 +1,9 @@
 -- The steps and the known words of a joint replay, sent one after another, and what is told of them.
-use Rattle.std.proofs.Common.{◌≡◌, ℕ, ◌≤◌, nat_lt, Bool, true, false, List, [], ◌∷◌, ◌++◌, Option, Some, None, ◌∙◌, ap, subst, sym, refl, arith, inl, inr, append_assoc}
-use Rattle.std.specs.Prelude.{Ok, Err}
+use Rattle.std.proofs.Common.{◌≡◌, ℕ, ◌≤◌, nat_lt, Bool, true, false, List, [], ◌∷◌, ◌++◌, Option, Some, None, ◌∙◌, ap, subst, sym, refl, arith, inl, inr, ◌⊎◌, append_assoc}
+use Rattle.std.specs.Prelude.{Result, Ok, Err, option_map}
 use Rattle.std.specs.Io.KnownBytes.{Appends}
-use Rattle.bn_outside.specs.Files.{WhereTold}
 use Rattle.bn_outside.specs.Streams.{AppendsPart}
+use Rattle.hart_replay.specs.declared.error.ReplayError.{ReplayError}
 use Rattle.joint_replay.specs.declared.error.JointError.{JointError}
 use Rattle.joint_replay.specs.declared.error.JointError.TheVariants.{Replay, Stuck}
 use Rattle.joint_replay.specs.declared.error.JointError.TheVariants as joint
@@ -12,17 +12,24 @@ use Rattle.joint_replay.specs.Joining.{Joining, Ran, begun, ran, run_all}
 use Rattle.joint_replay.specs.Texts.{item_text, known_text, steps_text, memory_text, joint_text}
 use Rattle.joint_replay.specs.Runs.{one_step, Advanced, Advances, IsFirstTaken, RunsGoOn, RunsEnd}
 use Rattle.log_commands.specs.Names.{FileNames}
-use Rattle.log_commands.specs.Joined.{joint_status, joint_line, ran_told, joined}
-use Rattle.log_commands.specs.JointEnds.{told_of_joint, stop_of, RanAs, ToldEnd}
-use Rattle.log_commands.specs.Outside.{Sent, SendStops, ToldRefusal, Wrote, SameFiles}
-use Rattle.log_commands.specs.Effects.{Call, AreKept, Tells}
+use Rattle.log_commands.specs.Joined.{stop_of, ran_told, joined}
+use Rattle.log_commands.specs.JointEnds.{told_of_joint, SendsSteps}
+use Rattle.log_commands.specs.Outside.{Stream, Sends, SendsUntil, SentUntil, SendStops, Always}
+use Rattle.log_commands.specs.Effects.{PrintsTo}
+use Rattle.log_commands.specs.Refusals.{joint_refusal}
+use Rattle.log_commands.specs.Told.{printed_until}
 use Rattle.log_commands.specs.declared.pairs.JointReading.{JointReading}
 use Rattle.log_commands.specs.declared.refusal.Refusal.{Refusal}
 use Rattle.log_commands.specs.declared.refusal.Refusal.TheVariants.{OutOfMemory}
 use Rattle.log_commands.proofs.Prints.{SoFar, so_far-none, so_far-more, so_far-gathered, so_far-done, so_far-stopped, so_far-ends, part-longer, part-none, part-whole, part-behind, stops-later, appends-both}
-use Rattle.log_commands.proofs.Tells.{stopped-told}
+use Rattle.log_commands.proofs.Acts.{until-prints, memory-prints}
+use Rattle.log_commands.proofs.Causes.{IsStop, joint-stop}
 
 -- ---- steps
+
+-- the run of a joint replay stopped so, and left it there
+abbrev RanAs : (old new : Joining) → Option JointError → Type 0
+RanAs old new stopped = (stopped ≡ (run_all old).stopped) × ((run_all old).walk.now ≡ new)
 
 abbrev pub text_of : Joining → List ℕ
 text_of j = steps_text (run_all j).walk.taken
@@ -88,22 +95,42 @@ pub walks-done : RunsEnd → (whole now new : Joining) (waiting text : List ℕ)
 walks-done end whole now new waiting text old here there before after last a w h fell =
     ended end whole now new None old there before last waiting here after a.0 w (last-sent whole now waiting text old here there before after last a.1 w h fell)
 
-other : (e : JointError) {P : Type 0} → stop_of e ≡ Ok (Some e) → e ≡ joint.OutOfMemory → P
-other (Replay r) s q = absurd cc
-other (Stuck ps) s q = absurd cc
-other joint.OutOfMemory s q = absurd cc
+-- it is done once what waits is sent
+pub walks-sent : RunsEnd → (whole now new : Joining) (waiting text : List ℕ) (old here there : Stream) (result : Result (Unit {0}) Refusal) → Advances now (Ok false) new waiting text → Walks whole now waiting old.text here.text old.faults here.faults
+    → Sends text Always here there result → SendsSteps whole new old there result
+walks-sent end whole now new waiting text old here there (Ok u) a w h =
+    let x = walks-done end whole now new waiting text old.text here.text there.text old.faults here.faults there.faults a w h.sent.0 h.later in
+    record { sends = record { sent = (x.0, ap (λ (o : Option JointError). option_map joint_refusal o) (sym x.1.0)); later = omega (arith, w.sent.later, h.later) }; now = x.1.1 }
+walks-sent end whole now new waiting text old here there (Err r) a w h = record {
+  sends = record {
+    sent = inr (walks-short whole now waiting text old.text here.text there.text old.faults here.faults there.faults r a.1 w h.sent);
+    later = omega (arith, w.sent.later, h.later);
+  };
+  now = tt;
+}
+
+refused-so : (r : Ran) (e : JointError) → Some e ≡ r.stopped → stop_of r ≡ Some (joint_refusal e)
+refused-so r e s = ap (λ (o : Option JointError). option_map joint_refusal o) (sym s)
+
+other-replay : (r : ReplayError) {P : Type 0} → Replay r ≡ joint.OutOfMemory → P
+other-replay r q = absurd cc
+
+other-stuck : (ps : List (ℕ × ℕ)) {P : Type 0} → Stuck ps ≡ joint.OutOfMemory → P
+other-stuck ps q = absurd cc
 
 -- or the run stopped
 pub walks-ended : RunsEnd → (whole now new : Joining) (waiting text : List ℕ) (old here there : Option (List ℕ)) (before after last : ℕ) (e : JointError) → Advances now (Err e) new waiting text → Walks whole now waiting old here before after
-    → Appends here there text → after ≤ last → Sent old there before last (text_of whole) (RanAs whole new) (stop_of e)
+    → Appends here there text → after ≤ last → SentUntil {A = Unit {0}} old there before last (text_of whole) (stop_of (run_all whole)) (Err (joint_refusal e))
 walks-ended end whole now new waiting text old here there before after last joint.OutOfMemory a w h fell =
-    (so_far-ends (text_of whole) (text_of now) old there before last (last-sent whole now waiting text old here there before after last a.0 w h fell), tt)
+    inr (so_far-ends (text_of whole) (text_of now) old there before last (last-sent whole now waiting text old here there before after last a.0 w h fell), tt)
 walks-ended end whole now new waiting text old here there before after last (Replay r) (same, inl f) w h fell =
-    ended end whole now new (Some (Replay r)) old there before last waiting here after f w (last-sent whole now waiting text old here there before after last same w h fell)
-walks-ended end whole now new waiting text old here there before after last (Replay r) (same, inr m) w h fell = other (Replay r) refl m.0
+    let x = ended end whole now new (Some (Replay r)) old there before last waiting here after f w (last-sent whole now waiting text old here there before after last same w h fell) in
+    inl (x.0, refused-so (run_all whole) (Replay r) x.1.0)
+walks-ended end whole now new waiting text old here there before after last (Replay r) (same, inr m) w h fell = other-replay r m.0
 walks-ended end whole now new waiting text old here there before after last (Stuck ps) (same, inl f) w h fell =
-    ended end whole now new (Some (Stuck ps)) old there before last waiting here after f w (last-sent whole now waiting text old here there before after last same w h fell)
-walks-ended end whole now new waiting text old here there before after last (Stuck ps) (same, inr m) w h fell = other (Stuck ps) refl m.0
+    let x = ended end whole now new (Some (Stuck ps)) old there before last waiting here after f w (last-sent whole now waiting text old here there before after last same w h fell) in
+    inl (x.0, refused-so (run_all whole) (Stuck ps) x.1.0)
+walks-ended end whole now new waiting text old here there before after last (Stuck ps) (same, inr m) w h fell = other-stuck ps m.0
 
 -- ---- known words
 
@@ -153,58 +180,56 @@ steps-part r a b h = by r.stopped refl
     by None e = subst (λ (t : List ℕ). AppendsPart a b t) (sym (whole-text r e)) (part-longer a b (steps_text r.walk.taken) (memory_text r.walk.now.memory) h)
     by (Some x) e = subst (λ (t : List ℕ). AppendsPart a b t) (sym (stopped-text r x e)) h
 
-pub steps-alone : (r : Ran) (e : JointError) (a b : Option (List ℕ)) → Some e ≡ r.stopped → Appends a b (steps_text r.walk.taken) → Appends a b (joint_text r) × (Some e ≡ r.stopped)
-steps-alone r e a b s h = (subst (λ (t : List ℕ). Appends a b t) (sym (stopped-text r e (sym s))) h, s)
+none-stopped : (r : Ran) → stop_of r ≡ None → r.stopped ≡ None
+none-stopped r e = by r.stopped e
+  where
+    by : (o : Option JointError) → option_map joint_refusal o ≡ None → o ≡ None
+    by None e = refl
+    by (Some x) e = absurd cc
 
-pub steps-words : (r : Ran) (new : Joining) (a b c : Option (List ℕ)) → None ≡ r.stopped → r.walk.now ≡ new → Appends a b (steps_text r.walk.taken) → Appends b c (memory_text new.memory) → Appends a c (joint_text r) × (None ≡ r.stopped)
-steps-words r new a b c s last h k =
-    let both = appends-both a b c (steps_text r.walk.taken) (memory_text r.walk.now.memory) h (subst (λ (j : Joining). Appends b c (memory_text j.memory)) (sym last) k) in
-    (subst (λ (t : List ℕ). Appends a c t) (sym (whole-text r (sym s))) both, s)
+-- the steps weren't all sent, or the run was refused after them
+pub steps-refused : (r : Ran) (x : Refusal) (a b : Stream) → SendsUntil {A = Unit {0}} (steps_text r.walk.taken) (stop_of r) a b (Err x) → SendsUntil {A = Unit {0}} (joint_text r) (stop_of r) a b (Err x)
+steps-refused r x a b h = record { sent = by r.stopped refl h.sent; later = h.later }
+  where
+    by : (o : Option JointError) → r.stopped ≡ o → (Appends a.text b.text (steps_text r.walk.taken) × (stop_of r ≡ Some x)) ⊎ (AppendsPart a.text b.text (steps_text r.walk.taken) × SendStops a.faults b.faults x)
+        → (Appends a.text b.text (joint_text r) × (stop_of r ≡ Some x)) ⊎ (AppendsPart a.text b.text (joint_text r) × SendStops a.faults b.faults x)
+    by o is (inr s) = inr (steps-part r a.text b.text s.0, s.1)
+    by None is (inl s) = absurd (none (sym (ap (λ (o : Option JointError). option_map joint_refusal o) is) ∙ s.1))
+      where
+        none : ◌≡◌ {A = Option Refusal} None (Some x) → ⊥
+        none e = absurd cc
+    by (Some e) is (inl s) = inl (subst (λ (t : List ℕ). Appends a.text b.text t) (sym (stopped-text r e is)) s.0, s.1)
 
-pub words-short : (r : Ran) (new : Joining) (a b c : Option (List ℕ)) (before after last : ℕ) (why : Refusal) → None ≡ r.stopped → r.walk.now ≡ new → Appends a b (steps_text r.walk.taken) → before ≤ after
-    → AppendsPart b c (memory_text new.memory) × SendStops after last why → AppendsPart a c (joint_text r) × SendStops before last why
-words-short r new a b c before after last why s at h fell k =
-    let both = part-behind a b c (steps_text r.walk.taken) (memory_text r.walk.now.memory) h (subst (λ (j : Joining). AppendsPart b c (memory_text j.memory)) (sym at) k.0) in
-    (subst (λ (t : List ℕ). AppendsPart a c t) (sym (whole-text r (sym s))) both, stops-later before after last why fell k.1)
+-- all harts are done, and the known words were sent, or not
+pub steps-words : (r : Ran) (new : Joining) (a b c : Stream) (result : Result (Unit {0}) Refusal) → SendsUntil {A = Unit {0}} (steps_text r.walk.taken) (stop_of r) a b (Ok tt) → r.walk.now ≡ new → Sends (memory_text new.memory) Always b c result
+    → SendsUntil (joint_text r) (stop_of r) a c result
+steps-words r new a b c (Ok u) h last k =
+    let both = appends-both a.text b.text c.text (steps_text r.walk.taken) (memory_text r.walk.now.memory) h.sent.0 (subst (λ (j : Joining). Appends b.text c.text (memory_text j.memory)) (sym last) k.sent.0) in
+    record { sent = (subst (λ (t : List ℕ). Appends a.text c.text t) (sym (whole-text r (none-stopped r h.sent.1))) both, h.sent.1); later = omega (arith, h.later, k.later) }
+steps-words r new a b c (Err x) h last k =
+    let both = part-behind a.text b.text c.text (steps_text r.walk.taken) (memory_text r.walk.now.memory) h.sent.0 (subst (λ (j : Joining). AppendsPart b.text c.text (memory_text j.memory)) (sym last) k.sent.0) in
+    record {
+      sent = inr (subst (λ (t : List ℕ). AppendsPart a.text c.text t) (sym (whole-text r (none-stopped r h.sent.1))) both, stops-later a.faults b.faults c.faults x h.later k.sent.1);
+      later = omega (arith, h.later, k.later);
+    }
 
 -- ---- what is told
 
-kept : (names : FileNames) (r : Ran) (k : Call) → WhereTold k.old.files k.new.files SameFiles → AreKept names (ran_told names r) k
+stop-is : (o : Option JointError) (x : Refusal) → option_map joint_refusal o ≡ Some x → IsStop x
+stop-is None x e = absurd cc
+stop-is (Some e) x is = subst IsStop (same (joint_refusal e) x is) (joint-stop e)
+  where
+    same : (a b : Refusal) → ◌≡◌ {A = Option Refusal} (Some a) (Some b) → a ≡ b
+    same a b e = cc
+
+pub joint-prints : (reading : JointReading) (j : Joining) (old new : Stream) (result : Result (Unit {0}) Refusal) → j ≡ joined reading.log reading.image → SendsUntil (joint_text (run_all j)) (stop_of (run_all j)) old new result
+    → PrintsTo (λ names. told_of_joint names reading) old new result
 unfolding ran_told
-kept names r k files = files
-
-ran-out : (names : FileNames) (r : Ran) → joint_text r ≡ (ran_told names r).out
-unfolding ran_told
-ran-out names r = refl
-
-ran-ends : (names : FileNames) (r : Ran) (stopped : Option JointError) (status : ℕ) (k : Call) → stopped ≡ r.stopped → Appends k.old.out k.new.out (joint_text r) → WhereTold k.old.files k.new.files SameFiles
-    → (status ≡ joint_status stopped) × Wrote k.old.err k.new.err k.old.err_faults k.new.err_faults (joint_line names stopped) → Tells names (ran_told names r) status k
-unfolding ran_told
-ran-ends names r stopped status k same out files h = inl (record {
-  status_is = h.0 ∙ ap joint_status same;
-  out = out;
-  err = subst (λ (o : Option JointError). Wrote k.old.err k.new.err k.old.err_faults k.new.err_faults (joint_line names o)) same h.1;
-  files = files;
-})
-
--- a refusal that stopped it
-pub ran-stopped : (names : FileNames) (r : Ran) (why : Refusal) (status : ℕ) (k : Call) → AppendsPart k.old.out k.new.out (joint_text r) × SendStops k.old.out_faults k.new.out_faults why → WhereTold k.old.files k.new.files SameFiles
-    → ToldRefusal names why status k.old.err k.new.err k.old.err_faults k.new.err_faults → Tells names (ran_told names r) status k
-ran-stopped names r why status k h files told =
-    stopped-told names (ran_told names r) why status k (subst (λ (t : List ℕ). AppendsPart k.old.out k.new.out t) (ran-out names r) h.0, h.1) (kept names r k files) told
-
--- all was sent, and the end was told
-pub run-ended : (names : FileNames) (r : Ran) (stopped : Option JointError) (status : ℕ) (k : Call) → stopped ≡ r.stopped → Appends k.old.out k.new.out (joint_text r) → WhereTold k.old.files k.new.files SameFiles
-    → ToldEnd names stopped status k.old.err k.new.err k.old.err_faults k.new.err_faults → Tells names (ran_told names r) status k
-run-ended names r stopped status k same out files (inl h) = ran-ends names r stopped status k same out files h
-run-ended names r stopped status k same out files (inr h) = ran-stopped names r OutOfMemory status k (part-whole k.old.out k.new.out (joint_text r) out, tt) files (inl h)
-
-pub joint-told : (names : FileNames) (reading : JointReading) (j : Joining) (status : ℕ) (k : Call) → j ≡ joined reading.log reading.image → Tells names (ran_told names (run_all j)) status k → Tells names (told_of_joint names reading) status k
-joint-told names reading j status k e h = subst (λ (x : Joining). Tells names (ran_told names (run_all x)) status k) e h
+joint-prints reading j old new result e h =
+    subst (λ (x : Joining). PrintsTo (λ names. printed_until names (joint_text (run_all x)) (stop_of (run_all x))) old new result) e
+    (until-prints (joint_text (run_all j)) (stop_of (run_all j)) old new result (λ x is. stop-is (run_all j).stopped x is) h)
 
 -- there was no memory to begin
-pub joint-unbegun : (names : FileNames) (reading : JointReading) (status : ℕ) (k : Call) → k.new.out ≡ k.old.out → WhereTold k.old.files k.new.files SameFiles
-    → ToldRefusal names OutOfMemory status k.old.err k.new.err k.old.err_faults k.new.err_faults → Tells names (told_of_joint names reading) status k
-joint-unbegun names reading status k same files told =
-    let r : Ran = run_all (joined reading.log reading.image) in
-    ran-stopped names r OutOfMemory status k (subst (λ (o : Option (List ℕ)). AppendsPart k.old.out o (joint_text r)) (sym same) (part-none k.old.out (joint_text r)), tt) files told
+pub joint-unbegun : (reading : JointReading) (old : Stream) → PrintsTo {A = Unit {0}} (λ names. told_of_joint names reading) old old (Err OutOfMemory)
+unfolding ran_told
+joint-unbegun reading old = let r = run_all (joined reading.log reading.image) in memory-prints (joint_text r) (stop_of r) old

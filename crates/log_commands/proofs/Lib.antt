@@ -18,6 +18,6 @@ pub mod SamePair
 pub mod FileCalls
 pub mod Answering
 pub mod Answered
-pub mod KeptNew
+pub mod Kept
 pub mod SaveCounts
 pub mod StatusesApart

@@ -8,7 +8,7 @@ use Rattle.bn_outside.specs.Counts.{Rose}
 use Rattle.bn_outside.specs.Streams.{AppendsPart}
 use Rattle.log_commands.specs.Outside.{Sent, SendStops, Gathered, Wrote}
 use Rattle.log_commands.specs.declared.refusal.Refusal.{Refusal}
-use Rattle.log_commands.specs.declared.refusal.Refusal.TheVariants.{WordsRefused, OutOfRange, SameName, StoreFailed, Missing, TooLong, ElfRefused, LogRefused, ProgramDiffers, OutOfMemory, WriteFailed, ReplayStopped, ReadFailed, LineTooLong, CommandsTooLong, BookRefused, FileDiffers, NothingLeft, TooManyRaces, NoRow}
+use Rattle.log_commands.specs.declared.refusal.Refusal.TheVariants.{WordsRefused, OutOfRange, SameName, StoreFailed, Missing, TooLong, ElfRefused, LogRefused, ProgramDiffers, OutOfMemory, WriteFailed, ReplayStopped, JointStuck, ReadFailed, LineTooLong, CommandsTooLong, BookRefused, FileDiffers, NothingLeft, TooManyRaces, NoRow}
 
 pub appends-nothing : (known : Option (List ℕ)) → Appends known known []
 appends-nothing None = tt
@@ -65,6 +65,7 @@ stops-later a b c (ProgramDiffers kept found) h s = absurd s
 stops-later a b c OutOfMemory h s = tt
 stops-later a b c WriteFailed h s = rose-later a b c h s
 stops-later a b c (ReplayStopped e) h s = absurd s
+stops-later a b c (JointStuck positions) h s = absurd s
 stops-later a b c ReadFailed h s = absurd s
 stops-later a b c LineTooLong h s = absurd s
 stops-later a b c CommandsTooLong h s = absurd s

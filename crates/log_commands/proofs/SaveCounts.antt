@@ -1,14 +1,15 @@
 -- How often a command asks its store to save.
-use Rattle.std.proofs.Common.{◌≡◌, ◌≢◌, ℕ, Bool, true, false, List, Option, Some, arith, inl, inr}
+use Rattle.std.proofs.Common.{◌≡◌, ◌≢◌, ℕ, Bool, true, false, List, Option, Some, ◌∙◌, ap, arith, inl, inr}
 use Rattle.bn_outside.specs.Counts.{Counts}
 use Rattle.bn_outside.specs.Files.{Files}
 use Rattle.log_commands.specs.SaveCounts.{SavedAll, SavesEach, AtMostSaves}
 use Rattle.log_commands.specs.Names.{FileNames}
 use Rattle.log_commands.specs.Outside.{ToldRefusal, Unsaved}
+use Rattle.log_commands.specs.Refusals.{status_of}
 use Rattle.log_commands.specs.RunEnds.{IsRecorded}
 use Rattle.log_commands.specs.Told.{Saved}
 use Rattle.log_commands.specs.declared.refusal.Refusal.{Refusal}
-use Rattle.log_commands.specs.declared.refusal.Refusal.TheVariants.{WordsRefused, OutOfRange, SameName, StoreFailed, Missing, TooLong, ElfRefused, LogRefused, ProgramDiffers, OutOfMemory, WriteFailed, ReplayStopped, ReadFailed, LineTooLong, CommandsTooLong, BookRefused, FileDiffers, NothingLeft, TooManyRaces, NoRow}
+use Rattle.log_commands.specs.declared.refusal.Refusal.TheVariants.{OutOfMemory}
 use Rattle.log_commands.proofs.StatusesApart.{told-apart}
 
 -- neither a recording that is done, nor one whose texts a write refused
@@ -22,29 +23,11 @@ no-write status n is other = λ e. omega (arith, e, is, other)
 -- the status of a refused save is none of a write's
 unsaved-write : (saved : Saved) (names : FileNames) (old new : Option Files) (before now : Counts) (r : Refusal) (status : ℕ) (err_old err_new : Option (List ℕ)) (m n : ℕ)
     → Unsaved (Some saved) names old new before now r → ToldRefusal names r status err_old err_new m n → status ≢ 13
-unsaved-write saved names old new before now (StoreFailed role) status err_old err_new m n u (inl h) = no-write status 3 h.0 (λ e. omega (arith, e))
-unsaved-write saved names old new before now OutOfMemory status err_old err_new m n u (inl h) = no-write status 9 h.0 (λ e. omega (arith, e))
-unsaved-write saved names old new before now WordsRefused status err_old err_new m n u (inl h) = absurd u
-unsaved-write saved names old new before now (OutOfRange bad) status err_old err_new m n u (inl h) = absurd u
-unsaved-write saved names old new before now SameName status err_old err_new m n u (inl h) = absurd u
-unsaved-write saved names old new before now (Missing role) status err_old err_new m n u (inl h) = absurd u
-unsaved-write saved names old new before now (TooLong role) status err_old err_new m n u (inl h) = absurd u
-unsaved-write saved names old new before now (ElfRefused x) status err_old err_new m n u (inl h) = absurd u
-unsaved-write saved names old new before now (LogRefused x) status err_old err_new m n u (inl h) = absurd u
-unsaved-write saved names old new before now (ProgramDiffers kept found) status err_old err_new m n u (inl h) = absurd u
-unsaved-write saved names old new before now WriteFailed status err_old err_new m n u (inl h) = absurd u
-unsaved-write saved names old new before now (ReplayStopped x) status err_old err_new m n u (inl h) = absurd u
-unsaved-write saved names old new before now ReadFailed status err_old err_new m n u (inl h) = absurd u
-unsaved-write saved names old new before now LineTooLong status err_old err_new m n u (inl h) = absurd u
-unsaved-write saved names old new before now CommandsTooLong status err_old err_new m n u (inl h) = absurd u
-unsaved-write saved names old new before now (BookRefused x) status err_old err_new m n u (inl h) = absurd u
-unsaved-write saved names old new before now (FileDiffers place) status err_old err_new m n u (inl h) = absurd u
-unsaved-write saved names old new before now NothingLeft status err_old err_new m n u (inl h) = absurd u
-unsaved-write saved names old new before now (TooManyRaces most) status err_old err_new m n u (inl h) = absurd u
-unsaved-write saved names old new before now (NoRow ic) status err_old err_new m n u (inl h) = absurd u
+unsaved-write saved names old new before now r status err_old err_new m n (inl (role, is, broke, rose)) (inl h) = no-write status 3 (h.0 ∙ ap status_of is) (λ e. omega (arith, e))
+unsaved-write saved names old new before now r status err_old err_new m n (inr (is, broke)) (inl h) = no-write status 9 (h.0 ∙ ap status_of is) (λ e. omega (arith, e))
 unsaved-write saved names old new before now r status err_old err_new m n u (inr h) = no-write status 9 h.0 (λ e. omega (arith, e))
 
--- nor is that of want of memory
+-- nor is that of running out of memory
 pub memory-saves : (names : FileNames) (status : ℕ) (err_old err_new : Option (List ℕ)) (m n : ℕ) → ToldRefusal names OutOfMemory status err_old err_new m n → SavedAll status → ⊥
 memory-saves names status err_old err_new m n told =
     none-saved status (told-apart names OutOfMemory status err_old err_new m n told) (of-memory told)

@@ -15,7 +15,7 @@ use Rattle.log_commands.specs.declared.names.Role.{Role}
 use Rattle.log_commands.specs.declared.names.Role.TheVariants as role
 use Rattle.log_commands.specs.declared.answer.RunToTell.{RunToTell}
 use Rattle.log_commands.specs.declared.refusal.Refusal.{Refusal}
-use Rattle.log_commands.specs.declared.refusal.Refusal.TheVariants.{WordsRefused, OutOfRange, SameName, StoreFailed, Missing, TooLong, ElfRefused, LogRefused, ProgramDiffers, OutOfMemory, WriteFailed, ReplayStopped, ReadFailed, LineTooLong, CommandsTooLong, BookRefused, FileDiffers, NothingLeft, TooManyRaces, NoRow}
+use Rattle.log_commands.specs.declared.refusal.Refusal.TheVariants.{WordsRefused, OutOfRange, SameName, StoreFailed, Missing, TooLong, ElfRefused, LogRefused, ProgramDiffers, OutOfMemory, WriteFailed, ReplayStopped, JointStuck, ReadFailed, LineTooLong, CommandsTooLong, BookRefused, FileDiffers, NothingLeft, TooManyRaces, NoRow}
 use Rattle.log_commands.proofs.Prints.{part-whole, rose-later}
 
 -- ---- a refusal
@@ -61,6 +61,7 @@ free-status names (ProgramDiffers kept found) status err_old err_new before now 
 free-status names OutOfMemory status err_old err_new before now o (inl h) = inr (inl h.0)
 free-status names WriteFailed status err_old err_new before now o (inl h) = inr (inr h.0)
 free-status names (ReplayStopped e) status err_old err_new before now o (inl h) = absurd o
+free-status names (JointStuck positions) status err_old err_new before now o (inl h) = absurd o
 free-status names ReadFailed status err_old err_new before now o (inl h) = absurd o
 free-status names LineTooLong status err_old err_new before now o (inl h) = absurd o
 free-status names CommandsTooLong status err_old err_new before now o (inl h) = absurd o
@@ -83,6 +84,7 @@ sends-free (ProgramDiffers kept found) before now s = absurd s
 sends-free OutOfMemory before now s = tt
 sends-free WriteFailed before now s = tt
 sends-free (ReplayStopped e) before now s = absurd s
+sends-free (JointStuck positions) before now s = absurd s
 sends-free ReadFailed before now s = absurd s
 sends-free LineTooLong before now s = absurd s
 sends-free CommandsTooLong before now s = absurd s
@@ -101,26 +103,8 @@ record Broken (saved : Saved) (names : FileNames) (old new : Option Files) (r : 
   pub is : (r ≡ StoreFailed role) ⊎ (r ≡ OutOfMemory)
 
 broken : (saved : Saved) (names : FileNames) (old new : Option Files) (before now : Counts) (r : Refusal) → Unsaved (Some saved) names old new before now r → Broken saved names old new r
-broken saved names old new before now WordsRefused u = absurd u
-broken saved names old new before now (OutOfRange bad) u = absurd u
-broken saved names old new before now SameName u = absurd u
-broken saved names old new before now (StoreFailed role) u = record { role = role; broke = u.0; is = inl refl }
-broken saved names old new before now (Missing role) u = absurd u
-broken saved names old new before now (TooLong role) u = absurd u
-broken saved names old new before now (ElfRefused e) u = absurd u
-broken saved names old new before now (LogRefused e) u = absurd u
-broken saved names old new before now (ProgramDiffers kept found) u = absurd u
-broken saved names old new before now OutOfMemory u = record { role = u.0; broke = u.1; is = inr refl }
-broken saved names old new before now WriteFailed u = absurd u
-broken saved names old new before now (ReplayStopped e) u = absurd u
-broken saved names old new before now ReadFailed u = absurd u
-broken saved names old new before now LineTooLong u = absurd u
-broken saved names old new before now CommandsTooLong u = absurd u
-broken saved names old new before now (BookRefused x) u = absurd u
-broken saved names old new before now (FileDiffers place) u = absurd u
-broken saved names old new before now NothingLeft u = absurd u
-broken saved names old new before now (TooManyRaces most) u = absurd u
-broken saved names old new before now (NoRow ic) u = absurd u
+broken saved names old new before now r (inl (role, is, broke, rose)) = record { role = role; broke = broke; is = inl is }
+broken saved names old new before now r (inr (is, (role, broke))) = record { role = role; broke = broke; is = inr is }
 
 pub memory-or-store : (names : FileNames) (r : Refusal) (role : Role) (status : ℕ) (err_old err_new : Option (List ℕ)) (before now : ℕ)
     → (r ≡ StoreFailed role) ⊎ (r ≡ OutOfMemory) → ToldRefusal names r status err_old err_new before now → IsUnsaved status
@@ -330,26 +314,8 @@ from files counts k = record {
 
 unsaved-from : (saved : Option Saved) (names : FileNames) (old new : Option Files) (before mid now : Counts) (r : Refusal) → NoneFell before mid → Unsaved saved names old new mid now r → Unsaved saved names old new before now r
 unsaved-from None names old new before mid now r n u = absurd u
-unsaved-from (Some saved) names old new before mid now WordsRefused n u = absurd u
-unsaved-from (Some saved) names old new before mid now (OutOfRange bad) n u = absurd u
-unsaved-from (Some saved) names old new before mid now SameName n u = absurd u
-unsaved-from (Some saved) names old new before mid now (StoreFailed role) n u = (u.0, rose-later before.faults mid.faults now.faults n.faults u.1)
-unsaved-from (Some saved) names old new before mid now (Missing role) n u = absurd u
-unsaved-from (Some saved) names old new before mid now (TooLong role) n u = absurd u
-unsaved-from (Some saved) names old new before mid now (ElfRefused e) n u = absurd u
-unsaved-from (Some saved) names old new before mid now (LogRefused e) n u = absurd u
-unsaved-from (Some saved) names old new before mid now (ProgramDiffers kept found) n u = absurd u
-unsaved-from (Some saved) names old new before mid now OutOfMemory n u = u
-unsaved-from (Some saved) names old new before mid now WriteFailed n u = absurd u
-unsaved-from (Some saved) names old new before mid now (ReplayStopped e) n u = absurd u
-unsaved-from (Some saved) names old new before mid now ReadFailed n u = absurd u
-unsaved-from (Some saved) names old new before mid now LineTooLong n u = absurd u
-unsaved-from (Some saved) names old new before mid now CommandsTooLong n u = absurd u
-unsaved-from (Some saved) names old new before mid now (BookRefused x) n u = absurd u
-unsaved-from (Some saved) names old new before mid now (FileDiffers place) n u = absurd u
-unsaved-from (Some saved) names old new before mid now NothingLeft n u = absurd u
-unsaved-from (Some saved) names old new before mid now (TooManyRaces most) n u = absurd u
-unsaved-from (Some saved) names old new before mid now (NoRow ic) n u = absurd u
+unsaved-from (Some saved) names old new before mid now r n (inl (role, is, broke, rose)) = inl (role, is, broke, rose-later before.faults mid.faults now.faults n.faults rose)
+unsaved-from (Some saved) names old new before mid now r n (inr memory) = inr memory
 
 pub tells-from : (names : FileNames) (what : Told) (status : ℕ) (files : Option Files) (counts : Counts) (k : Call) → k.old.files ≡ files → NoneFell counts k.old.counts
     → Tells names what status k → Tells names what status (from files counts k)

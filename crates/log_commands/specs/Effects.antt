@@ -174,9 +174,14 @@ printing_to files counts out_old out_new before now err_old err_new err_before e
 
 -- ---- before a refusal is told
 
--- a refusal, if there is one, is told on err, and gives the status; else that is 0, and err stays
-abbrev pub IsClosed : {A : Type 0} → FileNames → Result A Refusal → (status : ℕ) → (err end : Stream) → Type 0
-IsClosed names (Ok value) status err end = (status ≡ 0) × (end ≡ err)
+-- what was printed ends with 0
+abbrev pub done_of : {A : Type 0} → Result A Refusal → Result ℕ Refusal
+done_of (Ok value) = Ok 0
+done_of (Err refusal) = Err refusal
+
+-- a status is the end, and err stays; a refusal is told on err, and gives the status
+abbrev pub IsClosed : FileNames → Result ℕ Refusal → (status : ℕ) → (err end : Stream) → Type 0
+IsClosed names (Ok value) status err end = (status ≡ value) × (end ≡ err)
 IsClosed names (Err refusal) status err end = Refuses names refusal status err end
 
 -- a call that leaves a store alone
@@ -186,4 +191,4 @@ printing_on files had out printed err end = printing_to files had out.text print
 -- once the refusal is told, if there is one, this is printed, or it was stopped
 abbrev pub PrintsTo : {A : Type 0} → (FileNames → Told) → (old new : Stream) → Result A Refusal → Type 0
 PrintsTo what old new result = (names : FileNames) (files : Option Files) (had : Counts) (status : ℕ) (err end : Stream)
-    → IsClosed names result status err end → Prints names (what names) status (printing_on files had old new err end)
+    → IsClosed names (done_of result) status err end → Prints names (what names) status (printing_on files had old new err end)

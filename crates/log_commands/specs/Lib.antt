@@ -19,7 +19,7 @@ pub mod Inputs
 pub mod Evaluated
 pub mod Command
 pub mod Answering
-pub mod KeptNew
+pub mod Acting
 pub mod Effects
 pub mod FileCalls
 pub mod RunEnds

@@ -1,12 +1,12 @@
 -- What the parts of a command do to the outside.
-use Rattle.std.specs.Prelude.{◌≡◌, ◌≢◌, ◌≤◌, ◌<◌, ◌⊎◌, ◌++◌, ℕ, List, [], length, Option, Some, None, Result, Ok, Err, IsSomeAnd, option_map, Bool, true, false}
+use Rattle.std.specs.Prelude.{◌≡◌, ◌≢◌, ◌≤◌, ◌<◌, ◌⊎◌, ◌++◌, ℕ, List, [], length, Option, Some, None, Result, Ok, Err, IfErr, OnErr, IsSomeAnd, option_map, Bool, true, false}
 use Rattle.std.specs.Io.KnownBytes.{Appends}
 use Rattle.std.specs.Str.{bytes_eq}
 use Rattle.std.specs.declared.vec.Vec.{Vec}
 use Rattle.std.specs.declared.alloc.Global.{Global}
 use Rattle.bn_outside.specs.Counts.{Counts, Rose}
 use Rattle.bn_outside.specs.Files.{Files, SameElsewhere, WhereTold}
-use Rattle.bn_outside.specs.Streams.{AppendsPart}
+use Rattle.bn_outside.specs.Streams.{AppendsPart, AppendsShort}
 use Rattle.bn_base.specs.Programs.{Program}
 use Rattle.bn_base.specs.declared.settings.RawSettings.{RawSettings}
 use Rattle.elf_loader.specs.Loaded.{image_of}
@@ -21,7 +21,6 @@ use Rattle.log_commands.specs.Texts.{check_line, agree_text}
 use Rattle.log_commands.specs.RunEnds.{end_status}
 use Rattle.log_commands.specs.Commands.{list_of, replay_with}
 use Rattle.log_commands.specs.Joined.{joint_with}
-use Rattle.log_commands.specs.RaceAnswers.{halted}
 use Rattle.log_commands.specs.declared.names.Role.{Role}
 use Rattle.log_commands.specs.declared.names.Role.TheVariants as role
 use Rattle.log_commands.specs.declared.refusal.Refusal.{Refusal}
@@ -30,7 +29,7 @@ use Rattle.log_commands.specs.declared.answer.Answer.{Answer}
 use Rattle.log_commands.specs.declared.answer.IntervalToReplay.{IntervalToReplay}
 use Rattle.log_commands.specs.declared.answer.RunToTell.{RunToTell}
 use Rattle.log_commands.specs.declared.answer.NewLog.{NewLog}
-use Rattle.log_commands.specs.declared.answer.Answer.TheVariants.{Recorded, Interval, Joined, Listed, Checked, Agreed, Renewed, Shown, Halted}
+use Rattle.log_commands.specs.declared.answer.Answer.TheVariants.{Recorded, Interval, Joined, Listed, Checked, Agreed, Renewed, Shown}
 
 -- ---- what is loaded
 
@@ -89,7 +88,6 @@ told_of names (Checked n) = printed (check_line n)
 told_of names Agreed = printed agree_text
 told_of names (Renewed n) = told_of_new n
 told_of names (Shown text) = printed text
-told_of names (Halted error) = halted names error
 
 -- an answer that saves nothing
 abbrev pub IsPrinted : Answer → Type 0
@@ -101,7 +99,6 @@ IsPrinted (Checked n) = Unit {0}
 IsPrinted Agreed = Unit {0}
 IsPrinted (Renewed n) = ⊥
 IsPrinted (Shown text) = Unit {0}
-IsPrinted (Halted error) = Unit {0}
 
 -- what was made of loaded bytes, by what it tells, is what the command has to answer, or memory ran out
 abbrev pub GivesTo : {A : Type 0} → (A → Told) → FileNames → (Told → Type 0) → Result A Refusal → Type 0
@@ -178,6 +175,12 @@ abbrev pub Sent : {A : Type 0} → Option (List ℕ) → Option (List ℕ) → �
 Sent old new before now text P (Ok value) = Appends old new text × P value
 Sent old new before now text P (Err refusal) = AppendsPart old new text × SendStops before now refusal
 
+-- a text was sent, and then all went on, or was refused as it had to be; or a prefix of it was sent, and sending stopped
+abbrev pub SentUntil : {A : Type 0} → Option (List ℕ) → Option (List ℕ) → ℕ → ℕ → List ℕ → Option Refusal → Result A Refusal → Type 0
+SentUntil old new before now text stop (Ok value) = Appends old new text × (stop ≡ None)
+SentUntil old new before now text stop (Err refusal) =
+    (Appends old new text × (stop ≡ Some refusal)) ⊎ (AppendsPart old new text × SendStops before now refusal)
+
 -- of a text some was sent and the rest waits, or a prefix of it was sent and sending stopped
 abbrev pub Gathered : {A : Type 0} → Option (List ℕ) → Option (List ℕ) → ℕ → ℕ → List ℕ → List ℕ → Result A Refusal → Type 0
 Gathered old new before now text waiting (Ok value) = (sent : List ℕ) × Appends old new sent × (text ≡ sent ++ waiting)
@@ -242,9 +245,9 @@ MayChange (Some saved) log book old new = SameElsewhere log old new ⊎ IsSomeAn
 -- why saving stopped, and what it left: the store failed, or memory ran out
 abbrev pub Unsaved : Option Saved → FileNames → (old new : Option Files) → (before now : Counts) → Refusal → Type 0
 Unsaved None names old new before now refusal = ⊥
-Unsaved (Some saved) names old new before now (why.StoreFailed role) = WhereTold old new (SaveBroke role saved names.log names.book) × Rose before.faults now.faults
-Unsaved (Some saved) names old new before now why.OutOfMemory = (role : Role) × WhereTold old new (SaveBroke role saved names.log names.book)
-Unsaved (Some saved) names old new before now refusal = ⊥
+Unsaved (Some saved) names old new before now refusal =
+    ((role : Role) × (refusal ≡ why.StoreFailed role) × WhereTold old new (SaveBroke role saved names.log names.book) × Rose before.faults now.faults)
+    ⊎ ((refusal ≡ why.OutOfMemory) × ((role : Role) × WhereTold old new (SaveBroke role saved names.log names.book)))
 
 -- all was saved, or not
 abbrev pub SaveTells : {A : Type 0} → Saved → FileNames → (old new : Option Files) → (before now : Counts) → Result A Refusal → Type 0
@@ -266,6 +269,17 @@ Always value = Unit {0}
 pub record Sends {A : Type 0} (text : List ℕ) (P : A → Type 0) (old new : Stream) (result : Result A Refusal) : Type 0 where
   pub sent : Sent old.text new.text old.faults new.faults text P result
   pub later : old.faults ≤ new.faults
+
+-- a text was sent, and then all went on, or was refused so; or a prefix of it was sent
+pub record SendsUntil {A : Type 0} (text : List ℕ) (stop : Option Refusal) (old new : Stream) (result : Result A Refusal) : Type 0 where
+  pub sent : SentUntil old.text new.text old.faults new.faults text stop result
+  pub later : old.faults ≤ new.faults
+
+-- bytes were sent, or not all of them, since a write failed
+pub record SendsBytes (bytes : List ℕ) (old new : Stream) (result : Result (Unit {0}) Refusal) : Type 0 where
+  pub sends : Sends bytes Always old new result
+  pub short : OnErr result (AppendsShort old.text new.text bytes × Rose old.faults new.faults)
+  pub write : IfErr result (λ refusal. refusal ≡ why.WriteFailed)
 
 -- of a text some was sent and the rest waits, or a prefix of it was sent
 pub record Gathers {A : Type 0} (text waiting : List ℕ) (old new : Stream) (result : Result A Refusal) : Type 0 where

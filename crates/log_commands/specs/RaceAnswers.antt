@@ -12,14 +12,11 @@ use Rattle.race_report.specs.declared.race.Race.{Race}
 use Rattle.log_commands.specs.Names.{FileNames}
 use Rattle.log_commands.specs.Told.{Told, refused, printed}
 use Rattle.log_commands.specs.Pairs.{IsPair, ArePair}
-use Rattle.log_commands.specs.Joined.{joint_status, joint_line, joined}
+use Rattle.log_commands.specs.Joined.{joined}
+use Rattle.log_commands.specs.Refusals.{joint_refusal}
 use Rattle.log_commands.specs.declared.refusal.Refusal.TheVariants.{TooManyRaces}
 
 -- ---- what is told
-
--- if the joint replay stopped, why it did, on err alone
-unfoldable pub halted : FileNames → JointError → Told
-halted names e = record { status = joint_status (Some e); out = []; err = joint_line names (Some e); saved = None }
 
 -- the races, unless there are too many
 abbrev pub races_listed : (too_many : Bool) → FileNames → (most : ℕ) → List Race → Told
@@ -28,7 +25,7 @@ races_listed false names most races = printed (races_text races)
 
 -- those of a joint replay of so many harts, unless it stopped
 abbrev pub races_unless : Option JointError → FileNames → (most harts : ℕ) → Ran → Told
-races_unless (Some e) names most harts r = halted names e
+races_unless (Some e) names most harts r = refused names (joint_refusal e)
 races_unless None names most harts r = races_listed (nat_lt most (race_count (points_in r))) names most (races_of harts (points_in r))
 
 abbrev pub races_in : FileNames → (most harts : ℕ) → Ran → Told

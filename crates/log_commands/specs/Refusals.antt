@@ -13,12 +13,14 @@ use Rattle.log_blocks.specs.declared.damage.Damage.{Damage}
 use Rattle.log_blocks.specs.declared.damage.Damage.TheVariants.{File, BadBlock}
 use Rattle.hart_replay.specs.declared.error.ReplayError.{ReplayError}
 use Rattle.hart_replay.specs.declared.error.ReplayError.TheVariants as replay
+use Rattle.joint_replay.specs.declared.error.JointError.{JointError}
+use Rattle.joint_replay.specs.declared.error.JointError.TheVariants as joint
 use Rattle.run_model.specs.declared.error.TurnError.{TurnError}
 use Rattle.run_model.specs.declared.error.TurnError.TheVariants as turns
 use Rattle.log_commands.specs.Names.{FileNames, name_of}
 use Rattle.log_commands.specs.Marks.{counted}
 use Rattle.log_commands.specs.declared.refusal.Refusal.{Refusal}
-use Rattle.log_commands.specs.declared.refusal.Refusal.TheVariants.{WordsRefused, OutOfRange, SameName, StoreFailed, Missing, TooLong, ElfRefused, LogRefused, ProgramDiffers, OutOfMemory, WriteFailed, ReplayStopped, ReadFailed, LineTooLong, CommandsTooLong, BookRefused, FileDiffers, NothingLeft, TooManyRaces, NoRow}
+use Rattle.log_commands.specs.declared.refusal.Refusal.TheVariants.{WordsRefused, OutOfRange, SameName, StoreFailed, Missing, TooLong, ElfRefused, LogRefused, ProgramDiffers, OutOfMemory, WriteFailed, ReplayStopped, JointStuck, ReadFailed, LineTooLong, CommandsTooLong, BookRefused, FileDiffers, NothingLeft, TooManyRaces, NoRow}
 
 -- ---- the status
 
@@ -39,6 +41,7 @@ status_of (ProgramDiffers kept found) = 8
 status_of OutOfMemory = 9
 status_of WriteFailed = 13
 status_of (ReplayStopped error) = replay_status error
+status_of (JointStuck positions) = 15
 status_of ReadFailed = 12
 status_of LineTooLong = 18
 status_of CommandsTooLong = 18
@@ -60,6 +63,12 @@ log_refusal (File (file.DigestDiffers kept found)) = LogRefused (File (file.Dige
 log_refusal (File (file.BadRecord at)) = LogRefused (File (file.BadRecord at))
 log_refusal (File (file.BadOrder at rule)) = LogRefused (File (file.BadOrder at rule))
 log_refusal (File file.OutOfMemory) = OutOfMemory
+
+-- the refusal of a joint replay that stopped
+abbrev pub joint_refusal : JointError → Refusal
+joint_refusal (joint.Replay error) = ReplayStopped error
+joint_refusal (joint.Stuck positions) = JointStuck positions
+joint_refusal joint.OutOfMemory = OutOfMemory
 
 -- ---- the line
 
@@ -115,6 +124,13 @@ replay_said (replay.RecordsLeft hart left) = pair_text (codes "replay: RecordsLe
 replay_said (replay.EndDiffers hart said found) = codes "replay: EndDiffers " ++ (decimal hart ++ codes " " ++ mark_text said ++ codes " " ++ mark_text found)
 replay_said replay.OutOfMemory = codes "out of memory"
 
+-- a hart that isn't done, with its next count
+unfoldable pub position_text : ℕ × ℕ → List ℕ
+position_text p = codes " " ++ decimal p.0 ++ codes ":" ++ decimal p.1
+
+unfoldable pub positions_text : List (ℕ × ℕ) → List ℕ
+positions_text ps = flat_map position_text ps
+
 -- why a list of turns is refused
 unfoldable pub book_said : TurnError → List ℕ
 book_said (turns.IllegalTurn at hart) = counted (codes "book: turn ") at ++ counted (codes " hart ") hart
@@ -135,6 +151,7 @@ said_of names (ProgramDiffers kept found) = digests_text (codes "program differs
 said_of names OutOfMemory = codes "out of memory"
 said_of names WriteFailed = codes "write failed"
 said_of names (ReplayStopped error) = replay_said error
+said_of names (JointStuck positions) = codes "replay: Stuck" ++ positions_text positions
 said_of names ReadFailed = codes "read failed"
 said_of names LineTooLong = codes "line too long"
 said_of names CommandsTooLong = codes "commands too long"

@@ -4,7 +4,7 @@ use Rattle.bn_outside.specs.Counts.{counted}
 use Rattle.log_commands.specs.RunEnds.{IsRecorded}
 use Rattle.log_commands.specs.declared.answer.Answer.{Answer}
 use Rattle.log_commands.specs.declared.answer.RunToTell.{RunToTell}
-use Rattle.log_commands.specs.declared.answer.Answer.TheVariants.{Recorded, Interval, Joined, Listed, Checked, Agreed, Renewed, Shown, Halted}
+use Rattle.log_commands.specs.declared.answer.Answer.TheVariants.{Recorded, Interval, Joined, Listed, Checked, Agreed, Renewed, Shown}
 
 -- a recording saves two files; a lean one saves one, as does what makes a log of another
 abbrev pub saves_after : (lean : Bool) → ℕ → ℕ
@@ -39,7 +39,6 @@ AnswerSaves (Checked d) status before after = after ≡ before
 AnswerSaves Agreed status before after = after ≡ before
 AnswerSaves (Renewed n) status before after = SavesEach true status before after
 AnswerSaves (Shown text) status before after = after ≡ before
-AnswerSaves (Halted error) status before after = after ≡ before
 
 -- an answer that is a recording, lean or not
 abbrev pub IsRecordedRun : (lean : Bool) → Answer → Type 0
@@ -51,7 +50,6 @@ IsRecordedRun lean (Checked d) = ⊥
 IsRecordedRun lean Agreed = ⊥
 IsRecordedRun lean (Renewed n) = ⊥
 IsRecordedRun lean (Shown text) = ⊥
-IsRecordedRun lean (Halted error) = ⊥
 
 -- an answer that is a log made of another
 abbrev pub IsRenewed : Answer → Type 0
@@ -63,7 +61,6 @@ IsRenewed (Checked d) = ⊥
 IsRenewed Agreed = ⊥
 IsRenewed (Renewed n) = Unit {0}
 IsRenewed (Shown text) = ⊥
-IsRenewed (Halted error) = ⊥
 
 -- an answer that is printed and saves nothing, and whose replay, if it comes of one, has ended
 abbrev pub IsMade : Answer → Type 0
@@ -75,4 +72,3 @@ IsMade (Checked d) = Unit {0}
 IsMade Agreed = Unit {0}
 IsMade (Renewed n) = ⊥
 IsMade (Shown text) = Unit {0}
-IsMade (Halted error) = ⊥

@@ -1,5 +1,5 @@
 -- What a command tells.
-use Rattle.std.specs.Prelude.{ℕ, List, [], Option, None}
+use Rattle.std.specs.Prelude.{ℕ, List, [], Option, Some, None}
 use Rattle.log_commands.specs.Names.{FileNames}
 use Rattle.log_commands.specs.Refusals.{status_of, line_of}
 use Rattle.log_commands.specs.declared.refusal.Refusal.{Refusal}
@@ -23,3 +23,8 @@ refused names refusal = record { status = status_of refusal; out = []; err = lin
 -- a text on out
 abbrev pub printed : List ℕ → Told
 printed text = record { status = 0; out = text; err = []; saved = None }
+
+-- a text on out, and then a refusal, if there is one
+abbrev pub printed_until : FileNames → List ℕ → Option Refusal → Told
+printed_until names text None = printed text
+printed_until names text (Some refusal) = record { status = status_of refusal; out = text; err = line_of names refusal; saved = None }

@@ -9,7 +9,6 @@ use crate::refusal::Refusal;
 use crate::statuses;
 use bn_base::{Image, Settings};
 use elf_loader::{ElfError, load};
-use joint_replay::JointError;
 use log_blocks::read_file;
 use log_file::LogCounts;
 use log_order::KeptLog;
@@ -99,8 +98,6 @@ pub enum Answer {
     Renewed(NewLog),
     /// A text that is made already: the lines of a demonstration, of races or of a slice.
     Shown(Text),
-    /// The joint replay of a log stopped.
-    Halted(JointError),
 }
 
 /// The SHA-256 digest (FIPS 180-4).

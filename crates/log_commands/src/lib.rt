@@ -3,12 +3,12 @@
 //! statuses, loads, and texts sent to an output. Of a recording it knows the answer that is told, and not how it is made.
 #![tactic(auto)]
 
+pub mod acting;
 pub mod answer;
 pub mod commands;
 pub mod inputs;
 mod lines;
 pub mod names;
-pub mod new_log;
 pub mod outside;
 pub mod pairs;
 pub mod refusal;

@@ -3,13 +3,13 @@ ghost use Rattle.std.specs.Prelude.{◌≡◌, ◌++◌, OnOk, codes, decimal};
 ghost use Rattle.rv_text.specs.Instructions.{hex8};
 ghost use Rattle.bn_base.specs.Ranges.{setting_name};
 ghost use Rattle.rv_text.specs.Marks.{mark_text};
-ghost use Rattle.log_commands.specs.Refusals.{digest_text, pair_text, digests_text, elf_said, file_said, log_said, replay_said, book_said, said_of, line_of};
+ghost use Rattle.log_commands.specs.Refusals.{digest_text, pair_text, digests_text, elf_said, file_said, log_said, replay_said, position_text, positions_text, book_said, said_of, line_of};
 ghost use Rattle.log_commands.specs.Marks.{counted};
 
 use crate::names::Names;
 use crate::refusal::Refusal;
 use crate::texts::push_counted;
-use bn_base::{BadSetting, EndMark, HartId};
+use bn_base::{BadSetting, EndMark, HartId, Ic};
 use elf_loader::ElfError;
 use hart_replay::ReplayError;
 use log_blocks::Damage;
@@ -173,6 +173,36 @@ fn push_replay(text: &mut Text, error: &ReplayError) -> Result<(), AllocError>
     }
 }
 
+// Appends a hart that isn't done, with its next count.
+#[tactic(auto, unfolding(crate::specs::Refusals::position_text))]
+fn push_position(text: &mut Text, position: (HartId, Ic)) -> Result<(), AllocError>
+    ensures { OnOk result (text.new ≡ text.old ++ position_text position) }
+{
+    text.push_str(" ")?;
+    text.push_decimal(u64::from(position.0))?;
+    text.push_str(":")?;
+    text.push_decimal(position.1)
+}
+
+// Appends the harts that aren't done.
+#[tactic(auto, unfolding(crate::specs::Refusals::positions_text))]
+fn push_positions(text: &mut Text, positions: &[(HartId, Ic)]) -> Result<(), AllocError>
+    ensures { OnOk result (text.new ≡ text.old ++ positions_text positions.now) }
+{
+    for position in positions {
+        push_position(text, *position)?;
+    }
+    Ok(())
+}
+
+// Appends that no hart is ready.
+fn push_stuck(text: &mut Text, positions: &[(HartId, Ic)]) -> Result<(), AllocError>
+    ensures { OnOk result (text.new ≡ text.old ++ (codes "replay: Stuck" ++ positions_text positions.now)) }
+{
+    text.push_str("replay: Stuck")?;
+    push_positions(text, positions)
+}
+
 // Appends a turn and its hart.
 fn push_turn(text: &mut Text, at: u64, hart: HartId) -> Result<(), AllocError>
     ensures { OnOk result (text.new ≡ text.old ++ (counted (codes "book: turn ") at ++ counted (codes " hart ") hart)) }
@@ -224,6 +254,7 @@ impl Refusal {
             Refusal::OutOfMemory => text.push_str("out of memory"),
             Refusal::WriteFailed => text.push_str("write failed"),
             Refusal::ReplayStopped(error) => push_replay(text, error),
+            Refusal::JointStuck { positions } => push_stuck(text, positions.as_slice()),
             Refusal::ReadFailed => text.push_str("read failed"),
             Refusal::LineTooLong => text.push_str("line too long"),
             Refusal::CommandsTooLong => text.push_str("commands too long"),

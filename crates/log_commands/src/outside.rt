@@ -3,19 +3,18 @@
 
 use crate::inputs::{fetch, limit_of};
 use crate::names::{Names, Role};
-use crate::new_log::save_new;
 use crate::refusal::Refusal;
 use crate::send::{refuse, send_bytes};
-use bn_outside::{Sink, Store};
+use bn_outside::{SaveError, Sink, Store};
 use std::alloc::Global;
 
 /// A store whose files are named by their roles.
 pub trait StoreExt {
     ghost use Rattle.std.specs.Prelude.{ℕ};
     ghost use Rattle.bn_outside.specs.StoreCalls.{StoreCall};
+    ghost use Rattle.log_commands.specs.Acting.{SavesFile};
     ghost use Rattle.log_commands.specs.Answering.{Fetches};
     ghost use Rattle.log_commands.specs.Inputs.{Stored};
-    ghost use Rattle.log_commands.specs.KeptNew.{SavesNew};
 
     /// What the store tells.
     ghost stored: { Self → Stored };
@@ -23,13 +22,13 @@ pub trait StoreExt {
     /// How it notes a call.
     ghost note: { ℕ → StoreCall → ℕ };
 
-    /// The bytes of the file in a role.
+    /// Loads the file in a role.
     fn fetch(&mut self, alloc: Global, names: &Names, role: Role) -> Result<Vec<u8>, Refusal>
         ensures { Fetches names.now role note (stored self.old) (stored self.new) result };
 
-    /// Saves the file of a log that was made of another.
-    fn save_new(&mut self, names: &Names, file: &[u8]) -> Result<(), Refusal>
-        ensures { SavesNew names.now file.now note (stored self.old) (stored self.new) result };
+    /// Saves the file in a role.
+    fn save_file(&mut self, names: &Names, role: Role, file: &[u8]) -> Result<(), Refusal>
+        ensures { SavesFile names.now role file.now note (stored self.old) (stored self.new) result };
 }
 
 impl<S: Store> StoreExt for S {
@@ -41,21 +40,25 @@ impl<S: Store> StoreExt for S {
         fetch(alloc, names, self, role, limit_of(role))
     }
 
-    fn save_new(&mut self, names: &Names, file: &[u8]) -> Result<(), Refusal> {
-        save_new(self, names, file)
+    fn save_file(&mut self, names: &Names, role: Role, file: &[u8]) -> Result<(), Refusal> {
+        match self.save(names.of(role), file) {
+            Ok(()) => Ok(()),
+            Err(SaveError::Failed) => Err(Refusal::StoreFailed(role)),
+            Err(SaveError::OutOfMemory) => Err(Refusal::OutOfMemory),
+        }
     }
 }
 
 /// An output.
 pub trait SinkExt {
-    ghost use Rattle.log_commands.specs.Outside.{Stream, Sends, Always, Refuses};
+    ghost use Rattle.log_commands.specs.Outside.{Stream, SendsBytes, Refuses};
 
     /// What it was given, if it tells that, and how often a write failed.
     ghost stream: { Self → Stream };
 
     /// Sends bytes.
     fn send_bytes(&mut self, bytes: &[u8]) -> Result<(), Refusal>
-        ensures { Sends bytes.now Always (stream self.old) (stream self.new) result };
+        ensures { SendsBytes bytes.now (stream self.old) (stream self.new) result };
 
     /// Tells a refusal, and answers its status; 9 where its line finds no memory.
     fn refuse(&mut self, alloc: Global, names: &Names, refusal: &Refusal) -> u8

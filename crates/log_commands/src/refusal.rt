@@ -1,20 +1,21 @@
 //! Why a command is refused, and the status of each refusal. Its line is in `lines.rt`.
 ghost use Rattle.std.specs.Prelude.{◌≡◌};
-ghost use Rattle.log_commands.specs.Refusals.{status_of, replay_status, log_refusal};
+ghost use Rattle.log_commands.specs.Refusals.{status_of, replay_status, log_refusal, joint_refusal};
 ghost use Rattle.log_commands.specs.declared.refusal.Refusal.TheVariants.{OutOfMemory};
 
 use crate::names::Role;
 use crate::statuses;
-use bn_base::{BadSetting, Ic};
+use bn_base::{BadSetting, HartId, Ic, List};
 use elf_loader::ElfError;
 use hart_replay::ReplayError;
+use joint_replay::JointError;
 use log_blocks::Damage;
 use log_file::FileError;
 use run_model::TurnError;
 use std::alloc::AllocError;
 
 /// Why a command is refused. An error held in a refusal is never its OutOfMemory.
-#[derive(Clone, Copy, Drop)]
+#[derive(Drop)]
 pub enum Refusal {
     /// The words are no command.
     WordsRefused,
@@ -40,6 +41,8 @@ pub enum Refusal {
     WriteFailed,
     /// The log keeps no such interval, or its replay can't go on.
     ReplayStopped(ReplayError),
+    /// No hart of a joint replay is ready, and not all are done. Each that isn't, with its next count.
+    JointStuck { positions: List<(HartId, Ic)> },
     /// Reading commands failed.
     ReadFailed,
     /// A line of commands has more than 256 bytes.
@@ -90,6 +93,17 @@ impl Refusal {
         }
     }
 
+    /// The refusal of a joint replay that stopped.
+    pub fn of_joint(error: JointError) -> Refusal
+        ensures { result ≡ joint_refusal error }
+    {
+        match error {
+            JointError::Replay(error) => Refusal::ReplayStopped(error),
+            JointError::Stuck { positions } => Refusal::JointStuck { positions },
+            JointError::OutOfMemory => Refusal::OutOfMemory,
+        }
+    }
+
     /// The status that the program ends with.
     pub fn status(&self) -> u8
         ensures { result ≡ status_of self.now }
@@ -105,6 +119,7 @@ impl Refusal {
             Refusal::OutOfMemory => statuses::OUT_OF_MEMORY,
             Refusal::WriteFailed => statuses::WRITE_FAILED,
             Refusal::ReplayStopped(error) => replay_status(error),
+            Refusal::JointStuck { .. } => statuses::REPLAY_STOPPED,
             Refusal::ReadFailed => statuses::READ_FAILED,
             Refusal::LineTooLong => statuses::COMMANDS_TOO_LONG,
             Refusal::CommandsTooLong => statuses::COMMANDS_TOO_LONG,

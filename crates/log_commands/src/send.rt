@@ -1,8 +1,8 @@
-//! Texts sent to an output, whole or in blocks, and a refusal told on err.
+//! Texts sent to an output, whole or in blocks, and how a command ends.
 ghost use Rattle.std.specs.Prelude.{◌≡◌, ◌≤◌, IfErr, OnErr};
 ghost use Rattle.bn_outside.specs.Counts.{Rose};
 ghost use Rattle.bn_outside.specs.Streams.{AppendsShort};
-ghost use Rattle.log_commands.specs.Effects.{IsClosed};
+ghost use Rattle.log_commands.specs.Effects.{done_of, IsClosed};
 ghost use Rattle.log_commands.specs.Outside.{Sent, Sends, Gathers, Always, ToldRefusal};
 ghost use Rattle.log_commands.specs.declared.refusal.Refusal.TheVariants.{WriteFailed};
 
@@ -55,17 +55,27 @@ pub fn refuse<X: Sink>(alloc: Global, names: &Names, refusal: &Refusal, err: &mu
     }
 }
 
+/// A text that was printed ends its command as done.
+pub fn done(printed: Result<(), Refusal>) -> Result<u8, Refusal>
+    ensures { result ≡ done_of printed }
+{
+    match printed {
+        Ok(()) => Ok(statuses::DONE),
+        Err(refusal) => Err(refusal),
+    }
+}
+
 /// Ends a command: a refusal, if there is one, is told on err, and gives the status.
 pub fn close<X: SinkExt>(
     alloc: Global,
     names: &Names,
-    done: Result<(), Refusal>,
+    ending: Result<u8, Refusal>,
     err: &mut X,
 ) -> u8
-    ensures { IsClosed names.now done result (X.stream err.old) (X.stream err.new) }
+    ensures { IsClosed names.now ending result (X.stream err.old) (X.stream err.new) }
 {
-    match done {
-        Ok(()) => statuses::DONE,
+    match ending {
+        Ok(status) => status,
         Err(refusal) => err.refuse(alloc, names, &refusal),
     }
 }

@@ -14,7 +14,6 @@ ghost use Rattle.log_commands.specs.Effects.{call};
 
 use back_step::Trail;
 use bn_outside::{Sink, Source, Store};
-use log_commands::commands::joint::stop;
 use log_commands::names::Names;
 use log_commands::pairs::{JointReading, load_pair};
 use log_commands::refusal::Refusal;
@@ -26,8 +25,8 @@ use step_debugger::{DebugError, debug};
 const COPY_EVERY: u64 = 65_536;
 
 // Tells on err why a session stopped, and answers the status.
-fn end<X: Sink>(alloc: Global, names: &Names, error: &DebugError, err: &mut X) -> u8
-    ensures told { ToldStop names.now error.now result (X.written err.old) (X.written err.new) (X.faults err.old) (X.faults err.new) }
+fn end<X: Sink>(alloc: Global, names: &Names, error: DebugError, err: &mut X) -> u8
+    ensures told { ToldStop names.now error result (X.written err.old) (X.written err.new) (X.faults err.old) (X.faults err.new) }
     ensures later { X.faults err.old ≤ X.faults err.new }
 {
     match error {
@@ -35,7 +34,7 @@ fn end<X: Sink>(alloc: Global, names: &Names, error: &DebugError, err: &mut X) -
         DebugError::WriteFault => refuse(alloc, names, &Refusal::WriteFailed, err),
         DebugError::LineTooLong { .. } => refuse(alloc, names, &Refusal::LineTooLong, err),
         DebugError::TooMuch { .. } => refuse(alloc, names, &Refusal::CommandsTooLong, err),
-        DebugError::Joint(error) => stop(alloc, names, error, err),
+        DebugError::Joint(error) => refuse(alloc, names, &Refusal::of_joint(error), err),
         DebugError::OutOfMemory => refuse(alloc, names, &Refusal::OutOfMemory, err),
     }
 }
@@ -59,7 +58,7 @@ fn debug_trail<I: Source, O: Sink, X: Sink>(
 {
     match debug(alloc, trail, input, out) {
         Ok(()) => 0,
-        Err(error) => end(alloc, names, &error, err),
+        Err(error) => end(alloc, names, error, err),
     }
 }
 

@@ -1,6 +1,6 @@
 //! The command `races`: the races of what a log keeps.
 ghost use Rattle.std.specs.Prelude.{◌≡◌};
-ghost use Rattle.log_commands.specs.Outside.{IsPrinted};
+ghost use Rattle.log_commands.specs.SaveCounts.{IsMade};
 ghost use Rattle.log_commands.specs.RaceAnswers.{races_with};
 ghost use Rattle.log_commands.specs.Answering.{Answers};
 ghost use Rattle.log_commands.specs.Commands.{IsByLog};
@@ -14,11 +14,11 @@ use std::alloc::Global;
 
 // The races of a log with its program, at most so many.
 fn races_of(alloc: Global, reading: &JointReading, most: u64) -> Result<Answer, Refusal>
-    ensures { Answers IsPrinted (λ names what. what ≡ races_with names most reading.now.log reading.now.image) result }
+    ensures { Answers IsMade (λ names what. what ≡ races_with names most reading.now.log reading.now.image) result }
 {
     match races_text(alloc, &reading.image, &reading.log, most) {
         Ok(text) => Ok(Answer::Shown(text)),
-        Err(RaceError::Joint(error)) => Ok(Answer::Halted(error)),
+        Err(RaceError::Joint(error)) => Err(Refusal::of_joint(error)),
         Err(RaceError::TooMany { max }) => Err(Refusal::TooManyRaces { most: max }),
         Err(RaceError::OutOfMemory) => Err(Refusal::OutOfMemory),
     }
@@ -26,7 +26,7 @@ fn races_of(alloc: Global, reading: &JointReading, most: u64) -> Result<Answer, 
 
 /// The races of what a log file with its program file keeps, where there are at most so many.
 pub fn evaluate(alloc: Global, log: &[u8], elf: &[u8], most: u64) -> Result<Answer, Refusal>
-    ensures { Answers IsPrinted (λ names. IsByLog names log.now (pair_of (races_with names most) names elf.now)) result }
+    ensures { Answers IsMade (λ names. IsByLog names log.now (pair_of (races_with names most) names elf.now)) result }
 {
     let pair = read_pair(alloc, log, elf)?;
     races_of(alloc, &pair, most)

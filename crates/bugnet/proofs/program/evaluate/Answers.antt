@@ -26,8 +26,8 @@ returns-in-Joint-clause-answers c =
 pub returns-in-Races-clause-answers : goal.returns-in-Races-clause-answers
 returns-in-Races-clause-answers c =
     rw c.in-Races.is
-    (subst (λ (log : List ℕ). Answers IsPrinted (λ names. IsByLog names log (pair_of (races_with names c.in-Races.max) names c.args.inputs.elf.items)) c.evaluate-in-Races.result) c.deref-in-Races.ensures.value
-    (subst (λ (elf : List ℕ). Answers IsPrinted (λ names. IsByLog names c.deref-in-Races.result.now (pair_of (races_with names c.in-Races.max) names elf)) c.evaluate-in-Races.result) c.deref-in-Races-2.ensures.value c.evaluate-in-Races.ensures))
+    (subst (λ (log : List ℕ). Answers IsMade (λ names. IsByLog names log (pair_of (races_with names c.in-Races.max) names c.args.inputs.elf.items)) c.evaluate-in-Races.result) c.deref-in-Races.ensures.value
+    (subst (λ (elf : List ℕ). Answers IsMade (λ names. IsByLog names c.deref-in-Races.result.now (pair_of (races_with names c.in-Races.max) names elf)) c.evaluate-in-Races.result) c.deref-in-Races-2.ensures.value c.evaluate-in-Races.ensures))
 
 pub returns-in-Slice-clause-answers : goal.returns-in-Slice-clause-answers
 returns-in-Slice-clause-answers c =

@@ -102,12 +102,12 @@ returns-in-Err-OutOfMemory-clause-others g c =
 pub returns-in-Ok-clause-told : goal.returns-in-Ok-clause-told
 returns-in-Ok-clause-told g c =
     let k = call (g.S.Store.files) (g.S.Store.counts) (g.O.Sink.written) (g.O.Sink.faults) (g.X.Sink.written) (g.X.Sink.faults) c.args.store.now c.args.out.now c.args.err.now c.obey.new.store c.obey.new.out c.obey.new.err in
-    subst (λ (l : Option Line). TellsAnswer l c.obey.result k) (sym c.in-Ok.ensures.taken) c.obey.ensures.does.obeys.told
+    subst (λ (l : Option Line). TellsAnswer l c.obey.result k) (sym c.in-Ok.ensures.taken) c.obey.ensures.obeys.told
 
 pub returns-in-Ok-clause-words : goal.returns-in-Ok-clause-words
 returns-in-Ok-clause-words g c =
     let k = call (g.S.Store.files) (g.S.Store.counts) (g.O.Sink.written) (g.O.Sink.faults) (g.X.Sink.written) (g.X.Sink.faults) c.args.store.now c.args.out.now c.args.err.now c.obey.new.store c.obey.new.out c.obey.new.err in
-    subst (λ (l : Option Line). ByWords l c.obey.result k) (sym c.in-Ok.ensures.taken) c.obey.ensures.does.obeys.words
+    subst (λ (l : Option Line). ByWords l c.obey.result k) (sym c.in-Ok.ensures.taken) c.obey.ensures.obeys.words
 
 pub returns-in-Ok-clause-headline : goal.returns-in-Ok-clause-headline
 returns-in-Ok-clause-headline g c =
@@ -172,7 +172,7 @@ returns-in-Err-OutOfMemory-clause-saves g c =
 
 pub returns-in-Ok-clause-saves : goal.returns-in-Ok-clause-saves
 returns-in-Ok-clause-saves g c =
-    subst (λ (l : Option Line). LineSaves l c.obey.result (g.S.Store.saves c.args.store.now) (g.S.Store.saves c.obey.new.store)) (sym c.in-Ok.ensures.taken) c.obey.ensures.does.saves
+    subst (λ (l : Option Line). LineSaves l c.obey.result (g.S.Store.saves c.args.store.now) (g.S.Store.saves c.obey.new.store)) (sym c.in-Ok.ensures.taken) c.obey.ensures.saves
 
 pub returns-in-Err-Refused-clause-session : goal.returns-in-Err-Refused-clause-session
 returns-in-Err-Refused-clause-session g c =
@@ -196,17 +196,17 @@ returns-in-Err-OutOfMemory-clause-read g c = λ e. absurd (not-read c.none-in-Er
 pub returns-in-Ok-clause-session : goal.returns-in-Ok-clause-session
 returns-in-Ok-clause-session g c =
     let k = call (g.S.Store.files) (g.S.Store.counts) (g.O.Sink.written) (g.O.Sink.faults) (g.X.Sink.written) (g.X.Sink.faults) c.args.store.now c.args.out.now c.args.err.now c.obey.new.store c.obey.new.out c.obey.new.err in
-    subst (λ (l : Option Line). Debugs l c.obey.result (g.I.Source.left c.args.input.now) (g.I.Source.left c.obey.new.input) (g.I.Source.faults c.args.input.now) (g.I.Source.faults c.obey.new.input) (g.I.Source.reads c.args.input.now) (g.I.Source.reads c.obey.new.input) k) (sym c.in-Ok.ensures.taken) c.obey.ensures.does.session
+    subst (λ (l : Option Line). Debugs l c.obey.result (g.I.Source.left c.args.input.now) (g.I.Source.left c.obey.new.input) (g.I.Source.faults c.args.input.now) (g.I.Source.faults c.obey.new.input) (g.I.Source.reads c.args.input.now) (g.I.Source.reads c.obey.new.input) k) (sym c.in-Ok.ensures.taken) c.obey.ensures.session
 
 pub returns-in-Ok-clause-begins : goal.returns-in-Ok-clause-begins
 returns-in-Ok-clause-begins g c =
-    elim c.obey.ensures.does.begins [
+    elim c.obey.ensures.begins [
       | inl same ↦ inl same
       | inr can ↦ inr (subst (λ (l : Option Line). WithFiles (g.S.Store.files c.args.store.now) (λ files. CanBegin l files)) (sym c.in-Ok.ensures.taken) can)
     ]
 
 pub returns-in-Ok-clause-unread : goal.returns-in-Ok-clause-unread
-returns-in-Ok-clause-unread g c = λ no. c.obey.ensures.does.unread (subst (λ (l : Option Line). IsNoSession l) c.in-Ok.ensures.taken no)
+returns-in-Ok-clause-unread g c = λ no. c.obey.ensures.unread (subst (λ (l : Option Line). IsNoSession l) c.in-Ok.ensures.taken no)
 
 pub returns-in-Err-Refused-clause-audited : goal.returns-in-Err-Refused-clause-audited
 returns-in-Err-Refused-clause-audited g c =
@@ -264,7 +264,7 @@ returns-in-Err-OutOfMemory-clause-calls g c =
 
 pub returns-in-Ok-clause-calls : goal.returns-in-Ok-clause-calls
 returns-in-Ok-clause-calls g c =
-    subst (λ (l : Option Line). CallsOnly l c.obey.result g.S.Store.note (g.S.Store.noted c.args.store.now) (g.S.Store.noted c.obey.new.store) (call (g.S.Store.files) (g.S.Store.counts) (g.O.Sink.written) (g.O.Sink.faults) (g.X.Sink.written) (g.X.Sink.faults) c.args.store.now c.args.out.now c.args.err.now c.obey.new.store c.obey.new.out c.obey.new.err)) (sym c.in-Ok.ensures.taken) c.obey.ensures.does.calls
+    subst (λ (l : Option Line). CallsOnly l c.obey.result g.S.Store.note (g.S.Store.noted c.args.store.now) (g.S.Store.noted c.obey.new.store) (call (g.S.Store.files) (g.S.Store.counts) (g.O.Sink.written) (g.O.Sink.faults) (g.X.Sink.written) (g.X.Sink.faults) c.args.store.now c.args.out.now c.args.err.now c.obey.new.store c.obey.new.out c.obey.new.err)) (sym c.in-Ok.ensures.taken) c.obey.ensures.calls
 
 pub returns-in-Err-Refused-clause-shape : goal.returns-in-Err-Refused-clause-shape
 returns-in-Err-Refused-clause-shape g c =
@@ -292,25 +292,25 @@ returns-in-Err-OutOfMemory-clause-demo g c =
 
 pub returns-in-Ok-clause-demo : goal.returns-in-Ok-clause-demo
 returns-in-Ok-clause-demo g c =
-    subst (λ (l : Option Line). TellsDemo l c.obey.result (call (g.S.Store.files) (g.S.Store.counts) (g.O.Sink.written) (g.O.Sink.faults) (g.X.Sink.written) (g.X.Sink.faults) c.args.store.now c.args.out.now c.args.err.now c.obey.new.store c.obey.new.out c.obey.new.err)) (sym c.in-Ok.ensures.taken) c.obey.ensures.does.demo
+    subst (λ (l : Option Line). TellsDemo l c.obey.result (call (g.S.Store.files) (g.S.Store.counts) (g.O.Sink.written) (g.O.Sink.faults) (g.X.Sink.written) (g.X.Sink.faults) c.args.store.now c.args.out.now c.args.err.now c.obey.new.store c.obey.new.out c.obey.new.err)) (sym c.in-Ok.ensures.taken) c.obey.ensures.demo
 
 pub returns-in-Ok-clause-failed : goal.returns-in-Ok-clause-failed
-returns-in-Ok-clause-failed g c = c.obey.ensures.does.obeys.failed
+returns-in-Ok-clause-failed g c = c.obey.ensures.obeys.failed
 
 pub returns-in-Ok-clause-missing : goal.returns-in-Ok-clause-missing
-returns-in-Ok-clause-missing g c = c.obey.ensures.does.obeys.missing
+returns-in-Ok-clause-missing g c = c.obey.ensures.obeys.missing
 
 pub returns-in-Ok-clause-long : goal.returns-in-Ok-clause-long
-returns-in-Ok-clause-long g c = c.obey.ensures.does.obeys.long
+returns-in-Ok-clause-long g c = c.obey.ensures.obeys.long
 
 pub returns-in-Ok-clause-write : goal.returns-in-Ok-clause-write
-returns-in-Ok-clause-write g c = c.obey.ensures.does.obeys.write
+returns-in-Ok-clause-write g c = c.obey.ensures.obeys.write
 
 pub returns-in-Ok-clause-later : goal.returns-in-Ok-clause-later
-returns-in-Ok-clause-later g c = c.obey.ensures.does.obeys.counts
+returns-in-Ok-clause-later g c = c.obey.ensures.obeys.counts
 
 pub returns-in-Ok-clause-out_later : goal.returns-in-Ok-clause-out_later
-returns-in-Ok-clause-out_later g c = c.obey.ensures.does.obeys.later.out
+returns-in-Ok-clause-out_later g c = c.obey.ensures.obeys.later.out
 
 pub returns-in-Ok-clause-err_later : goal.returns-in-Ok-clause-err_later
-returns-in-Ok-clause-err_later g c = c.obey.ensures.does.obeys.later.err
+returns-in-Ok-clause-err_later g c = c.obey.ensures.obeys.later.err

@@ -1,21 +1,38 @@
+use Rattle.std.proofs.Common.{[]}
 use Rattle.sha2.specs.Sha256.{sha256}
-use Rattle.bugnet.proofs.Begins.{begins-refused, begins-program}
+use Rattle.elf_loader.specs.Loaded.{image_of}
 use Rattle.log_commands.specs.FileCalls.{input_roles}
+use Rattle.log_commands.proofs.Acts.{none-fell}
+use Rattle.log_commands.proofs.Answering.{passed-on}
+use Rattle.bugnet.specs.Command.Record.{IsByProgram}
+use Rattle.bugnet.specs.Starts.{LoadsStart}
+use Rattle.bugnet.proofs.Begins.{begins-refused, begins-program}
 use Rattle.bugnet.proofs.LineCalls.{own-first}
+use Rattle.std.proofs.Common.{refl}
 use Rattle.bugnet.proofs.commands.record.load_start.Goals as goal
 
-pub returns-in-Err-clause-told : goal.returns-in-Err-clause-told
-returns-in-Err-clause-told g c = λ how.
-    begins-refused (g.S.Store.files c.args.store.now) c.args.names.now c.args.elf.now c.args.settings.now how c.args.has_input (sha256 c.args.elf.now) c.in-Err.refusal c.in-Err.ensures.loaded
+pub returns-in_err-image-clause-loads : goal.returns-in_err-image-clause-loads
+returns-in_err-image-clause-loads g c =
+    let names = c.args.names.now in
+    let elf = c.args.elf.now in
+    let settings = c.args.settings.now in
+    let old = g.S.StoreExt.stored c.args.store.now in
+    let x = c.in_err-image.field-0.0 in
+    passed-on (LoadsStart names (λ how files. IsByProgram (image_of elf settings) files names settings how c.args.has_input (sha256 elf)) (input_roles c.args.has_input) [] g.S.StoreExt.note old old) x c.from_residual.result c.from_residual.ensures.1
+    (record {
+      told = λ how. begins-refused old.files names elf settings how c.args.has_input (sha256 elf) x c.in_err-image.ensures.loaded;
+      only = record { same = refl; asks = refl; later = none-fell old.counts; cause = c.in_err-image.ensures.own old.counts old.counts };
+      calls = own-first g.S.StoreExt.note names (input_roles c.args.has_input) old.noted x c.in_err-image.ensures.own;
+    })
 
-pub returns-in-Err-clause-cause : goal.returns-in-Err-clause-cause
-returns-in-Err-clause-cause g c = c.in-Err.ensures.own _ _
-
-pub returns-in-Ok-clause-told : goal.returns-in-Ok-clause-told
-returns-in-Ok-clause-told g c = λ how.
-    begins-program (g.S.Store.files c.args.store.now) c.args.names.now c.args.elf.now c.args.settings.now how c.args.has_input (sha256 c.args.elf.now) c.in-Ok.image c.load_input.result c.in-Ok.ensures.loaded
-    (rw c.digest_of.ensures at (c.load_input.ensures.told how))
-
-pub returns-in-Err-clause-calls : goal.returns-in-Err-clause-calls
-returns-in-Err-clause-calls g c =
-    own-first g.S.Store.note c.args.names.now (input_roles c.args.has_input) (g.S.Store.noted c.args.store.now) c.in-Err.refusal c.in-Err.ensures.own
+pub returns-clause-loads : goal.returns-clause-loads
+returns-clause-loads g c =
+    let names = c.args.names.now in
+    let elf = c.args.elf.now in
+    let old = g.S.StoreExt.stored c.args.store.now in
+    let loads = c.load_input.ensures in
+    record {
+      told = λ how. begins-program old.files names elf c.args.settings.now how c.args.has_input (sha256 elf) c.in_ok-image.image c.load_input.result c.in_ok-image.ensures.loaded (rw c.digest_of.ensures at (loads.told how));
+      only = loads.only;
+      calls = loads.calls;
+    }

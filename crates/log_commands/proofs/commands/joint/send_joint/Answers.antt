@@ -1,20 +1,19 @@
-use Rattle.std.proofs.Common.{sym, ◌∙◌, arith}
 use Rattle.joint_replay.specs.Joining.{run_all}
-use Rattle.log_commands.proofs.Joins.{steps-part, words-short}
+use Rattle.joint_replay.specs.Texts.{joint_text}
+use Rattle.log_commands.specs.Joined.{stop_of}
+use Rattle.log_commands.specs.Outside.{SendsUntil}
+use Rattle.log_commands.proofs.Answering.{passed-on}
+use Rattle.log_commands.proofs.Joins.{steps-refused, steps-words}
 use Rattle.log_commands.proofs.commands.joint.send_joint.Goals as goal
 
-pub returns-in-Err : goal.returns-in-Err
-returns-in-Err g c = record {
-  sent =
-    (steps-part (run_all c.args.joint.now) (g.O.SinkExt.stream c.args.out.now).text (g.O.SinkExt.stream c.send_steps.new.out).text c.in-Err.ensures.sent.0, c.in-Err.ensures.sent.1);
-  later = c.send_steps.ensures.later;
-}
+pub returns-in_err-send_steps : goal.returns-in_err-send_steps
+returns-in_err-send_steps g c =
+    let r = run_all c.args.joint.now in
+    let old = g.O.SinkExt.stream c.args.out.now in
+    let new = g.O.SinkExt.stream c.send_steps.new.out in
+    passed-on (SendsUntil (joint_text r) (stop_of r) old new) _ c.from_residual.result c.from_residual.ensures.1 (steps-refused r _ old new c.in_err-send_steps.ensures.sends)
 
-pub returns-in-Err-send_words : goal.returns-in-Err-send_words
-returns-in-Err-send_words g c = record {
-  sent =
-    words-short (run_all c.args.joint.now) c.send_steps.new.joint (g.O.SinkExt.stream c.args.out.now).text (g.O.SinkExt.stream c.send_steps.new.out).text (g.O.SinkExt.stream c.send_words.new.out).text
-    (g.O.SinkExt.stream c.args.out.now).faults (g.O.SinkExt.stream c.send_steps.new.out).faults (g.O.SinkExt.stream c.send_words.new.out).faults c.in-Err-send_words.refusal
-    (sym c.in-None.is ∙ c.in-Ok.ensures.sent.1.0) c.in-Ok.ensures.sent.1.1 c.in-Ok.ensures.sent.0 c.in-Ok.ensures.later c.in-Err-send_words.ensures.sent;
-  later = omega (arith, c.send_steps.ensures.later, c.send_words.ensures.later);
-}
+pub returns : goal.returns
+returns g c =
+    steps-words (run_all c.args.joint.now) c.send_steps.new.joint (g.O.SinkExt.stream c.args.out.now) (g.O.SinkExt.stream c.send_steps.new.out) (g.O.SinkExt.stream c.send_words.new.out) c.send_words.result
+    c.in_ok-send_steps.ensures.sends c.in_ok-send_steps.ensures.now c.send_words.ensures

@@ -1,58 +1,15 @@
-use Rattle.std.proofs.Common.{ℕ, List, Bool, sym, subst, arith}
-use Rattle.std.specs.Prelude.{Result, Ok, Option}
-use Rattle.joint_replay.specs.declared.error.JointError.{JointError}
+use Rattle.std.proofs.Common.{ℕ, List, Bool, inr, sym, subst, arith}
+use Rattle.std.specs.Prelude.{Ok, Err}
 use Rattle.joint_replay.specs.Joining.{run_all}
-use Rattle.joint_replay.specs.Texts.{steps_text}
 use Rattle.joint_replay.specs.Runs.{Advances}
-use Rattle.log_commands.specs.JointEnds.{RanAs}
-use Rattle.log_commands.specs.Outside.{Sent}
+use Rattle.joint_replay.specs.Texts.{steps_text}
+use Rattle.log_commands.specs.Joined.{stop_of}
+use Rattle.log_commands.specs.JointEnds.{SendsSteps}
+use Rattle.log_commands.specs.Outside.{SentUntil}
 use Rattle.log_commands.specs.declared.refusal.Refusal.{Refusal}
-use Rattle.log_commands.proofs.Joins.{Walks, walks-none, walks-done, walks-more, walks-stopped, walks-short, walks-ended}
+use Rattle.log_commands.proofs.Answering.{passed-on}
+use Rattle.log_commands.proofs.Joins.{Walks, walks-none, walks-sent, walks-more, walks-stopped, walks-short, walks-ended}
 use Rattle.log_commands.proofs.commands.joint.send_run.Goals as goal
-
-pub steps-preserved : goal.steps-preserved
-steps-preserved g c =
-    walks-more c.runs_go_on.ensures c.args.joint.now c.steps.joint c.advance.new.self c.steps.text c.advance.new.out c.send_block.new.text
-    (g.O.SinkExt.stream c.args.out.now).text (g.O.SinkExt.stream c.steps.out).text (g.O.SinkExt.stream c.send_block.new.out).text (g.O.SinkExt.stream c.args.out.now).faults (g.O.SinkExt.stream c.steps.out).faults (g.O.SinkExt.stream c.send_block.new.out).faults
-    (subst (λ (b : Bool). Advances c.steps.joint (Ok b) c.advance.new.self c.steps.text c.advance.new.out) c.if-not-more.false c.in-Ok.ensures) c.steps.invariant c.in-Ok-send_block.ensures.sent c.send_block.ensures.later
-
-pub returns-in-Err-send : goal.returns-in-Err-send
-returns-in-Err-send g c = record {
-  sent =
-    walks-short c.args.joint.now c.steps.joint c.steps.text c.advance.new.out
-    (g.O.SinkExt.stream c.args.out.now).text (g.O.SinkExt.stream c.steps.out).text (g.O.SinkExt.stream c.send.new.sink).text (g.O.SinkExt.stream c.args.out.now).faults (g.O.SinkExt.stream c.steps.out).faults (g.O.SinkExt.stream c.send.new.sink).faults c.in-Err-send.refusal
-    (subst (λ (b : Bool). Advances c.steps.joint (Ok b) c.advance.new.self c.steps.text c.advance.new.out) c.if-not-more.true c.in-Ok.ensures).1 c.steps.invariant c.in-Err-send.ensures.sent;
-  later = omega (arith, c.steps.invariant.sent.later, c.send.ensures.later);
-}
-
-pub returns-in-Err-send_block : goal.returns-in-Err-send_block
-returns-in-Err-send_block g c = record {
-  sent =
-    walks-stopped c.runs_go_on.ensures c.args.joint.now c.steps.joint c.advance.new.self c.steps.text c.advance.new.out
-    (g.O.SinkExt.stream c.args.out.now).text (g.O.SinkExt.stream c.steps.out).text (g.O.SinkExt.stream c.send_block.new.out).text (g.O.SinkExt.stream c.args.out.now).faults (g.O.SinkExt.stream c.steps.out).faults (g.O.SinkExt.stream c.send_block.new.out).faults c.in-Err-send_block.refusal
-    (subst (λ (b : Bool). Advances c.steps.joint (Ok b) c.advance.new.self c.steps.text c.advance.new.out) c.if-not-more.false c.in-Ok.ensures) c.steps.invariant c.in-Err-send_block.ensures.sent;
-  later = omega (arith, c.steps.invariant.sent.later, c.send_block.ensures.later);
-}
-
-pub returns-in-Ok-send-2 : goal.returns-in-Ok-send-2
-returns-in-Ok-send-2 g c = record {
-  sent =
-    subst (λ (r : Result (Option JointError) Refusal). Sent (g.O.SinkExt.stream c.args.out.now).text (g.O.SinkExt.stream c.send-in-Err.new.sink).text (g.O.SinkExt.stream c.args.out.now).faults (g.O.SinkExt.stream c.send-in-Err.new.sink).faults (steps_text (run_all c.args.joint.now).walk.taken) (RanAs c.args.joint.now c.advance.new.self) r)
-    (sym c.stop_of.ensures)
-    (walks-ended c.runs_end.ensures c.args.joint.now c.steps.joint c.advance.new.self c.steps.text c.advance.new.out
-    (g.O.SinkExt.stream c.args.out.now).text (g.O.SinkExt.stream c.steps.out).text (g.O.SinkExt.stream c.send-in-Err.new.sink).text (g.O.SinkExt.stream c.args.out.now).faults (g.O.SinkExt.stream c.steps.out).faults (g.O.SinkExt.stream c.send-in-Err.new.sink).faults c.in-Err.error
-    c.in-Err.ensures c.steps.invariant c.in-Ok-send-2.ensures.sent.0 c.send-in-Err.ensures.later);
-  later = omega (arith, c.steps.invariant.sent.later, c.send-in-Err.ensures.later);
-}
-
-pub returns-in-Err-send-2 : goal.returns-in-Err-send-2
-returns-in-Err-send-2 g c = record {
-  sent =
-    walks-short c.args.joint.now c.steps.joint c.steps.text c.advance.new.out
-    (g.O.SinkExt.stream c.args.out.now).text (g.O.SinkExt.stream c.steps.out).text (g.O.SinkExt.stream c.send-in-Err.new.sink).text (g.O.SinkExt.stream c.args.out.now).faults (g.O.SinkExt.stream c.steps.out).faults (g.O.SinkExt.stream c.send-in-Err.new.sink).faults c.in-Err-send-2.refusal
-    c.in-Err.ensures.0 c.steps.invariant c.in-Err-send-2.ensures.sent;
-  later = omega (arith, c.steps.invariant.sent.later, c.send-in-Err.ensures.later);
-}
 
 pub steps-init : goal.steps-init
 steps-init g c =
@@ -60,11 +17,62 @@ steps-init g c =
     let faults = (g.O.SinkExt.stream c.args.out.now).faults in
     subst (λ (t : List ℕ). Walks c.args.joint.now c.args.joint.now t known known faults faults) (sym c.requires) (walks-none c.args.joint.now known faults)
 
-pub returns-in-Ok-send : goal.returns-in-Ok-send
-returns-in-Ok-send g c = record {
-  sent =
-    walks-done c.runs_end.ensures c.args.joint.now c.steps.joint c.advance.new.self c.steps.text c.advance.new.out
-    (g.O.SinkExt.stream c.args.out.now).text (g.O.SinkExt.stream c.steps.out).text (g.O.SinkExt.stream c.send.new.sink).text (g.O.SinkExt.stream c.args.out.now).faults (g.O.SinkExt.stream c.steps.out).faults (g.O.SinkExt.stream c.send.new.sink).faults
-    (subst (λ (b : Bool). Advances c.steps.joint (Ok b) c.advance.new.self c.steps.text c.advance.new.out) c.if-not-more.true c.in-Ok.ensures) c.steps.invariant c.in-Ok-send.ensures.sent.0 c.send.ensures.later;
-  later = omega (arith, c.steps.invariant.sent.later, c.send.ensures.later);
-}
+pub steps-preserved : goal.steps-preserved
+steps-preserved g c =
+    let old = g.O.SinkExt.stream c.args.out.now in
+    let here = g.O.SinkExt.stream c.steps.out in
+    let there = g.O.SinkExt.stream c.send_block.new.out in
+    walks-more c.runs_go_on.ensures c.args.joint.now c.steps.joint c.advance.new.self c.steps.text c.advance.new.out c.send_block.new.text old.text here.text there.text old.faults here.faults there.faults
+    (subst (λ (b : Bool). Advances c.steps.joint (Ok b) c.advance.new.self c.steps.text c.advance.new.out) c.in-Ok-true.field-0-test c.in-Ok-true.ensures) c.steps.invariant c.in_ok-send_block-in-Ok-true.ensures.sent c.send_block.ensures.later
+
+pub returns-in_err-send_block-in-Ok-true : goal.returns-in_err-send_block-in-Ok-true
+returns-in_err-send_block-in-Ok-true g c =
+    let old = g.O.SinkExt.stream c.args.out.now in
+    let here = g.O.SinkExt.stream c.steps.out in
+    let there = g.O.SinkExt.stream c.send_block.new.out in
+    let x = c.in_err-send_block-in-Ok-true.field-0.0 in
+    passed-on (SendsSteps c.args.joint.now c.advance.new.self old there) x c.from_residual.result c.from_residual.ensures.1
+    (record {
+      sends = record {
+        sent = inr (walks-stopped c.runs_go_on.ensures c.args.joint.now c.steps.joint c.advance.new.self c.steps.text c.advance.new.out old.text here.text there.text old.faults here.faults there.faults x
+            (subst (λ (b : Bool). Advances c.steps.joint (Ok b) c.advance.new.self c.steps.text c.advance.new.out) c.in-Ok-true.field-0-test c.in-Ok-true.ensures) c.steps.invariant c.in_err-send_block-in-Ok-true.ensures.sent);
+        later = omega (arith, c.steps.invariant.sent.later, c.send_block.ensures.later);
+      };
+      now = tt;
+    })
+
+pub returns-in-Ok-false : goal.returns-in-Ok-false
+returns-in-Ok-false g c =
+    walks-sent c.runs_end.ensures c.args.joint.now c.steps.joint c.advance.new.self c.steps.text c.advance.new.out (g.O.SinkExt.stream c.args.out.now) (g.O.SinkExt.stream c.steps.out) (g.O.SinkExt.stream c.send.new.sink) c.send.result
+    (subst (λ (b : Bool). Advances c.steps.joint (Ok b) c.advance.new.self c.steps.text c.advance.new.out) c.in-Ok-false.field-0-test c.in-Ok-false.ensures) c.steps.invariant c.send.ensures
+
+pub returns-in_err-send-in-Err : goal.returns-in_err-send-in-Err
+returns-in_err-send-in-Err g c =
+    let old = g.O.SinkExt.stream c.args.out.now in
+    let here = g.O.SinkExt.stream c.steps.out in
+    let there = g.O.SinkExt.stream c.send-in-Err.new.sink in
+    let x = c.in_err-send-in-Err.field-0.0 in
+    passed-on (SendsSteps c.args.joint.now c.advance.new.self old there) x c.from_residual-in_err-send-in-Err.result c.from_residual-in_err-send-in-Err.ensures.1
+    (record {
+      sends = record {
+        sent = inr (walks-short c.args.joint.now c.steps.joint c.steps.text c.advance.new.out old.text here.text there.text old.faults here.faults there.faults x c.in-Err.ensures.0 c.steps.invariant c.in_err-send-in-Err.ensures.sent);
+        later = omega (arith, c.steps.invariant.sent.later, c.send-in-Err.ensures.later);
+      };
+      now = tt;
+    })
+
+pub returns-in-Err : goal.returns-in-Err
+returns-in-Err g c =
+    let old = g.O.SinkExt.stream c.args.out.now in
+    let here = g.O.SinkExt.stream c.steps.out in
+    let there = g.O.SinkExt.stream c.send-in-Err.new.sink in
+    let r = run_all c.args.joint.now in
+    record {
+      sends = record {
+        sent = subst (λ (x : Refusal). SentUntil {A = Unit {0}} old.text there.text old.faults there.faults (steps_text r.walk.taken) (stop_of r) (Err x)) (sym c.of_joint.ensures)
+            (walks-ended c.runs_end.ensures c.args.joint.now c.steps.joint c.advance.new.self c.steps.text c.advance.new.out old.text here.text there.text old.faults here.faults there.faults c.in-Err.error c.in-Err.ensures c.steps.invariant
+            c.in_ok-send-in-Err.ensures.sent.0 c.send-in-Err.ensures.later);
+        later = omega (arith, c.steps.invariant.sent.later, c.send-in-Err.ensures.later);
+      };
+      now = tt;
+    }

@@ -1,7 +1,7 @@
 use Rattle.std.proofs.Common.{inl, inr, refl}
 use Rattle.joint_replay.specs.Joining.{run_all}
 use Rattle.log_commands.specs.Joined.{joined}
-use Rattle.log_commands.proofs.Races.{races-listed, races-refused, races-halted}
+use Rattle.log_commands.proofs.Races.{races-listed, races-refused, races-halted, own-joint}
 use Rattle.log_commands.proofs.commands.races.races_of.Goals as goal
 
 pub returns-in-Ok : goal.returns-in-Ok
@@ -16,11 +16,11 @@ returns-in-Ok c =
 pub returns-in-Err-Joint : goal.returns-in-Err-Joint
 returns-in-Err-Joint c =
     let d = c.args.reading.now.log in
-    record {
-      gives = λ names. races-halted names c.args.most d.head.settings.harts (run_all (joined d c.args.reading.now.image)) c.in-Err-Joint.error (rw c.in-Err-Joint.field-0-is at c.in-Err-Joint.ensures);
-      own = λ before now. tt;
+    rw c.of_joint.ensures (record {
+      gives = λ names. inr (races-halted names c.args.most d.head.settings.harts (run_all (joined d c.args.reading.now.image)) c.in-Err-Joint.error (rw c.in-Err-Joint.field-0-is at c.in-Err-Joint.ensures));
+      own = λ before now. own-joint c.in-Err-Joint.error before now;
       kind = tt;
-    }
+    })
 
 pub returns-in-Err-TooMany : goal.returns-in-Err-TooMany
 returns-in-Err-TooMany c =

@@ -1,0 +1,73 @@
+-- What is done with an answer: its files are saved, and its texts printed.
+use Rattle.std.specs.Prelude.{◌≡◌, ◌⊎◌, ℕ, Bool, List, Some, Result, OnOk, IfErr}
+use Rattle.bn_outside.specs.Counts.{Rose, NoneFell, counted}
+use Rattle.bn_outside.specs.Files.{WhereTold, SameElsewhere}
+use Rattle.log_commands.specs.Effects.{Call, Acts, IsClosed}
+use Rattle.log_commands.specs.FileCalls.{Note, Saves, store_call, saves_in, saves_of, SavesTo, SavesTold}
+use Rattle.log_commands.specs.Inputs.{Stored}
+use Rattle.log_commands.specs.Names.{FileNames, name_of}
+use Rattle.log_commands.specs.Outside.{Stream, SaveTells, IsPrinted, told_of}
+use Rattle.log_commands.specs.SaveCounts.{saves_after, AtMostSaves, AnswerSaves}
+use Rattle.log_commands.specs.Told.{Saved}
+use Rattle.log_commands.specs.declared.answer.Answer.{Answer}
+use Rattle.log_commands.specs.declared.names.Role.{Role}
+use Rattle.log_commands.specs.declared.refusal.Refusal.{Refusal}
+use Rattle.log_commands.specs.declared.refusal.Refusal.TheVariants.{StoreFailed, OutOfMemory}
+
+-- ---- the store
+
+-- why a save was refused: memory ran out, or the store failed at the file's name
+abbrev pub StopsSaving : Role → (old new : Stored) → Refusal → Type 0
+StopsSaving r old new refusal = (refusal ≡ OutOfMemory) ⊎ ((refusal ≡ StoreFailed r) × Rose old.counts.faults new.counts.faults)
+
+-- the file in a role was saved, or why not. All other names have what they had
+pub record SavesFile (names : FileNames) (r : Role) (file : List ℕ) (note : Note) (old new : Stored) (result : Result (Unit {0}) Refusal) : Type 0 where
+  pub saved : OnOk result (WhereTold old.files new.files (λ before after. after (name_of names r) ≡ Some file))
+  pub others : WhereTold old.files new.files (SameElsewhere (name_of names r))
+  pub asked : new.saves ≡ counted old.saves
+  pub called : new.noted ≡ note old.noted (store_call names (Saves r))
+  pub later : NoneFell old.counts new.counts
+  pub stops : IfErr result (StopsSaving r old new)
+
+-- all files of an answer were saved, the log first, or why not
+pub record SavesAll (names : FileNames) (saved : Saved) (lean : Bool) (note : Note) (old new : Stored) (result : Result (Unit {0}) Refusal) : Type 0 where
+  pub told : SaveTells saved names old.files new.files old.counts new.counts result
+  pub later : NoneFell old.counts new.counts
+  pub few : AtMostSaves lean old.saves new.saves
+  pub all : OnOk result (new.saves ≡ saves_after lean old.saves)
+  pub calls : SavesTo names (saves_of lean) note old.noted new.noted result
+
+-- ---- the whole outside
+
+-- what a store, out and err tell at one time
+pub record World : Type 0 where
+  pub store : Stored
+  pub out : Stream
+  pub err : Stream
+
+abbrev pub world : Stored → (out err : Stream) → World
+world s out err = record { store = s; out = out; err = err }
+
+-- a call that began in the one and ended in the other
+abbrev pub between : (old new : World) → Call
+between old new = record {
+  old = record { files = old.store.files; counts = old.store.counts; out = old.out.text; out_faults = old.out.faults; err = old.err.text; err_faults = old.err.faults };
+  new = record { files = new.store.files; counts = new.store.counts; out = new.out.text; out_faults = new.out.faults; err = new.err.text; err_faults = new.err.faults };
+}
+
+-- once err was given more
+abbrev pub with_err : World → Stream → World
+with_err w end = record { store = w.store; out = w.out; err = end }
+
+-- ---- an answer
+
+-- what an answer says is done, printed and saved
+pub record ActsOn (names : FileNames) (answer : Answer) (status : ℕ) (note : Note) (old new : World) : Type 0 where
+  pub acts : Acts names (told_of names answer) status (between old new)
+  pub still : IsPrinted answer → new.store.files ≡ old.store.files
+  pub saves : AnswerSaves answer status old.store.saves new.store.saves
+  pub calls : SavesTold names (saves_in answer) status note old.store.noted new.store.noted (between old new)
+
+-- so it is once the refusal, if there is one, is told
+abbrev pub ActsTo : FileNames → Answer → Note → (old new : World) → Result ℕ Refusal → Type 0
+ActsTo names answer note old new result = (status : ℕ) (end : Stream) → IsClosed names result status new.err end → ActsOn names answer status note old (with_err new end)

@@ -1,0 +1,79 @@
+//! What is done with an answer: its files are saved, and then its texts printed.
+ghost use Rattle.std.specs.Prelude.{◌≡◌};
+ghost use Rattle.log_commands.specs.Acting.{SavesAll, world, ActsTo};
+ghost use Rattle.log_commands.specs.Effects.{done_of};
+ghost use Rattle.log_commands.specs.Outside.{Stream, saved_of};
+ghost use Rattle.log_commands.specs.SaveCounts.{is_lean};
+ghost use Rattle.log_commands.specs.declared.answer.Answer.TheVariants.{Recorded, Renewed};
+
+use crate::answer::{Answer, NewLog, RunToTell};
+use crate::commands::{audit, check, joint, list, replay};
+use crate::names::{Names, Role};
+use crate::outside::{SinkExt, StoreExt};
+use crate::refusal::Refusal;
+use crate::send::{done, send};
+use std::alloc::Global;
+
+// Saves the log of a recording, and then the list of its turns, where there is one.
+fn save_run<S: StoreExt>(names: &Names, run: &RunToTell, store: &mut S) -> Result<(), Refusal>
+    ensures { SavesAll names.now (saved_of run.now) (is_lean run.now) S.note (S.stored store.old) (S.stored store.new) result }
+{
+    store.save_file(names, Role::Log, &run.log)?;
+    match &run.book {
+        None => Ok(()),
+        Some(list) => store.save_file(names, Role::Book, list),
+    }
+}
+
+// Saves a recording, and then sends the guest's streams and the summary.
+fn keep_run<S: StoreExt, O: SinkExt, X: SinkExt>(
+    names: &Names,
+    run: &RunToTell,
+    store: &mut S,
+    out: &mut O,
+    err: &mut X,
+) -> Result<u8, Refusal>
+    ensures { ActsTo names.now (Recorded run.now) S.note (world (S.stored store.old) (O.stream out.old) (X.stream err.old)) (world (S.stored store.new) (O.stream out.new) (X.stream err.new)) result }
+{
+    save_run(names, run, store)?;
+    out.send_bytes(&run.out)?;
+    err.send_bytes(&run.err)?;
+    Ok(run.end.status())
+}
+
+// Saves a log that was made of another, and then sends what it has.
+fn keep_new<S: StoreExt, O: SinkExt>(
+    alloc: Global,
+    names: &Names,
+    new: &NewLog,
+    store: &mut S,
+    out: &mut O,
+) -> Result<(), Refusal>
+    ensures { (err : Stream) → ActsTo names.now (Renewed new.now) S.note (world (S.stored store.old) (O.stream out.old) err) (world (S.stored store.new) (O.stream out.new) err) (done_of result) }
+{
+    store.save_file(names, Role::Log, &new.file)?;
+    check::send_check(alloc, &new.counts, out)
+}
+
+/// Saves and prints an answer. A refusal is given up, and not told yet.
+pub fn act<S: StoreExt, O: SinkExt, X: SinkExt>(
+    alloc: Global,
+    names: &Names,
+    answer: &Answer,
+    store: &mut S,
+    out: &mut O,
+    err: &mut X,
+) -> Result<u8, Refusal>
+    ensures { ActsTo names.now answer.now S.note (world (S.stored store.old) (O.stream out.old) (X.stream err.old)) (world (S.stored store.new) (O.stream out.new) (X.stream err.new)) result }
+{
+    match answer {
+        Answer::Recorded(run) => keep_run(names, run, store, out, err),
+        Answer::Renewed(new) => done(keep_new(alloc, names, new, store, out)),
+        Answer::Interval(reading) => done(replay::print_interval(alloc, reading, out)),
+        Answer::Joined(reading) => done(joint::print_joint(alloc, reading, out)),
+        Answer::Listed(log) => done(list::send_list(alloc, log, out)),
+        Answer::Checked(counts) => done(check::send_check(alloc, counts, out)),
+        Answer::Agreed => done(audit::send_agreement(alloc, out)),
+        Answer::Shown(text) => done(send(out, text)),
+    }
+}
