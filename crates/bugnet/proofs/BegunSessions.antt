@@ -33,6 +33,7 @@ use Rattle.bn_outside.specs.Counts.{Counts}
 use Rattle.bugnet.specs.Steps.{DebugsPair}
 use Rattle.log_commands.specs.Effects.{Call, IsFree, Tells}
 use Rattle.log_commands.specs.Joined.{joined}
+use Rattle.log_commands.specs.Outside.{Stream}
 use Rattle.log_commands.specs.Names.{FileNames}
 use Rattle.log_commands.proofs.Tells.{stopped-free}
 use Rattle.bugnet.specs.Sessions.{Commands, input_in, is_begun, session_status, session_told}
@@ -227,8 +228,7 @@ pub session-begun : (names : FileNames) (d : Content) (i : Program) (c : Command
 session-begun names d i c status k told (inl begun) = begun
 session-begun names d i c status k told (inr e) = absurd (told-14 names d i c status k told e)
 
-pub pair-begun : {O X : Type 0} (names : FileNames) (d : Content) (i : Program) (status : ℕ) (left now_left : Option (List ℕ)) (before now reads now_reads : ℕ) (out : O → Option (List ℕ)) (out_faults : O → ℕ) (err : X → Option (List ℕ)) (err_faults : X → ℕ)
-    (o : O) (e : X) (p : O) (f : X) → DebugsPair names (joined d i) status left now_left before now reads now_reads out out_faults err err_faults o e p f → (is_begun status ≡ true) ⊎ (status ≡ 14) → is_begun status ≡ true
-pair-begun names d i status left now_left before now reads now_reads out out_faults err err_faults o e p f told begun =
+pub pair-begun : (names : FileNames) (d : Content) (i : Program) (status : ℕ) (left now_left : Option (List ℕ)) (before now reads now_reads : ℕ) (out printed err end : Stream) → DebugsPair names (joined d i) status left now_left before now reads now_reads out printed err end → (is_begun status ≡ true) ⊎ (status ≡ 14) → is_begun status ≡ true
+pair-begun names d i status left now_left before now reads now_reads out printed err end told begun =
     let none : Counts = record { misses = 0; longs = 0; faults = 0 } in
     session-begun names d i told.0 status _ (told.2 None none) begun

@@ -34,8 +34,8 @@ use Rattle.log_commands.specs.Pairs.{LoadedPair, HasPair}
 use Rattle.bugnet.specs.Answers.{names_in, names_by, IsAnswer}
 use Rattle.bugnet.specs.DebugSessions.{ShowsRun, SessionsShowTheRun, session_of, DoneSession, ShowsSession, RecordingsCanBeDebugged, PrefixesCanBeDebugged, CanBegin, SessionIs, DebugsFiles, Debugs as DebugsLine}
 use Rattle.bugnet.specs.Laws.{IsNoSession}
-use Rattle.log_commands.specs.Outside.{WithFiles, SendStops, ToldRefusal, Wrote, SameFiles, IsEarly, GivesOf, RefusalCause}
-use Rattle.log_commands.specs.Effects.{Call, printing, IsFree, AreKept, SomeTold, Tells, StoppedBy}
+use Rattle.log_commands.specs.Outside.{Stream, WithFiles, SendStops, ToldRefusal, Wrote, SameFiles, IsEarly, GivesOf, RefusalCause}
+use Rattle.log_commands.specs.Effects.{Call, printing_on, IsFree, AreKept, SomeTold, Tells, StoppedBy}
 use Rattle.bugnet.specs.Run.{StoppedEarly, TellsAnswer}
 use Rattle.bugnet.specs.Sessions.{Commands, CanDebug, whole_input, cut, input_in, IsUnread, SessionReads, SessionOver, AreRead, stop_status, session_status, session_line, session_told, debug_with, IsSession, IsDebug, is_begun}
 use Rattle.bugnet.specs.Steps.{ToldStop, DebugsPair, DebugsNamed}
@@ -282,40 +282,37 @@ stop-writes j names e status gone left now_left before now written now_written b
 
 -- ---- a session over a joint replay
 
-pub pair-done : {O X : Type 0} (names : FileNames) (first : Joining) (j : Trace) (u : Unit {0}) (left now_left : Option (List ℕ)) (before now reads now_reads : ℕ) (out : O → Option (List ℕ)) (out_faults : O → ℕ) (err : X → Option (List ℕ)) (err_faults : X → ℕ)
-    (o : O) (e : X) (p : O) → j ≡ at_start first → CountedSession j left now_left before now reads now_reads (out o) (out p) (out_faults o) (out_faults p) (Ok u)
-    → DebugsPair names first 0 left now_left before now reads now_reads out out_faults err err_faults o e p e
-pair-done names first j u left now_left before now reads now_reads out out_faults err err_faults o e p same c =
+pub pair-done : (names : FileNames) (first : Joining) (j : Trace) (u : Unit {0}) (left now_left : Option (List ℕ)) (before now reads now_reads : ℕ) (out printed err : Stream) → j ≡ at_start first → CountedSession j left now_left before now reads now_reads out.text printed.text out.faults printed.faults (Ok u)
+    → DebugsPair names first 0 left now_left before now reads now_reads out printed err err
+pair-done names first j u left now_left before now reads now_reads out printed err same c =
     let d = c.session in (
       record { bytes = d.gone; failed = false },
-      done-read j left now_left before now reads now_reads (out o) (out p) (out_faults o) (out_faults p) u c,
+      done-read j left now_left before now reads now_reads out.text printed.text out.faults printed.faults u c,
       λ files had.
-          subst (λ (x : Trace). Tells names (session_told names (transcript_from x (input_of d.gone))) 0 (printing files had out out_faults err err_faults o e p e)) same
-          (done-told names (transcript_from j (input_of d.gone)) (printing files had out out_faults err err_faults o e p e) d.done.0 d.done.1 (appends-nothing (err e)) (untouched files)),
-      inr (session-over j 0 left now_left before now reads now_reads (out o) (out p) (out_faults o) (out_faults p) (Ok u) c refl first same),
+          subst (λ (x : Trace). Tells names (session_told names (transcript_from x (input_of d.gone))) 0 (printing_on files had out printed err err)) same
+          (done-told names (transcript_from j (input_of d.gone)) (printing_on files had out printed err err) d.done.0 d.done.1 (appends-nothing err.text) (untouched files)),
+      inr (session-over j 0 left now_left before now reads now_reads out.text printed.text out.faults printed.faults (Ok u) c refl first same),
     )
 
-pub pair-stopped : {O X : Type 0} (names : FileNames) (first : Joining) (j : Trace) (why : DebugError) (status : ℕ) (left now_left : Option (List ℕ)) (before now reads now_reads : ℕ) (out : O → Option (List ℕ)) (out_faults : O → ℕ) (err : X → Option (List ℕ)) (err_faults : X → ℕ)
-    (o : O) (e : X) (p : O) (f : X) → j ≡ at_start first → CountedSession j left now_left before now reads now_reads (out o) (out p) (out_faults o) (out_faults p) (Err why) → ToldStop names why status (err e) (err f) (err_faults e) (err_faults f)
-    → DebugsPair names first status left now_left before now reads now_reads out out_faults err err_faults o e p f
-pair-stopped names first j why status left now_left before now reads now_reads out out_faults err err_faults o e p f same c told =
+pub pair-stopped : (names : FileNames) (first : Joining) (j : Trace) (why : DebugError) (status : ℕ) (left now_left : Option (List ℕ)) (before now reads now_reads : ℕ) (out printed err end : Stream) → j ≡ at_start first → CountedSession j left now_left before now reads now_reads out.text printed.text out.faults printed.faults (Err why) → ToldStop names why status err.text end.text err.faults end.faults
+    → DebugsPair names first status left now_left before now reads now_reads out printed err end
+pair-stopped names first j why status left now_left before now reads now_reads out printed err end same c told =
     let d = c.session in
-    let ends = status-of names why status (err e) (err f) (err_faults e) (err_faults f) told in (
+    let ends = status-of names why status err.text end.text err.faults end.faults told in (
       commands_of d.gone why,
-      stop-read j left now_left before now reads now_reads (out o) (out p) (out_faults o) (out_faults p) why status c ends,
+      stop-read j left now_left before now reads now_reads out.text printed.text out.faults printed.faults why status c ends,
       λ files had.
-          subst (λ (x : Trace). Tells names (session_told names (transcript_from x (input_in (commands_of d.gone why)))) status (printing files had out out_faults err err_faults o e p f)) same
-          (stop-told names j why status d.gone left now_left before now (printing files had out out_faults err err_faults o e p f) d.done (untouched files) told),
-      inr (session-over j status left now_left before now reads now_reads (out o) (out p) (out_faults o) (out_faults p) (Err why) c ends first same),
+          subst (λ (x : Trace). Tells names (session_told names (transcript_from x (input_in (commands_of d.gone why)))) status (printing_on files had out printed err end)) same
+          (stop-told names j why status d.gone left now_left before now (printing_on files had out printed err end) d.done (untouched files) told),
+      inr (session-over j status left now_left before now reads now_reads out.text printed.text out.faults printed.faults (Err why) c ends first same),
     )
 
-pub pair-unbegun : {O X : Type 0} (names : FileNames) (j : Joining) (status : ℕ) (left : Option (List ℕ)) (faults reads : ℕ) (out : O → Option (List ℕ)) (out_faults : O → ℕ) (err : X → Option (List ℕ)) (err_faults : X → ℕ)
-    (o : O) (e : X) (f : X) → ToldRefusal names why.OutOfMemory status (err e) (err f) (err_faults e) (err_faults f) → DebugsPair names j status left left faults faults reads reads out out_faults err err_faults o e o f
-pair-unbegun names j status left faults reads out out_faults err err_faults o e f told =
-    let nine = memory-status names status (err e) (err f) (err_faults e) (err_faults f) told in (
+pub pair-unbegun : (names : FileNames) (j : Joining) (status : ℕ) (left : Option (List ℕ)) (faults reads : ℕ) (out err end : Stream) → ToldRefusal names why.OutOfMemory status err.text end.text err.faults end.faults → DebugsPair names j status left left faults faults reads reads out out err end
+pair-unbegun names j status left faults reads out err end told =
+    let nine = memory-status names status err.text end.text err.faults end.faults told in (
       no_commands,
       none-read status left faults reads (λ x. omega (arith, x, nine)) (λ x. omega (arith, x, nine)),
-      λ files had. unbegun-told names j status (printing files had out out_faults err err_faults o e o f) refl (untouched files) told,
+      λ files had. unbegun-told names j status (printing_on files had out out err end) refl (untouched files) told,
       inl (refl, refl, refl),
     )
 

@@ -1,7 +1,7 @@
 -- What it means that an audit is done.
 use Rattle.std.specs.Prelude.{◌≡◌, ℕ, List, Option, Some, None}
 use Rattle.bn_outside.specs.Files.{Files}
-use Rattle.command_words.specs.Words.{Line, RecordLine, ReplayLine, JointLine, DebugLine, ListLine, CheckLine, AuditLine, RacesLine, SliceLine, ConvertLine, SalvageLine, DemoLine}
+use Rattle.command_words.specs.Words.{Line, AuditLine}
 use Rattle.log_commands.specs.Told.{Told}
 use Rattle.bugnet.specs.Answers.{IsAnswer}
 use Rattle.log_commands.specs.Audits.{Agrees}
@@ -12,16 +12,5 @@ AuditsAgree = (log elf book : List ℕ) (input : Option (List ℕ)) (files : Fil
 
 -- so it is once a command has audited it
 abbrev pub AuditsRun : Option Line → Files → ℕ → Type 0
-AuditsRun None files status = Unit {0}
-AuditsRun (Some (RecordLine r)) files status = Unit {0}
-AuditsRun (Some (ReplayLine log elf hart interval)) files status = Unit {0}
-AuditsRun (Some (JointLine log elf)) files status = Unit {0}
-AuditsRun (Some (DebugLine log elf)) files status = Unit {0}
-AuditsRun (Some (ListLine log)) files status = Unit {0}
-AuditsRun (Some (CheckLine log)) files status = Unit {0}
 AuditsRun (Some (AuditLine log elf book input)) files status = status ≡ 0 → Agrees log elf book input files
-AuditsRun (Some (RacesLine log elf most)) files status = Unit {0}
-AuditsRun (Some (SliceLine log elf hart interval ic)) files status = Unit {0}
-AuditsRun (Some (ConvertLine log copy)) files status = Unit {0}
-AuditsRun (Some (SalvageLine log copy)) files status = Unit {0}
-AuditsRun (Some (DemoLine seed)) files status = Unit {0}
+AuditsRun line files status = Unit {0}

@@ -55,17 +55,9 @@ setting_refusal None same = name_refusal same
 
 abbrev pub refusal_in : Line → Option Refusal
 refusal_in (RecordLine r) = setting_refusal (first_bad r.settings) (is_clash r.lean r.log r.book)
-refusal_in (ReplayLine log elf hart interval) = None
-refusal_in (JointLine log elf) = None
-refusal_in (DebugLine log elf) = None
-refusal_in (ListLine log) = None
-refusal_in (CheckLine log) = None
-refusal_in (AuditLine log elf book input) = None
-refusal_in (RacesLine log elf most) = None
-refusal_in (SliceLine log elf hart interval ic) = None
 refusal_in (ConvertLine log copy) = name_refusal (bytes_eq log copy)
 refusal_in (SalvageLine log copy) = name_refusal (bytes_eq log copy)
-refusal_in (DemoLine seed) = None
+refusal_in line = None
 
 -- what the words alone refuse, if they do
 abbrev pub refusal_by : Option Line → Option Refusal
@@ -110,11 +102,6 @@ KindOf (RecordLine r) answer = ⊥
 KindOf (ReplayLine log elf hart interval) answer = IsPrinted answer
 KindOf (JointLine log elf) answer = IsPrinted answer
 KindOf (DebugLine log elf) answer = ⊥
-KindOf (ListLine log) answer = IsMade answer
-KindOf (CheckLine log) answer = IsMade answer
-KindOf (AuditLine log elf book input) answer = IsMade answer
-KindOf (RacesLine log elf most) answer = IsMade answer
-KindOf (SliceLine log elf hart interval ic) answer = IsMade answer
 KindOf (ConvertLine log copy) answer = IsRenewed answer
 KindOf (SalvageLine log copy) answer = IsRenewed answer
-KindOf (DemoLine seed) answer = IsMade answer
+KindOf line answer = IsMade answer

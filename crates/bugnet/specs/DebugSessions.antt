@@ -3,7 +3,7 @@ use Rattle.std.specs.Prelude.{◌≡◌, ◌≢◌, ◌⊎◌, ◌≤◌, ℕ, f
 use Rattle.std.specs.Io.KnownBytes.{Appends}
 use Rattle.bn_base.specs.Programs.{Program}
 use Rattle.bn_outside.specs.Files.{Files}
-use Rattle.command_words.specs.Words.{Line, RecordLine, ReplayLine, JointLine, DebugLine, ListLine, CheckLine, AuditLine, RacesLine, SliceLine, ConvertLine, SalvageLine, DemoLine}
+use Rattle.command_words.specs.Words.{Line, DebugLine}
 use Rattle.log_record.specs.declared.record.Record.{Record}
 use Rattle.log_order.specs.Content.{Content, IsContent}
 use Rattle.log_file.specs.Layout.{file_bytes2}
@@ -80,19 +80,8 @@ PrefixesCanBeDebugged = (c : Commands) (more log elf : List ℕ) (files : Files)
 
 -- a session can begin: its log and its program are there, and loaded
 abbrev pub CanBegin : Option Line → Files → Type 0
-CanBegin None files = ⊥
-CanBegin (Some (RecordLine r)) files = ⊥
-CanBegin (Some (ReplayLine log elf hart interval)) files = ⊥
-CanBegin (Some (JointLine log elf)) files = ⊥
 CanBegin (Some (DebugLine log elf)) files = HasPair log elf files
-CanBegin (Some (ListLine log)) files = ⊥
-CanBegin (Some (CheckLine log)) files = ⊥
-CanBegin (Some (AuditLine log elf book input)) files = ⊥
-CanBegin (Some (RacesLine log elf most)) files = ⊥
-CanBegin (Some (SliceLine log elf hart interval ic)) files = ⊥
-CanBegin (Some (ConvertLine log copy)) files = ⊥
-CanBegin (Some (SalvageLine log copy)) files = ⊥
-CanBegin (Some (DemoLine seed)) files = ⊥
+CanBegin line files = ⊥
 
 -- a session with the log and the program that are there, which read these commands
 pub record BegunSession (c : Commands) (log elf : List ℕ) (files : Files) (status : ℕ) (left now_left : Option (List ℕ)) (before now reads now_reads : ℕ) (k : Call) : Type 0 where
@@ -120,17 +109,6 @@ pub record DebugsFiles (c : Commands) (log elf : List ℕ) (files : Files) (stat
 
 -- a session reads commands, and does so by them
 abbrev pub Debugs : Option Line → (status : ℕ) → (left now_left : Option (List ℕ)) → (before now reads now_reads : ℕ) → Call → Type 0
-Debugs None status left now_left before now reads now_reads k = Unit {0}
-Debugs (Some (RecordLine r)) status left now_left before now reads now_reads k = Unit {0}
-Debugs (Some (ReplayLine log elf hart interval)) status left now_left before now reads now_reads k = Unit {0}
-Debugs (Some (JointLine log elf)) status left now_left before now reads now_reads k = Unit {0}
 Debugs (Some (DebugLine log elf)) status left now_left before now reads now_reads k =
     (c : Commands) × AreRead c status left now_left before now reads now_reads × WithFiles k.old.files (λ files. DebugsFiles c log elf files status left now_left before now reads now_reads k)
-Debugs (Some (ListLine log)) status left now_left before now reads now_reads k = Unit {0}
-Debugs (Some (CheckLine log)) status left now_left before now reads now_reads k = Unit {0}
-Debugs (Some (AuditLine log elf book input)) status left now_left before now reads now_reads k = Unit {0}
-Debugs (Some (RacesLine log elf most)) status left now_left before now reads now_reads k = Unit {0}
-Debugs (Some (SliceLine log elf hart interval ic)) status left now_left before now reads now_reads k = Unit {0}
-Debugs (Some (ConvertLine log copy)) status left now_left before now reads now_reads k = Unit {0}
-Debugs (Some (SalvageLine log copy)) status left now_left before now reads now_reads k = Unit {0}
-Debugs (Some (DemoLine seed)) status left now_left before now reads now_reads k = Unit {0}
+Debugs line status left now_left before now reads now_reads k = Unit {0}

@@ -38,32 +38,14 @@ line_roles (DemoLine seed) = []
 -- what it loads before it reads what it loaded: all, but a recording reads its program before it loads the input
 abbrev pub needed_roles : Line → List Role
 needed_roles (RecordLine r) = elf_roles
-needed_roles (ReplayLine log elf hart interval) = pair_roles
-needed_roles (JointLine log elf) = pair_roles
-needed_roles (DebugLine log elf) = pair_roles
-needed_roles (ListLine log) = log_roles
-needed_roles (CheckLine log) = log_roles
-needed_roles (AuditLine log elf book input) = roles_of (is_some input)
-needed_roles (RacesLine log elf most) = pair_roles
-needed_roles (SliceLine log elf hart interval ic) = pair_roles
-needed_roles (ConvertLine log copy) = origin_roles
-needed_roles (SalvageLine log copy) = origin_roles
-needed_roles (DemoLine seed) = []
+needed_roles line = line_roles line
 
 -- what it saves after that
 abbrev pub line_saves : Line → List FileCall
 line_saves (RecordLine r) = saves_of r.lean
-line_saves (ReplayLine log elf hart interval) = []
-line_saves (JointLine log elf) = []
-line_saves (DebugLine log elf) = []
-line_saves (ListLine log) = []
-line_saves (CheckLine log) = []
-line_saves (AuditLine log elf book input) = []
-line_saves (RacesLine log elf most) = []
-line_saves (SliceLine log elf hart interval ic) = []
 line_saves (ConvertLine log copy) = saves_of true
 line_saves (SalvageLine log copy) = saves_of true
-line_saves (DemoLine seed) = []
+line_saves line = []
 
 -- all its calls, in their order; words that say no line have none
 abbrev pub calls_of : Option Line → List FileCall
@@ -95,14 +77,7 @@ line_past (RecordLine r) = is_recorded
 line_past (ReplayLine log elf hart interval) = is_replayed
 line_past (JointLine log elf) = is_replayed
 line_past (DebugLine log elf) = is_begun
-line_past (ListLine log) = is_printed
-line_past (CheckLine log) = is_printed
-line_past (AuditLine log elf book input) = is_printed
-line_past (RacesLine log elf most) = is_printed
-line_past (SliceLine log elf hart interval ic) = is_printed
-line_past (ConvertLine log copy) = is_printed
-line_past (SalvageLine log copy) = is_printed
-line_past (DemoLine seed) = is_printed
+line_past line = is_printed
 
 abbrev pub no_status : ℕ → Bool
 no_status status = false
@@ -155,31 +130,10 @@ ShowsText names text (Err refusal) = refusal ≡ why.OutOfMemory
 
 -- that of `demo` is the text of its number
 abbrev pub AnswersDemo : Line → FileNames → Result Answer Refusal → Type 0
-AnswersDemo (RecordLine r) names result = Unit {0}
-AnswersDemo (ReplayLine log elf hart interval) names result = Unit {0}
-AnswersDemo (JointLine log elf) names result = Unit {0}
-AnswersDemo (DebugLine log elf) names result = Unit {0}
-AnswersDemo (ListLine log) names result = Unit {0}
-AnswersDemo (CheckLine log) names result = Unit {0}
-AnswersDemo (AuditLine log elf book input) names result = Unit {0}
-AnswersDemo (RacesLine log elf most) names result = Unit {0}
-AnswersDemo (SliceLine log elf hart interval ic) names result = Unit {0}
-AnswersDemo (ConvertLine log copy) names result = Unit {0}
-AnswersDemo (SalvageLine log copy) names result = Unit {0}
 AnswersDemo (DemoLine seed) names result = ShowsText names (demo_text seed) result
+AnswersDemo line names result = Unit {0}
 
 -- `demo` tells the text of its number
 abbrev pub TellsDemo : Option Line → (status : ℕ) → Call → Type 0
-TellsDemo None status k = Unit {0}
-TellsDemo (Some (RecordLine r)) status k = Unit {0}
-TellsDemo (Some (ReplayLine log elf hart interval)) status k = Unit {0}
-TellsDemo (Some (JointLine log elf)) status k = Unit {0}
-TellsDemo (Some (DebugLine log elf)) status k = Unit {0}
-TellsDemo (Some (ListLine log)) status k = Unit {0}
-TellsDemo (Some (CheckLine log)) status k = Unit {0}
-TellsDemo (Some (AuditLine log elf book input)) status k = Unit {0}
-TellsDemo (Some (RacesLine log elf most)) status k = Unit {0}
-TellsDemo (Some (SliceLine log elf hart interval ic)) status k = Unit {0}
-TellsDemo (Some (ConvertLine log copy)) status k = Unit {0}
-TellsDemo (Some (SalvageLine log copy)) status k = Unit {0}
 TellsDemo (Some (DemoLine seed)) status k = Tells no_names (printed (demo_text seed)) status k
+TellsDemo line status k = Unit {0}

@@ -1,27 +1,45 @@
 -- How the command `debug` goes: the end of a session, one with a log and its program, and one by their names.
-use Rattle.std.specs.Prelude.{◌⊎◌, ℕ, List, Option}
-use Rattle.bn_outside.specs.Counts.{Counts}
+use Rattle.std.specs.Prelude.{◌≡◌, ◌≢◌, ◌≤◌, ◌⊎◌, ℕ, true, List, Option, None, Result}
+use Rattle.bn_outside.specs.Counts.{Counts, Rose, NoneFell}
 use Rattle.bn_outside.specs.Files.{Files}
 use Rattle.joint_replay.specs.Joining.{Joining}
 use Rattle.step_debugger.specs.Transcript.{transcript}
 use Rattle.step_debugger.specs.declared.error.DebugError.{DebugError}
+use Rattle.log_commands.specs.Acting.{World, world, between}
+use Rattle.log_commands.specs.Effects.{Call, printing_on, SomeTold, Tells, StoppedBy, WriteRose, NoWriteFell, IsClosed, done_of}
+use Rattle.log_commands.specs.FileCalls.{Note, loads_of}
+use Rattle.log_commands.specs.Inputs.{Stored}
 use Rattle.log_commands.specs.Names.{FileNames}
-use Rattle.log_commands.specs.Outside.{WithFiles, ToldRefusal}
+use Rattle.log_commands.specs.Outside.{Stream, WithFiles, ToldRefusal}
+use Rattle.log_commands.specs.Pairs.{HasPair, pair_roles}
+use Rattle.log_commands.specs.declared.refusal.Refusal.{Refusal}
 use Rattle.bugnet.specs.DebugSessions.{SessionIs}
-use Rattle.bugnet.specs.Sessions.{Commands, AreRead, IsUnread, SessionOver, input_in, stop_refusal, session_told, IsSession, IsDebug}
-use Rattle.log_commands.specs.Effects.{Call, printing, SomeTold, Tells, StoppedBy}
+use Rattle.bugnet.specs.LineCalls.{CallsSo}
+use Rattle.bugnet.specs.Replies.{Reading}
+use Rattle.bugnet.specs.Sessions.{Commands, AreRead, IsUnread, SessionOver, input_in, stop_refusal, session_told, is_begun, IsSession, IsDebug}
 
 -- the end of a session was told
 abbrev pub ToldStop : FileNames → DebugError → ℕ → Option (List ℕ) → Option (List ℕ) → ℕ → ℕ → Type 0
 ToldStop names e status old new before now = ToldRefusal names (stop_refusal e) status old new before now
 
 -- a session over a joint replay: commands were read, and what they make it tell is told
-abbrev pub DebugsPair : {O X : Type 0} → FileNames → Joining → (status : ℕ) → (left now_left : Option (List ℕ)) → (before now reads now_reads : ℕ)
-    → (O → Option (List ℕ)) → (O → ℕ) → (X → Option (List ℕ)) → (X → ℕ) → O → X → O → X → Type 0
-DebugsPair names j status left now_left before now reads now_reads out out_faults err err_faults o e p f =
+abbrev pub DebugsPair : FileNames → Joining → (status : ℕ) → (left now_left : Option (List ℕ)) → (before now reads now_reads : ℕ) → (out printed err end : Stream) → Type 0
+DebugsPair names j status left now_left before now reads now_reads out printed err end =
     (c : Commands) × AreRead c status left now_left before now reads now_reads
-    × ((files : Option Files) (had : Counts) → Tells names (session_told names (transcript j (input_in c))) status (printing files had out out_faults err err_faults o e p f))
-    × (IsUnread c reads now_reads ⊎ SessionOver j c.bytes status left now_left before now reads now_reads (out o) (out p) (out_faults o) (out_faults p))
+    × ((files : Option Files) (had : Counts) → Tells names (session_told names (transcript j (input_in c))) status (printing_on files had out printed err end))
+    × (IsUnread c reads now_reads ⊎ SessionOver j c.bytes status left now_left before now reads now_reads out.text printed.text out.faults printed.faults)
+
+-- so it is once the refusal, if there is one, is told; a write is refused only where a count rose
+pub record SessionEnds {I : Type 0} (names : FileNames) (j : Joining) (status : ℕ) (i : Reading I) (out printed err end : Stream) : Type 0 where
+  pub told : DebugsPair names j status i.left_old i.left_new i.faults_old i.faults_new i.reads_old i.reads_new out printed err end
+  pub begun : (is_begun status ≡ true) ⊎ (status ≡ 14)
+  pub write : status ≡ 13 → Rose out.faults printed.faults ⊎ Rose err.faults end.faults
+  pub read_later : i.faults_old ≤ i.faults_new
+  pub out_later : out.faults ≤ printed.faults
+  pub err_later : err.faults ≤ end.faults
+
+abbrev pub SessionTo : {I : Type 0} → Joining → Reading I → (out printed : Stream) → Result (Unit {0}) Refusal → Type 0
+SessionTo j i out printed result = (names : FileNames) (status : ℕ) (err end : Stream) → IsClosed names (done_of result) status err end → SessionEnds names j status i out printed err end
 
 -- by the names of a log and a program: commands were read, and what they make the command tell is told, or it was stopped
 -- before it had an answer
@@ -30,3 +48,23 @@ DebugsNamed names status left now_left before now reads now_reads k =
     (c : Commands) × AreRead c status left now_left before now reads now_reads
     × WithFiles k.old.files (λ files. SomeTold (IsSession c files names) (λ what. Tells names what status k) ⊎ StoppedBy names (λ files. IsDebug files names) files status k)
     × WithFiles k.old.files (λ files. SessionIs c names.log names.elf files status left now_left before now reads now_reads k)
+
+-- `debug` with a log and a program, once its refusal, if there is one, is told
+pub record DebugsEnds {I : Type 0} (names : FileNames) (status : ℕ) (note : Note) (i : Reading I) (old new : World) : Type 0 where
+  pub told : DebugsNamed names status i.left_old i.left_new i.faults_old i.faults_new i.reads_old i.reads_new (between old new)
+  pub first : (is_begun status ≡ true) ⊎ (i.new ≡ i.old)
+  pub begins : (i.new ≡ i.old) ⊎ WithFiles old.store.files (λ files. HasPair names.log names.elf files)
+  pub same : new.store.files ≡ old.store.files
+  pub asks : new.store.saves ≡ old.store.saves
+  pub calls : CallsSo names (loads_of pair_roles) (loads_of pair_roles) None is_begun status note old.store.noted new.store.noted (between old new)
+  pub words : status ≢ 2
+  pub failed : status ≡ 3 → Rose old.store.counts.faults new.store.counts.faults
+  pub missing : status ≡ 4 → Rose old.store.counts.misses new.store.counts.misses
+  pub long : status ≡ 5 → Rose old.store.counts.longs new.store.counts.longs
+  pub write : status ≡ 13 → WriteRose (between old new)
+  pub later : NoWriteFell (between old new)
+  pub counts : NoneFell old.store.counts new.store.counts
+  pub read_later : i.faults_old ≤ i.faults_new
+
+abbrev pub DebugsTo : {I : Type 0} → FileNames → Note → Reading I → (old new : Stored) → (out printed : Stream) → Result (Unit {0}) Refusal → Type 0
+DebugsTo names note i old new out printed result = (status : ℕ) (err end : Stream) → IsClosed names (done_of result) status err end → DebugsEnds names status note i (world old out err) (world new printed end)

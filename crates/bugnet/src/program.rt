@@ -26,8 +26,7 @@ ghost use Rattle.log_commands.specs.Effects.{call};
 ghost use Rattle.bugnet.specs.Run.{TellsAnswer, ByWords, Keeps, ChangesFew};
 
 use crate::commands::debug::debug_files;
-use crate::commands::demo;
-use crate::commands::record;
+use crate::commands::{demo, record};
 use crate::laws::{
     audits_agree, converted_files_keep_to_the_limit, each_can_be_done, files_keep_to_their_size,
     headline, joint_headline, one_answer, seeds_are_whole, sessions_show_the_run,
@@ -39,14 +38,12 @@ use log_blocks::laws::saved_files_keep_to_the_limit;
 use log_blocks::readings::{files_are_read, readings_are_unique};
 use log_commands::acting::act;
 use log_commands::answer::Answer;
-use log_commands::commands::{
-    audit, check, convert, joint, list, races, replay, salvage, slice,
-};
+use log_commands::commands::{audit, check, convert, joint, list, races, replay, salvage, slice};
 use log_commands::inputs::{Inputs, load_inputs};
 use log_commands::names::{Names, Role};
 use log_commands::outside::{SinkExt, StoreExt};
 use log_commands::refusal::Refusal;
-use log_commands::send::{close, refuse};
+use log_commands::send::{close, done, refuse};
 use std::alloc::Global;
 use std::sync::Wait;
 use std::thread::Threads;
@@ -261,7 +258,7 @@ pub fn perform<S: Store, I: Source, O: Sink, X: Sink>(
     refusals_stay();
     // What `debug` prints depends on what it reads meanwhile, so it has no answer that is made first.
     match command {
-        Command::Debug { .. } => Ok(debug_files(alloc, names, store, input, out, err)),
+        Command::Debug { .. } => done(debug_files(alloc, names, store, input, out)),
         _ => reply(alloc, command, names, store, out, err),
     }
 }
@@ -407,9 +404,9 @@ pub fn run<S: Store, I: Source, O: Sink, X: Sink, G: Gate, R: Threads + Wait + S
     ensures calls { CallsOnly (command_in words.now) result S.note (S.noted store.old) (S.noted store.new) (call S.files S.counts O.written O.faults X.written X.faults store.old out.old err.old store.new out.new err.new) }
 
     // Whatever the store tells: a command that isn't done is refused, unless memory ran out or a write failed.
-    // Then nothing is printed, and err has the line of a refusal of this status. But what `replay`, `joint`,
-    // `debug` and `races` tell may end where a replay stops that was begun, with 15, and that of `debug` where
-    // the reading of commands stops. `demo` tells its text.
+    // Then nothing is printed, and err has the line of a refusal of this status. But what `replay`, `joint`
+    // and `debug` tell may end where a replay stops that was begun, with 15, and that of `debug` where the
+    // reading of commands stops. `demo` tells its text.
     ensures shape { HasShape (command_in words.now) result (call S.files S.counts O.written O.faults X.written X.faults store.old out.old err.old store.new out.new err.new) }
     ensures demo { TellsDemo (command_in words.now) result (call S.files S.counts O.written O.faults X.written X.faults store.old out.old err.old store.new out.new err.new) }
 

@@ -210,8 +210,8 @@ new-kept names n note old new out printed err (Ok u) s h = λ status end closed.
     let w = world new printed err in
     let b = between (world old out err) w in
     let k = told-kept names 0 (check_line n.counts) [] (saved_new n.file.items) true note old w out err 0 saved
-        (acts-so names what 0 b saved.later (prints-so names what 0 b (inl (record { status_is = refl; out = h.sent.0; err = appends-nothing err.text; files = saved.told })) (record { out = h.later; err = omega arith }) (sends-done out.faults printed.faults)))
-        (λ e. omega (arith, e)) in
+    (acts-so names what 0 b saved.later (prints-so names what 0 b (inl (record { status_is = refl; out = h.sent.0; err = appends-nothing err.text; files = saved.told })) (record { out = h.later; err = omega arith }) (sends-done out.faults printed.faults)))
+    (λ e. omega (arith, e)) in
     closed-done (λ x e. ActsOn names (Renewed n) x note (world old out err) (with_err w e)) status err end closed
     (record { acts = k.acts; still = λ p. absurd p; saves = k.saves; calls = k.calls })
 new-kept names n note old new out printed err (Err r) s h = λ status end closed.
@@ -270,7 +270,7 @@ run-kept names r note old new out printed err mid s h last = λ status end close
         let what = told_of_recording r in
         let y = done r.end in
         let kept = told-kept names (end_status r.end) r.out.items r.err.items (saved_of r) (is_lean r) note old (world new printed mid) out err (end_status r.end) s
-            (acts-so names what (end_status r.end) k s.later (prints-so names what (end_status r.end) k (recorded-told names r k h.sends.sent.0 last.sends.sent.0 s.told) (record { out = h.sends.later; err = last.sends.later }) y)) y.failed in
+        (acts-so names what (end_status r.end) k s.later (prints-so names what (end_status r.end) k (recorded-told names r k h.sends.sent.0 last.sends.sent.0 s.told) (record { out = h.sends.later; err = last.sends.later }) y)) y.failed in
         record { acts = kept.acts; still = λ p. absurd p; saves = kept.saves; calls = kept.calls }
 
 -- ---- what is printed alone

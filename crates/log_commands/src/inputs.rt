@@ -112,10 +112,8 @@ pub fn load_inputs<S: StoreExt>(
 {
     let mut inputs = Inputs::none(alloc);
     for role in roles {
-        match store.fetch(alloc, names, *role) {
-            Ok(bytes) => inputs.put(*role, bytes),
-            Err(refusal) => return Err(refusal),
-        }
+        let bytes = store.fetch(alloc, names, *role)?;
+        inputs.put(*role, bytes);
     }
     Ok(inputs)
 }

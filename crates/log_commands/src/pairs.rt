@@ -1,20 +1,18 @@
 //! A log and the program that it was recorded of.
-ghost use Rattle.std.specs.Prelude.{◌≡◌, IfOk};
+ghost use Rattle.std.specs.Prelude.{◌≡◌};
 ghost use Rattle.std.specs.Str.{bytes_eq};
 ghost use Rattle.sha2.specs.Sha256.{sha256};
-ghost use Rattle.bn_outside.specs.Counts.{NoneFell};
-ghost use Rattle.log_commands.specs.FileCalls.{LoadsTo};
 ghost use Rattle.log_commands.specs.Evaluated.{Makes, IsPairOfBytes, where_same};
-ghost use Rattle.log_commands.specs.Outside.{GivesOf, IsOwn, ResultCause, WithFiles};
-ghost use Rattle.log_commands.specs.Pairs.{ByPair, pair_roles, IsPair, LoadedPair};
-ghost use Rattle.log_commands.specs.PairAnswers.{by_reading};
+ghost use Rattle.log_commands.specs.Outside.{IsOwn};
+ghost use Rattle.log_commands.specs.PairAnswers.{LoadsPair};
+ghost use Rattle.log_commands.specs.Pairs.{pair_roles};
 
 use crate::answer::{digest_of, load_program, read_log};
 use crate::inputs::load_inputs;
 use crate::names::{Names, Role};
+use crate::outside::StoreExt;
 use crate::refusal::Refusal;
 use bn_base::Image;
-use bn_outside::Store;
 use log_order::KeptLog;
 use std::alloc::Global;
 
@@ -38,10 +36,8 @@ fn pair_by(alloc: Global, elf: &[u8], log: KeptLog) -> Result<JointReading, Refu
             found,
         });
     }
-    match load_program(alloc, elf, &head.settings) {
-        Err(refusal) => Err(refusal),
-        Ok(image) => Ok(JointReading { image, log }),
-    }
+    let image = load_program(alloc, elf, &head.settings)?;
+    Ok(JointReading { image, log })
 }
 
 /// A log file with a program file, by their bytes: the log is read, the program's digest compared with the
@@ -50,10 +46,8 @@ pub fn read_pair(alloc: Global, log: &[u8], elf: &[u8]) -> Result<JointReading, 
     ensures is { Makes (IsPairOfBytes log.now elf.now) result }
     ensures own { IsOwn result }
 {
-    match read_log(alloc, log) {
-        Ok(log) => pair_by(alloc, elf, log),
-        Err(refusal) => Err(refusal),
-    }
+    let log = read_log(alloc, log)?;
+    pair_by(alloc, elf, log)
 }
 
 const READS: &[Role] = &[Role::Log, Role::Elf];
@@ -66,21 +60,13 @@ fn pair_roles() -> &'static [Role]
 }
 
 /// Loads a log and a program, LOG first, and reads them.
-pub fn load_pair<S: Store>(
+pub fn load_pair<S: StoreExt>(
     alloc: Global,
     names: &Names,
     store: &mut S,
 ) -> Result<JointReading, Refusal>
-    ensures told { (go : ByPair) → WithFiles (S.files store.old) (λ files. GivesOf (by_reading go) names.now (λ files. IsPair go files names.now) files result) }
-    ensures loaded { WithFiles (S.files store.old) (λ files. IfOk result (λ pair. LoadedPair names.now.log names.now.elf files pair.log pair.image)) }
-    ensures same { S.files store.new ≡ S.files store.old }
-    ensures asks { S.saves store.new ≡ S.saves store.old }
-    ensures later { NoneFell (S.counts store.old) (S.counts store.new) }
-    ensures cause { ResultCause (S.counts store.old) (S.counts store.new) result }
-    ensures calls { LoadsTo names.now pair_roles S.note (S.noted store.old) (S.noted store.new) result }
+    ensures { LoadsPair names.now S.note (S.stored store.old) (S.stored store.new) result }
 {
-    match load_inputs(alloc, names, pair_roles(), store) {
-        Ok(inputs) => read_pair(alloc, &inputs.log, &inputs.elf),
-        Err(refusal) => Err(refusal),
-    }
+    let inputs = load_inputs(alloc, names, pair_roles(), store)?;
+    read_pair(alloc, &inputs.log, &inputs.elf)
 }

@@ -109,7 +109,8 @@ impl Refusal {
         ensures { result ≡ status_of self.now }
     {
         match self {
-            Refusal::WordsRefused | Refusal::OutOfRange(_) | Refusal::SameName => statuses::WORDS_REFUSED,
+            Refusal::WordsRefused | Refusal::OutOfRange(_) | Refusal::SameName =>
+                statuses::WORDS_REFUSED,
             Refusal::StoreFailed(_) => statuses::STORE_FAILED,
             Refusal::Missing(_) => statuses::MISSING,
             Refusal::TooLong(_) => statuses::TOO_LONG,

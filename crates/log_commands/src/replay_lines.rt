@@ -64,18 +64,15 @@ fn send_left<O: SinkExt>(
 {
     'rows: loop {
         match replayer.step() {
-            Ok(Some(row)) => match gather_row(lines, text, &row, out) {
-                Ok(()) => (),
-                Err(refusal) => return Err(refusal),
-            },
-            Ok(None) => match send(out, text) {
-                Ok(()) => return Ok(ReplayEnd::Done),
-                Err(refusal) => return Err(refusal),
-            },
-            Err(error) => match send(out, text) {
-                Ok(()) => return ending_of(error),
-                Err(refusal) => return Err(refusal),
-            },
+            Ok(Some(row)) => gather_row(lines, text, &row, out)?,
+            Ok(None) => {
+                send(out, text)?;
+                return Ok(ReplayEnd::Done);
+            }
+            Err(error) => {
+                send(out, text)?;
+                return ending_of(error);
+            }
         }
     }
 }

@@ -59,10 +59,8 @@ pub fn refuse<X: Sink>(alloc: Global, names: &Names, refusal: &Refusal, err: &mu
 pub fn done(printed: Result<(), Refusal>) -> Result<u8, Refusal>
     ensures { result ≡ done_of printed }
 {
-    match printed {
-        Ok(()) => Ok(statuses::DONE),
-        Err(refusal) => Err(refusal),
-    }
+    printed?;
+    Ok(statuses::DONE)
 }
 
 /// Ends a command: a refusal, if there is one, is told on err, and gives the status.
@@ -87,21 +85,15 @@ pub fn send_block<O: SinkExt>(text: &mut Text, out: &mut O) -> Result<(), Refusa
     if text.len() < BLOCK {
         return Ok(());
     }
-    match send(out, text) {
-        Ok(()) => {
-            text.clear();
-            Ok(())
-        }
-        Err(refusal) => Err(refusal),
-    }
+    send(out, text)?;
+    text.clear();
+    Ok(())
 }
 
 /// Sends what waits, where memory ran out for more of it.
 pub fn send_short<O: SinkExt>(text: &Text, out: &mut O) -> Result<(), Refusal>
     ensures { Sends text.now (λ _. ⊥) (O.stream out.old) (O.stream out.new) result }
 {
-    match send(out, text) {
-        Ok(()) => Err(Refusal::OutOfMemory),
-        Err(refusal) => Err(refusal),
-    }
+    send(out, text)?;
+    Err(Refusal::OutOfMemory)
 }

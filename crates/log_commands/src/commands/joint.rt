@@ -63,7 +63,12 @@ fn send_steps<O: SinkExt>(alloc: Global, joint: &mut Joint, out: &mut O) -> Resu
 }
 
 // Puts the line of a known word behind what waits.
-fn gather_word<O: SinkExt>(text: &mut Text, addr: u32, word: u32, out: &mut O) -> Result<(), Refusal>
+fn gather_word<O: SinkExt>(
+    text: &mut Text,
+    addr: u32,
+    word: u32,
+    out: &mut O,
+) -> Result<(), Refusal>
     ensures { Gathers (text.old ++ known_text (addr, word)) text.new (O.stream out.old) (O.stream out.new) result }
 {
     match write_known(addr, word, text) {
@@ -81,10 +86,10 @@ fn send_words<O: SinkExt>(alloc: Global, joint: &Joint, out: &mut O) -> Result<(
     'words: loop {
         match joint.known_from(from) {
             None => return send(out, &text),
-            Some((addr, word)) => match gather_word(&mut text, addr, word, out) {
-                Ok(()) => from = u64::from(addr) + 4,
-                Err(refusal) => return Err(refusal),
-            },
+            Some((addr, word)) => {
+                gather_word(&mut text, addr, word, out)?;
+                from = u64::from(addr) + 4;
+            }
         }
     }
 }
@@ -98,7 +103,11 @@ fn send_joint<O: SinkExt>(alloc: Global, joint: &mut Joint, out: &mut O) -> Resu
 }
 
 /// Prints the joint replay of a log. It is refused where it stopped.
-pub fn print_joint<O: SinkExt>(alloc: Global, reading: &JointReading, out: &mut O) -> Result<(), Refusal>
+pub fn print_joint<O: SinkExt>(
+    alloc: Global,
+    reading: &JointReading,
+    out: &mut O,
+) -> Result<(), Refusal>
     ensures { PrintsTo (λ names. told_of_joint names reading.now) (O.stream out.old) (O.stream out.new) result }
 {
     match Joint::begin(alloc, &reading.image, &reading.log) {

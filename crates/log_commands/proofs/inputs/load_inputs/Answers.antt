@@ -1,12 +1,14 @@
 use Rattle.std.proofs.Common.{◌≡◌, ◌+◌, ◌∷◌, get_or, drop, add-one, drop-cons, refl}
+use Rattle.log_commands.specs.Answering.{LoadsAll}
 use Rattle.log_commands.specs.Inputs.{bytes_of, limit_of}
 use Rattle.log_commands.specs.declared.names.Role.TheVariants.{Elf}
+use Rattle.log_commands.proofs.Answering.{passed-on}
 use Rattle.log_commands.proofs.FileCalls.{called-more, called-stops, some-left}
 use Rattle.log_commands.proofs.Fetched.{so_far-more, so_far-stopped, only-then}
 use Rattle.log_commands.proofs.inputs.load_inputs.Goals as goal
 
-pub returns-in-Err : goal.returns-in-Err
-returns-in-Err g c =
+pub returns-in_err-bytes : goal.returns-in_err-bytes
+returns-in_err-bytes g c =
     let roles = c.args.roles.now in
     let k = c.loop-role.role-index in
     let r = get_or roles k Elf in
@@ -15,15 +17,17 @@ returns-in-Err g c =
     let mid = g.S.StoreExt.stored c.loop-role.store in
     let new = g.S.StoreExt.stored c.fetch.new.self in
     let so_far = c.loop-role.invariant in
-    let f = c.in-Err.ensures in
-    record {
-      loads = so_far-stopped old.files mid.files c.args.names.now roles r (limit_of r) (drop k roles) (drop (k + 1) roles) (bytes_of c.loop-role.inputs) c.in-Err.refusal
+    let x = c.in_err-bytes.field-0.0 in
+    let f = c.in_err-bytes.ensures in
+    passed-on (LoadsAll c.args.names.now roles g.S.StoreExt.note old new) x c.from_residual.result c.from_residual.ensures.1
+    (record {
+      loads = so_far-stopped old.files mid.files c.args.names.now roles r (limit_of r) (drop k roles) (drop (k + 1) roles) (bytes_of c.loop-role.inputs) x
           so_far.only.same refl at so_far.reached f.told;
       only = only-then old mid new c.loop-role.inputs _ so_far.only f.same f.asks f.later f.cause;
-      calls = called-stops g.S.StoreExt.note c.args.names.now roles (drop k roles) (drop (k + 1) roles) r (limit_of r) old.noted mid.noted new.noted c.in-Err.refusal
+      calls = called-stops g.S.StoreExt.note c.args.names.now roles (drop k roles) (drop (k + 1) roles) r (limit_of r) old.noted mid.noted new.noted x
           refl at so_far.called f.called f.stops;
       none = λ empty. some-left roles (drop k roles) (drop (k + 1) roles) r so_far.called.made empty at so_far.called.parts;
-    }
+    })
 
 pub loop-role-preserved : goal.loop-role-preserved
 loop-role-preserved g c =
@@ -35,9 +39,9 @@ loop-role-preserved g c =
     let mid = g.S.StoreExt.stored c.loop-role.store in
     let new = g.S.StoreExt.stored c.fetch.new.self in
     let so_far = c.loop-role.invariant in
-    let f = c.in-Ok.ensures in
+    let f = c.in_ok-bytes.ensures in
     record {
-      reached = so_far-more old.files mid.files c.args.names.now roles r (limit_of r) (drop k roles) (drop (k + 1) roles) (bytes_of c.loop-role.inputs) (bytes_of c.put.new.self) c.in-Ok.bytes
+      reached = so_far-more old.files mid.files c.args.names.now roles r (limit_of r) (drop k roles) (drop (k + 1) roles) (bytes_of c.loop-role.inputs) (bytes_of c.put.new.self) c.in_ok-bytes.bytes
           so_far.only.same refl at c.put.ensures so_far.reached f.told;
       only = only-then old mid new c.loop-role.inputs _ so_far.only f.same f.asks f.later tt;
       called = called-more g.S.StoreExt.note c.args.names.now roles (drop k roles) (drop (k + 1) roles) r (limit_of r) old.noted mid.noted new.noted

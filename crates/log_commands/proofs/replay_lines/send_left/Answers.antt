@@ -3,66 +3,88 @@ use Rattle.std.specs.Prelude.{Result, Ok, Some, None}
 use Rattle.bn_base.specs.declared.row.Row.{Row}
 use Rattle.hart_replay.specs.Coming.{Stepped}
 use Rattle.log_commands.specs.Texts.{rows_text}
-use Rattle.log_commands.specs.Printed.{outcome_of}
-use Rattle.log_commands.specs.Outside.{Sent}
+use Rattle.log_commands.specs.Printed.{outcome_of, EndsAs}
+use Rattle.log_commands.specs.Outside.{Sent, Sends}
 use Rattle.log_commands.specs.declared.replay_lines.ReplayEnd.{ReplayEnd}
 use Rattle.log_commands.specs.declared.refusal.Refusal.{Refusal}
+use Rattle.log_commands.proofs.Answering.{passed-on}
 use Rattle.log_commands.proofs.Rows.{RowsSoFar, stands-none, stands-more, stands-stopped, stands-sent, stands-short, stands-done, stands-refused}
 use Rattle.log_commands.proofs.replay_lines.send_left.Goals as goal
 
 pub rows-preserved : goal.rows-preserved
 rows-preserved g c =
+    let old = g.O.SinkExt.stream c.args.out.now in
+    let here = g.O.SinkExt.stream c.rows.out in
+    let there = g.O.SinkExt.stream c.gather_row.new.out in
     let step : Stepped c.rows.replayer (Ok (Some c.in-Ok-Some.row)) c.step.new.self = subst (λ (o : Option Row). Stepped c.rows.replayer (Ok o) c.step.new.self) c.in-Ok-Some.field-0-is c.in-Ok-Some.ensures in
-    stands-more c.args.replayer.now.left c.rows.replayer.left c.step.new.self.left c.in-Ok-Some.row c.rows.text c.gather_row.new.text
-    (g.O.SinkExt.stream c.args.out.now).text (g.O.SinkExt.stream c.rows.out).text (g.O.SinkExt.stream c.gather_row.new.out).text (g.O.SinkExt.stream c.args.out.now).faults (g.O.SinkExt.stream c.rows.out).faults (g.O.SinkExt.stream c.gather_row.new.out).faults
-    step.0 c.rows.invariant c.in-Ok.ensures.sent c.gather_row.ensures.later
+    stands-more c.args.replayer.now.left c.rows.replayer.left c.step.new.self.left c.in-Ok-Some.row c.rows.text c.gather_row.new.text old.text here.text there.text old.faults here.faults there.faults
+    step.0 c.rows.invariant c.in_ok-gather_row-in-Ok-Some.ensures.sent c.gather_row.ensures.later
 
-pub returns-in-Err-gather_row : goal.returns-in-Err-gather_row
-returns-in-Err-gather_row g c = record {
-  sent =
-    let step : Stepped c.rows.replayer (Ok (Some c.in-Ok-Some.row)) c.step.new.self = subst (λ (o : Option Row). Stepped c.rows.replayer (Ok o) c.step.new.self) c.in-Ok-Some.field-0-is c.in-Ok-Some.ensures in
-    stands-stopped c.args.replayer.now.left c.rows.replayer.left c.step.new.self.left c.in-Ok-Some.row c.rows.text
-    (g.O.SinkExt.stream c.args.out.now).text (g.O.SinkExt.stream c.rows.out).text (g.O.SinkExt.stream c.gather_row.new.out).text (g.O.SinkExt.stream c.args.out.now).faults (g.O.SinkExt.stream c.rows.out).faults (g.O.SinkExt.stream c.gather_row.new.out).faults
-    c.in-Err-gather_row.refusal step.0 c.rows.invariant c.in-Err-gather_row.ensures.sent;
-  later = omega (arith, c.rows.invariant.sent.later, c.gather_row.ensures.later);
-}
-
-pub returns-in-Ok-send : goal.returns-in-Ok-send
-returns-in-Ok-send g c = record {
-  sent =
-    let step : Stepped c.rows.replayer (Ok None) c.step.new.self = subst (λ (o : Option Row). Stepped c.rows.replayer (Ok o) c.step.new.self) c.in-Ok-None.field-0-is c.in-Ok-None.ensures in
-    stands-done c.args.replayer.now.left c.rows.replayer.left (g.O.SinkExt.stream c.args.out.now).text (g.O.SinkExt.stream c.send.new.sink).text (g.O.SinkExt.stream c.args.out.now).faults (g.O.SinkExt.stream c.send.new.sink).faults step.0
-    (stands-sent c.args.replayer.now.left c.rows.replayer.left c.rows.text (g.O.SinkExt.stream c.args.out.now).text (g.O.SinkExt.stream c.rows.out).text (g.O.SinkExt.stream c.send.new.sink).text
-    (g.O.SinkExt.stream c.args.out.now).faults (g.O.SinkExt.stream c.rows.out).faults (g.O.SinkExt.stream c.send.new.sink).faults c.rows.invariant c.in-Ok-send.ensures.sent.0 c.send.ensures.later);
-  later = omega (arith, c.rows.invariant.sent.later, c.send.ensures.later);
-}
-
-pub returns-in-Err-send : goal.returns-in-Err-send
-returns-in-Err-send g c = record {
-  sent =
-    stands-short c.args.replayer.now.left c.rows.replayer.left c.rows.text (g.O.SinkExt.stream c.args.out.now).text (g.O.SinkExt.stream c.rows.out).text (g.O.SinkExt.stream c.send.new.sink).text
-    (g.O.SinkExt.stream c.args.out.now).faults (g.O.SinkExt.stream c.rows.out).faults (g.O.SinkExt.stream c.send.new.sink).faults c.in-Err-send.refusal c.rows.invariant c.in-Err-send.ensures.sent;
-  later = omega (arith, c.rows.invariant.sent.later, c.send.ensures.later);
-}
-
-pub returns-in-Ok-send-2 : goal.returns-in-Ok-send-2
-returns-in-Ok-send-2 g c = record {
-  sent =
+pub returns-in_err-gather_row-in-Ok-Some : goal.returns-in_err-gather_row-in-Ok-Some
+returns-in_err-gather_row-in-Ok-Some g c =
     let left = c.args.replayer.now.left in
-    subst (λ (r : Result ReplayEnd Refusal). Sent (g.O.SinkExt.stream c.args.out.now).text (g.O.SinkExt.stream c.send-in-Err.new.sink).text (g.O.SinkExt.stream c.args.out.now).faults (g.O.SinkExt.stream c.send-in-Err.new.sink).faults (rows_text left.rows) (λ ending. outcome_of ending ≡ left.outcome) r) (sym c.ending_of.ensures)
-    (stands-refused left c.rows.replayer.left (g.O.SinkExt.stream c.args.out.now).text (g.O.SinkExt.stream c.send-in-Err.new.sink).text (g.O.SinkExt.stream c.args.out.now).faults (g.O.SinkExt.stream c.send-in-Err.new.sink).faults c.in-Err.error c.in-Err.ensures.0
-    (stands-sent left c.rows.replayer.left c.rows.text (g.O.SinkExt.stream c.args.out.now).text (g.O.SinkExt.stream c.rows.out).text (g.O.SinkExt.stream c.send-in-Err.new.sink).text
-    (g.O.SinkExt.stream c.args.out.now).faults (g.O.SinkExt.stream c.rows.out).faults (g.O.SinkExt.stream c.send-in-Err.new.sink).faults c.rows.invariant c.in-Ok-send-2.ensures.sent.0 c.send-in-Err.ensures.later));
-  later = omega (arith, c.rows.invariant.sent.later, c.send-in-Err.ensures.later);
-}
+    let old = g.O.SinkExt.stream c.args.out.now in
+    let here = g.O.SinkExt.stream c.rows.out in
+    let there = g.O.SinkExt.stream c.gather_row.new.out in
+    let x = c.in_err-gather_row-in-Ok-Some.field-0.0 in
+    let step : Stepped c.rows.replayer (Ok (Some c.in-Ok-Some.row)) c.step.new.self = subst (λ (o : Option Row). Stepped c.rows.replayer (Ok o) c.step.new.self) c.in-Ok-Some.field-0-is c.in-Ok-Some.ensures in
+    passed-on (Sends (rows_text left.rows) (EndsAs left.outcome) old there) x c.from_residual.result c.from_residual.ensures.1
+    (record {
+      sent = stands-stopped left c.rows.replayer.left c.step.new.self.left c.in-Ok-Some.row c.rows.text old.text here.text there.text old.faults here.faults there.faults x step.0 c.rows.invariant c.in_err-gather_row-in-Ok-Some.ensures.sent;
+      later = omega (arith, c.rows.invariant.sent.later, c.gather_row.ensures.later);
+    })
 
-pub returns-in-Err-send-2 : goal.returns-in-Err-send-2
-returns-in-Err-send-2 g c = record {
-  sent =
-    stands-short c.args.replayer.now.left c.rows.replayer.left c.rows.text (g.O.SinkExt.stream c.args.out.now).text (g.O.SinkExt.stream c.rows.out).text (g.O.SinkExt.stream c.send-in-Err.new.sink).text
-    (g.O.SinkExt.stream c.args.out.now).faults (g.O.SinkExt.stream c.rows.out).faults (g.O.SinkExt.stream c.send-in-Err.new.sink).faults c.in-Err-send-2.refusal c.rows.invariant c.in-Err-send-2.ensures.sent;
-  later = omega (arith, c.rows.invariant.sent.later, c.send-in-Err.ensures.later);
-}
+pub returns-in-Ok-None : goal.returns-in-Ok-None
+returns-in-Ok-None g c =
+    let left = c.args.replayer.now.left in
+    let old = g.O.SinkExt.stream c.args.out.now in
+    let here = g.O.SinkExt.stream c.rows.out in
+    let there = g.O.SinkExt.stream c.send.new.sink in
+    let step : Stepped c.rows.replayer (Ok None) c.step.new.self = subst (λ (o : Option Row). Stepped c.rows.replayer (Ok o) c.step.new.self) c.in-Ok-None.field-0-is c.in-Ok-None.ensures in
+    record {
+      sent = stands-done left c.rows.replayer.left old.text there.text old.faults there.faults step.0
+          (stands-sent left c.rows.replayer.left c.rows.text old.text here.text there.text old.faults here.faults there.faults c.rows.invariant c.in_ok-send-in-Ok-None.ensures.sent.0 c.send.ensures.later);
+      later = omega (arith, c.rows.invariant.sent.later, c.send.ensures.later);
+    }
+
+pub returns-in_err-send-in-Ok-None : goal.returns-in_err-send-in-Ok-None
+returns-in_err-send-in-Ok-None g c =
+    let left = c.args.replayer.now.left in
+    let old = g.O.SinkExt.stream c.args.out.now in
+    let here = g.O.SinkExt.stream c.rows.out in
+    let there = g.O.SinkExt.stream c.send.new.sink in
+    let x = c.in_err-send-in-Ok-None.field-0.0 in
+    passed-on (Sends (rows_text left.rows) (EndsAs left.outcome) old there) x c.from_residual-in_err-send-in-Ok-None.result c.from_residual-in_err-send-in-Ok-None.ensures.1
+    (record {
+      sent = stands-short left c.rows.replayer.left c.rows.text old.text here.text there.text old.faults here.faults there.faults x c.rows.invariant c.in_err-send-in-Ok-None.ensures.sent;
+      later = omega (arith, c.rows.invariant.sent.later, c.send.ensures.later);
+    })
+
+pub returns-in-Err : goal.returns-in-Err
+returns-in-Err g c =
+    let left = c.args.replayer.now.left in
+    let old = g.O.SinkExt.stream c.args.out.now in
+    let here = g.O.SinkExt.stream c.rows.out in
+    let there = g.O.SinkExt.stream c.send-in-Err.new.sink in
+    record {
+      sent = subst (λ (r : Result ReplayEnd Refusal). Sent old.text there.text old.faults there.faults (rows_text left.rows) (λ ending. outcome_of ending ≡ left.outcome) r) (sym c.ending_of.ensures)
+          (stands-refused left c.rows.replayer.left old.text there.text old.faults there.faults c.in-Err.error c.in-Err.ensures.0
+          (stands-sent left c.rows.replayer.left c.rows.text old.text here.text there.text old.faults here.faults there.faults c.rows.invariant c.in_ok-send-in-Err.ensures.sent.0 c.send-in-Err.ensures.later));
+      later = omega (arith, c.rows.invariant.sent.later, c.send-in-Err.ensures.later);
+    }
+
+pub returns-in_err-send-in-Err : goal.returns-in_err-send-in-Err
+returns-in_err-send-in-Err g c =
+    let left = c.args.replayer.now.left in
+    let old = g.O.SinkExt.stream c.args.out.now in
+    let here = g.O.SinkExt.stream c.rows.out in
+    let there = g.O.SinkExt.stream c.send-in-Err.new.sink in
+    let x = c.in_err-send-in-Err.field-0.0 in
+    passed-on (Sends (rows_text left.rows) (EndsAs left.outcome) old there) x c.from_residual-in_err-send-in-Err.result c.from_residual-in_err-send-in-Err.ensures.1
+    (record {
+      sent = stands-short left c.rows.replayer.left c.rows.text old.text here.text there.text old.faults here.faults there.faults x c.rows.invariant c.in_err-send-in-Err.ensures.sent;
+      later = omega (arith, c.rows.invariant.sent.later, c.send-in-Err.ensures.later);
+    })
 
 pub rows-init : goal.rows-init
 rows-init g c =

@@ -1,8 +1,8 @@
 use Rattle.log_commands.proofs.Prints.{part-whole}
 use Rattle.log_commands.proofs.send.send_short.Goals as goal
 
-pub returns-in-Ok : goal.returns-in-Ok
-returns-in-Ok g c = record {
-  sent = (part-whole (g.O.SinkExt.stream c.args.out.now).text (g.O.SinkExt.stream c.send.new.sink).text c.args.text.now c.in-Ok.ensures.sent.0, tt);
+pub returns : goal.returns
+returns g c = record {
+  sent = (part-whole (g.O.SinkExt.stream c.args.out.now).text (g.O.SinkExt.stream c.send.new.sink).text c.args.text.now c.in_ok-send.ensures.sent.0, tt);
   later = c.send.ensures.later;
 }

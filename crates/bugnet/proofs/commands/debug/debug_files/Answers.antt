@@ -1,79 +1,87 @@
-use Rattle.std.proofs.Common.{refl, inl, inr}
-use Rattle.log_commands.specs.Effects.{call}
-use Rattle.bugnet.specs.Sessions.{debug_with}
-use Rattle.log_commands.proofs.Prints.{appends-nothing}
-use Rattle.log_commands.proofs.Tells.{tells-from, with-any}
-use Rattle.bugnet.proofs.Debugs.{no_commands, none-read, named-refused, named-made, named-session, named-begins, refused-status, begun-not}
+use Rattle.std.proofs.Common.{refl, inl, inr, arith}
+use Rattle.log_commands.specs.Acting.{world, between}
+use Rattle.log_commands.specs.Outside.{Stream}
 use Rattle.log_commands.specs.Pairs.{pair_roles}
 use Rattle.log_commands.specs.declared.pairs.JointReading.{JointReading}
+use Rattle.log_commands.proofs.Answering.{passed-on}
+use Rattle.log_commands.proofs.Prints.{appends-nothing}
+use Rattle.log_commands.proofs.Tells.{tells-from, with-any}
+use Rattle.bugnet.specs.Replies.{reading}
+use Rattle.bugnet.specs.Sessions.{debug_with}
+use Rattle.bugnet.specs.Steps.{DebugsTo}
+use Rattle.bugnet.proofs.BegunSessions.{pair-begun}
+use Rattle.bugnet.proofs.Debugs.{no_commands, none-read, named-refused, named-made, named-session, named-begins, refused-status, begun-not}
 use Rattle.bugnet.proofs.LineCalls.{unbegun-calls, begun-calls}
 use Rattle.bugnet.proofs.commands.debug.debug_files.Goals as goal
 
-pub returns-in-Err-clause-told : goal.returns-in-Err-clause-told
-returns-in-Err-clause-told g c =
-    let k = call (g.S.Store.files) (g.S.Store.counts) (g.O.Sink.written) (g.O.Sink.faults) (g.X.Sink.written) (g.X.Sink.faults) c.args.store.now c.args.out.now c.args.err.now c.load_pair.new.store c.args.out.now c.refuse.new.err in
-    let s = refused-status c.args.names.now c.in-Err.refusal c.refuse.result _ _ _ _ _ _ c.in-Err.ensures.cause c.refuse.ensures.told in (
-      no_commands,
-      none-read c.refuse.result (g.I.Source.left c.args.input.now) (g.I.Source.faults c.args.input.now) (g.I.Source.reads c.args.input.now) s.read s.zero,
-      named-refused c.args.names.now c.in-Err.refusal c.refuse.result k (appends-nothing (g.O.Sink.written c.args.out.now)) c.in-Err.ensures.same (c.in-Err.ensures.told (debug_with c.args.names.now no_commands)) c.refuse.ensures.told,
-      with-any (g.S.Store.files c.args.store.now) _ (λ files. inl (refl, refl, refl)),
-    )
-
-pub returns-in-Err-clause-words : goal.returns-in-Err-clause-words
-returns-in-Err-clause-words g c = (refused-status c.args.names.now c.in-Err.refusal c.refuse.result _ _ _ _ _ _ c.in-Err.ensures.cause c.refuse.ensures.told).words
-
-pub returns-in-Err-clause-failed : goal.returns-in-Err-clause-failed
-returns-in-Err-clause-failed g c = (refused-status c.args.names.now c.in-Err.refusal c.refuse.result _ _ _ _ _ _ c.in-Err.ensures.cause c.refuse.ensures.told).causes.three
-
-pub returns-in-Err-clause-missing : goal.returns-in-Err-clause-missing
-returns-in-Err-clause-missing g c = (refused-status c.args.names.now c.in-Err.refusal c.refuse.result _ _ _ _ _ _ c.in-Err.ensures.cause c.refuse.ensures.told).causes.four
-
-pub returns-in-Err-clause-long : goal.returns-in-Err-clause-long
-returns-in-Err-clause-long g c = (refused-status c.args.names.now c.in-Err.refusal c.refuse.result _ _ _ _ _ _ c.in-Err.ensures.cause c.refuse.ensures.told).causes.five
-
-pub returns-in-Err-clause-write : goal.returns-in-Err-clause-write
-returns-in-Err-clause-write g c = λ e. absurd ((refused-status c.args.names.now c.in-Err.refusal c.refuse.result _ _ _ _ _ _ c.in-Err.ensures.cause c.refuse.ensures.told).causes.write e)
-
-pub returns-in-Ok-clause-told : goal.returns-in-Ok-clause-told
-returns-in-Ok-clause-told g c =
-    let k = call (g.S.Store.files) (g.S.Store.counts) (g.O.Sink.written) (g.O.Sink.faults) (g.X.Sink.written) (g.X.Sink.faults) c.load_pair.new.store c.args.out.now c.args.err.now c.load_pair.new.store c.debug_pair.new.out c.debug_pair.new.err in
-    let d = c.debug_pair.ensures.told in
+pub returns-in_err-pair : goal.returns-in_err-pair
+returns-in_err-pair g c =
     let names = c.args.names.now in
-    let reading = c.in-Ok.reading in
-    let whole = call (g.S.Store.files) (g.S.Store.counts) (g.O.Sink.written) (g.O.Sink.faults) (g.X.Sink.written) (g.X.Sink.faults) c.args.store.now c.args.out.now c.args.err.now c.load_pair.new.store c.debug_pair.new.out c.debug_pair.new.err in (
-      d.0,
-      d.1,
-      named-made names d.0 reading (g.S.Store.files c.args.store.now) c.debug_pair.result whole refl (c.in-Ok.ensures.told (debug_with names d.0))
-          (tells-from names (debug_with names d.0 reading.log reading.image) c.debug_pair.result (g.S.Store.files c.args.store.now) (g.S.Store.counts c.args.store.now) k c.in-Ok.ensures.same c.in-Ok.ensures.later
-          (d.2 (g.S.Store.files c.load_pair.new.store) (g.S.Store.counts c.load_pair.new.store))),
-      named-session d.0 names.log names.elf reading (g.S.Store.files c.args.store.now) c.debug_pair.result (g.I.Source.left c.args.input.now) (g.I.Source.left c.debug_pair.new.input) (g.I.Source.faults c.args.input.now) (g.I.Source.faults c.debug_pair.new.input)
-          (g.I.Source.reads c.args.input.now) (g.I.Source.reads c.debug_pair.new.input) whole refl c.in-Ok.ensures.loaded d.3,
-    )
+    let i = reading (g.I.Source.left) (g.I.Source.faults) (g.I.Source.reads) c.args.input.now c.args.input.now in
+    let out : Stream = record { text = g.O.Sink.written c.args.out.now; faults = g.O.Sink.faults c.args.out.now } in
+    let old = g.S.StoreExt.stored c.args.store.now in
+    let new = g.S.StoreExt.stored c.load_pair.new.store in
+    let x = c.in_err-pair.field-0.0 in
+    let h = c.in_err-pair.ensures in
+    passed-on (DebugsTo names g.S.StoreExt.note i old new out out) x c.from_residual.result c.from_residual.ensures.1
+    (λ status err end closed.
+    let k = between (world old out err) (world new out end) in
+    let s = refused-status names x status err.text end.text err.faults end.faults old.counts new.counts h.only.cause closed.0 in
+    record {
+      told = (
+        no_commands,
+        none-read status i.left_old i.faults_old i.reads_old s.read s.zero,
+        named-refused names x status k (appends-nothing out.text) h.only.same (h.told (debug_with names no_commands)) closed.0,
+        with-any old.files _ (λ files. inl (refl, refl, refl)),
+      );
+      first = inr refl;
+      begins = inl refl;
+      same = h.only.same;
+      asks = h.only.asks;
+      calls = unbegun-calls JointReading g.S.StoreExt.note names pair_roles x status old.noted new.noted k h.calls (appends-nothing out.text) closed.0;
+      words = s.words;
+      failed = s.causes.three;
+      missing = s.causes.four;
+      long = s.causes.five;
+      write = λ e. absurd (s.causes.write e);
+      later = record { out = omega arith; err = closed.1 };
+      counts = h.only.later;
+      read_later = omega arith;
+    })
 
-pub returns-in-Ok-clause-first : goal.returns-in-Ok-clause-first
-returns-in-Ok-clause-first g c = inl c.debug_pair.ensures.begun
-
-pub returns-in-Ok-clause-begins : goal.returns-in-Ok-clause-begins
-returns-in-Ok-clause-begins g c = inr (named-begins c.args.names.now.log c.args.names.now.elf c.in-Ok.reading (g.S.Store.files c.args.store.now) c.in-Ok.ensures.loaded)
-
-pub returns-in-Ok-clause-words : goal.returns-in-Ok-clause-words
-returns-in-Ok-clause-words g c = begun-not c.debug_pair.result 2 c.debug_pair.ensures.begun refl
-
-pub returns-in-Ok-clause-failed : goal.returns-in-Ok-clause-failed
-returns-in-Ok-clause-failed g c = λ e. absurd (begun-not c.debug_pair.result 3 c.debug_pair.ensures.begun refl e)
-
-pub returns-in-Ok-clause-missing : goal.returns-in-Ok-clause-missing
-returns-in-Ok-clause-missing g c = λ e. absurd (begun-not c.debug_pair.result 4 c.debug_pair.ensures.begun refl e)
-
-pub returns-in-Ok-clause-long : goal.returns-in-Ok-clause-long
-returns-in-Ok-clause-long g c = λ e. absurd (begun-not c.debug_pair.result 5 c.debug_pair.ensures.begun refl e)
-
-pub returns-in-Err-clause-calls : goal.returns-in-Err-clause-calls
-returns-in-Err-clause-calls g c =
-    let k = call (g.S.Store.files) (g.S.Store.counts) (g.O.Sink.written) (g.O.Sink.faults) (g.X.Sink.written) (g.X.Sink.faults) c.args.store.now c.args.out.now c.args.err.now c.load_pair.new.store c.args.out.now c.refuse.new.err in
-    unbegun-calls JointReading g.S.Store.note c.args.names.now pair_roles c.in-Err.refusal c.refuse.result (g.S.Store.noted c.args.store.now) (g.S.Store.noted c.load_pair.new.store) k c.in-Err.ensures.calls (appends-nothing (g.O.Sink.written c.args.out.now)) c.refuse.ensures.told
-
-pub returns-in-Ok-clause-calls : goal.returns-in-Ok-clause-calls
-returns-in-Ok-clause-calls g c =
-    let k = call (g.S.Store.files) (g.S.Store.counts) (g.O.Sink.written) (g.O.Sink.faults) (g.X.Sink.written) (g.X.Sink.faults) c.args.store.now c.args.out.now c.args.err.now c.load_pair.new.store c.debug_pair.new.out c.debug_pair.new.err in
-    begun-calls g.S.Store.note c.args.names.now pair_roles c.debug_pair.result (g.S.Store.noted c.args.store.now) (g.S.Store.noted c.load_pair.new.store) k c.in-Ok.ensures.calls c.debug_pair.ensures.begun
+pub returns : goal.returns
+returns g c = λ status err end closed.
+    let names = c.args.names.now in
+    let i = reading (g.I.Source.left) (g.I.Source.faults) (g.I.Source.reads) c.args.input.now c.debug_pair.new.input in
+    let out : Stream = record { text = g.O.Sink.written c.args.out.now; faults = g.O.Sink.faults c.args.out.now } in
+    let printed : Stream = record { text = g.O.Sink.written c.debug_pair.new.out; faults = g.O.Sink.faults c.debug_pair.new.out } in
+    let old = g.S.StoreExt.stored c.args.store.now in
+    let new = g.S.StoreExt.stored c.load_pair.new.store in
+    let pair = c.in_ok-pair.pair in
+    let h = c.in_ok-pair.ensures in
+    let s = c.debug_pair.ensures names status err end closed in
+    let d = s.told in
+    let begun = pair-begun names pair.log pair.image status i.left_old i.left_new i.faults_old i.faults_new i.reads_old i.reads_new out printed err end d s.begun in
+    let k = between (world old out err) (world new printed end) in
+    let l = between (world new out err) (world new printed end) in
+    record {
+      told = (
+        d.0,
+        d.1,
+        named-made names d.0 pair old.files status k refl (h.told (debug_with names d.0)) (tells-from names (debug_with names d.0 pair.log pair.image) status old.files old.counts l h.only.same h.only.later (d.2 new.files new.counts)),
+        named-session d.0 names.log names.elf pair old.files status i.left_old i.left_new i.faults_old i.faults_new i.reads_old i.reads_new k refl h.loaded d.3,
+      );
+      first = inl begun;
+      begins = inr (named-begins names.log names.elf pair old.files h.loaded);
+      same = h.only.same;
+      asks = h.only.asks;
+      calls = begun-calls g.S.StoreExt.note names pair_roles status old.noted new.noted k h.calls begun;
+      words = begun-not status 2 begun refl;
+      failed = λ e. absurd (begun-not status 3 begun refl e);
+      missing = λ e. absurd (begun-not status 4 begun refl e);
+      long = λ e. absurd (begun-not status 5 begun refl e);
+      write = s.write;
+      later = record { out = s.out_later; err = s.err_later };
+      counts = h.only.later;
+      read_later = s.read_later;
+    }

@@ -1,6 +1,8 @@
 use Rattle.std.proofs.Common.{ℕ, ◌+◌, ◌∷◌, List, ap, sym, ◌∙◌, subst, arith}
 use Rattle.joint_replay.specs.Memory.{known_from}
 use Rattle.joint_replay.specs.Texts.{memory_text}
+use Rattle.log_commands.specs.Outside.{Sends, Always}
+use Rattle.log_commands.proofs.Answering.{passed-on}
 use Rattle.log_commands.proofs.Prints.{so_far-last}
 use Rattle.log_commands.proofs.Joins.{Lists, lists-none, lists-more, lists-stopped}
 use Rattle.log_commands.proofs.commands.joint.send_words.Goals as goal
@@ -13,9 +15,9 @@ words-init g c =
 pub returns-in-None : goal.returns-in-None
 returns-in-None g c = record {
   sent =
-    so_far-last (memory_text c.args.joint.now.memory) c.words.text (memory_text (known_from c.words.from c.args.joint.now.memory))
-    (g.O.SinkExt.stream c.args.out.now).text (g.O.SinkExt.stream c.words.out).text (g.O.SinkExt.stream c.send.new.sink).text (g.O.SinkExt.stream c.args.out.now).faults (g.O.SinkExt.stream c.words.out).faults (g.O.SinkExt.stream c.send.new.sink).faults c.send.result
-    c.words.invariant (ap memory_text c.in-None.ensures) c.send.ensures.sent;
+      so_far-last (memory_text c.args.joint.now.memory) c.words.text (memory_text (known_from c.words.from c.args.joint.now.memory))
+      (g.O.SinkExt.stream c.args.out.now).text (g.O.SinkExt.stream c.words.out).text (g.O.SinkExt.stream c.send.new.sink).text (g.O.SinkExt.stream c.args.out.now).faults (g.O.SinkExt.stream c.words.out).faults (g.O.SinkExt.stream c.send.new.sink).faults c.send.result
+      c.words.invariant (ap memory_text c.in-None.ensures) c.send.ensures.sent;
   later = omega (arith, c.words.invariant.later, c.send.ensures.later);
 }
 
@@ -23,13 +25,17 @@ pub words-preserved : goal.words-preserved
 words-preserved g c =
     lists-more c.args.joint.now.memory c.words.from (c.from-from.result + 4) (c.in-Some.addr, c.in-Some.word) c.words.text c.gather_word.new.text
     (g.O.SinkExt.stream c.args.out.now).text (g.O.SinkExt.stream c.words.out).text (g.O.SinkExt.stream c.gather_word.new.out).text (g.O.SinkExt.stream c.args.out.now).faults (g.O.SinkExt.stream c.words.out).faults (g.O.SinkExt.stream c.gather_word.new.out).faults
-    (c.in-Some.ensures ∙ ap (λ a. (c.in-Some.addr, c.in-Some.word) ∷ known_from (a + 4) c.args.joint.now.memory) (sym c.from-from.ensures)) c.words.invariant c.in-Ok.ensures.sent c.gather_word.ensures.later
+    (c.in-Some.ensures ∙ ap (λ a. (c.in-Some.addr, c.in-Some.word) ∷ known_from (a + 4) c.args.joint.now.memory) (sym c.from-from.ensures)) c.words.invariant c.in_ok-gather_word-in-Some.ensures.sent c.gather_word.ensures.later
 
-pub returns-in-Err : goal.returns-in-Err
-returns-in-Err g c = record {
-  sent =
-    lists-stopped c.args.joint.now.memory c.words.from (c.in-Some.addr + 4) (c.in-Some.addr, c.in-Some.word) c.words.text
-    (g.O.SinkExt.stream c.args.out.now).text (g.O.SinkExt.stream c.words.out).text (g.O.SinkExt.stream c.gather_word.new.out).text (g.O.SinkExt.stream c.args.out.now).faults (g.O.SinkExt.stream c.words.out).faults (g.O.SinkExt.stream c.gather_word.new.out).faults c.in-Err.refusal
-    c.in-Some.ensures c.words.invariant c.in-Err.ensures.sent;
-  later = omega (arith, c.words.invariant.later, c.gather_word.ensures.later);
-}
+pub returns-in_err-gather_word-in-Some : goal.returns-in_err-gather_word-in-Some
+returns-in_err-gather_word-in-Some g c =
+    let ms = c.args.joint.now.memory in
+    let old = g.O.SinkExt.stream c.args.out.now in
+    let here = g.O.SinkExt.stream c.words.out in
+    let there = g.O.SinkExt.stream c.gather_word.new.out in
+    let x = c.in_err-gather_word-in-Some.field-0.0 in
+    passed-on (Sends (memory_text ms) Always old there) x c.from_residual.result c.from_residual.ensures.1
+    (record {
+      sent = lists-stopped ms c.words.from (c.in-Some.addr + 4) (c.in-Some.addr, c.in-Some.word) c.words.text old.text here.text there.text old.faults here.faults there.faults x c.in-Some.ensures c.words.invariant c.in_err-gather_word-in-Some.ensures.sent;
+      later = omega (arith, c.words.invariant.later, c.gather_word.ensures.later);
+    })

@@ -28,7 +28,7 @@ returns-in_err-gather_record g c =
     passed-on (Sends (list_text c.args.log.now.records) Always (g.O.SinkExt.stream c.args.out.now) (g.O.SinkExt.stream c.gather_record.new.out)) _ c.from_residual.result c.from_residual.ensures.1
     (record {
       sent = subst (λ (rs : List Record). AppendsPart old next (list_text rs) × SendStops before last c.in_err-gather_record.field-0.0) c.records-records.ensures.value
-    (so_far-stopped (list_text rs) (text ++ piece) rest old now next before after last c.in_err-gather_record.field-0.0 so_far c.in_err-gather_record.ensures.sent);
+          (so_far-stopped (list_text rs) (text ++ piece) rest old now next before after last c.in_err-gather_record.field-0.0 so_far c.in_err-gather_record.ensures.sent);
       later = omega (arith, c.loop-place.invariant.later, c.gather_record.ensures.later);
     })
 
@@ -53,15 +53,15 @@ loop-place-preserved g c =
 pub returns : goal.returns
 returns g c = record {
   sent =
-    let rs = c.records-records.result.now in
-    let old = (g.O.SinkExt.stream c.args.out.now).text in
-    let now = (g.O.SinkExt.stream c.loop-place.out).text in
-    let next = (g.O.SinkExt.stream c.send.new.sink).text in
-    let before = (g.O.SinkExt.stream c.args.out.now).faults in
-    let after = (g.O.SinkExt.stream c.loop-place.out).faults in
-    let last = (g.O.SinkExt.stream c.send.new.sink).faults in
-    subst (λ (rs : List Record). Sent old next before last (list_text rs) (λ x. Unit {0}) c.send.result) c.records-records.ensures.value
-    (so_far-last (list_text rs) c.loop-place.text (list_text (drop c.loop-place.place rs)) old now next before after last c.send.result c.loop-place.invariant
-    (list-done rs c.loop-place.place (subst (λ (n : ℕ). n ≤ c.loop-place.place) c.len-place-end.ensures.value c.loop-place-test.false)) c.send.ensures.sent);
+      let rs = c.records-records.result.now in
+      let old = (g.O.SinkExt.stream c.args.out.now).text in
+      let now = (g.O.SinkExt.stream c.loop-place.out).text in
+      let next = (g.O.SinkExt.stream c.send.new.sink).text in
+      let before = (g.O.SinkExt.stream c.args.out.now).faults in
+      let after = (g.O.SinkExt.stream c.loop-place.out).faults in
+      let last = (g.O.SinkExt.stream c.send.new.sink).faults in
+      subst (λ (rs : List Record). Sent old next before last (list_text rs) (λ x. Unit {0}) c.send.result) c.records-records.ensures.value
+      (so_far-last (list_text rs) c.loop-place.text (list_text (drop c.loop-place.place rs)) old now next before after last c.send.result c.loop-place.invariant
+      (list-done rs c.loop-place.place (subst (λ (n : ℕ). n ≤ c.loop-place.place) c.len-place-end.ensures.value c.loop-place-test.false)) c.send.ensures.sent);
   later = omega (arith, c.loop-place.invariant.later, c.send.ensures.later);
 }
