@@ -149,6 +149,7 @@ impl<'a> Joint<'a> {
     }
 
     // Goes on past the Edges whose sources are passed since a hart moved.
+    #[inline(always)]
     fn pass_sources(&mut self, moved: HartId)
         ensures { self.new ≡ self.old }
     {

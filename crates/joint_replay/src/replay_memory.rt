@@ -111,6 +111,7 @@ impl ReplayMemory {
 
     // Notes what a row tells: the word that it stored, else the one that it loaded, and nothing
     // more of the words of which a call filled bytes.
+    #[inline(always)]
     fn note_row(&mut self, row: &Row, filled: Option<(Addr, u32)>)
         requires { 2 ≤ self.old.room }
         ensures { self.new.words ≡ put_access row.now.store (put_access row.now.load (forget (option_map bytes_at filled) self.old.words)) }

@@ -71,6 +71,7 @@ impl<'a> Joint<'a> {
     /// Stuck comes where no hart is ready and not all are done, and a refusal of the step where it is
     /// refused; then there is no line. Where memory is wanting there is no line either, but the step may
     /// be done. After that, as after any refusal, each step answers the same.
+    #[inline(always)]
     pub fn advance(&mut self, lines: &mut RowLines, out: &mut Text) -> Result<bool, JointError>
         ensures { Advances self.old result self.new out.old out.new }
     {
