@@ -1,20 +1,19 @@
 -- The Edges of a stream, by hart and count.
-use Rattle.std.proofs.Common.{◌≡◌, ℕ, zero, suc, ◌<◌, ◌≤◌, ◌⊎◌, ◌↔◌, Bool, true, false, ◌&&◌, refl, inl, inr, arith, sym, ap, ap₂, ◌∙◌, subst, subst₂, List, [], ◌∷◌, length, slice_get, map, Option, Some}
-use Rattle.std.specs.Prelude.{IsTrue}
+use Rattle.std.proofs.Common.{◌≡◌, ℕ, zero, suc, ◌<◌, ◌≤◌, ◌⊎◌, refl, inl, inr, arith, sym, ap, ap₂, ◌∙◌, subst, subst₂, List, [], ◌∷◌, length, slice_get, map, Option, Some}
 use Rattle.std.proofs.lemmas.Option.{slice_get_within}
 use Rattle.std.proofs.lemmas.Bool.Decides.{eqb_tells}
 use Rattle.bn_base.specs.declared.settings.RawSettings.{RawSettings}
 use Rattle.log_record.specs.declared.record.Record.{Record}
 use Rattle.log_record.specs.declared.record.Record.TheVariants.{Header, FirstLoad, ScOk, ScFailed, Edge, End}
 use Rattle.race_log.specs.Points.{Point, IsConflict}
-use Rattle.race_log.specs.Netzer.{ProgramOrder, Conflict, Either, Chain, IsEdge, Chosen, OtherThan}
+use Rattle.race_log.specs.Netzer.{ProgramOrder, Conflict, Either, Chain, IsEdge, OtherThan}
 use Rattle.race_log.specs.Netzer.Chain.{one, more}
 use Rattle.race_log.specs.ByCount.{IsInOrder, StandByCounts}
 use Rattle.race_log.specs.Kept.{In}
-use Rattle.race_log.specs.Tests.{conflict, name_of, edges_into, sources_into, edges_of_first, all_edges}
+use Rattle.race_log.specs.Tests.{name_of, edges_into, sources_into, edges_of_first, all_edges}
 use Rattle.run_model.specs.Turn.{Run}
 use Rattle.race_laws.specs.Edges.{edges_in, edge_record, edge_between}
-use Rattle.race_laws.specs.Pairs.{StepBy, LeadsBy, IsConflictAt, IsEdgeAt, EdgeAmong, OtherEdge, Passes, OrderConflicts}
+use Rattle.race_laws.specs.Pairs.{StepBy, LeadsBy, IsConflictAt, IsEdgeAt, EdgeAmong, OtherEdge, OrderConflicts}
 use Rattle.race_laws.specs.Pairs.StepBy.{onward, across}
 use Rattle.race_laws.specs.Pairs.LeadsBy.{by_one, by_more}
 use Rattle.race_laws.specs.Laws.{HasNetzersEdges, HasEdgesOfInstructions, HasNoImpliedEdge, HasLeastEdges}
@@ -33,6 +32,10 @@ same_place run m n p q is e f = one_point run n p q (subst (λ (k : ℕ). slice_
 
 below_or : (a b : ℕ) → (a < b) ⊎ (b ≤ a)
 below_or a b = grind arith
+
+-- places whose points conflict, and whose instructions are a pair
+abbrev pub ConflictingPair : List Point → (ℕ → ℕ → ℕ → ℕ → Type 0) → ℕ → ℕ → Type 0
+ConflictingPair points Pair m n = Conflict points m n × Pair (name_of (slice_get points m)).0 (name_of (slice_get points m)).1 (name_of (slice_get points n)).0 (name_of (slice_get points n)).1
 
 module _ (by : StandByCounts) (run : List Point) (up : IsInOrder run) where
   ordered : (m n : ℕ) (p q : Point) → slice_get run m ≡ Some p → slice_get run n ≡ Some q → p.hart ≡ q.hart → p.count < q.count → ProgramOrder run m n
@@ -310,39 +313,21 @@ module _ (by : StandByCounts) (laws : EdgeLaws) (c : RawSettings) (run : Run) (i
           subst₂ (λ a b. LeadsBy (EdgeAmong run.stream) h i a b) s.q_hart s.q_count
           (subst₂ (λ a b. LeadsBy (EdgeAmong run.stream) a b s.q.hart s.q.count) s.p_hart s.p_count led)
 
-  -- the pairs of places whose points conflict, and whose instructions pass the test
-  abbrev chosen : (ℕ → ℕ → ℕ → ℕ → Bool) → ℕ → ℕ → Bool
-  chosen pairs m n =
-      conflict run.points m n && pairs (name_of (slice_get run.points m)).0 (name_of (slice_get run.points m)).1 (name_of (slice_get run.points n)).0 (name_of (slice_get run.points n)).1
-
-  both : (a b : Bool) → (a && b) ≡ true → (a ≡ true) × (b ≡ true)
-  both true b e = (refl, e)
-  both false b e = cc
-
-  both_true : (a b : Bool) → a ≡ true → b ≡ true → (a && b) ≡ true
-  both_true true b e f = f
-  both_true false b e f = e
-
   names_at : {At : ℕ → ℕ → Type 0} {h i g j : ℕ} (s : Stands by run.points up At h i g j) → (name_of (slice_get run.points s.first) ≡ (h, i)) × (name_of (slice_get run.points s.second) ≡ (g, j))
   names_at s = (ap name_of s.p_at ∙ ap₂ (λ x y. (x, y)) s.p_hart s.p_count, ap name_of s.q_at ∙ ap₂ (λ x y. (x, y)) s.q_hart s.q_count)
 
   -- the law of the least set, over places
-  abbrev pub EdgesNeeded : Type 0
-  EdgesNeeded = (points : List Point) (pairs : ℕ → ℕ → Bool) → ((m n : ℕ) → Chosen pairs m n → Conflict points m n)
-      → ((m n : ℕ) → Conflict points m n → Chain (Either (ProgramOrder points) (Chosen pairs)) m n) → (m n : ℕ) → IsEdge points m n → Chosen pairs m n
+  abbrev pub EdgesNeeded : (ℕ → ℕ → Type 0) → Type 0
+  EdgesNeeded Pair = ((m n : ℕ) → Pair m n → Conflict run.points m n) → ((m n : ℕ) → Conflict run.points m n → Chain (Either (ProgramOrder run.points) Pair) m n)
+      → (m n : ℕ) → IsEdge run.points m n → Pair m n
 
-  least_so : ((points : List Point) (m n : ℕ) → IsTrue (conflict points m n) ↔ Conflict points m n) → EdgesNeeded → (pairs : ℕ → ℕ → ℕ → ℕ → Bool) → OrderConflicts run.points (Passes pairs)
-      → (h i g j : ℕ) → EdgeAmong run.stream h i g j → Passes pairs h i g j
-  least_so decide law pairs so h i g j among =
+  least_so : (Pair : ℕ → ℕ → ℕ → ℕ → Type 0) → EdgesNeeded (ConflictingPair run.points Pair) → OrderConflicts run.points Pair → (h i g j : ℕ) → EdgeAmong run.stream h i g j → Pair h i g j
+  least_so Pair law so h i g j among =
       let s = edge_stands h i g j among in
-      let has = law run.points (chosen pairs) are order s.first s.second s.pair in
       let names = names_at s in
-      subst₂ (λ (a b : ℕ × ℕ). IsTrue (pairs a.0 a.1 b.0 b.1)) names.0 names.1 (both (conflict run.points s.first s.second) _ has).1
+      subst₂ (λ (a b : ℕ × ℕ). Pair a.0 a.1 b.0 b.1) names.0 names.1 (law (λ m n x. x.0) order s.first s.second s.pair).1
     where
-      are : (m n : ℕ) → Chosen (chosen pairs) m n → Conflict run.points m n
-      are m n x = (decide run.points m n).0 (both (conflict run.points m n) _ x).0
-
-      stand : (h i g j : ℕ) → Passes pairs h i g j → Stands by run.points up (Chosen (chosen pairs)) h i g j
+      stand : (h i g j : ℕ) → Pair h i g j → Stands by run.points up (ConflictingPair run.points Pair) h i g j
       stand h i g j x =
           let k = conflict_stands by run.points up h i g j (so.are h i g j x) in
           let names = names_at k in
@@ -357,15 +342,14 @@ module _ (by : StandByCounts) (laws : EdgeLaws) (c : RawSettings) (run : Run) (i
             p_count = k.p_count;
             q_hart = k.q_hart;
             q_count = k.q_count;
-            pair = both_true (conflict run.points k.first k.second) _ ((decide run.points k.first k.second).1 k.pair)
-                (subst₂ (λ (a b : ℕ × ℕ). IsTrue (pairs a.0 a.1 b.0 b.1)) (sym names.0) (sym names.1) x);
+            pair = (k.pair, subst₂ (λ (a b : ℕ × ℕ). Pair a.0 a.1 b.0 b.1) (sym names.0) (sym names.1) x);
           }
 
-      order : (m n : ℕ) → Conflict run.points m n → Chain (Either (ProgramOrder run.points) (Chosen (chosen pairs))) m n
+      order : (m n : ℕ) → Conflict run.points m n → Chain (Either (ProgramOrder run.points) (ConflictingPair run.points Pair)) m n
       order m n k =
           places_lead by run.points up stand (so.order k.first.hart k.first.count k.second.hart k.second.count (conflict_at by run.points up m n k))
           m n k.first k.second k.first_at k.second_at refl (omega arith) refl (omega arith)
 
   pub least_set : ((points : List Point) (m n : ℕ) → Conflict points m n → Chain (Either (ProgramOrder points) (IsEdge points)) m n)
-      → ((points : List Point) (m n : ℕ) → IsTrue (conflict points m n) ↔ Conflict points m n) → EdgesNeeded → HasLeastEdges c run
-  least_set order decide law = record { order = ordered_so order; least = least_so decide law }
+      → (Name : Type 0) (Pair : Name → ℕ → ℕ → ℕ → ℕ → Type 0) → ((of : Name) → EdgesNeeded (ConflictingPair run.points (Pair of))) → HasLeastEdges Name Pair c run
+  least_set order Name Pair law = record { order = ordered_so order; least = λ of. least_so (Pair of) (law of) }

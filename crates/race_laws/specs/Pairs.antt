@@ -1,5 +1,5 @@
 -- Chains of program order and of pairs of instructions, each instruction by its hart and count.
-use Rattle.std.specs.Prelude.{◌≢◌, ℕ, ◌<◌, Bool, IsTrue, List}
+use Rattle.std.specs.Prelude.{◌≢◌, ℕ, ◌<◌, List}
 use Rattle.std.specs.List.{Contains}
 use Rattle.log_record.specs.declared.record.Record.{Record}
 use Rattle.log_record.specs.declared.record.Record.TheVariants.{Edge}
@@ -41,10 +41,6 @@ EdgeAmong rs hart count hart_to count_to = Contains rs (Edge hart_to count_to ha
 -- so it is, and it is another than this one
 abbrev pub OtherEdge : List Record → Record → ℕ → ℕ → ℕ → ℕ → Type 0
 OtherEdge rs edge hart count hart_to count_to = EdgeAmong rs hart count hart_to count_to × (Edge hart_to count_to hart count ≢ edge)
-
--- the pair passes a test
-abbrev pub Passes : (ℕ → ℕ → ℕ → ℕ → Bool) → ℕ → ℕ → ℕ → ℕ → Type 0
-Passes pairs hart count hart_to count_to = IsTrue (pairs hart count hart_to count_to)
 
 -- the pairs are of instructions that conflict, the earlier one first, and their chains with program order order all conflicts
 pub record OrderConflicts (run : List Point) (Pair : ℕ → ℕ → ℕ → ℕ → Type 0) : Type 0 where

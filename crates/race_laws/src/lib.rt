@@ -19,6 +19,7 @@ use race_log::{
 };
 use run_laws::turns_are_lawful;
 use run_model::{each_turn_fits, each_turn_moves_on, guarded_asks_fit, others_stay_fit};
+use std::marker::Brand;
 
 /// The Edge records of a stream are those of Netzer's reduction of the run's points, in the order of
 /// the points that they lead to, and of those into one point the latest source first (R. H. B.
@@ -84,19 +85,39 @@ pub fn no_edge_is_implied()
     no_edge_follows();
 }
 
+/// Sets of pairs of instructions, by hart and count, each with a name. No clause can speak of all sets of pairs, and a
+/// clause over such a type speaks of all that any type names.
+pub trait InstructionPairs {
+    ghost use Rattle.std.specs.Prelude.{ℕ};
+
+    /// What names a set.
+    ghost Name: { Type 0 };
+
+    /// The pairs of a set.
+    ghost has: { Name → ℕ → ℕ → ℕ → ℕ → Type 0 };
+}
+
+impl InstructionPairs for Brand {
+    ghost use Rattle.std.specs.Prelude.{⊤};
+
+    ghost Name = { ⊤ };
+
+    ghost has = { λ of hart count hart_to count_to. ⊥ };
+}
+
 /// The Edges of a stream are the least set that orders the conflicts: chains of program order and Edges
 /// lead from each instruction to each later one that conflicts with it, and each set of such pairs of
 /// which that holds has every Edge.
-pub fn edges_are_the_least()
-    ensures turns { OfLists HasLeastEdges }
-    ensures rows { OfRows HasLeastEdges }
+pub fn edges_are_the_least<P: InstructionPairs>()
+    ensures turns { OfLists (HasLeastEdges P.Name P.has) }
+    ensures rows { OfRows (HasLeastEdges P.Name P.has) }
 {
     tests_decide();
     listed_edges_are_all();
     points_are_in_order();
     points_stand_by_counts();
     edges_order_conflicts();
-    edges_are_needed();
+    edges_are_needed::<Brand>();
 }
 
 /// Whatever end of the records is kept, every edge that ends after a point of a kept interval is kept:

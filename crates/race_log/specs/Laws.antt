@@ -14,16 +14,16 @@ abbrev pub NoEdgeFollows : Type 0
 NoEdgeFollows = (run : List Point) (m n : ℕ) → IsEdge run m n → Chain (Either (ProgramOrder run) (OtherThan m n (IsEdge run))) m n → ⊥
 
 -- pairs are conflicts in recorded order
-abbrev pub AreConflicts : List Point → (ℕ → ℕ → Bool) → Type 0
-AreConflicts run pairs = (m n : ℕ) → Chosen pairs m n → Conflict run m n
+abbrev pub AreConflicts : List Point → (ℕ → ℕ → Type 0) → Type 0
+AreConflicts run Pair = (m n : ℕ) → Pair m n → Conflict run m n
 
 -- pairs with program order order all conflicts
-abbrev pub OrderConflicts : List Point → (ℕ → ℕ → Bool) → Type 0
-OrderConflicts run pairs = (m n : ℕ) → Conflict run m n → Chain (Either (ProgramOrder run) (Chosen pairs)) m n
+abbrev pub OrderConflicts : List Point → (ℕ → ℕ → Type 0) → Type 0
+OrderConflicts run Pair = (m n : ℕ) → Conflict run m n → Chain (Either (ProgramOrder run) Pair) m n
 
--- every such set of pairs has each edge
-abbrev pub EdgesAreNeeded : Type 0
-EdgesAreNeeded = (run : List Point) (pairs : ℕ → ℕ → Bool) → AreConflicts run pairs → OrderConflicts run pairs → (m n : ℕ) → IsEdge run m n → Chosen pairs m n
+-- of sets of pairs, each with a name, every such one has each edge
+abbrev pub EdgesAreNeeded : (Name : Type 0) → (Name → ℕ → ℕ → Type 0) → Type 0
+EdgesAreNeeded Name Pair = (run : List Point) (of : Name) → AreConflicts run (Pair of) → OrderConflicts run (Pair of) → (m n : ℕ) → IsEdge run m n → Pair of m n
 
 -- a chain of program order and edges leads from each point to each later one that conflicts with it
 abbrev pub EdgesOrderConflicts : Type 0

@@ -9,6 +9,8 @@ ghost use Rattle.race_log.specs.Laws.{NoEdgeFollows, EdgesAreNeeded, EdgesOrderC
 ghost use Rattle.race_log.specs.Laws.{LateEdgesKeepConflicts, LateEdgesKeepWords, SomeHartGoesOn, NextPointsRespect, KnownAccessesMayGo};
 ghost use Rattle.race_log.specs.Laws.{ChainsStandForCounts, EdgesStandForCounts, TimesCoverInstructions};
 
+use std::marker::Brand;
+
 /// The tests say what the definitions say.
 pub fn tests_decide()
     ensures writes { (word : ℕ) (p : Point) → IsTrue (writes_word word p) ↔ Writes word p }
@@ -31,10 +33,30 @@ pub fn no_edge_follows()
     ensures { NoEdgeFollows }
 {}
 
+/// Sets of pairs of places of a run, each with a name. No clause can speak of all sets of pairs, and a clause over such
+/// a type speaks of all that any type names.
+pub trait PairSets {
+    ghost use Rattle.std.specs.Prelude.{ℕ};
+
+    /// What names a set.
+    ghost Name: { Type 0 };
+
+    /// The pairs of a set.
+    ghost has: { Name → ℕ → ℕ → Type 0 };
+}
+
+impl PairSets for Brand {
+    ghost use Rattle.std.specs.Prelude.{⊤};
+
+    ghost Name = { ⊤ };
+
+    ghost has = { λ of m n. ⊥ };
+}
+
 /// Every set of conflicting pairs, each in recorded order, whose chains with program order order all conflicts
 /// has each edge.
-pub fn edges_are_needed()
-    ensures { EdgesAreNeeded }
+pub fn edges_are_needed<P: PairSets>()
+    ensures { EdgesAreNeeded P.Name P.has }
 {}
 
 /// A chain of program order and edges leads from each point to each later one that conflicts with it, and already

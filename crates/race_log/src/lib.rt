@@ -32,7 +32,7 @@ pub use examples::{
     store_follows_two_readers,
 };
 pub use laws::{
-    edges_are_needed, edges_order_conflicts, known_accesses_may_go, late_edges_suffice,
+    PairSets, edges_are_needed, edges_order_conflicts, known_accesses_may_go, late_edges_suffice,
     listed_edges_are_all, memory_stays_small, merges_keep_conflicts, no_edge_follows, notes_decide,
     places_stand_for_counts, points_stand_by_counts, some_hart_goes_on, tests_decide,
     times_cover_instructions,
