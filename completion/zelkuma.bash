@@ -108,7 +108,7 @@ _zelkuma() {
         choice=$(_zelkuma_firsts "$_zelkuma_commands")
     elif [[ $current == -* ]]; then
         choice=$(_zelkuma_firsts "$(_zelkuma_rows "$_zelkuma_options" "${words[0]}")")
-    elif [[ $(_zelkuma_next "${words[@]}") =~ ^(ELF|LOG|BOOK|NEW|FILE|PATH)$ ]]; then
+    elif [[ $(_zelkuma_next "${words[@]}") =~ ^(ELF|LOG|BOOK|NEW|FILE|PREFIX)$ ]]; then
         return # which leaves it to the names of files
     fi
     compopt +o default

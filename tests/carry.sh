@@ -66,7 +66,7 @@ companions() {
 }
 
 what="a folder"
-prefix="$work/a prefix"
+prefix="$work/a & prefix"
 runs 0 "$sources/zelkuma" install "$prefix"
 laid_under "$prefix" >"$work/wanted"
 equals "$work/wanted" "$work/out"

@@ -5,12 +5,12 @@
 set -u
 . "$(dirname "$0")/fresh_start.sh"
 top=$(cd "$(dirname "$0")/.." && pwd)
-type -P python3 >/dev/null || { echo "skipped: python3 isn't here" && exit 77; }
 program=${1:-$(cd "$top/companion" && python3 -B -c 'import program; print(program.path())' 2>/dev/null)}
 [ -x "$program" ] || { echo "companions: there is no program ${program:-in this repository}" >&2; exit 1; }
 ZELKUMA_PROGRAM=$(readlink -f "$program")
 export ZELKUMA_PROGRAM
 [ $# -gt 0 ] && shift
+type -P python3 >/dev/null || { echo "skipped: python3 isn't here" && exit 77; }
 work=$(mktemp -d)
 trap 'rm -rf "$work"' EXIT
 passed=0 failed=0 skipped=0

@@ -32,6 +32,8 @@ types 'zelkuma debug mylo\tpro\tste\t' debug mylog program.elf ste
 types 'zelkuma wh\tmylo\tpro\t--html mylo\t' why mylog program.elf --html mylog
 types 'zelkuma seeds mylo\t2 -- --log\t7 mylo\t' seeds mylo2 -- --log-size 7 mylog
 types 'zelkuma demo mylo\t' demo mylo
+types 'zelkuma uni\tfol\t' uninstall folder/
+types 'zelkuma --ver\t' --version
 
 what="words at a terminal"
 mkdir -p "$work/files/folder"

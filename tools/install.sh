@@ -61,5 +61,6 @@ uninstall_from() { # PREFIX
     check_prefix uninstall "$@"
     mapfile -t old < <(laid "$prefix")
     [ ${#old[@]} -gt 0 ] || stop 3 "uninstall: there is no zelkuma under ${1@Q}"
-    rm -f -- "${beside[@]/#/$prefix/}" && remove "$prefix" zelkuma "${old[@]}" || stop 3 "uninstall: not all could be removed from ${1@Q}"
+    (cd -- "$prefix" && rm -f -- "${beside[@]}") && remove "$prefix" zelkuma "${old[@]}" ||
+        stop 3 "uninstall: not all could be removed from ${1@Q}"
 }
