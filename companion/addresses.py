@@ -1,5 +1,6 @@
 """Addresses of names: NAME of a function or an object, or FILE:LINE."""
 import os
+from contextlib import closing
 
 from places import Places
 
@@ -17,17 +18,25 @@ def addresses_of(elf, name):
 
 def addresses_of_line(elf, file, line):
     """Where each piece of code of a line begins. The tools answer lines of addresses alone, so all code is asked."""
-    places, found, before = Places(elf), [], False
-    for start, size, flags, _ in elf.parts:
-        if flags & EXECUTABLE:
-            code = range(start, start + min(size, MOST_CODE), 4)
-            places.fetch(code)
-            for pc in code:
-                here = [frame for frame in places.frames(pc) if frame[2] == line and is_file(frame[3], file)]
-                if here and not before:
-                    found.append((pc, "%s %s:%d" % here[0][:3]))
-                before = bool(here)
+    found, before = [], False
+    with closing(Places(elf)) as places:
+        code = code_of(elf)
+        places.fetch(code)
+        for pc in code:
+            here = [frame for frame in places.frames(pc) if frame[2] == line and is_file(frame[3], file)]
+            if here and not before:
+                found.append((pc, "%s %s:%d" % here[0][:3]))
+            before = bool(here)
     return found
+
+
+def code_of(elf):
+    """The addresses of all code that the file holds: so many bytes at most, however often it loads them."""
+    found = set()
+    for start, _, flags, body in elf.parts:
+        if flags & EXECUTABLE and len(found) * 4 < MOST_CODE:
+            found.update(range(start, start + min(len(body), MOST_CODE), 4))
+    return sorted(found)
 
 
 def is_file(path, name):

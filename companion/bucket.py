@@ -1,14 +1,9 @@
-"""One line that is the same for logs that ended for the same cause, for sorting many logs.
-
-    zelkuma bucket LOG ELF [--names ELF]
-
-It prints how the run ended, the function, FILE:LINE and a digest: of the functions on the call stack, each once, and of
-the place. Addresses, values, counts and the schedule aren't in it. `sort | uniq -c` over the lines of many logs groups
-them. A run that came to its limit is told by the outermost function of its last rows, since any row of a loop can be last.
-Companions show; the program proves."""
+"""One line for each cause."""
 import hashlib
 from collections import deque
+from contextlib import closing
 
+import streams
 from calls import CallTree
 from elf import Elf
 from errors import NO_INTERVAL, CompanionError
@@ -16,6 +11,14 @@ from log import Log, is_fault
 from options import parse
 from places import Places
 
+HELP = """One line that is the same for logs that ended for the same cause, for sorting many logs.
+
+    zelkuma bucket LOG ELF [--names ELF]
+
+It prints how the run ended, the function, FILE:LINE and a digest: of the functions on the call stack, each once, and of
+the place. Addresses, values, counts and the schedule aren't in it. `sort | uniq -c` over the lines of many logs groups
+them. A run that came to its limit is told by the outermost function of its last rows, since any row of a loop can be last.
+Companions show; the program proves."""
 FORM = "bucket LOG ELF [--names ELF]"
 LOOP_ROWS, MOST_FRAMES, UNKNOWN = 300, 200, "-"
 
@@ -62,7 +65,11 @@ def line_of(log_name, elf_name, names):
     if reason in ("exit", "group"):
         return "%s %d %s %s" % (reason, value, UNKNOWN, UNKNOWN)
     pc, node, tree = last_place(log, elf_name, hart, reason)
-    places = Places(Elf(names or elf_name))
+    with closing(Places(Elf(names or elf_name))) as places:
+        return told(places, reason, pc, node, tree)
+
+
+def told(places, reason, pc, node, tree):
     frames = places.frames(pc)
     place = "%s:%d" % frames[0][1:3] if frames and frames[0][2] and reason != "limit" else UNKNOWN
     functions = functions_of(places, pc, node, tree)
@@ -72,5 +79,5 @@ def line_of(log_name, elf_name, names):
 
 def main(words):
     names, given = parse(words, {"--names": True}, 2, FORM)
-    print(line_of(names[0], names[1], given.get("--names")))
+    streams.put(line_of(names[0], names[1], given.get("--names")) + "\n")
     return 0

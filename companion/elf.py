@@ -48,13 +48,15 @@ class Elf:
         self.parts.sort(key=lambda part: part[0])
 
     def read_symbols(self):
-        self.symbols = []
+        self.symbols, left = [], MOST_SYMBOLS   # so many entries are read, whether they name something or not
         first, = struct.unpack_from("<I", self.data, 32)
         count, = struct.unpack_from("<H", self.data, 48)
         heads = [struct.unpack_from("<10I", self.data, first + 40 * i) for i in range(count)] if first else []
         for head in heads:
             if head[1] == SYMBOL_TABLE and head[6] < len(heads):
-                self.read_table(head[4], min(head[5] // 16, MOST_SYMBOLS - len(self.symbols)), heads[head[6]][4])
+                count = min(head[5] // 16, left)
+                self.read_table(head[4], count, heads[head[6]][4])
+                left -= count
         self.symbols.sort()
 
     def read_table(self, at, count, names):

@@ -44,6 +44,9 @@ class Facts:
         self.faulted = bool(self.trace.fault and self.trace.fault[0] == self.start)
         self.last = self.trace.last_rows(self.start, LAST_ROWS)
 
+    def close(self):
+        self.places.close()
+
     def find_starts(self, row):
         trace = self.trace
         if row:

@@ -1,4 +1,19 @@
-"""zelkuma gdb LOG ELF [--port N] [--end] [--trace]
+"""Lets gdb attach to a log."""
+import socket
+import sys
+
+import streams
+from bridge.fills import Fills
+from bridge.memory import Memory
+from bridge.packets import PacketStream
+from bridge.server import Server
+from bridge.session import Session
+from elf import Elf
+from errors import UNREADABLE, CompanionError
+from log import Log
+from options import parse, whole
+
+HELP = """zelkuma gdb LOG ELF [--port N] [--end] [--trace]
 
 Lets gdb attach to a recording: harts are threads, and it goes forward and back.
 
@@ -15,19 +30,6 @@ serve as both. The session begins where the log does; `continue` goes to the cra
 
 Companions show; the program proves. What gdb shows is what `debug` says of the log, and ELF of memory that
 nothing touched."""
-import socket
-import sys
-
-from bridge.fills import Fills
-from bridge.memory import Memory
-from bridge.packets import PacketStream
-from bridge.server import Server
-from bridge.session import Session
-from elf import Elf
-from errors import UNREADABLE, CompanionError
-from log import Log
-from options import parse, whole
-
 FORM = "gdb LOG ELF [--port N] [--end] [--trace]"
 LOOPBACK = "127.0.0.1"
 
@@ -36,7 +38,7 @@ def wait_for_gdb(port):
     """Returns the one connection that is taken."""
     try:
         with socket.create_server((LOOPBACK, port), backlog=1) as server:
-            print(f"port {server.getsockname()[1]}", file=sys.stderr, flush=True)
+            streams.tell(f"port {server.getsockname()[1]}")
             peer, _ = server.accept()
     except OSError as error:
         raise CompanionError(f"port {port}: {error.strerror}", UNREADABLE)

@@ -1,20 +1,22 @@
-"""Functions and lines of addresses, and addresses of names.
+"""The filter that puts functions and lines behind rows, and the addresses of names."""
+import os
+import sys
+from contextlib import closing
+
+import streams
+from addresses import addresses_of
+from elf import Elf
+from errors import MISSING, CompanionError
+from options import parse
+from places import Places
+
+HELP = """Functions and lines of addresses, and addresses of names.
 
     zelkuma names ELF               a filter: puts the function and line behind each row that it reads
     zelkuma names ELF NAME..        prints the address of a function, an object or FILE:LINE, for `break` and `word`
 
 ELF is the program with its names and lines (gcc -g); the log may be of the same program stripped. Lines come from
 addr2line of binutils or LLVM; without one there are the names of ELF's symbols, and without these the rows alone."""
-import os
-import sys
-
-from addresses import addresses_of
-from elf import Elf
-from errors import MISSING, CompanionError
-from options import parse
-from places import Places
-from text import clean
-
 FORM = "names ELF [NAME | FILE:LINE]..."
 CHUNK = 1 << 16
 
@@ -26,6 +28,9 @@ class Filter:
         self.elf, self.places = elf, Places(elf)
         self.kept = {}                          # third word of a row: what is put behind, with the line's end
         self.last = {}                          # hart: what was put behind its last row
+
+    def close(self):
+        self.places.close()
 
     def line(self, line):
         """A line with its end."""
@@ -85,18 +90,17 @@ class Filter:
 
 def filter_input(elf):
     """Each piece of the input is answered at once, so a session of `debug` can be read through it."""
-    rows, rest = Filter(elf), b""
-    source, out = sys.stdin.buffer, sys.stdout.buffer
-    while True:
-        piece = source.read1(CHUNK)
-        lines = (rest + piece).split(b"\n")
-        rest = lines.pop()
-        out.write(b"".join([rows.line(line + b"\n") for line in lines]))
-        out.flush()
-        if not piece:
-            break
-    if rest:                                    # a last line without an end gets none
-        out.write(rows.line(rest + b"\n")[:-1])
+    rest, source = b"", sys.stdin.buffer
+    with closing(Filter(elf)) as rows:
+        while True:
+            piece = source.read1(CHUNK)
+            lines = (rest + piece).split(b"\n")
+            rest = lines.pop()
+            streams.put_bytes(b"".join([rows.line(line + b"\n") for line in lines]))
+            if not piece:
+                break
+        if rest:                                # a last line without an end gets none
+            streams.put_bytes(rows.line(rest + b"\n")[:-1])
     return 0
 
 
@@ -104,7 +108,7 @@ def main(words):
     names, _ = parse(words, {}, range(1, 1000), FORM)
     elf = Elf(names[0])
     if not elf.symbols:
-        sys.stderr.write("zelkuma: %s has no names: it is stripped\n" % clean(os.path.basename(elf.name)))
+        streams.say("%s has no names: it is stripped" % os.path.basename(elf.name))
     if len(names) == 1:
         return filter_input(elf)
     for name in names[1:]:
@@ -112,5 +116,5 @@ def main(words):
         if not found:
             raise CompanionError("%s has no %s" % (os.path.basename(elf.name), name), MISSING)
         for address, said in found:
-            print("%08x %s" % (address, said))
+            streams.put("%08x %s\n" % (address, said))
     return 0

@@ -1,7 +1,7 @@
 """Runs the proved program, and hands on what it refuses with its own line and status."""
 import os
+import signal
 import subprocess
-import tempfile
 
 from errors import CompanionError
 
@@ -30,10 +30,9 @@ class Output:
         self.status = None
 
     def __enter__(self):
-        self.errors = tempfile.TemporaryFile()
         try:
             self.process = subprocess.Popen(self.words, stdin=subprocess.DEVNULL, stdout=subprocess.PIPE,
-                                            stderr=self.errors, bufsize=BUFFER)
+                                            stderr=subprocess.PIPE, bufsize=BUFFER)
         except OSError as error:
             raise CompanionError("%s can't be run: %s" % (self.words[0], error.strerror), NOT_BUILT)
         return self
@@ -51,9 +50,10 @@ class Output:
     def finish(self):
         """Waits for the end, and raises if the status isn't accepted."""
         self.status = self.process.wait()
+        if self.status == -signal.SIGINT:
+            raise KeyboardInterrupt
         if self.status not in self.accept:
-            self.errors.seek(0)
-            lines = self.errors.read(65536).decode("utf-8", "replace").strip().split("\n")
+            lines = self.process.stderr.read(65536).decode("utf-8", "replace").strip().split("\n")
             line = lines[-1].split(": ", 1)[-1] if lines[-1] else "the program ended with %d" % self.status
             raise CompanionError(line, self.status if self.status > 0 else NOT_BUILT)
 
@@ -62,7 +62,7 @@ class Output:
             self.process.kill()
             self.process.wait()
         self.process.stdout.close()
-        self.errors.close()
+        self.process.stderr.close()
 
 
 def output(command, *names, accept=(0,)):

@@ -1,4 +1,18 @@
-"""Groups the races of a log by the two places and the word, the likeliest cause of its fault first. Words of one object
+"""Groups the races of a log."""
+from contextlib import closing
+
+import streams
+from elf import Elf
+from errors import CompanionError
+from history import History
+from log import Log
+from options import parse, whole
+from places import Places
+from races import FENCED, ORDERED, TOO_MANY, Races
+from rows import Trace
+from text import counted, number
+
+HELP = """Groups the races of a log by the two places and the word, the likeliest cause of its fault first. Words of one object
 with the same places, as an array's, are told together.
 
     zelkuma race LOG ELF [--names ELF] [--max N] [--more]
@@ -11,16 +25,6 @@ First come groups on the chain of values behind the fault, then those in the fun
 behind them groups that fences order if they are meant so, and last the fenced accesses themselves: loads and stores
 beside a `fence`, as GCC writes acquire and release. That order and the grouping are this command's own judgement.
 The exact list is that of `zelkuma races`: pairs of accesses that no atomic instruction orders."""
-from elf import Elf
-from errors import CompanionError
-from history import History
-from log import Log
-from options import parse, whole
-from places import Places
-from races import FENCED, ORDERED, TOO_MANY, Races
-from rows import Trace
-from text import counted, number
-
 FORM = "race LOG ELF [--names ELF] [--max N] [--more]"
 FAR = 1 << 20                                # what a row costs that isn't on the chain
 MOST, GROUPS_TOLD, BRIEF_TOLD = 200000, 12, 6
@@ -166,9 +170,9 @@ def main(words):
     log = Log(log_name)
     elf = Elf(elf_name)
     named = Elf(given["--names"]) if "--names" in given else elf
-    places = Places(named)
-    races = Races(log_name, elf_name, named, places, most)
-    if races.over:
-        raise CompanionError("races: more than %d pairs; --max takes up to 1000000" % most, TOO_MANY)
-    print("\n".join(report(races, judge(log, elf_name, races), "--more" in given)))
+    with closing(Places(named)) as places:
+        races = Races(log_name, elf_name, named, places, most)
+        if races.over:
+            raise CompanionError("races: more than %d pairs; --max takes up to 1000000" % most, TOO_MANY)
+        streams.put("\n".join(report(races, judge(log, elf_name, races), "--more" in given)) + "\n")
     return 0

@@ -141,4 +141,4 @@ def race_part(facts):
 def last_lines(facts):
     trace = facts.trace
     rate = int(trace.rows / max(trace.seconds, 0.001))
-    return ["%s in %.1f s (%s a second)" % (counted(trace.rows, "row"), trace.seconds, number(rate))] + facts.notes
+    return ["%s in %.1f s (%s a second)" % (counted(trace.rows, "row"), trace.seconds, number(rate))] + facts.notes + facts.places.trouble()

@@ -1,4 +1,18 @@
-"""zelkuma seeds [-j N] [--until STATUS] FROM TO -- RECORD-WORDS
+"""Searches seeds for one that ends as wanted."""
+import contextlib
+import os
+import signal
+import subprocess
+import sys
+import tempfile
+import time
+
+import program
+import streams
+from errors import REFUSED, UNREADABLE, CompanionError
+from options import parse, whole
+
+HELP = """zelkuma seeds [-j N] [--until STATUS] FROM TO -- RECORD-WORDS
 
 Records a program by one seed after another, on all processors, until a run ends as wanted.
 
@@ -12,18 +26,6 @@ Without one nothing is saved, and the status is 22.
     --until STATUS   0 (done), 10 (a fault) or 11 (a hart came to the limit); without it 10
 
 Trials are saved beside LOG and BOOK, in folders that are taken away again."""
-import contextlib
-import os
-import signal
-import subprocess
-import sys
-import tempfile
-import time
-
-import program
-from errors import REFUSED, UNREADABLE, CompanionError
-from options import parse, whole
-
 FORM = "seeds [-j N] [--until STATUS] FROM TO -- RECORD-WORDS"
 RECORD_FORM = "[OPTION..] ELF LOG BOOK, as for record, but for --seed"
 VALUES = "--input --format --harts --interval --limit --log-size --memory --sets --ways --line --sets2 --ways2"
@@ -110,13 +112,11 @@ class Progress:
             self._shown = now
             rate = done / max(now - self._begin, 0.001)
             lowest = f", the lowest so far is {found.seed}" if found else ""
-            sys.stderr.write(f"\r{done} of {self._count} seeds, {rate:.1f} a second{lowest}\x1b[K")
-            sys.stderr.flush()
+            streams.draw(f"{done} of {self._count} seeds, {rate:.1f} a second{lowest}")
 
     def clear(self):
         if self._is_shown and self._shown:
-            sys.stderr.write("\r\x1b[K")
-            sys.stderr.flush()
+            streams.draw("")
 
 
 class Search:
@@ -207,10 +207,10 @@ def main(words):
         seeds = range(first, last + 1)
         found = Search(record, seeds, until, jobs, [folder.name for folder in folders]).run()
         if found is None:
-            sys.stderr.write(f"zelkuma: no seed from {first} to {last} ends with status {until}\n")
+            streams.say(f"no seed from {first} to {last} ends with status {until}")
             return NOT_FOUND
         found.save()
-        print(f"seed {found.seed}: status {until}")
+        streams.put(f"seed {found.seed}: status {until}\n")
         return 0
     finally:
         for folder in folders:

@@ -1,20 +1,13 @@
-"""Draws a log as one page, to look at in a browser: harts, intervals, Edges, races, the fault, and the chain behind it.
-
-    zelkuma view LOG ELF [--names ELF] [--row HART:COUNT] > page.html
-
---names   the program with its names and lines, if ELF was stripped
---row     asks for the chain behind another row than the fault's
-
-The page is one file that needs no network and no other file. It holds names and lines of source of the program.
-Companions show; the program proves: rows, intervals, Edges and races are the program's, suspects are a judgement."""
+"""Draws a log as one page."""
 import base64
 import hashlib
 import html
 import json
 import os
 import re
-import sys
+from contextlib import closing
 
+import streams
 from fault import fault_words
 from instruction import NAMES
 from options import parse
@@ -28,6 +21,15 @@ from view_data import Page
 from view_rows import PageRows
 from why import Analysis
 
+HELP = """Draws a log as one page, to look at in a browser: harts, intervals, Edges, races, the fault, and the chain behind it.
+
+    zelkuma view LOG ELF [--names ELF] [--row HART:COUNT] > page.html
+
+--names   the program with its names and lines, if ELF was stripped
+--row     asks for the chain behind another row than the fault's
+
+The page is one file that needs no network and no other file. It holds names and lines of source of the program.
+Companions show; the program proves: rows, intervals, Edges and races are the program's, suspects are a judgement."""
 FORM = "view LOG ELF [--names ELF] [--row HART:COUNT]"
 SCRIPTS = ("model.js", "timeline.js", "arrows.js", "rows.js", "panels.js", "chain.js", "controls.js")
 RACES_ASKED, RACE_GROUPS, ARCS = 20000, 40, 12
@@ -172,7 +174,7 @@ class View:
         crash, history = self.crash, self.crash.history
         final = self.trace.final[self.trace.hart[crash.start]]
         return dict(
-            start=self.page.point(crash.start), where=self.where(), notes=crash.notes,
+            start=self.page.point(crash.start), where=self.where(), notes=crash.notes + crash.places.trouble(),
             fault=[self.fault[2], "%08x" % self.fault[3]] if self.fault else None,
             words=fault_words(self.trace, crash.named) if self.fault else [],
             suspects=[self.suspect(item) for item in self.suspects], noSuspect=self.no_suspect(),
@@ -193,7 +195,8 @@ def quoted(text):
 
 def main(words):
     (log_name, elf_name), given = parse(words, {"--names": True, "--row": True}, 2, FORM)
-    view = View(Analysis(log_name, elf_name, given.get("--names"), given.get("--row")))
-    # The page says that it is UTF-8, whatever the terminal's encoding is.
-    sys.stdout.buffer.write(page_text(view.title(), view.data()).encode("utf-8", "backslashreplace"))
+    with closing(Analysis(log_name, elf_name, given.get("--names"), given.get("--row"))) as crash:
+        view = View(crash)
+        # The page says that it is UTF-8, whatever the terminal's encoding is.
+        streams.put_bytes(page_text(view.title(), view.data()).encode("utf-8", "backslashreplace"))
     return 0

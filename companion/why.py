@@ -1,4 +1,19 @@
-"""Explains a crash: what happened, where, and which store, call or arithmetic is behind it, likeliest first.
+"""Explains a crash."""
+import os
+from contextlib import closing
+
+import streams
+from errors import UNWRITABLE, CompanionError
+from facts import Facts, race_pairs
+from history import History
+from options import parse
+from origins import nearest_before, origins
+from page import page
+from recursion import find_recursion
+from report import MORE_LINES, MORE_SUSPECTS, report
+from suspects import Ranking
+
+HELP = """Explains a crash: what happened, where, and which store, call or arithmetic is behind it, likeliest first.
 
     zelkuma why LOG ELF [--names ELF] [--row HART:COUNT] [--more] [--html FILE]
 
@@ -9,18 +24,6 @@
 
 It reads the rows of `joint`, keeps 18 bytes of each, and shows what they say; the ranking is its own judgement.
 Companions show; the program proves."""
-import os
-import sys
-
-from facts import Facts, race_pairs
-from history import History
-from options import parse
-from origins import nearest_before, origins
-from page import page
-from recursion import find_recursion
-from report import MORE_LINES, MORE_SUSPECTS, report
-from suspects import Ranking
-
 FORM = "why LOG ELF [--names ELF] [--row HART:COUNT] [--more] [--html FILE]"
 OPTIONS = {"--names": True, "--row": True, "--more": False, "--html": True}
 
@@ -51,16 +54,21 @@ class Analysis(Facts):
         self.origin = origins(self, self.history)
 
 
+def save(name, text):
+    with open(name, "wb") as file:
+        try:
+            file.write(text.encode("utf-8", "backslashreplace"))
+            file.flush()
+        except OSError as error:
+            raise CompanionError("%s takes no more: %s" % (name, error.strerror), UNWRITABLE)
+
+
 def main(words):
     names, given = parse(words, OPTIONS, 2, FORM)
-    analysis = Analysis(names[0], names[1], given.get("--names"), given.get("--row"))
-    parts = report(analysis, "--more" in given)
+    with closing(Analysis(names[0], names[1], given.get("--names"), given.get("--row"))) as analysis:
+        parts = report(analysis, "--more" in given)
     if "--html" in given:
-        with open(given["--html"], "w", encoding="utf-8") as file:
-            file.write(page("Why %s ended" % os.path.basename(names[1]), parts))
+        save(given["--html"], page("Why %s ended" % os.path.basename(names[1]), parts))
     for head, lines in parts:
-        if head:
-            sys.stdout.write(head + "\n")
-        for line in lines:
-            sys.stdout.write(("  " + line if head else line) + "\n")
+        streams.put("".join(line + "\n" for line in ([head] if head else []) + [head and "  " + line or line for line in lines]))
     return 0

@@ -7,7 +7,9 @@ byte 03 outside of packets asks for an interruption.
 import os
 import re
 import select
-import sys
+
+import streams
+from errors import UNWRITABLE, CompanionError
 
 LONGEST = 1 << 16  # more bytes than that without an end are no packet of gdb: PACKET_SIZE is less
 PACKET_SIZE = 0x4000
@@ -33,11 +35,16 @@ class PacketStream:
 
     def _write(self, data):
         while data:
-            data = data[os.write(self._sink, data):]
+            try:
+                data = data[os.write(self._sink, data):]
+            except ConnectionError:
+                raise
+            except OSError as error:
+                raise CompanionError(f"the output takes no more: {error.strerror}", UNWRITABLE)
 
     def _trace(self, arrow, text):
         if self._traced:
-            print(arrow, text[:300], file=sys.stderr, flush=True)
+            streams.tell(f"{arrow} {text[:300]}")
 
     def _next_frame(self):
         """Returns a packet's body and its two digits; skips what stands before it."""
