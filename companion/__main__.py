@@ -1,4 +1,4 @@
-"""Calls a companion: python3 companion WORD .."""
+"""Calls a companion: python3 companion WORD .., or python3 -m companion WORD .."""
 import os
 import signal
 import sys
@@ -6,7 +6,7 @@ import sys
 INTERRUPTED = 130           # what a shell says of a program that Ctrl-C ended
 
 
-def end_at_once(*_):
+def end_at_once(*_: object) -> None:
     os._exit(INTERRUPTED)
 
 
@@ -14,8 +14,10 @@ if __name__ == "__main__":
     # Until the companion's own handling stands, Ctrl-C ends the call; one that was started to ignore it ignores it.
     if signal.getsignal(signal.SIGINT) is not signal.SIG_IGN:
         signal.signal(signal.SIGINT, end_at_once)
+    if not __package__:                         # a folder was called: its modules are found from the one around it
+        sys.path[0] = os.path.dirname(os.path.dirname(os.path.abspath(__file__)))
     try:
-        from call import main
+        from companion.call import main
     except OSError as error:                    # no file can be opened
-        sys.exit("zelkuma: %s" % error)
+        sys.exit(f"zelkuma: {error}")
     main(sys.argv[1:])

@@ -1,11 +1,13 @@
 """The words of the companions, and how a call ends: each way to fail is one line and a status."""
+from __future__ import annotations
+
 import importlib
 import os
 import signal
 import sys
 
-import streams
-from errors import MISSING, NO_MEMORY, REFUSED, UNREADABLE, UNWRITABLE, CompanionError
+from . import streams
+from .errors import MISSING, NO_MEMORY, REFUSED, UNREADABLE, UNWRITABLE, CompanionError
 
 HELP = """The companions: they show what the proved program says, in names, lines and pictures.
 
@@ -26,24 +28,25 @@ INTERRUPTED = 130           # what a shell says of a program that Ctrl-C ended
 BROKEN = 1                  # a fault of the companion itself
 
 
-def usage():
-    return HELP + "\n\n" + "\n".join("    %-7s %s" % item for item in WORDS.items()) + "\n"
+def usage() -> str:
+    return HELP + "\n\n" + "".join(f"    {word:<7} {what}\n" for word, what in WORDS.items())
 
 
-def run(words):
+def run(words: list[str]) -> int:
     if not words or words[0] in ("-h", "--help", "help"):
         streams.put(usage())
         return 0 if words else REFUSED
     if words[0] not in WORDS:
-        raise CompanionError("no companion is called %r: %s" % (words[0], ", ".join(WORDS)), REFUSED)
-    module = importlib.import_module(words[0])
+        raise CompanionError(f"no companion is called {words[0]!r}: {', '.join(WORDS)}", REFUSED)
+    module = importlib.import_module("." + words[0], __package__)
     if words[1:] in (["-h"], ["--help"]):
         streams.put(module.HELP + "\n")
         return 0
-    return module.main(words[1:])
+    status: int = module.main(words[1:])
+    return status
 
 
-def guarded(words):
+def guarded(words: list[str]) -> int:
     """Runs a word; every way to fail is one line and a status."""
     try:
         return run(words)
@@ -58,19 +61,19 @@ def guarded(words):
         streams.say("out of memory")
         return NO_MEMORY
     except FileNotFoundError as error:
-        streams.say("missing: %s" % (error.filename or error.strerror))
+        streams.say(f"missing: {error.filename or error.strerror}")
         return MISSING
     except OSError as error:
-        streams.say("%s: %s" % (error.filename or "a file", error.strerror or error))
+        streams.say(f"{error.filename or 'a file'}: {error.strerror or error}")
         return UNREADABLE
     except Exception as error:                  # the last resort: a line for the user, the traceback on demand
         if os.environ.get("ZELKUMA_TRACEBACK"):
             raise
-        streams.say("%s failed inside (%s: %s); ZELKUMA_TRACEBACK=1 shows where" % (words[0], type(error).__name__, error))
+        streams.say(f"{words[0]} failed inside ({type(error).__name__}: {error}); ZELKUMA_TRACEBACK=1 shows where")
         return BROKEN
 
 
-def main(words):
+def main(words: list[str]) -> None:
     """Ends the process with the status of a word."""
     streams.prepare()
     try:

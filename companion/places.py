@@ -1,6 +1,8 @@
 """The function, file and line of an address of code, with what is inlined there.
 
 They come from one addr2line that runs as long as the companion, else from the ELF's symbols."""
+from __future__ import annotations
+
 import os
 import re
 import resource
@@ -8,8 +10,10 @@ import select
 import shutil
 import subprocess
 import time
+from typing import Iterable, NamedTuple, Optional, Sequence
 
-from text import clean
+from .elf import Elf
+from .text import clean
 
 TOOLS = ("riscv64-unknown-elf-addr2line", "riscv64-linux-gnu-addr2line", "llvm-addr2line")
 AT_ONCE = 100               # so many questions fit into a pipe, whatever the answers' length
@@ -18,9 +22,18 @@ PATIENCE, PATIENCE_EACH = 15.0, 0.005
 MOST_FRAMES, LARGEST_ANSWER = 64, 4 << 20
 MOST_MEMORY = 640 << 20     # of a tool, whatever an ELF file says
 PLACE = re.compile(r"(.*):(\d+|\?)(?: \(.*\))?", re.S)
+LONGEST_LINE_NUMBER = 9     # digits
 LARGEST_SOURCE = 4 << 20
 # A hostile ELF can name any file as its source: only what looks like one is opened.
 SOURCES = (".c", ".h", ".s", ".S", ".cc", ".cpp", ".cxx", ".hpp", ".hh", ".inc", ".rs", ".zig", ".adb", ".f90", ".go")
+
+
+class Frame(NamedTuple):
+    """A place of code: the function, and the file's name, the line and the whole path, or nothing and 0."""
+    function: str
+    file: str
+    line: int
+    path: str
 
 
 class Tool:
@@ -30,29 +43,30 @@ class Tool:
     anything, ends of lines as well. So a mark is asked before each address: an address that each process draws anew,
     which no file can know. What stands between two of its echoes is the answer to one address."""
 
-    def __init__(self, elf, tools):
-        self.elf, self.tools, self.process = elf, [name for name in tools if shutil.which(name)], None
+    def __init__(self, elf: Elf, tools: Iterable[str]) -> None:
+        self.elf, self.tools = elf, [name for name in tools if shutil.which(name)]
+        self.process: Optional[subprocess.Popen[bytes]] = None
         self.name = self.tools[0] if self.tools else ""
         self.mark = b"%x\n" % (1 << 31 | int.from_bytes(os.urandom(4), "little") >> 1)     # no memory is there
         self.echo = re.compile(rb"^0x0*%s\r?\n" % self.mark[:-1], re.M)
         self.left, self.unknown = PATIENCE, b""         # seconds; what is said of the mark itself
         self.failed = ""                        # why it was ended
 
-    def ask(self, addresses):
-        """{address: [(function, path, line)], innermost first}, without those that it doesn't answer."""
+    def ask(self, addresses: Sequence[int]) -> dict[int, list[Frame]]:
+        """The frames of each address, innermost first, without those that it doesn't answer."""
         self.start()
         if not self.process:
             return {}
         self.left += PATIENCE_EACH * len(addresses)
         asked = b"".join(self.mark + b"%x\n" % address for address in addresses) + self.mark
         try:
-            answers = self.exchange(asked, len(addresses) + 1)
+            answers = self.exchange(self.process, asked, len(addresses) + 1)
         except (OSError, ValueError) as error:
             self.fail(error)
             return {}
         return {address: self.frames(address, answer[len(self.unknown):]) for address, answer in zip(addresses, answers)}
 
-    def start(self):
+    def start(self) -> None:
         """Starts the first tool that answers."""
         while self.tools and not self.process:
             self.name = self.tools.pop(0)
@@ -61,13 +75,14 @@ class Tool:
                     [self.name, "-a", "-f", "-i", "-e", os.path.abspath(self.elf.name)], bufsize=0,
                     stdin=subprocess.PIPE, stdout=subprocess.PIPE, stderr=subprocess.DEVNULL)
                 resource.prlimit(self.process.pid, resource.RLIMIT_AS, (MOST_MEMORY, MOST_MEMORY))
-                self.unknown, = self.exchange(2 * self.mark, 2)
+                self.unknown, = self.exchange(self.process, 2 * self.mark, 2)
             except (OSError, ValueError) as error:
                 self.fail(error)
 
-    def exchange(self, asked, marks):
+    def exchange(self, process: subprocess.Popen[bytes], asked: bytes, marks: int) -> list[bytes]:
         """What the tool says between the echoes of so many marks, the last of which ends the question."""
-        self.process.stdin.write(asked)
+        assert process.stdin and process.stdout
+        process.stdin.write(asked)
         said, until = b"", time.monotonic() + self.left
         while True:
             if said.count(self.mark) >= marks:
@@ -76,21 +91,11 @@ class Tool:
                     break
             if len(said) > LARGEST_ANSWER:
                 raise ValueError("it says too much")
-            said += self.piece(until)
+            said += piece(process.stdout.fileno(), until)
         self.left = until - time.monotonic()
         return parts[1:-1]
 
-    def piece(self, until):
-        """What it says next."""
-        output = self.process.stdout.fileno()
-        if not select.select([output], [], [], max(0, until - time.monotonic()))[0]:
-            raise ValueError("it took too long")
-        piece = os.read(output, 1 << 16)
-        if not piece:
-            raise ValueError("it ended")
-        return piece
-
-    def frames(self, address, answer):
+    def frames(self, address: int, answer: bytes) -> list[Frame]:
         """The frames of an answer; nothing if a name has an end of a line."""
         lines = answer.decode("utf-8", "replace").replace("\r\n", "\n").split("\n")[:-1]
         if len(lines) % 2 == 0 or not lines or echoed(lines[0]) != address:
@@ -104,24 +109,36 @@ class Tool:
             if function != "??" or path != "??":
                 # $x and the like are marks for disassemblers, which LLVM's tool takes for functions.
                 name = self.elf.function_name(address) if function[:1] == "$" else clean(function)
-                found.append((name, clean(path), int(line) if line.isdigit() and len(line) < 10 else 0))
+                number = int(line) if line.isdigit() and len(line) <= LONGEST_LINE_NUMBER else 0
+                found.append(Frame(name, os.path.basename(clean(path)), number, clean(path)))
         return found
 
-    def fail(self, why):
-        self.failed = "%s can't be asked: %s" % (self.name, why)
+    def fail(self, why: Exception) -> None:
+        self.failed = f"{self.name} can't be asked: {why}"
         self.name = ""
         self.close()
 
-    def close(self):
+    def close(self) -> None:
         if self.process:
             self.process.kill()
             self.process.wait()
-            self.process.stdin.close()
-            self.process.stdout.close()
+            for stream in (self.process.stdin, self.process.stdout):
+                if stream:
+                    stream.close()
             self.process = None
 
 
-def echoed(line):
+def piece(output: int, until: float) -> bytes:
+    """What a tool says next."""
+    if not select.select([output], [], [], max(0, until - time.monotonic()))[0]:
+        raise ValueError("it took too long")
+    found = os.read(output, 1 << 16)
+    if not found:
+        raise ValueError("it ended")
+    return found
+
+
+def echoed(line: str) -> Optional[int]:
     """The address that a line echoes, or None."""
     try:
         return int(line, 16) if line[:2] == "0x" else None
@@ -130,74 +147,76 @@ def echoed(line):
 
 
 class Places:
-    """Frames of addresses, each asked for once. A frame is (function, file, line, path)."""
+    """Frames of addresses, each asked for once."""
 
-    def __init__(self, elf, tools=TOOLS):
-        self.elf, self.kept, self.texts = elf, {}, {}
+    def __init__(self, elf: Elf, tools: Iterable[str] = TOOLS) -> None:
+        self.elf = elf
+        self.kept: dict[int, list[Frame]] = {}
+        self.texts: dict[str, list[str]] = {}
         self.addr2line = Tool(elf, tools)
 
     @property
-    def tool(self):
+    def tool(self) -> str:
         """The addr2line that tells the lines, or nothing."""
         return self.addr2line.name
 
-    def trouble(self):
-        """What to say if the tool has failed, as a list."""
-        return [self.addr2line.failed + "; places of which it said nothing have the names of symbols"] * bool(self.addr2line.failed)
+    def trouble(self) -> list[str]:
+        """What to say if the tool has failed."""
+        failed = self.addr2line.failed
+        return [f"{failed}; places of which it said nothing have the names of symbols"] if failed else []
 
-    def close(self):
+    def close(self) -> None:
         self.addr2line.close()
 
-    def fetch(self, pcs):
+    def fetch(self, pcs: Iterable[int]) -> None:
         """Asks for many addresses together, which is faster than one by one."""
-        pcs = sorted({pc for pc in pcs if pc not in self.kept})
-        for at in range(0, len(pcs), AT_ONCE):
-            some = pcs[at:at + AT_ONCE]
+        wanted = sorted({pc for pc in pcs if pc not in self.kept})
+        for at in range(0, len(wanted), AT_ONCE):
+            some = wanted[at:at + AT_ONCE]
             got = self.addr2line.ask(some)
             for pc in some:
-                self.kept[pc] = [(function, os.path.basename(path), line, path)
-                                 for function, path, line in got.get(pc, ())] or self.by_symbols(pc)
+                self.kept[pc] = got.get(pc) or self.by_symbols(pc)
 
-    def by_symbols(self, pc):
+    def by_symbols(self, pc: int) -> list[Frame]:
         name = self.elf.function_name(pc)
-        return [(name, "", 0, "")] if name else []
+        return [Frame(name, "", 0, "")] if name else []
 
-    def frames(self, pc):
+    def frames(self, pc: int) -> list[Frame]:
         """Innermost first; nothing if no name is known."""
         if pc not in self.kept:
             self.fetch([pc])
         return self.kept[pc]
 
-    def named(self, pc):
+    def innermost(self, pc: int) -> Frame:
+        """The innermost frame, of empty fields if no name is known."""
+        frames = self.frames(pc)
+        return frames[0] if frames else Frame("", "", 0, "")
+
+    def named(self, pc: int) -> str:
         """FUNCTION FILE:LINE of the innermost frame, as much as is known."""
-        frames = self.frames(pc)
-        if not frames:
-            return ""
-        function, file, line, _ = frames[0]
-        return "%s %s:%d" % (function, file, line) if line else function
+        frame = self.innermost(pc)
+        return f"{frame.function} {frame.file}:{frame.line}" if frame.line else frame.function
 
-    def where(self, pc):
+    def where(self, pc: int) -> str:
         """The same, or else the address."""
-        return self.named(pc) or "%08x" % pc
+        return self.named(pc) or f"{pc:08x}"
 
-    def line(self, pc):
+    def line(self, pc: int) -> str:
         """FILE:LINE, or else the address."""
-        frames = self.frames(pc)
-        return "%s:%d" % frames[0][1:3] if frames and frames[0][2] else "%08x" % pc
+        frame = self.innermost(pc)
+        return f"{frame.file}:{frame.line}" if frame.line else f"{pc:08x}"
 
-    def function(self, pc):
+    def function(self, pc: int) -> str:
         frames = self.frames(pc)
-        return frames[0][0] if frames else "%08x" % pc
+        return frames[0].function if frames else f"{pc:08x}"
 
-    def source(self, pc):
+    def source(self, pc: int) -> str:
         """The text of the line, if the source is there."""
-        frames = self.frames(pc)
-        if not frames or not frames[0][2]:
-            return ""
-        lines = self.source_lines(frames[0][3])
-        return clean(lines[frames[0][2] - 1].strip()) if frames[0][2] <= len(lines) else ""
+        frame = self.innermost(pc)
+        lines = self.source_lines(frame.path) if frame.line else []
+        return clean(lines[frame.line - 1].strip()) if frame.line <= len(lines) and lines else ""
 
-    def source_lines(self, path):
+    def source_lines(self, path: str) -> list[str]:
         if path not in self.texts:
             self.texts[path] = []
             # The path is of the machine that built the program; its sources may lie beside the ELF.

@@ -6,7 +6,6 @@ import unittest
 sys.path.insert(0, os.path.dirname(os.path.dirname(os.path.abspath(__file__))))
 import common
 
-sys.path.insert(0, common.COMPANION)
 logs = {}
 
 
