@@ -22,7 +22,8 @@ WORDS = {
     "view": "draws a log as one page",
     "gdb": "lets gdb attach to a log",
     "bucket": "sorts logs by the cause of their end",
-    "seeds": "searches seeds for one that crashes",
+    "seeds": "searches for turns by which a program crashes",
+    "again": "makes a recording again, with a larger log",
 }
 INTERRUPTED = 130           # what a shell says of a program that Ctrl-C ended
 BROKEN = 1                  # a fault of the companion itself

@@ -1,9 +1,12 @@
 """Reads the words of a companion: names, and options as `--more`, `--html FILE` or `--html=FILE`."""
 from __future__ import annotations
 
+import re
 from typing import Mapping, NamedTuple, NoReturn, Sequence
 
 from .errors import REFUSED, CompanionError
+
+TIMES = {"": 1, "K": 1 << 10, "M": 1 << 20, "G": 1 << 30}
 
 
 class Words(NamedTuple):
@@ -44,8 +47,18 @@ def parse(words: Sequence[str], known: Mapping[str, bool], names: int | range, f
     return Words(found, given)
 
 
+def decimal(text: str) -> str:
+    """A number that ends in K, M or G, or begins with 0x, in decimal, as the script zelkuma hands it to `record`. Any other
+    word stays as it is."""
+    found = re.fullmatch(r"0x([0-9a-fA-F]{1,16})|([0-9]{1,20})([KMG]?)", text)
+    if not found:
+        return text
+    return str(int(found[1], 16) if found[1] else int(found[2]) * TIMES[found[3]])
+
+
 def whole(text: str, low: int, high: int, what: str) -> int:
     """The number that a word says, if it is one from `low` to `high`."""
-    if not (text.isascii() and text.isdigit() and len(text) < 21 and low <= int(text) <= high):
+    number = decimal(text)
+    if not (number.isascii() and number.isdigit() and low <= int(number) <= high):
         raise CompanionError(f"{what} has to be a number from {low} to {high}, not {text!r}", REFUSED)
-    return int(text)
+    return int(number)

@@ -1,183 +1,46 @@
-"""Searches seeds for one that ends as wanted."""
+"""Searches for turns by which a program ends as wanted."""
 from __future__ import annotations
 
-import contextlib
 import os
 import signal
-import subprocess
-import sys
-import tempfile
-import time
-from typing import Optional, Sequence
+from typing import Mapping, Sequence
 
-from . import program, streams
-from .errors import REFUSED, UNREADABLE, CompanionError
+from . import streams
+from .errors import REFUSED, CompanionError
 from .options import parse, whole
+from .recording import ENDS, FAULT, Kind, RecordWords, scratch
+from .text import number
+from .trials import Count, Ending, Search
 
-HELP = """zelkuma seeds [-j N] [--until STATUS] FROM TO -- RECORD-WORDS
+HELP = """zelkuma seeds [-j N] [--until STATUS] [--only KIND,..] FROM TO -- RECORD-WORDS
 
-Records a program by one seed after another, on all processors, until a run ends as wanted.
+Records a program by one order of turns after another, on all processors, until a run ends as wanted.
 
-    zelkuma seeds 1 1000 -- --harts 2 hand_over.elf LOG BOOK
+    zelkuma seeds 1 1000 -- --harts 4 buffers.elf LOG BOOK
 
-RECORD-WORDS are those of `record` but for --seed. Of the seeds FROM to TO the lowest is found whose
-recording ends with STATUS: `seed 3: status 10` is printed, and LOG and BOOK are those of that seed.
-Without one nothing is saved, and the status is 22.
+RECORD-WORDS are those of `record` but for --seed. Of each number from FROM to TO all kinds of turns are tried:
+
+    seeds            a hart is drawn for each turn
+    bursts           one hart keeps its turns for a while, then another is drawn
+    sleepers         one hart takes no turn for a while
+    threads          no number draws them: the harts run side by side
+
+LOG and BOOK are those of the first run that ends with STATUS; if a number draws its turns, no lower one does.
+Its kind and number are printed, and the command that makes it again. A table tells how the runs up to it ended: status,
+count, the first of them, and of a fault the line of `bucket`. If none ends so, nothing is saved, and the status is 22.
+Ctrl-C ends the search: the table is printed, what was found is kept, and the status is 130.
 
     -j N             so many recordings at a time; without it, as many as there are processors
     --until STATUS   0 (done), 10 (a fault) or 11 (a hart came to the limit); without it 10
+    --only KIND,..   these kinds alone
 
-Trials are saved beside LOG and BOOK, in folders that are taken away again."""
-FORM = "seeds [-j N] [--until STATUS] FROM TO -- RECORD-WORDS"
-RECORD_FORM = "[OPTION..] ELF LOG BOOK, as for record, but for --seed"
-VALUES = "--input --format --harts --interval --limit --log-size --memory --sets --ways --line --sets2 --ways2"
-RECORD_OPTIONS = {"--lean": False, "--seed": True, **{name: True for name in VALUES.split()}}
-FAULT, ENDS = 10, (0, 10, 11)  # statuses of recordings that were made
-NOT_FOUND = 22
-LAST_SEED = 2**64 - 1
-PAUSE = 0.2  # seconds between two lines of progress
-
-
-class Words:
-    """What the words of `record` name."""
-
-    def __init__(self, words: Sequence[str]) -> None:
-        names, options = parse(words, RECORD_OPTIONS, range(2, 4), RECORD_FORM)
-        if "--seed" in options:
-            raise CompanionError("the seeds are FROM to TO, so --seed can't be given", REFUSED)
-        if len(names) == 2 and "--lean" not in options:
-            raise CompanionError("the words of record have no BOOK", REFUSED)
-        self.elf, *self.outputs = names
-        self.options = [f"{name}={value}" if RECORD_OPTIONS[name] else name for name, value in options.items()]
-        self.outputs = [os.path.realpath(name) for name in self.outputs]
-        for output in self.outputs:
-            self.check(output, [self.elf] + [options[name] for name in ("--input",) if name in options])
-
-    def check(self, output: str, inputs: Sequence[str]) -> None:
-        """An output takes another file's place in the end: it has to be no input, and no device."""
-        if os.path.exists(output) and not os.path.isfile(output):
-            raise CompanionError(f"{output} is no file that can be replaced", UNREADABLE)
-        for name in inputs:
-            if os.path.exists(output) and os.path.exists(name) and os.path.samefile(output, name):
-                raise CompanionError(f"{output} is read and would be replaced", REFUSED)
-
-    def command(self, seed: int, outputs: Sequence[str]) -> list[str]:
-        return [program.path(), "record", *self.options, f"--seed={seed}", "--", self.elf, *outputs]
-
-
-class Trial:
-    """A recording by one seed, under way or done."""
-
-    def __init__(self, words: Words, seed: int, folders: Sequence[str]) -> None:
-        self.seed, self.words = seed, words
-        self.outputs = [os.path.join(folder, f"{seed}.{number}") for number, folder in enumerate(folders)]
-        with open(self.outputs[0] + ".err", "wb") as said:
-            self.process = subprocess.Popen(words.command(seed, self.outputs), stdin=subprocess.DEVNULL,
-                                            stdout=subprocess.DEVNULL, stderr=said)
-
-    def end(self, status: int) -> int:
-        """Takes the status that the system tells of the process."""
-        ended = os.WEXITSTATUS(status) if os.WIFEXITED(status) else -os.WTERMSIG(status)
-        self.process.returncode = ended
-        return ended
-
-    def kill(self) -> None:
-        """Ends it, if it hasn't ended. Popen's own kill would take its status, which `run` waits for."""
-        with contextlib.suppress(ProcessLookupError):
-            os.kill(self.process.pid, signal.SIGKILL)
-
-    def refusal(self) -> str:
-        with open(self.outputs[0] + ".err", "rb") as said:
-            lines = said.read().decode("utf-8", "replace").strip().split("\n")
-        return lines[-1].split(": ", 1)[-1] or f"the recording of seed {self.seed} ended with {self.process.returncode}"
-
-    def remove(self) -> None:
-        for name in self.outputs + [self.outputs[0] + ".err"]:
-            if os.path.exists(name):
-                os.remove(name)
-
-    def save(self) -> None:
-        for name, output in zip(self.outputs, self.words.outputs):
-            if os.path.exists(name):
-                os.replace(name, output)
-
-
-class Progress:
-    """One line on a terminal, written over and over."""
-
-    def __init__(self, count: int) -> None:
-        self.count, self.begin, self.shown = count, time.monotonic(), 0.0
-        self.is_shown = sys.stderr.isatty()
-
-    def tell(self, done: int, found: Optional[Trial]) -> None:
-        now = time.monotonic()
-        if self.is_shown and now - self.shown >= PAUSE:
-            self.shown = now
-            rate = done / max(now - self.begin, 0.001)
-            lowest = f", the lowest so far is {found.seed}" if found else ""
-            streams.draw(f"{done} of {self.count} seeds, {rate:.1f} a second{lowest}")
-
-    def clear(self) -> None:
-        if self.is_shown and self.shown:
-            streams.draw("")
-
-
-class Search:
-    """Trials by ascending seeds; those above the lowest that was found are given up."""
-
-    def __init__(self, words: Words, seeds: range, until: int, jobs: int, folders: Sequence[str]) -> None:
-        self.words, self.seeds, self.until = words, iter(seeds), until
-        self.jobs, self.folders = jobs, folders
-        self.running: dict[int, Trial] = {}  # by process
-        self.found: Optional[Trial] = None
-        self.done = 0
-        self.progress = Progress(len(seeds))
-
-    def start(self) -> None:
-        while self.found is None and len(self.running) < self.jobs:
-            seed = next(self.seeds, None)
-            if seed is None:
-                return
-            trial = Trial(self.words, seed, self.folders)
-            self.running[trial.process.pid] = trial
-
-    def give_up(self, found: Trial) -> None:
-        """Ends the trials above the lowest that was found."""
-        for trial in self.running.values():
-            if trial.seed > found.seed:
-                trial.kill()
-
-    def take(self, trial: Trial, status: int) -> None:
-        """Takes a trial that has ended."""
-        self.done += 1
-        if self.found is not None and trial.seed > self.found.seed:
-            trial.remove()
-        elif status == self.until:
-            if self.found is not None:
-                self.found.remove()
-            self.found = trial
-            self.give_up(trial)
-        elif status in ENDS:
-            trial.remove()
-        else:
-            raise CompanionError(trial.refusal(), status if status > 0 else UNREADABLE)
-
-    def run(self) -> Optional[Trial]:
-        """The trial of the lowest seed that ends as wanted, or None."""
-        try:
-            self.start()
-            while self.running:
-                process, status = os.wait()
-                trial = self.running.pop(process)
-                self.take(trial, trial.end(status))
-                self.progress.tell(self.done, self.found)
-                self.start()
-        finally:
-            self.progress.clear()
-            for trial in self.running.values():
-                trial.kill()
-                trial.process.wait()
-        return self.found
+One recording in threads is under way at a time. One that spins on a busy machine takes long: give a --limit.
+Numbers may end in K, M or G. Trials are saved beside LOG and BOOK, in folders that are taken away again."""
+FORM = "seeds [-j N] [--until STATUS] [--only KIND,..] FROM TO -- RECORD-WORDS"
+KINDS = {"seeds": Kind.SEED, "bursts": Kind.BURSTS, "sleepers": Kind.SLEEPER, "threads": Kind.THREADS}
+HEAD = "status", "count", "first", "place"
+NOT_FOUND, INTERRUPTED = 22, 130
+LAST_NUMBER = 2**64 - 1
 
 
 def split(words: list[str]) -> tuple[list[str], list[str]]:
@@ -187,35 +50,66 @@ def split(words: list[str]) -> tuple[list[str], list[str]]:
     return own, words[at + 1:]
 
 
-def scratch(output: str) -> tempfile.TemporaryDirectory[str]:
-    """A folder beside an output, so that the file found takes its place in one step."""
-    try:
-        return tempfile.TemporaryDirectory(prefix=".seeds-", dir=os.path.dirname(output))
-    except OSError as error:
-        raise CompanionError(f"{os.path.dirname(output)}: {error.strerror}", UNREADABLE)
+def kinds_of(options: Mapping[str, str], is_lean: bool) -> list[Kind]:
+    """The kinds of turns, in order. Turns of threads can be taken again only from BOOK."""
+    words = options["--only"].split(",") if "--only" in options else [name for name in KINDS if name != "threads" or not is_lean]
+    for word in words:
+        if word not in KINDS:
+            raise CompanionError(f"--only takes some of {', '.join(KINDS)}, with commas between them, not {word!r}", REFUSED)
+    if is_lean and "threads" in words:
+        raise CompanionError("with --lean there is no BOOK, by which a recording in threads could be made again", REFUSED)
+    return sorted({KINDS[word] for word in words})
+
+
+def table(counts: Mapping[Ending, Count]) -> str:
+    rows = [HEAD] + [(str(ending.status), number(count.count), str(count.first), ending.place)
+                     for ending, count in sorted(counts.items(), key=lambda item: (item[0].status, item[1].first))]
+    widths = [max(len(row[column]) for row in rows) for column in range(3)]
+    return "".join("  ".join([cell.ljust(width) for cell, width in zip(row, widths)] + [row[3]]) + "\n" for row in rows)
+
+
+def tell(search: Search) -> None:
+    """Saves what was found, and prints it and how the runs ended."""
+    text, found = "", search.found
+    if found is not None:
+        found.save()
+        text = f"{found.plan}: status {search.until}\n{search.words.shown(found.plan)}\n"
+    if search.endings.counts:
+        text += table(search.endings.counts)
+    streams.put(text)
+
+
+def status_of(search: Search, names: Sequence[str], first: int, last: int) -> int:
+    if search.stopped:
+        return INTERRUPTED
+    if search.found is not None:
+        return 0
+    streams.say(f"none of {', '.join(names)} from {first} to {last} ends with status {search.until}")
+    return NOT_FOUND
 
 
 def main(words: list[str]) -> int:
     own, rest = split(words)
-    (low, high), options = parse(own, {"--jobs": True, "--until": True}, 2, FORM)
-    first, last = whole(low, 0, LAST_SEED, "FROM"), whole(high, 0, LAST_SEED, "TO")
+    (low, high), options = parse(own, {"--jobs": True, "--until": True, "--only": True}, 2, FORM)
+    first, last = whole(low, 0, LAST_NUMBER, "FROM"), whole(high, 0, LAST_NUMBER, "TO")
     if last < first:
         raise CompanionError(f"TO is {last}, which is below FROM", REFUSED)
     until = whole(options.get("--until", str(FAULT)), 0, max(ENDS), "--until")
     if until not in ENDS:
         raise CompanionError(f"--until has to be one of {', '.join(map(str, ENDS))}", REFUSED)
-    jobs = whole(options["--jobs"], 1, 1024, "-j") if "--jobs" in options else len(os.sched_getaffinity(0))
-    record = Words(rest)
+    record = RecordWords(rest)
+    kinds = kinds_of(options, record.is_lean)
+    processors = 1 if kinds == [Kind.THREADS] else len(os.sched_getaffinity(0))
+    jobs = whole(options["--jobs"], 1, 1024, "-j") if "--jobs" in options else processors
     folders = [scratch(output) for output in record.outputs]
+    search = Search(record, range(first, last + 1), kinds, until, jobs, [folder.name for folder in folders])
     try:
-        seeds = range(first, last + 1)
-        found = Search(record, seeds, until, jobs, [folder.name for folder in folders]).run()
-        if found is None:
-            streams.say(f"no seed from {first} to {last} ends with status {until}")
-            return NOT_FOUND
-        found.save()
-        streams.put(f"seed {found.seed}: status {until}\n")
-        return 0
+        search.run()
     finally:
-        for folder in folders:
-            folder.cleanup()
+        streams.on_interrupt(signal.SIG_IGN)
+        try:
+            tell(search)
+        finally:
+            for folder in folders:
+                folder.cleanup()
+    return status_of(search, [name for name, kind in KINDS.items() if kind in kinds], first, last)
