@@ -30,8 +30,8 @@ class Output:
     """The lines, as bytes, that a command of the program prints. Use it by `with`: a reader that stops early
     ends the program. A status that isn't in `accept` raises the program's own line, after the last line is read."""
 
-    def __init__(self, command: str, *names: str, accept: Sequence[int] = (0,)) -> None:
-        self.words, self.accept = [path(), command, "--", *names], accept
+    def __init__(self, command: str, *names: str, accept: Sequence[int] = (0,), options: Sequence[str] = ()) -> None:
+        self.words, self.accept = [path(), command, *options, "--", *names], accept
         self.status: int | None = None
 
     def __enter__(self) -> Output:
@@ -79,7 +79,7 @@ class Said(NamedTuple):
     status: int
 
 
-def output(command: str, *names: str, accept: Sequence[int] = (0,)) -> Said:
-    with Output(command, *names, accept=accept) as out:
+def output(command: str, *names: str, accept: Sequence[int] = (0,), options: Sequence[str] = ()) -> Said:
+    with Output(command, *names, accept=accept, options=options) as out:
         text = out.read().decode("ascii", "replace")
     return Said(text, out.status or 0)
