@@ -27,6 +27,7 @@ view LOG ELF
 gdb LOG ELF
 bucket LOG ELF
 seeds FROM TO -- RECORD-WORDS
+again LOG ELF BOOK NEWLOG
 '
 # a command, an option of it, and what its value is
 _zelkuma_options='
@@ -60,6 +61,10 @@ gdb --trace
 bucket --names ELF
 seeds -j N
 seeds --until STATUS
+seeds --only KIND,..
+again --input FILE
+again --log-size N
+again --interval N
 '
 
 # Prints the lines of a table that begin with a word, without it.
@@ -108,7 +113,7 @@ _zelkuma() {
         choice=$(_zelkuma_firsts "$_zelkuma_commands")
     elif [[ $current == -* ]]; then
         choice=$(_zelkuma_firsts "$(_zelkuma_rows "$_zelkuma_options" "${words[0]}")")
-    elif [[ $(_zelkuma_next "${words[@]}") =~ ^(ELF|LOG|BOOK|NEW|FILE|PREFIX)$ ]]; then
+    elif [[ $(_zelkuma_next "${words[@]}") =~ ^(ELF|LOG|BOOK|NEW|NEWLOG|FILE|PREFIX)$ ]]; then
         return # which leaves it to the names of files
     fi
     compopt +o default
