@@ -17,6 +17,7 @@ DECISION = 14               # a branch before the row
 DECIDING_ROWS, MOST_BRANCHES = 300, 24
 STORES_ANOTHER = "amoswap", "sc."       # atomics whose stored word owes nothing to the loaded one
 FAR = 1000                  # a store so many rows before its load is far
+NO_REGISTER = 0                         # memory
 START, LOOP = "start", "the loop"       # how the first rows are needed
 
 
@@ -30,6 +31,12 @@ class Step(NamedTuple):
     """A row, and how it is needed by the row before it on the way, or as what the row is needed by this one."""
     row: int
     how: str
+
+
+class Left(NamedTuple):
+    """A register of a hart, or memory, whose value comes from before the rows."""
+    hart: int
+    register: int
 
 
 class Line(NamedTuple):
@@ -47,7 +54,9 @@ class History:
     far      {a load and the store that it got: cost}
     before   loads of bytes that no row stored
     decided  the rows that stand behind the start only by a branch
-    cut      whether the search was cut off"""
+    cut      whether the search was cut off
+    left     loads and registers near to the start whose values come from before a hart's first row, and not from the
+             run's start"""
 
     def __init__(self, trace: Trace, starts: Sequence[int], most: int = MOST_ROWS) -> None:
         """`starts` are the rows that are asked of; the first is the one that the report is about."""
@@ -58,6 +67,7 @@ class History:
         self.before: list[int] = []
         self.decided: set[int] = set()
         self.cut = False
+        self.left: set[Left] = set()
         self.heap: list[tuple[int, int, int]] = []
         for row in starts:
             self.cost[row] = 0
@@ -116,6 +126,14 @@ class History:
             price += 0 if ins.move else 1
             self.step(trace.d1[n], price, n, "value")
             self.step(trace.d2[n], price, n, "value")
+            for register, writer in ((ins.rs1, trace.d1[n]), (ins.rs2, trace.d2[n])):
+                if register and not writer:
+                    self.leave(n, price, register)
+
+    def leave(self, n: int, price: int, register: int) -> None:
+        """A row uses what isn't known: memory, or a register."""
+        if price < ADDRESS and self.trace.is_cut(n):
+            self.left.add(Left(self.trace.hart[n], register))
 
     def is_for_memory(self, n: int) -> bool:
         """Whether a row is needed as the store that a load got."""
@@ -132,6 +150,7 @@ class History:
             self.far[key] = min(price + 1, self.far.get(key, price + 1))
         if rest:
             self.before.append(n)
+            self.leave(n, price, NO_REGISTER)
 
     def is_far(self, load: int, store: int) -> bool:
         return self.trace.hart[load] != self.trace.hart[store] or load - store > FAR

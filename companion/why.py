@@ -7,23 +7,24 @@ from contextlib import closing
 from . import streams
 from .analysis import analysed
 from .errors import UNWRITABLE, CompanionError
-from .options import parse
+from .options import parse, whole
 from .page import page
 from .report import report
 
 HELP = """Explains a crash: what happened, where, and which store, call or arithmetic is behind it, likeliest first.
 
-    zelkuma why LOG ELF [--names ELF] [--row HART:COUNT] [--more] [--html FILE]
+    zelkuma why LOG ELF [--names ELF] [--row HART:COUNT] [--rows N] [--more] [--html FILE]
 
 --names  the same program with names and lines, if ELF was stripped
 --row    asks of another row than the fault's
+--rows   how many of the last rows are read; without it a million, and five if values near the fault come from before
 --more   longer lists
 --html   saves the same text as a page, too
 
 It reads the rows of `joint`, keeps some 30 bytes of each, and shows what they say; the ranking is its own judgement.
 Companions show; the program proves."""
-FORM = "why LOG ELF [--names ELF] [--row HART:COUNT] [--more] [--html FILE]"
-OPTIONS = {"--names": True, "--row": True, "--more": False, "--html": True}
+FORM = "why LOG ELF [--names ELF] [--row HART:COUNT] [--rows N] [--more] [--html FILE]"
+OPTIONS = {"--names": True, "--row": True, "--rows": True, "--more": False, "--html": True}
 
 
 def save(name: str, text: str) -> None:
@@ -37,7 +38,8 @@ def save(name: str, text: str) -> None:
 
 def main(words: list[str]) -> int:
     (log, elf), given = parse(words, OPTIONS, 2, FORM)
-    with closing(analysed(log, elf, given.get("--names"), given.get("--row"))) as analysis:
+    rows = whole(given["--rows"], 1, 1 << 41, "--rows") if "--rows" in given else 0
+    with closing(analysed(log, elf, given.get("--names", ""), given.get("--row", ""), rows)) as analysis:
         parts = report(analysis, "--more" in given)
     if "--html" in given:
         save(given["--html"], page(f"Why {os.path.basename(elf)} ended", parts))
