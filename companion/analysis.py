@@ -7,7 +7,7 @@ from .history import NO_REGISTER, History
 from .log import Log
 from .naming import named_elf
 from .origins import origins
-from .recent import FIRST_ROWS, MORE_ROWS, Asked, LogFile
+from .recent import FIRST_ROWS, MORE_ROWS, Asked, LogFile, open_log
 from .recursion import find_recursion
 from .rows import Trace, read_trace
 from .suspects import Ranking
@@ -52,7 +52,7 @@ def leads_into(history: History, log: Log, more: Log) -> bool:
 def analysed(log_name: str, elf_name: str, names: str = "", row: str = "", rows: int = 0) -> Analysis:
     """Reads the end of a log, its rows and the names, and analyses them. `names` is a file with names, if ELF has none.
     `rows` says how many of the last rows are read; without it more if values near the fault come from before the first."""
-    source = LogFile(log_name)
+    source = open_log(log_name)
     try:
         elf = Elf(elf_name)
         named = named_elf(elf, names)

@@ -3,27 +3,29 @@ from __future__ import annotations
 
 import hashlib
 from contextlib import closing
+from typing import NamedTuple
 
 from . import streams
+from .answers import put_answer
 from .elf import Elf
 from .errors import NO_INTERVAL, CompanionError
 from .log import Log, is_fault
 from .naming import named_elf, places_of
 from .options import parse
-from .recent import FIRST_ROWS, LogFile
+from .recent import FIRST_ROWS, open_log
 from .rows import Trace, read_trace
 
 HELP = """One line that is the same for logs that ended for the same cause, for sorting many logs.
 
-    zelkuma bucket LOG ELF [--names ELF]
+    zelkuma bucket LOG ELF [--names ELF] [--json]
 
 It prints how the run ended, the function, FILE:LINE and a digest: of the address, and of the functions on the call stack
 by ELF's own symbols, each once. So the digest is the same on each machine, with and without --names and addr2line. Values,
 counts and the schedule aren't in it. `sort | uniq -c` over the lines of many logs groups them. A run that came to its limit
 is told by the outermost function of its last rows, since any row of a loop can be last. Of a large log the last million
-rows are read, and calls from before them aren't known.
+rows are read, and calls from before them aren't known. --json prints one JSON object in place of the line (docs/JSON.md).
 Companions show; the program proves."""
-FORM = "bucket LOG ELF [--names ELF]"
+FORM = "bucket LOG ELF [--names ELF] [--json]"
 LOOP_ROWS, MOST_FRAMES, UNKNOWN = 300, 200, "-"
 
 
@@ -60,24 +62,39 @@ def digest_of(trace: Trace, elf: Elf, n: int, reason: str) -> str:
     return hashlib.sha256("\n".join(said).encode("utf-8", "replace")).hexdigest()[:8]
 
 
-def line_of(log: Log, elf: Elf, named: Elf) -> str:
+class Bucket(NamedTuple):
+    """How the run ended, the function, FILE:LINE, and the digest; UNKNOWN for what isn't told."""
+    reason: str
+    function: str
+    place: str
+    digest: str
+
+    def line(self) -> str:
+        return " ".join(word.replace(" ", "_") if at else word for at, word in enumerate(self))
+
+
+def bucket_of(log: Log, elf: Elf, named: Elf) -> Bucket:
     trace = read_trace(log, elf.name)
     hart = ended_hart(log, trace)
     end = log.ends[hart]
     if end.reason in ("exit", "group"):
-        return f"{end.reason} {end.value} {UNKNOWN} {UNKNOWN}"
+        return Bucket(end.reason, str(end.value), UNKNOWN, UNKNOWN)
     n = last_place(trace, hart, end.reason)
     pc = trace.code_of(n).pc
     with closing(places_of(named)) as places:
         frame, function = places.innermost(pc), places.function(pc)
     place = f"{frame.file}:{frame.line}" if frame.line and end.reason != "limit" else UNKNOWN
-    return f"{end.reason} {function.replace(' ', '_')} {place.replace(' ', '_')} {digest_of(trace, elf, n, end.reason)}"
+    return Bucket(end.reason, function, place, digest_of(trace, elf, n, end.reason))
 
 
 def main(words: list[str]) -> int:
-    (log_name, elf_name), given = parse(words, {"--names": True}, 2, FORM)
-    with closing(LogFile(log_name)) as source:
+    (log_name, elf_name), given = parse(words, {"--names": True, "--json": False}, 2, FORM)
+    with closing(open_log(log_name)) as source:
         elf = Elf(elf_name)
         named = named_elf(elf, given.get("--names", ""))
-        streams.put(line_of(source.end(FIRST_ROWS), elf, named) + "\n")
+        bucket = bucket_of(source.end(FIRST_ROWS), elf, named)
+    if "--json" in given:
+        put_answer("bucket", line=bucket.line(), **bucket._asdict())
+    else:
+        streams.put(bucket.line() + "\n")
     return 0

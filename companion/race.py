@@ -3,34 +3,36 @@ from __future__ import annotations
 
 import contextlib
 from contextlib import closing
-from typing import Optional
+from typing import Any, Optional
 
 from . import streams
+from .answers import LONGEST, place_of, put_answer
 from .elf import Elf, Symbol
 from .errors import CompanionError
 from .facts import At
 from .history import History
 from .naming import named_elf, places_of
 from .options import parse, whole
-from .races import FENCED, ORDERED, TOO_MANY, AccessPair, Group, Races
-from .recent import FIRST_ROWS, LogFile
+from .races import FENCED, ORDERED, TOO_MANY, Access, AccessPair, Group, Races
+from .recent import FIRST_ROWS, LogFile, open_log
 from .rows import Trace, read_trace
 from .text import counted, number
 
 HELP = """Groups the races of a log by the two places and the word, the likeliest cause of its fault first. Words of one object
 with the same places, as an array's, are told together.
 
-    zelkuma race LOG ELF [--names ELF] [--max N] [--more]
+    zelkuma race LOG ELF [--names ELF] [--max N] [--more] [--json]
 
 --names   the program with its names and lines, if ELF was stripped
 --max     how many pairs are asked for at most, 1 to 1000000 (200000 without it)
 --more    tells all groups; without it the first twelve
+--json    prints one JSON object in place of the text (docs/JSON.md)
 
 First come groups on the chain of values behind the fault, then those in the function that faulted, then the others;
 behind them groups that fences order if they are meant so, and last the fenced accesses themselves: loads and stores
 beside a `fence`, as GCC writes acquire and release. That order and the grouping are this command's own judgement.
 The exact list is that of `zelkuma races`: pairs of accesses that no atomic instruction orders."""
-FORM = "race LOG ELF [--names ELF] [--max N] [--more]"
+FORM = "race LOG ELF [--names ELF] [--max N] [--more] [--json]"
 FAR = 1 << 20                                # what a row costs that isn't on the chain
 MOST, GROUPS_TOLD, BRIEF_TOLD = 200000, 12, 6
 KINDS = ("", ORDERED, FENCED)                # in the order in which groups are told
@@ -171,16 +173,35 @@ def judge(source: LogFile, elf_name: str, races: Races) -> Judged:
     return Judged(races, trace, History(trace, [trace.fault.row])) if trace.fault else Judged(races)
 
 
+def race_answer(races: Races, judged: Judged) -> dict[str, Any]:
+    return {"pairs": races.total, "groups": [family_answer(races, judged, family) for family in judged.families()]}
+
+
+def family_answer(races: Races, judged: Judged, family: list[Group]) -> dict[str, Any]:
+    one, other = judged.pair(family[0])
+    return {"pairs": pairs_of(family), "words": [f"{group.word:08x}" for group in family[:LONGEST]],
+            "name": family_word(races, family), "kind": family[0].kind, "judged": judged.reason(family[0]),
+            "one": access_answer(races, one), "other": access_answer(races, other)}
+
+
+def access_answer(races: Races, access: Access) -> dict[str, Any]:
+    return {"hart": access.hart, "count": access.count, "did": access.verb(), "row": access.row,
+            "place": place_of(races.places, access.pc)}
+
+
 def main(words: list[str]) -> int:
-    (log_name, elf_name), given = parse(words, {"--names": True, "--max": True, "--more": False}, 2, FORM)
+    (log_name, elf_name), given = parse(words, {"--names": True, "--max": True, "--more": False, "--json": False}, 2, FORM)
     most = whole(given.get("--max", str(MOST)), 1, 1000000, "--max")
     with contextlib.ExitStack() as opened:
-        source = opened.enter_context(closing(LogFile(log_name)))
+        source = opened.enter_context(closing(open_log(log_name)))
         elf = Elf(elf_name)
         named = named_elf(elf, given.get("--names", ""))
         races = Races(named, opened.enter_context(closing(places_of(named)))).read(log_name, elf_name, most)
         if races.over:
             raise CompanionError(f"races: more than {most} pairs; --max takes up to 1000000", TOO_MANY)
-        lines = report(races, judge(source, elf_name, races), "--more" in given)
-    streams.put("\n".join(lines) + "\n")
+        judged = judge(source, elf_name, races)
+        if "--json" in given:
+            put_answer("race", **race_answer(races, judged))
+        else:
+            streams.put("\n".join(report(races, judged, "--more" in given)) + "\n")
     return 0

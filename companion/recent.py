@@ -28,10 +28,9 @@ class Asked(NamedTuple):
 
 
 class LogFile:
-    """A log that the program has checked, and ends of it. Its files are gone once it is closed."""
+    """A log that is checked, and ends of it. Its files are gone once it is closed."""
 
     def __init__(self, name: str) -> None:
-        program.output("check", name)
         self.name, self.source = name, name
         self.files = contextlib.ExitStack()
         self.folder = ""
@@ -88,6 +87,12 @@ class LogFile:
             hart, _, _, count, reason, value = line.split(" ")
             found[int(hart)] = End(int(count), reason, int(value, 16))
         return found
+
+
+def open_log(name: str) -> LogFile:
+    """A log that the program has checked."""
+    program.output("check", name)
+    return LogFile(name)
 
 
 class Blocks:

@@ -9,7 +9,7 @@ import bisect
 import itertools
 import time
 from array import array
-from typing import Callable, Iterable, NamedTuple, Optional, Sequence, Tuple
+from typing import Callable, Iterable, Iterator, NamedTuple, Optional, Sequence, Tuple
 
 from . import streams
 from .calls import CallTree
@@ -23,6 +23,27 @@ from .text import number
 OFFSET, LOADS, STORES, UNSTORED, CHANGED, FAULTS, KEEPS = 3, 4, 8, 16, 32, 64, 128
 READ_CALL = b"0000003f"
 AT_ONCE = 1 << 12           # lines between two looks at the progress
+
+
+class Access(NamedTuple):
+    """What a row loaded or stored: where, and the whole word."""
+    address: int
+    value: int
+
+
+class Row(NamedTuple):
+    """An instruction that was done: `ic` is its hart's count before it, `word` is None without code; `register` is the name
+    of what it wrote, or empty, and `result` the value; `fault` is the name of the fault, or empty."""
+    hart: int
+    ic: int
+    pc: int
+    word: Optional[int]
+    text: str
+    register: str
+    result: int
+    load: Optional[Access]
+    store: Optional[Access]
+    fault: str
 
 
 class Hart:
@@ -58,12 +79,6 @@ class ReadCall(NamedTuple):
     hart: int
     address: int
     size: int
-
-
-class Access(NamedTuple):
-    """What a row loaded or stored: where, and the whole word."""
-    address: int
-    value: int
 
 
 class Stores(NamedTuple):
@@ -320,6 +335,19 @@ class Trace:
             found = found._replace(value=self.stored[bisect.bisect_left(self.atomic_rows, n)])
         return found
 
+    def last_store(self, address: int, before: int = 0) -> int:
+        """The latest row that stored to a word, of those before a row or of all; 0 if none did."""
+        at = bisect.bisect_left(self.access_rows, before) if before else len(self.access_rows)
+        while at > 0:
+            at -= 1
+            if self.addresses[at] & ~3 == address & ~3 and self.flags[self.access_rows[at]] & STORES:
+                return self.access_rows[at]
+        return 0
+
+    def calls_at(self, n: int) -> list[int]:
+        """The places of all calls that a row is in, innermost first."""
+        return self.tree.calls(self.node_of(n), len(self.tree.depth)).calls
+
     def result_of(self, n: int) -> Optional[int]:
         """What a row put into its register, or None."""
         has_result = n and self.code_of(n).rd and not self.flags[n] & FAULTS and n not in self.silent
@@ -364,6 +392,38 @@ class Trace:
                 need &= ~here
             writer = self.dm[writer]
         return Stores(found, need)
+
+
+def parse_row(line: bytes) -> Optional[Row]:
+    """The row that a line of `replay` or `joint` tells, or None if it tells of something else."""
+    parts = line.decode("ascii", "replace").rstrip("\n").split(" | ")
+    words = parts[0].split(" ", 4)
+    if not words[0].isdigit() or len(words) < 5:
+        return None
+    register, result, fault = "", 0, ""
+    accesses: dict[str, Access] = {}
+    for told in parts[1:]:
+        kind, _, rest = told.partition(" ")
+        if kind == "fault":
+            fault = rest.split(" ")[0]
+        elif kind in ("load", "store"):
+            address, _, value = rest.partition("=")
+            accesses[kind] = Access(int(address, 16), int(value, 16))
+        else:
+            register, _, value = told.partition("=")
+            result = int(value, 16)
+    word = None if words[3][0] == "-" else int(words[3], 16)
+    return Row(int(words[0]), int(words[1]), int(words[2], 16), word, words[4], register, result, accesses.get("load"),
+               accesses.get("store"), fault)
+
+
+def rows_of(log_name: str, elf_name: str) -> Iterator[Row]:
+    """Each row of a log, in the order of `joint`. Nothing is kept, so a log may be large."""
+    with Output("joint", log_name, elf_name) as lines:
+        for line in lines:
+            row = parse_row(line)
+            if row:
+                yield row
 
 
 def read_trace(log: Log, elf_name: str) -> Trace:

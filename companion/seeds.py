@@ -10,10 +10,11 @@ import time
 from typing import Optional, Sequence
 
 from . import program, streams
+from .answers import put_answer
 from .errors import REFUSED, UNREADABLE, CompanionError
 from .options import parse, whole
 
-HELP = """zelkuma seeds [-j N] [--until STATUS] FROM TO -- RECORD-WORDS
+HELP = """zelkuma seeds [-j N] [--until STATUS] [--json] FROM TO -- RECORD-WORDS
 
 Records a program by one seed after another, on all processors, until a run ends as wanted.
 
@@ -24,10 +25,11 @@ recording ends with STATUS: `seed 3: status 10` is printed, and LOG and BOOK are
 Without one nothing is saved, and the status is 22.
 
     -j N             so many recordings at a time; without it, as many as there are processors
+    --json           prints one JSON object in place of the line (docs/JSON.md)
     --until STATUS   0 (done), 10 (a fault) or 11 (a hart came to the limit); without it 10
 
 Trials are saved beside LOG and BOOK, in folders that are taken away again."""
-FORM = "seeds [-j N] [--until STATUS] FROM TO -- RECORD-WORDS"
+FORM = "seeds [-j N] [--until STATUS] [--json] FROM TO -- RECORD-WORDS"
 RECORD_FORM = "[OPTION..] ELF LOG BOOK, as for record, but for --seed"
 VALUES = "--input --format --harts --interval --limit --log-size --memory --sets --ways --line --sets2 --ways2"
 RECORD_OPTIONS = {"--lean": False, "--seed": True, **{name: True for name in VALUES.split()}}
@@ -180,7 +182,7 @@ def scratch(output: str) -> tempfile.TemporaryDirectory[str]:
 
 def main(words: list[str]) -> int:
     own, rest = split(words)
-    (low, high), options = parse(own, {"--jobs": True, "--until": True}, 2, FORM)
+    (low, high), options = parse(own, {"--jobs": True, "--until": True, "--json": False}, 2, FORM)
     first, last = whole(low, 0, LAST_SEED, "FROM"), whole(high, 0, LAST_SEED, "TO")
     if last < first:
         raise CompanionError(f"TO is {last}, which is below FROM", REFUSED)
@@ -192,12 +194,17 @@ def main(words: list[str]) -> int:
     folders = [scratch(output) for output in record.outputs]
     try:
         seeds = range(first, last + 1)
-        found = Search(record, seeds, until, jobs, [folder.name for folder in folders]).run()
+        search = Search(record, seeds, until, jobs, [folder.name for folder in folders])
+        found = search.run()
+        if "--json" in options:
+            put_answer("seeds", **{"seed": found.seed if found else None, "status": until, "from": first, "to": last,
+                                   "tried": search.done})
         if found is None:
             streams.say(f"no seed from {first} to {last} ends with status {until}")
             return NOT_FOUND
         found.save()
-        streams.put(f"seed {found.seed}: status {until}\n")
+        if "--json" not in options:
+            streams.put(f"seed {found.seed}: status {until}\n")
         return 0
     finally:
         for folder in folders:

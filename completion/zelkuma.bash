@@ -45,19 +45,25 @@ record --ways2 N
 audit --input FILE
 why --names ELF
 why --row HART:COUNT
+why --rows N
 why --more
 why --html FILE
+why --json
 race --names ELF
 race --max N
 race --more
+race --json
 view --names ELF
 view --row HART:COUNT
+view --rows N
 gdb --port N
 gdb --end
 gdb --trace
 bucket --names ELF
+bucket --json
 seeds -j N
 seeds --until STATUS
+seeds --json
 '
 
 # Prints the lines of a table that begin with a word, without it.

@@ -28,7 +28,9 @@ PAGES = {
     "docs/GDB.md": 1300,
     "docs/GUIDE.md": 5000,
     "docs/INTERNALS.md": 4000,
+    "docs/JSON.md": 600,
     "docs/PROOF.md": 3000,
+    "docs/PYTHON.md": 400,
     "docs/VIEW.md": 1300,
     "docs/WHY.md": 1300,
 }
