@@ -130,9 +130,21 @@ def runs_of(records: bytes) -> Iterator[bytes]:
     return (found[0] for found in RUNS.finditer(records))
 
 
+def check(name: str) -> None:
+    """Has the program check a log."""
+    try:
+        program.output("check", name)
+    except CompanionError as error:
+        if error.status == BAD_LOG:
+            with open(name, "rb") as file:
+                if file.read(4) == b"\x7fELF":
+                    raise CompanionError(f"log: {name} is an ELF file, and the log is named before it: LOG ELF", BAD_LOG)
+        raise
+
+
 def read_log(name: str) -> Log:
     """A log that the program has checked."""
-    program.output("check", name)
+    check(name)
     with open(name, "rb") as file:
         return Log(name, file.read())
 

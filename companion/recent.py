@@ -14,7 +14,7 @@ from typing import NamedTuple, Optional
 
 from . import program
 from .errors import NO_INTERVAL, UNREADABLE, CompanionError
-from .log import END, FIRST_FAULT, HEAD_2, HEADER, SEAL, End, Log, runs_of
+from .log import END, FIRST_FAULT, HEAD_2, HEADER, SEAL, End, Log, check, runs_of
 
 VERSION_1, LARGEST_SMALL = 1, 1 << 20   # a file of version 1 that is larger is converted first
 FIRST_ROWS, MORE_ROWS = 1000000, 5000000        # are read at first, and if values come from before them
@@ -91,7 +91,7 @@ class LogFile:
 
 def open_log(name: str) -> LogFile:
     """A log that the program has checked."""
-    program.output("check", name)
+    check(name)
     return LogFile(name)
 
 

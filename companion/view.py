@@ -171,16 +171,17 @@ class View:
         edges, (strips, functions), ways = page.edges(), page.strips(), self.ways()
         origins = self.origins_drawn(ways)
         rows = self.rows(edges, ways, origins)
-        data = dict(
+        data: dict[str, Any] = dict(
             elf=os.path.basename(crash.elf.name), log=os.path.basename(log.shown), harts=log.harts, bytes=log.bytes,
-            rows=self.trace.rows, dropped=log.dropped, intervals=page.intervals(), segments=page.segments(),
+            rows=self.trace.rows, dropped=log.dropped, unread=log.unread, intervals=page.intervals(), segments=page.segments(),
             edges=edges, allEdges=len(log.edges.counts), strips=strips, functions=functions,
             ends=[[hart, end.count, end.reason, f"{end.value:08x}"] for hart, end in sorted(log.ends.items())],
             races=self.race_groups, allRaces=self.races.total if self.races else 0,
             raceGroups=self.race_total, racesNote=self.races_note,
             windows=rows.as_data(), nodes=rows.nodes, chain=chain_boxes(page, crash.history, ways, origins))
         data.update(self.end_data())
-        data.update(codes=page.code_list, places=page.place_list)
+        told = [data["where"]] + [item["place"] for item in data["suspects"]]
+        data.update(codes=page.code_list, places=page.place_list, around={each: page.around(each) for each in told})
         return data
 
     def end_data(self) -> dict[str, Any]:
