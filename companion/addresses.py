@@ -7,6 +7,7 @@ from typing import NamedTuple
 
 from .elf import EXECUTABLE, Elf
 from .naming import places_of
+from .places import LONGEST_LINE_NUMBER
 
 MOST_CODE = 1 << 22
 
@@ -21,7 +22,7 @@ def addresses_of(elf: Elf, name: str) -> list[Named]:
     """The addresses of a name."""
     found = sorted({Named(symbol.address, symbol.name) for symbol in elf.symbols if symbol.name == name})
     file, _, line = name.rpartition(":")
-    if found or not (file and line.isascii() and line.isdigit()):
+    if found or not (file and line.isascii() and line.isdigit() and len(line) <= LONGEST_LINE_NUMBER):
         return found
     return addresses_of_line(elf, file, int(line))
 
