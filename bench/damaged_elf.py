@@ -6,6 +6,7 @@ flipped, sections are cut, sizes and offsets of headers, symbols and DWARF are f
 recording, and if it can be recorded, for the program itself. Each call has to end with the answer or with a line and a
 status, within 30 seconds and 1 GB; else it is told, and the status is 1."""
 import collections
+import contextlib
 import os
 import random
 import resource
@@ -133,8 +134,9 @@ def calls_of(damaged, elf, log, folder, draw):
 
 def main(words):
     count, seed = map(int, [*words, *("2000", "1")[len(words):]])
-    ended, wrong, slowest = collections.Counter(), [], (0.0, "")
-    with tempfile.TemporaryDirectory() as folder:
+    signal.signal(signal.SIGTERM, signal.default_int_handler)
+    ended, wrong, slowest, done = collections.Counter(), [], (0.0, ""), 0
+    with contextlib.suppress(KeyboardInterrupt), tempfile.TemporaryDirectory() as folder:
         for word in ("names", "why", "bucket", "view", "gdb"):
             with open(os.path.join(folder, word + ".input"), "wb") as file:
                 file.write(packets() if word == "gdb" else b"0 0 00010074 00000013 addi zero,zero,0\n" * 3)
@@ -143,7 +145,7 @@ def main(words):
         for elf in elves:
             logs[elf] = os.path.join(folder, os.path.basename(elf) + ".log")
             record(elf, logs[elf], folder)
-        for number in range(count):
+        for number in range(count):             # Ctrl-C or a time limit ends it; what was tried is told
             draw = random.Random(seed << 40 | number)
             elf = draw.choice(elves)
             with open(elf, "rb") as file:
@@ -157,11 +159,12 @@ def main(words):
                 ended[each[0], said if said in SAID else "otherwise"] += 1
                 if said not in SAID:
                     wrong.append(f"file {number}: {each[0]}: {said}")
+            done += 1
     for (word, said), times in sorted(ended.items()):
         print(f"{word}: {said} {times}")
     print(f"the slowest took {slowest[0]:.1f} s: {slowest[1]}")
     print("".join(f"{line}\n" for line in wrong[:20]), end="")
-    print(f"{count} files, {len(wrong)} calls ended otherwise")
+    print(f"{done} files, {len(wrong)} calls ended otherwise")
     sys.exit(1 if wrong else 0)
 
 
