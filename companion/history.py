@@ -2,10 +2,14 @@
 
 A search by cost. A step along a value costs 1. A step along an address costs 12: else the walk through a list or an
 allocator's own loop buries everything. What decided that the row was reached at all costs more still."""
-import heapq
+from __future__ import annotations
 
-from instruction import AMO, BRANCH, CALL, JUMP
-from rows import FAULTS, KEEPS, LOADS, STORES
+import heapq
+from typing import NamedTuple, Sequence
+
+from .instruction import AMO, BRANCH, CALL, JUMP
+from .places import Places
+from .rows import FAULTS, KEEPS, LOADS, STORES, Trace
 
 MOST_ROWS = 200000          # the search is cut off there: it keeps two entries a row
 ADDRESS = 12
@@ -13,33 +17,60 @@ DECISION = 14               # a branch before the row
 DECIDING_ROWS, MOST_BRANCHES = 300, 24
 STORES_ANOTHER = "amoswap", "sc."       # atomics whose stored word owes nothing to the loaded one
 FAR = 1000                  # a store so many rows before its load is far
+START, LOOP = "start", "the loop"       # how the first rows are needed
+
+
+class Pair(NamedTuple):
+    """A load and the store that it got."""
+    load: int
+    store: int
+
+
+class Step(NamedTuple):
+    """A row, and how it is needed by the row before it on the way, or as what the row is needed by this one."""
+    row: int
+    how: str
+
+
+class Line(NamedTuple):
+    """The rows of a history that are of one hart and place: how many, the latest, the least cost."""
+    hart: int
+    place: str
+    rows: int
+    latest: int
+    cost: int
 
 
 class History:
     """cost     {row: the least cost at which it was reached}
-    parent   {row: (the row that needed it, how)}
-    far      {(load, store): cost} of every load and the store that it got
+    parent   {row: the row that needed it, and how}
+    far      {a load and the store that it got: cost}
     before   loads of bytes that no row stored
     decided  the rows that stand behind the start only by a branch
     cut      whether the search was cut off"""
 
-    def __init__(self, trace, starts, most=MOST_ROWS):
+    def __init__(self, trace: Trace, starts: Sequence[int], most: int = MOST_ROWS) -> None:
         """`starts` are the rows that are asked of; the first is the one that the report is about."""
         self.trace, self.start, self.most = trace, starts[0], most
-        self.cost, self.parent, self.far, self.before = {}, {}, {}, []
-        self.decided = set()
-        self.cut, self.heap = False, []
+        self.cost: dict[int, int] = {}
+        self.parent: dict[int, Step] = {}
+        self.far: dict[Pair, int] = {}
+        self.before: list[int] = []
+        self.decided: set[int] = set()
+        self.cut = False
+        self.heap: list[tuple[int, int, int]] = []
         for row in starts:
             self.cost[row] = 0
             heapq.heappush(self.heap, (0, -row, row))
         for row in set(starts) - {self.start}:
-            self.parent[row] = self.start, "the loop"
+            self.parent[row] = Step(self.start, LOOP)
         self.decisions()
         self.search()
 
-    def decisions(self):
+    def decisions(self) -> None:
         """The latest branches before the start, one of each instruction."""
-        trace, seen, n = self.trace, set(), self.start - 1
+        trace, n = self.trace, self.start - 1
+        seen: set[int] = set()
         hart, low = trace.hart[self.start], max(1, self.start - DECIDING_ROWS)
         while n >= low and len(seen) < MOST_BRANCHES:
             if trace.hart[n] == hart and trace.pc[n] not in seen and trace.code_of(n).kind == BRANCH:
@@ -47,16 +78,16 @@ class History:
                 self.step(n, DECISION + len(seen) // 4, self.start, "decision")
             n -= 1
 
-    def step(self, row, price, source, how):
+    def step(self, row: int, price: int, source: int, how: str) -> None:
         if row and (row not in self.cost or price < self.cost[row]):
-            self.cost[row], self.parent[row] = price, (source, how)
+            self.cost[row], self.parent[row] = price, Step(source, how)
             if how == "decision" or source in self.decided:
                 self.decided.add(row)
             else:
                 self.decided.discard(row)
             heapq.heappush(self.heap, (price, -row, row))
 
-    def search(self):
+    def search(self) -> None:
         done = 0
         while self.heap:
             price, _, n = heapq.heappop(self.heap)
@@ -68,12 +99,12 @@ class History:
                 break
             self.visit(n, price)
 
-    def visit(self, n, price):
+    def visit(self, n: int, price: int) -> None:
         trace = self.trace
         ins, flag = trace.code_of(n), trace.flags[n]
         if flag & FAULTS:                       # its address is the bad value
             self.step(trace.d1[n], price + 1, n, "address")
-        elif flag & LOADS and not (ins.name.startswith(STORES_ANOTHER) and self.parent.get(n, ("", ""))[1] == "memory"):
+        elif flag & LOADS and not (ins.name.startswith(STORES_ANOTHER) and self.is_for_memory(n)):
             self.loaded(n, price)
             if ins.kind == AMO:
                 self.step(trace.d2[n], price + 1, n, "value")
@@ -86,47 +117,50 @@ class History:
             self.step(trace.d1[n], price, n, "value")
             self.step(trace.d2[n], price, n, "value")
 
-    def loaded(self, n, price):
+    def is_for_memory(self, n: int) -> bool:
+        """Whether a row is needed as the store that a load got."""
+        return n in self.parent and self.parent[n].how == "memory"
+
+    def loaded(self, n: int, price: int) -> None:
         """A load, and the stores that it got. One that stores back what it loads is passed: it changed nothing."""
         found, rest = self.trace.writers(n)
         for writer in found:
             while self.trace.flags[writer] & KEEPS and self.trace.dm[writer]:
                 writer = self.trace.dm[writer]
             self.step(writer, price + 1, n, "memory")
-            key = n, writer
+            key = Pair(n, writer)
             self.far[key] = min(price + 1, self.far.get(key, price + 1))
         if rest:
             self.before.append(n)
 
-    def is_far(self, load, store):
+    def is_far(self, load: int, store: int) -> bool:
         return self.trace.hart[load] != self.trace.hart[store] or load - store > FAR
 
-    def path(self, row):
+    def path(self, row: int) -> list[Step]:
         """The rows from the start to a row, as the search went, with how each was needed."""
         steps = []
         while row != self.start and row in self.parent:
             source, how = self.parent[row]
-            steps.append((row, how))
+            steps.append(Step(row, how))
             row = source
-        steps.append((self.start, "start"))
+        steps.append(Step(self.start, START))
         return steps[::-1]
 
-    def root(self, row):
+    def root(self, row: int) -> int:
         """Which of the rows that the history begins with a row stands behind."""
-        while row in self.parent and self.parent[row][1] != "the loop":
-            row = self.parent[row][0]
+        while row in self.parent and self.parent[row].how != LOOP:
+            row = self.parent[row].row
         return row
 
-    def lines(self, places):
-        """The values by source line: (hart, place, rows, latest row, least cost), nearest first."""
-        trace, groups = self.trace, {}
+    def lines(self, places: Places) -> list[Line]:
+        """The values by source line, nearest first."""
+        trace = self.trace
+        groups: dict[tuple[int, str], Line] = {}
         places.fetch({trace.codes[at].pc for at in {trace.pc[n] for n in self.cost}})
         for n, price in self.cost.items():
             if n in self.decided:
                 continue
-            key = trace.hart[n], places.where(trace.code_of(n).pc)
-            item = groups.setdefault(key, [0, n, price])
-            item[0] += 1
-            item[1], item[2] = max(item[1], n), min(item[2], price)
-        found = [key + tuple(item) for key, item in groups.items()]
-        return sorted(found, key=lambda item: (item[4], -item[3]))
+            hart, place = key = trace.hart[n], places.where(trace.code_of(n).pc)
+            item = groups.get(key, Line(hart, place, 0, n, price))
+            groups[key] = Line(hart, place, item.rows + 1, max(item.latest, n), min(item.cost, price))
+        return sorted(groups.values(), key=lambda item: (item.cost, -item.latest))

@@ -1,4 +1,6 @@
 """What an instruction reads and writes, from its word. One object for each address and word of a log."""
+from __future__ import annotations
+
 ALU, LOAD, STORE, AMO, CALL, BRANCH, JUMP, NONE = range(8)
 NAMES = ("zero ra sp gp tp t0 t1 t2 s0 s1 a0 a1 a2 a3 a4 a5 a6 a7 s2 s3 s4 s5 s6 s7 s8 s9 s10 s11 "
          "t3 t4 t5 t6").split()
@@ -11,15 +13,16 @@ OP_IMMEDIATE, OP_REGISTER, OP_LUI, OP_AUIPC = 0x13, 0x33, 0x37, 0x17
 
 class Instruction:
     """at      its number among those of the log
+    row     its address, word and text as a row has them
     kind    one of the eight above; rd, rs1, rs2 are 0 if it has none
     width   the bytes that it accesses
     call, ret, move     a jump that links, a return, a plain copy of a register"""
-    __slots__ = ("at", "pc", "word", "text", "kind", "rd", "rs1", "rs2", "width", "call", "ret", "move", "name")
+    __slots__ = ("at", "row", "pc", "word", "text", "kind", "rd", "rs1", "rs2", "width", "call", "ret", "move", "name")
 
-    def __init__(self, at, key):
+    def __init__(self, at: int, key: bytes) -> None:
         """`key` is the row's address, word and text."""
         words = key.split(b" ", 2)
-        self.at, self.pc = at, int(words[0], 16)
+        self.at, self.pc, self.row = at, int(words[0], 16), key.decode("ascii", "replace")
         self.text = words[2].decode("ascii", "replace") if len(words) > 2 else "-"
         self.name = self.text.split(" ")[0]
         self.kind, self.rd, self.rs1, self.rs2, self.width = NONE, 0, 0, 0, 4
@@ -29,7 +32,7 @@ class Instruction:
             self.word = int(words[1], 16)
             self.decode()
 
-    def decode(self):
+    def decode(self) -> None:
         word = self.word
         low, f3 = word & 127, word >> 12 & 7
         rd, rs1, rs2 = word >> 7 & 31, word >> 15 & 31, word >> 20 & 31

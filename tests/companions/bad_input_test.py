@@ -10,11 +10,11 @@ import sys
 
 from common import (COMPANION, CRASHES, PROGRAM, check, companion, crash, example, finish, need_addr2line, path, record,
                     refused)
-# Modules of the companions, which common lets be found.
-from elf import Elf
-from errors import CompanionError
-from log import EDGE, HEADER, SIZES
-from places import Places
+# common lets the package be found
+from companion.elf import Elf
+from companion.errors import CompanionError
+from companion.log import EDGE, HEADER, SIZES
+from companion.places import Places
 
 HEAD = 92                                       # the bytes before the records in a log of version 1
 

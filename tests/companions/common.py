@@ -11,8 +11,8 @@ from typing import NamedTuple
 HERE = os.path.dirname(os.path.abspath(__file__))
 TOP = os.path.dirname(os.path.dirname(HERE))
 COMPANION = os.path.join(TOP, "companion")
-sys.path.insert(0, COMPANION)
-from program import path as program_path        # noqa: E402
+sys.path.insert(0, TOP)
+from companion.program import path as program_path      # noqa: E402
 PROGRAM = program_path()
 EXAMPLES = os.path.join(TOP, "examples")
 CRASHES = os.path.join(TOP, "tests", "crashes")
@@ -54,9 +54,13 @@ def record(name, elf, *words):
     return log
 
 
+def present_tools():
+    return [tool for tool in TOOLS if shutil.which(tool)]
+
+
 def need_addr2line():
     """Ends a test file, with a line, if no tool tells lines of addresses."""
-    if not any(shutil.which(tool) for tool in TOOLS):
+    if not present_tools():
         skip(os.path.basename(sys.argv[0]), "none of %s is there" % ", ".join(TOOLS))
         finish()
 
@@ -122,10 +126,10 @@ def output(*words):
     return subprocess.run([PROGRAM] + list(words), stdout=subprocess.PIPE, stderr=subprocess.DEVNULL).stdout
 
 
-def companion(*words, given=b"", environment=None):
-    """(status, output, err) of a companion."""
+def companion(*words, given=b"", environment=None, bound=None):
+    """(status, output, err) of a companion, which has to end within so many seconds."""
     done = subprocess.run([sys.executable, COMPANION] + list(words), input=given, stdout=subprocess.PIPE, stderr=subprocess.PIPE,
-                          env=dict(os.environ, **(environment or {})))
+                          env=dict(os.environ, **(environment or {})), timeout=bound)
     return done.returncode, done.stdout.decode("utf-8", "replace"), done.stderr.decode("utf-8", "replace")
 
 

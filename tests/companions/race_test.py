@@ -9,8 +9,7 @@ import common
 
 import forged
 
-import fences
-import races
+from companion import fences, races
 
 LOAD, STORE, ADD, BRANCH = 0x0007a703, 0x00e7a023, 0x00000013, 0xfef6fce3       # lw, sw, addi, bgeu
 FENCE_ALL, FENCE_RELEASE, FENCE_WRITES = 0x0ff0000f, 0x0310000f, 0x0110000f      # iorw,iorw; rw,w; w,w
@@ -120,7 +119,7 @@ class FencesTest(case.Case):
         self.assertFalse(self.fenced([0x0320000f, STORE], 1))   # rw,r: no write waits
 
     def test_a_way_over_a_fence(self):
-        way = [10, 20, 30], [5, 40, 60]         # fenced stores, and the least count that loads one of them or a later one
+        way = races.Way([10, 20, 30], [5, 40, 60])      # fenced stores, and the least count that loads one of them or a later one
         self.assertTrue(races.leads(way, 20, 40))
         self.assertTrue(races.leads(way, 15, 41))
         self.assertFalse(races.leads(way, 21, 59))

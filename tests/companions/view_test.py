@@ -14,7 +14,8 @@ import common
 import forged
 import hostile
 
-import view_data
+from companion import log as logs
+from companion import view_data
 
 
 class Reader(html.parser.HTMLParser):
@@ -211,7 +212,7 @@ class EdgesTest(unittest.TestCase):
     def test_evenly_chosen_edges_are_even(self):
         """Of a log whose Edges crowd at the end as many are chosen of each part."""
         class Log:
-            edges = [0] * 20000, [0] * 20000, [i % 2 for i in range(20000)], [1] * 20000
+            edges = logs.Edges([0] * 20000, [0] * 20000, [i % 2 for i in range(20000)], [1] * 20000)
 
         class Trace:
             rows = 10000

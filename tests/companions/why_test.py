@@ -4,7 +4,7 @@ import re
 
 from common import (check, companion, crash, example, finish, named_examples, need_addr2line, output, path, record,
                     skip)
-import why                                      # a module of the companions, which common lets be found
+from companion.analysis import analysed         # common lets the package be found
 
 
 def suspects(text):
@@ -38,10 +38,11 @@ def locks():
 
 def against_slice(name, log, elf):
     """Each row of the program's own slice of the fault is in the history."""
-    facts = why.Analysis(log, elf)
+    facts = analysed(log, elf)
+    facts.close()
     hart, count = facts.trace.hart[facts.start], facts.trace.count_of(facts.start)
-    interval = next(item for item in facts.log.intervals if item[0] == hart and item[2] <= count <= item[3])
-    rows = [line.split() for line in output("slice", log, elf, str(hart), str(interval[1]), str(count)).decode().split("\n")
+    interval = next(item for item in facts.log.intervals if item.hart == hart and item.start <= count <= item.end)
+    rows = [line.split() for line in output("slice", log, elf, str(hart), str(interval.number), str(count)).decode().split("\n")
             if line[:1].isdigit()]
     missing = [row[:3] for row in rows if facts.trace.row_of(int(row[0]), int(row[1])) not in facts.history.cost]
     check("%s: all %d rows of the slice are in the history" % (name, len(rows)), rows and not missing, missing)

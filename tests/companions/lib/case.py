@@ -1,13 +1,11 @@
 """unittest on top of the companions' common test functions: recordings by example, and what a companion says."""
 import os
-import shutil
 import sys
 import unittest
 
 sys.path.insert(0, os.path.dirname(os.path.dirname(os.path.abspath(__file__))))
 import common
 
-sys.path.insert(0, common.COMPANION)
 logs = {}
 
 
@@ -34,9 +32,12 @@ class Case(unittest.TestCase):
 
     def crash(self, name):
         """The log and the ELF of one of tests/crashes, whose lines only an addr2line can tell."""
-        if not any(map(shutil.which, common.TOOLS)):
-            self.skipTest("no addr2line is installed")
+        self.needs_addr2line()
         return common.crash(name)
+
+    def needs_addr2line(self):
+        if not common.present_tools():
+            self.skipTest("no addr2line is installed")
 
     def program(self, *words):
         return common.output(*words).decode("ascii")
