@@ -9,6 +9,7 @@ import bisect
 from typing import NamedTuple, Optional
 
 from .elf import WRITABLE, Elf
+from .instruction import RA
 from .rows import LOADS, STORES, Trace
 
 LOWEST, NEAR, LARGEST = 4096, 1024, 1 << 16
@@ -106,7 +107,7 @@ class Blocks:
         calls: dict[int, list[int]] = {}
         for at in range(self.first, len(self.trace.jumps)):
             n = self.trace.jumps[at]
-            if self.trace.code_of(n).call:
+            if self.trace.code_of(n).rd == RA:
                 calls.setdefault(self.trace.jump_a0[at], []).append(n)
         for block in (given.block for given in found):
             key = block.giver, block.address
@@ -124,7 +125,7 @@ class Blocks:
         trace = self.trace
         for at in range(self.first, len(trace.jumps)):
             n = trace.jumps[at]
-            if trace.jump_a0[at] in self.by_address and trace.code_of(n).call:
+            if trace.jump_a0[at] in self.by_address and trace.code_of(n).rd == RA:
                 self.arguments.setdefault(trace.jump_a0[at], []).append(CallWith(n, self.entry(n)))
 
     def takers(self) -> dict[int, int]:

@@ -7,7 +7,9 @@ from typing import NamedTuple, Optional
 from . import program
 from .elf import Elf
 from .errors import NO_INTERVAL, REFUSED, CompanionError
+from .instruction import STORE
 from .log import Log, read_log
+from .loops import Loop
 from .options import whole
 from .places import Frame, Places
 from .rows import LOADS, Trace, read_trace
@@ -15,6 +17,13 @@ from .text import clean
 
 LAST_ROWS = 12
 LOOP_ROWS, MOST_LOADS = 300, 12         # what a hart did last, if it didn't fault
+MOST_EXITS = 12
+
+
+class Byte(NamedTuple):
+    """A byte of the guest's output: of which of its writes, and which of that. Both count from 0."""
+    write: int
+    place: int
 
 
 class StackFrame(NamedTuple):
@@ -36,14 +45,18 @@ class Facts:
     """log, elf, trace
     named    the ELF with names (--names), else elf
     places   functions and lines
-    start    the row that is asked of: the fault's, or a hart's last load
+    start    the row that is asked of: the fault's, the store of a byte of the output, or an exit of a loop
     starts   it, and others that the history begins with
-    hangs    whether `starts` are the loads of a loop
+    loops    of the harts that came to their limit; hangs: whether `starts` are of such a loop
+    output   the byte of the output that is asked of
     faulted  whether `start` is the fault
     last     the last rows up to `start`
     notes    lines for the end of a report"""
 
-    def __init__(self, log: Log, elf: Elf, named: Elf, trace: Trace, row: Optional[str] = None) -> None:
+    def __init__(self, log: Log, elf: Elf, named: Elf, trace: Trace, row: Optional[str] = None,
+                 output: Optional[Byte] = None) -> None:
+        self.output = output
+        self.loops: list[Loop] = []
         self.log, self.elf, self.named, self.trace, self.asked = log, elf, named, trace, row
         self.places = Places(named)
         self.notes = self.first_notes()
@@ -52,7 +65,7 @@ class Facts:
                                  f"{log.size}; --format 2 keeps the interval of a crash", NO_INTERVAL)
         self.starts = self.find_starts(row)
         self.start = self.starts[0]
-        self.hangs = not row and not trace.fault and bool(trace.flags[self.start] & LOADS)
+        self.hangs = bool(self.loops)
         self.faulted = trace.fault is not None and trace.fault.row == self.start
         self.last = trace.last_rows(self.start, LAST_ROWS)
 
@@ -71,6 +84,8 @@ class Facts:
 
     def find_starts(self, row: Optional[str]) -> list[int]:
         trace = self.trace
+        if self.output:
+            return [self.writer_of(self.output)]
         if row:
             return [self.asked_row(row)]
         if trace.fault:
@@ -78,6 +93,10 @@ class Facts:
         limited = [hart for hart, end in sorted(self.log.ends.items()) if end.reason == "limit" and hart in trace.last]
         if not limited:
             return [max(trace.last.values())]
+        self.loops = [Loop(trace, hart) for hart in limited]
+        exits = [item.row for loop in self.loops for item in loop.exits[:MOST_EXITS] if item.leads_out]
+        if exits:
+            return exits
         # What a hart that hangs waits for is in the loads of its loop.
         loads: list[int] = []
         seen: set[int] = set()
@@ -86,6 +105,18 @@ class Facts:
                 seen.add(trace.pc[n])
                 loads.append(n)
         return loads or [trace.last[limited[0]]]
+
+    def writer_of(self, byte: Byte) -> int:
+        """The store that gave a byte of the output, or else the row that wrote it."""
+        trace, writes = self.trace, self.trace.writes
+        if byte.write >= len(writes) or byte.place >= writes[byte.write].size:
+            raise CompanionError(f"the log holds no byte {byte.place} of a write {byte.write}: `zelkuma output` lists them",
+                                 NO_INTERVAL)
+        place = writes[byte.write].address + byte.place
+        writer = trace.written[place & ~3]
+        while writer and trace.code_of(writer).kind == STORE and not trace.mask(writer) >> (place & 3) & 1:
+            writer = trace.dm[writer]
+        return writer or writes[byte.write].row
 
     def asked_row(self, row: str) -> int:
         hart, colon, count = row.partition(":")

@@ -5,8 +5,9 @@ allocator's own loop buries everything. What decided that the row was reached at
 from __future__ import annotations
 
 import heapq
-from typing import NamedTuple, Sequence
+from typing import NamedTuple, Optional, Sequence
 
+from .control import Control
 from .instruction import AMO, BRANCH, CALL, JUMP
 from .places import Places
 from .rows import FAULTS, KEEPS, LOADS, STORES, Trace
@@ -15,6 +16,8 @@ MOST_ROWS = 200000          # the search is cut off there: it keeps two entries 
 ADDRESS = 12
 DECISION = 14               # a branch before the row
 DECIDING_ROWS, MOST_BRANCHES = 300, 24
+CONTROL, OUTPUT_CONTROL, NEXT_CONTROL = 12, 8, 4    # the branch that decided of a row; of a row of an output; of a branch
+MOST_CONTROL, DEAREST_CONTROL, KEPT_ROWS = 4000, 40, 50
 STORES_ANOTHER = "amoswap", "sc."       # atomics whose stored word owes nothing to the loaded one
 FAR = 1000                  # a store so many rows before its load is far
 START, LOOP = "start", "the loop"       # how the first rows are needed
@@ -28,6 +31,13 @@ class Pair(NamedTuple):
 
 class Step(NamedTuple):
     """A row, and how it is needed by the row before it on the way, or as what the row is needed by this one."""
+    row: int
+    how: str
+
+
+class Decided(NamedTuple):
+    """What a branch decided: at which cost it was reached, a row, and whether that was reached or kept its value."""
+    cost: int
     row: int
     how: str
 
@@ -47,16 +57,21 @@ class History:
     far      {a load and the store that it got: cost}
     before   loads of bytes that no row stored
     decided  the rows that stand behind the start only by a branch
+    branches {a branch that decided of a row: of which}
     cut      whether the search was cut off"""
 
-    def __init__(self, trace: Trace, starts: Sequence[int], most: int = MOST_ROWS) -> None:
-        """`starts` are the rows that are asked of; the first is the one that the report is about."""
+    def __init__(self, trace: Trace, starts: Sequence[int], most: int = MOST_ROWS, control: Optional[Control] = None,
+                 is_output: bool = False) -> None:
+        """`starts` are the rows that are asked of; the first is the one that the report is about. With `control` the
+        branches that decided of the rows are followed too."""
         self.trace, self.start, self.most = trace, starts[0], most
         self.cost: dict[int, int] = {}
         self.parent: dict[int, Step] = {}
         self.far: dict[Pair, int] = {}
         self.before: list[int] = []
         self.decided: set[int] = set()
+        self.branches: dict[int, Decided] = {}
+        self.control, self.control_cost, self.asked = control, OUTPUT_CONTROL if is_output else CONTROL, 0
         self.cut = False
         self.heap: list[tuple[int, int, int]] = []
         for row in starts:
@@ -64,7 +79,8 @@ class History:
             heapq.heappush(self.heap, (0, -row, row))
         for row in set(starts) - {self.start}:
             self.parent[row] = Step(self.start, LOOP)
-        self.decisions()
+        if not is_output:                       # the branches just before a byte is stored are those of its text
+            self.decisions()
         self.search()
 
     def decisions(self) -> None:
@@ -81,7 +97,7 @@ class History:
     def step(self, row: int, price: int, source: int, how: str) -> None:
         if row and (row not in self.cost or price < self.cost[row]):
             self.cost[row], self.parent[row] = price, Step(source, how)
-            if how == "decision" or source in self.decided:
+            if how in ("decision", "control", "kept") or source in self.decided:
                 self.decided.add(row)
             else:
                 self.decided.discard(row)
@@ -98,6 +114,7 @@ class History:
                 self.cut = True
                 break
             self.visit(n, price)
+            self.deciding(n, price)
 
     def visit(self, n: int, price: int) -> None:
         trace = self.trace
@@ -117,6 +134,19 @@ class History:
             self.step(trace.d1[n], price, n, "value")
             self.step(trace.d2[n], price, n, "value")
 
+    def deciding(self, n: int, price: int) -> None:
+        """The branch that decided that a row was reached."""
+        if self.control and price <= DEAREST_CONTROL and self.asked < MOST_CONTROL:
+            self.asked += 1
+            price += NEXT_CONTROL if self.trace.code_of(n).kind == BRANCH else self.control_cost
+            self.decide(self.control.before(n), Decided(price, n, "control"))
+
+    def decide(self, branch: int, decided: Decided) -> None:
+        if branch:
+            if branch not in self.branches or decided.cost < self.branches[branch].cost:
+                self.branches[branch] = decided
+            self.step(branch, decided.cost, decided.row, decided.how)
+
     def is_for_memory(self, n: int) -> bool:
         """Whether a row is needed as the store that a load got."""
         return n in self.parent and self.parent[n].how == "memory"
@@ -127,9 +157,12 @@ class History:
         for writer in found:
             while self.trace.flags[writer] & KEEPS and self.trace.dm[writer]:
                 writer = self.trace.dm[writer]
-            self.step(writer, price + 1, n, "memory")
+            cost = price if self.trace.is_spill(n, writer) else price + 1
+            self.step(writer, cost, n, "memory")
             key = Pair(n, writer)
-            self.far[key] = min(price + 1, self.far.get(key, price + 1))
+            self.far[key] = min(cost, self.far.get(key, cost))
+            if self.control and price <= DEAREST_CONTROL and n - writer >= KEPT_ROWS and cost > price:
+                self.decide(self.control.kept(n, writer), Decided(price + self.control_cost, n, "kept"))
         if rest:
             self.before.append(n)
 

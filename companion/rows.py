@@ -8,17 +8,17 @@ from __future__ import annotations
 import bisect
 import time
 from array import array
-from typing import Callable, Iterable, NamedTuple, Optional, Sequence, Tuple
+from typing import AbstractSet, Callable, Iterable, NamedTuple, Optional, Sequence, Tuple
 
 from .calls import CallTree
-from .instruction import A0, A1, A7, AMO, CALL, JUMP, LOAD, NAMES, STORE, Instruction
+from .instruction import A0, A1, A7, AMO, CALL, JUMP, LOAD, NAMES, SP, STORE, Instruction
 from .log import Log
 from .program import Output
 
 # A row's flags. OFFSET: the byte of its word. UNSTORED: no row stored what it loads. CHANGED: a `read` call did since the
 # last row. KEEPS: it stores what it loads, as a lock's spinning does.
 OFFSET, LOADS, STORES, UNSTORED, CHANGED, FAULTS, KEEPS = 3, 4, 8, 16, 32, 64, 128
-READ_CALL = b"0000003f"
+READ_CALL, WRITE_CALL = b"0000003f", b"00000040"
 
 
 class Hart:
@@ -56,6 +56,13 @@ class ReadCall(NamedTuple):
     size: int
 
 
+class WriteCall(NamedTuple):
+    """A `write` call that took so many bytes from an address."""
+    row: int
+    address: int
+    size: int
+
+
 class Access(NamedTuple):
     """What a row loaded or stored: where, and the whole word."""
     address: int
@@ -77,15 +84,19 @@ class Trace:
     d1, d2  the rows that wrote its first and second register; dm: the row that stored the word that it accesses
     values  what it put into its register
     pairs   {load's code << 32 | 1 + store's code, 0 if there is none: how many rows}
-    reads   the `read` calls
+    reads   the `read` calls; writes: the `write` calls
+    written of the write that is asked for, {address of a word: the row that stored it}
     jumps   the rows of calls and returns; jump_a0: a0 there, which is an argument or a result; jump_writer: its writer
     harts   {hart: what is known of it}, of those that have a row
     last    {hart: its last row}; final: {hart: its registers at the end}
     fault   or None; regs: the registers of its hart
     rows    how many there are; seconds: how long it took to read them"""
 
-    def __init__(self, log: Log) -> None:
-        self.log = log
+    def __init__(self, log: Log, entries: AbstractSet[int] = frozenset(), output: int = -1) -> None:
+        """`entries` is where functions begin, and `output` the number of the write that is asked for."""
+        self.log, self.output = log, output
+        self.writes: list[WriteCall] = []
+        self.written: dict[int, int] = {}
         self.code: dict[bytes, Instruction] = {}
         self.codes: list[Instruction] = []
         self.pc, self.hart, self.flags = array("I", [0]), array("B", [0]), array("B", [0])
@@ -99,7 +110,7 @@ class Trace:
         self.reads: list[ReadCall] = []
         self.fault: Optional[Fault] = None
         self.regs: list[int] = []
-        self.tree = CallTree()
+        self.tree = CallTree(entries)
         self.writer_of: dict[int, int] = {}     # address of a word: its last writer's row
         self.held: dict[int, bytes] = {}        # address of a word: its value
         first = log.first_intervals()
@@ -232,7 +243,14 @@ class Trace:
             self.silent.add(n)
         elif values[A7][-8:] == READ_CALL and parts[1][-8:] < b"80000000":
             self.reads.append(ReadCall(n, hart.number, int(values[A1][-8:], 16), int(parts[1][-8:], 16)))
+        elif values[A7][-8:] == WRITE_CALL and parts[1][-8:] < b"80000000":
+            self.write_call(WriteCall(n, int(values[A1][-8:], 16), int(parts[1][-8:], 16)))
         return 0, 0
+
+    def write_call(self, call: WriteCall) -> None:
+        if len(self.writes) == self.output:
+            self.written = {word: self.writer_of.get(word, 0) for word in range(call.address & ~3, call.address + call.size, 4)}
+        self.writes.append(call)
 
     def jump(self, n: int, hart: Hart, ins: Instruction, _parts: list[bytes]) -> tuple[int, int]:
         if ins.call or ins.ret:
@@ -243,6 +261,10 @@ class Trace:
                 hart.node = self.tree.called(hart.node, ins.pc)
             else:
                 hart.node = self.tree.returned(hart.node, int(hart.values[ins.rs1][-8:], 16))
+            hart.jumps.append(n)
+            hart.nodes.append(hart.node)
+        elif ins.leads in self.tree.entries:
+            hart.node = self.tree.went(hart.node, ins.pc)
             hart.jumps.append(n)
             hart.nodes.append(hart.node)
         return 0, 0
@@ -355,9 +377,15 @@ class Trace:
         return Stores(found, need)
 
 
-def read_trace(log: Log, elf_name: str) -> Trace:
+    def is_spill(self, load: int, store: int) -> bool:
+        """Whether a load takes back the register that a store put aside on the stack."""
+        taken, put = self.code_of(load), self.code_of(store)
+        return taken.rs1 == put.rs1 == SP and taken.kind == LOAD and taken.rd == put.rs2 and self.hart[load] == self.hart[store]
+
+
+def read_trace(log: Log, elf_name: str, entries: AbstractSet[int] = frozenset(), output: int = -1) -> Trace:
     """All rows of a log."""
-    trace = Trace(log)
+    trace = Trace(log, entries, output)
     with Output("joint", log.name, elf_name) as lines:
         trace.read(lines)
     return trace

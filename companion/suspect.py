@@ -15,6 +15,8 @@ class Suspect:
                  "back": memory that was used after it was given back
                  "unwritten": memory that was used before it was written
                  "lost": arithmetic that lost bits
+                 "odd": arithmetic that lost an address's alignment
+                 "branch": a branch that chose the way; "exit": one that would have ended a loop
                  "calls": a function that goes on calling itself
     load, store  its rows; they are the same row if it has only one
     guilty       the row that the suspect is about
