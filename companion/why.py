@@ -7,23 +7,25 @@ from contextlib import closing
 from . import streams
 from .analysis import analysed
 from .errors import UNWRITABLE, CompanionError
-from .options import parse
+from .facts import Byte
+from .options import parse, whole
 from .page import page
 from .report import report
 
 HELP = """Explains a crash: what happened, where, and which store, call or arithmetic is behind it, likeliest first.
 
-    zelkuma why LOG ELF [--names ELF] [--row HART:COUNT] [--more] [--html FILE]
+    zelkuma why LOG ELF [--names ELF] [--row HART:COUNT] [--output N:BYTE] [--more] [--html FILE]
 
---names  the same program with names and lines, if ELF was stripped
---row    asks of another row than the fault's
---more   longer lists
---html   saves the same text as a page, too
+--names   the same program with names and lines, if ELF was stripped
+--row     asks of another row than the fault's
+--output  asks of a byte that the guest wrote, as `zelkuma output` numbers them
+--more    longer lists
+--html    saves the same text as a page, too
 
 It reads the rows of `joint`, keeps some 30 bytes of each, and shows what they say; the ranking is its own judgement.
 Companions show; the program proves."""
-FORM = "why LOG ELF [--names ELF] [--row HART:COUNT] [--more] [--html FILE]"
-OPTIONS = {"--names": True, "--row": True, "--more": False, "--html": True}
+FORM = "why LOG ELF [--names ELF] [--row HART:COUNT] [--output N:BYTE] [--more] [--html FILE]"
+OPTIONS = {"--names": True, "--row": True, "--output": True, "--more": False, "--html": True}
 
 
 def save(name: str, text: str) -> None:
@@ -35,9 +37,17 @@ def save(name: str, text: str) -> None:
             raise CompanionError(f"{name} takes no more: {error.strerror}", UNWRITABLE)
 
 
+def byte_of(text: str | None) -> Byte | None:
+    """The byte that N:BYTE says."""
+    if text is None:
+        return None
+    write, _, place = text.partition(":")
+    return Byte(whole(write, 0, 1 << 31, "the write of --output N:BYTE"), whole(place, 0, 1 << 31, "the byte of --output N:BYTE"))
+
+
 def main(words: list[str]) -> int:
     (log, elf), given = parse(words, OPTIONS, 2, FORM)
-    with closing(analysed(log, elf, given.get("--names"), given.get("--row"))) as analysis:
+    with closing(analysed(log, elf, given.get("--names"), given.get("--row"), byte_of(given.get("--output")))) as analysis:
         parts = report(analysis, "--more" in given)
     if "--html" in given:
         save(given["--html"], page(f"Why {os.path.basename(elf)} ended", parts))

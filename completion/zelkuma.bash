@@ -24,6 +24,7 @@ race LOG ELF
 view LOG ELF
 gdb LOG ELF
 bucket LOG ELF
+output LOG ELF
 seeds FROM TO -- RECORD-WORDS
 '
 # a command, an option of it, and what its value is
@@ -45,6 +46,7 @@ record --ways2 N
 audit --input FILE
 why --names ELF
 why --row HART:COUNT
+why --output N:BYTE
 why --more
 why --html FILE
 race --names ELF
@@ -56,6 +58,7 @@ gdb --port N
 gdb --end
 gdb --trace
 bucket --names ELF
+output --names ELF
 seeds -j N
 seeds --until STATUS
 '
