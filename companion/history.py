@@ -13,11 +13,14 @@ from .places import Places
 from .rows import FAULTS, KEEPS, LOADS, STORES, Trace
 
 MOST_ROWS = 200000          # the search is cut off there: it keeps two entries a row
-ADDRESS = 12
+ADDRESS, OUTPUT_ADDRESS = 12, 6
+FROM_FILE = 3               # a step along the address of a word that no row stored
+FILLED = 4                  # a step to where the words beside a word were stored that never was
 DECISION = 14               # a branch before the row
 DECIDING_ROWS, MOST_BRANCHES = 300, 24
 CONTROL, OUTPUT_CONTROL, NEXT_CONTROL = 12, 8, 4    # the branch that decided of a row; of a row of an output; of a branch
-MOST_CONTROL, DEAREST_CONTROL, KEPT_ROWS = 4000, 40, 50
+MOST_CONTROL, MOST_KEPT, MOST_FILLED = 2000, 400, 4  # how often it is asked what decided of a row
+DEAREST_CONTROL, DEAREST_FILLED, KEPT_ROWS = 40, 6, 50
 STORES_ANOTHER = "amoswap", "sc."       # atomics whose stored word owes nothing to the loaded one
 FAR = 1000                  # a store so many rows before its load is far
 START, LOOP = "start", "the loop"       # how the first rows are needed
@@ -71,7 +74,9 @@ class History:
         self.before: list[int] = []
         self.decided: set[int] = set()
         self.branches: dict[int, Decided] = {}
-        self.control, self.control_cost, self.asked = control, OUTPUT_CONTROL if is_output else CONTROL, 0
+        self.asked = self.kept = self.filled = 0
+        self.address = OUTPUT_ADDRESS if is_output else ADDRESS
+        self.control, self.control_cost = control, OUTPUT_CONTROL if is_output else CONTROL
         self.cut = False
         self.heap: list[tuple[int, int, int]] = []
         for row in starts:
@@ -122,13 +127,13 @@ class History:
         if flag & FAULTS:                       # its address is the bad value
             self.step(trace.d1[n], price + 1, n, "address")
         elif flag & LOADS and not (ins.name.startswith(STORES_ANOTHER) and self.is_for_memory(n)):
-            self.loaded(n, price)
+            unstored = not self.loaded(n, price)
             if ins.kind == AMO:
                 self.step(trace.d2[n], price + 1, n, "value")
-            self.step(trace.d1[n], price + ADDRESS, n, "address")
+            self.step(trace.d1[n], price + (FROM_FILE if unstored else self.address), n, "address")
         elif flag & STORES:
             self.step(trace.d2[n], price + 1, n, "value")
-            self.step(trace.d1[n], price + ADDRESS, n, "address")
+            self.step(trace.d1[n], price + self.address, n, "address")
         elif ins.kind not in (CALL, JUMP):      # a call's result comes from outside, a return address is a constant
             price += 0 if ins.move else 1
             self.step(trace.d1[n], price, n, "value")
@@ -151,8 +156,9 @@ class History:
         """Whether a row is needed as the store that a load got."""
         return n in self.parent and self.parent[n].how == "memory"
 
-    def loaded(self, n: int, price: int) -> None:
-        """A load, and the stores that it got. One that stores back what it loads is passed: it changed nothing."""
+    def loaded(self, n: int, price: int) -> bool:
+        """A load, and the stores that it got, if there are any. One that stores back what it loads is passed: it changed
+        nothing."""
         found, rest = self.trace.writers(n)
         for writer in found:
             while self.trace.flags[writer] & KEEPS and self.trace.dm[writer]:
@@ -161,10 +167,16 @@ class History:
             self.step(writer, cost, n, "memory")
             key = Pair(n, writer)
             self.far[key] = min(cost, self.far.get(key, cost))
-            if self.control and price <= DEAREST_CONTROL and n - writer >= KEPT_ROWS and cost > price:
+            if self.control and price <= DEAREST_CONTROL and n - writer >= KEPT_ROWS and cost > price and self.kept < MOST_KEPT:
+                self.kept += 1
                 self.decide(self.control.kept(n, writer), Decided(price + self.control_cost, n, "kept"))
         if rest:
             self.before.append(n)
+        if not found and price <= DEAREST_FILLED and self.filled < MOST_FILLED and not self.trace.access(n).value:
+            self.filled += 1
+            for row in self.trace.beside(n):    # why not here?
+                self.step(self.trace.d1[row], price + FILLED, n, "address")
+        return bool(found)
 
     def is_far(self, load: int, store: int) -> bool:
         return self.trace.hart[load] != self.trace.hart[store] or load - store > FAR

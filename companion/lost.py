@@ -10,7 +10,8 @@ from .rows import LOADS, STORES, Trace
 from .suspect import Suspect
 
 MOST = 300                  # rows that are looked at, nearest to the fault first
-BECAME_ZERO, WAS_CUT, MASKED = 12, 6, 2
+BECAME_ZERO, WAS_CUT, MASKED, BELOW_ZERO = 12, 6, 2, 14
+SMALL = 1 << 16             # how far below zero a difference may be
 MASKS = {(1 << width) - 1: width for width in range(4, 12)}
 ZEROED, DIVIDED = ("mul", "sll", "slli", "srli"), ("div", "divu", "rem", "remu")
 ALIGNMENT, SUMS = 10, ("add", "addi", "sub", "or", "ori")
@@ -94,6 +95,8 @@ def loss(trace: Trace, rows: Narrowing) -> Optional[Loss]:
         return Loss(BECAME_ZERO, f"{before:08x} became 0: all its bits were lost") if zero else None
     width = 8 * ins.width if ins.kind == STORE else width_kept(ins) or MASKS.get(ins.word >> 20, 32)
     after = before & (1 << width) - 1
+    if ins.kind != STORE and (1 << 32) - before <= SMALL and trace.result_of(rows.row) == after:
+        return Loss(BELOW_ZERO, f"{before - (1 << 32)}, below zero, became {after:08x}")
     signed = after | (0xffffffff << width & 0xffffffff if after >> width - 1 else 0)
     if before in (after, signed):
         return None

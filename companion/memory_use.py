@@ -13,6 +13,7 @@ from .rows import LOADS, STORES
 from .suspect import Extra, Suspect
 
 GIVEN_BACK, NEVER_WRITTEN, OVER_THE_END = 16, 14, 10
+TWICE, MOST_TWICE = 8, 3     # what such a suspect costs, and how many there may be: else a taker is none
 SIZE_ROWS = 2000            # rows of a size's history
 
 
@@ -47,6 +48,16 @@ class MemoryUse:
         if stored.giver == loaded.giver and stored.address == loaded.address and stored.call > loaded.call:
             return self.given_back(item, loaded, stored)
         return []
+
+    def given_back_twice(self) -> list[Suspect]:
+        """Blocks that were given back twice, whatever the history: no sound program does that."""
+        found = []
+        for first, second in self.blocks.twice():
+            suspect = Suspect("twice", first, first, TWICE)
+            suspect.sign(GIVEN_BACK, "the memory was given back twice")
+            suspect.extra.append(Extra("and again by", second))
+            found.append(suspect)
+        return found if len(found) <= MOST_TWICE else []
 
     def over_the_end(self, item: Suspect, block: Block, words: str) -> list[Suspect]:
         """An access outside of its block. Its size is suspect, so what the giver was asked for has a history of its own."""

@@ -17,9 +17,9 @@ ROW_WIDTH, TEXT_WIDTH, MOST_CALLS = 84, 78, 9
 SUSPECTS_HEAD = ("SUSPECTS, likeliest first (a load and the store that it got; what a call did to the memory; "
                  "arithmetic that lost bits; a branch)")
 # What the guilty row of each kind did, and what its other two rows did.
-DID = {"store": "stored it in", "back": "gave the memory back in", "unwritten": "got the memory in",
+DID = {"store": "stored it in", "back": "gave the memory back in", "unwritten": "got the memory in", "twice": "gave the memory back in",
        "lost": "lost bits in", "odd": "lost the alignment in", "calls": "calls itself in", "branch": "chose the way in", "exit": "never left its loop by"}
-ALONE = "lost", "odd", "calls", "branch", "exit"     # kinds that have no load
+ALONE = "twice", "lost", "odd", "calls", "branch", "exit"     # kinds that have no load
 STORED = {"back": "the new owner stored in", "unwritten": "the old bytes were stored in"}
 
 

@@ -18,6 +18,7 @@ from .program import Output
 # A row's flags. OFFSET: the byte of its word. UNSTORED: no row stored what it loads. CHANGED: a `read` call did since the
 # last row. KEEPS: it stores what it loads, as a lock's spinning does.
 OFFSET, LOADS, STORES, UNSTORED, CHANGED, FAULTS, KEEPS = 3, 4, 8, 16, 32, 64, 128
+BESIDE = 64                 # how far from a word another is beside it
 READ_CALL, WRITE_CALL = b"0000003f", b"00000040"
 
 
@@ -63,6 +64,12 @@ class WriteCall(NamedTuple):
     size: int
 
 
+class Tail(NamedTuple):
+    """A jump to a function: its row and what a0 was."""
+    row: int
+    a0: int
+
+
 class Access(NamedTuple):
     """What a row loaded or stored: where, and the whole word."""
     address: int
@@ -87,6 +94,7 @@ class Trace:
     reads   the `read` calls; writes: the `write` calls
     written of the write that is asked for, {address of a word: the row that stored it}
     jumps   the rows of calls and returns; jump_a0: a0 there, which is an argument or a result; jump_writer: its writer
+    tails   of jumps to functions their row and a0
     harts   {hart: what is known of it}, of those that have a row
     last    {hart: its last row}; final: {hart: its registers at the end}
     fault   or None; regs: the registers of its hart
@@ -106,6 +114,7 @@ class Trace:
         self.atomic_rows, self.stored = array("I"), array("I")  # of atomics that load and store: what they store
         self.silent: set[int] = set()           # calls that put nothing into their register
         self.jumps, self.jump_a0, self.jump_writer = array("I"), array("I"), array("I")
+        self.tails: list[Tail] = []
         self.pairs: dict[int, int] = {}
         self.reads: list[ReadCall] = []
         self.fault: Optional[Fault] = None
@@ -265,6 +274,7 @@ class Trace:
             hart.nodes.append(hart.node)
         elif ins.leads in self.tree.entries:
             hart.node = self.tree.went(hart.node, ins.pc)
+            self.tails.append(Tail(n, int(hart.values[A0][-8:], 16)))
             hart.jumps.append(n)
             hart.nodes.append(hart.node)
         return 0, 0
@@ -376,6 +386,18 @@ class Trace:
             writer = self.dm[writer]
         return Stores(found, need)
 
+
+    def beside(self, load: int) -> list[int]:
+        """The stores by which the same instruction got other words, of the nearest word on each side of a load's."""
+        codes = {(pair & 0xffffffff) - 1 for pair in self.pairs if pair >> 32 == self.pc[load]}
+        place, before, after = self.access(load).address, (0, 0), (1 << 32, 0)
+        for n, address in zip(self.access_rows, self.addresses):
+            if self.pc[n] in codes and self.flags[n] & STORES and n < load:
+                if before[0] <= address < place:
+                    before = address, n
+                elif place < address <= after[0]:
+                    after = address, n
+        return [n for address, n in (before, after) if n and abs(address - place) <= BESIDE]
 
     def is_spill(self, load: int, store: int) -> bool:
         """Whether a load takes back the register that a store put aside on the stack."""

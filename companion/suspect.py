@@ -13,6 +13,7 @@ class Extra(NamedTuple):
 class Suspect:
     """kind         "store": a load and the store that it got
                  "back": memory that was used after it was given back
+                 "twice": memory that was given back twice
                  "unwritten": memory that was used before it was written
                  "lost": arithmetic that lost bits
                  "odd": arithmetic that lost an address's alignment

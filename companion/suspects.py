@@ -42,7 +42,7 @@ class Ranking:
         stores = sorted(self.stores(), key=rank)
         memory = MemoryUse(facts, history)
         found = [suspect for item in stores[:MOST_LOOKED_AT] for suspect in memory.judge(item)]
-        found += lost_bits(facts, history, narrowings(self.trace, history))
+        found += memory.given_back_twice() + lost_bits(facts, history, narrowings(self.trace, history))
         found += lost_alignment(facts, history) + branch_suspects(facts, history) + exit_suspects(facts)
         self.found = sorted(stores + found + recursion, key=rank)
 
