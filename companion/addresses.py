@@ -6,7 +6,7 @@ from contextlib import closing
 from typing import NamedTuple
 
 from .elf import EXECUTABLE, Elf
-from .places import Places
+from .naming import places_of
 
 MOST_CODE = 1 << 22
 
@@ -29,7 +29,7 @@ def addresses_of(elf: Elf, name: str) -> list[Named]:
 def addresses_of_line(elf: Elf, file: str, line: int) -> list[Named]:
     """Where each piece of code of a line begins. The tools answer lines of addresses alone, so all code is asked."""
     found, before = [], False
-    with closing(Places(elf)) as places:
+    with closing(places_of(elf)) as places:
         code = code_of(elf)
         places.fetch(code)
         for pc in code:

@@ -24,8 +24,10 @@ def hang_lines(facts: Facts, more: bool) -> list[str]:
 
 def loop_lines(facts: Facts, loop: Loop, more: bool) -> list[str]:
     trace = facts.trace
-    since = number(trace.count_of(loop.first))
-    said = [f"hart {loop.hart} goes round since count {since}: {counted(loop.rows, 'row')}, {counted(loop.rounds, 'round')}",
+    since = f"since count {number(trace.count_of(loop.first))}"
+    if not loop.begin and trace.is_cut(loop.first):
+        since = "since before the first row that was read"
+    said = [f"hart {loop.hart} goes round {since}: {counted(loop.rows, 'row')}, {counted(loop.rounds, 'round')}",
             f"  in {functions(facts, loop)}"]
     exits = [item for item in loop.exits if item.leads_out]
     said.append("  These branches would have left it, and never went the other way:" if exits else

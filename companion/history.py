@@ -23,6 +23,7 @@ MOST_CONTROL, MOST_KEPT, MOST_FILLED = 2000, 400, 4  # how often it is asked wha
 DEAREST_CONTROL, DEAREST_FILLED, KEPT_ROWS = 40, 6, 50
 STORES_ANOTHER = "amoswap", "sc."       # atomics whose stored word owes nothing to the loaded one
 FAR = 1000                  # a store so many rows before its load is far
+NO_REGISTER = 0                         # memory
 START, LOOP = "start", "the loop"       # how the first rows are needed
 
 
@@ -45,6 +46,12 @@ class Decided(NamedTuple):
     how: str
 
 
+class Left(NamedTuple):
+    """A register of a hart, or memory, whose value comes from before the rows."""
+    hart: int
+    register: int
+
+
 class Line(NamedTuple):
     """The rows of a history that are of one hart and place: how many, the latest, the least cost."""
     hart: int
@@ -61,7 +68,9 @@ class History:
     before   loads of bytes that no row stored
     decided  the rows that stand behind the start only by a branch
     branches {a branch that decided of a row: of which}
-    cut      whether the search was cut off"""
+    cut      whether the search was cut off
+    left     loads and registers near to the start whose values come from before a hart's first row, and not from the
+             run's start"""
 
     def __init__(self, trace: Trace, starts: Sequence[int], most: int = MOST_ROWS, control: Optional[Control] = None,
                  is_output: bool = False) -> None:
@@ -78,6 +87,7 @@ class History:
         self.address = OUTPUT_ADDRESS if is_output else ADDRESS
         self.control, self.control_cost = control, OUTPUT_CONTROL if is_output else CONTROL
         self.cut = False
+        self.left: set[Left] = set()
         self.heap: list[tuple[int, int, int]] = []
         for row in starts:
             self.cost[row] = 0
@@ -138,6 +148,14 @@ class History:
             price += 0 if ins.move else 1
             self.step(trace.d1[n], price, n, "value")
             self.step(trace.d2[n], price, n, "value")
+            for register, writer in ((ins.rs1, trace.d1[n]), (ins.rs2, trace.d2[n])):
+                if register and not writer:
+                    self.leave(n, price, register)
+
+    def leave(self, n: int, price: int, register: int) -> None:
+        """A row uses what isn't known: memory, or a register."""
+        if price < ADDRESS and self.trace.is_cut(n):
+            self.left.add(Left(self.trace.hart[n], register))
 
     def deciding(self, n: int, price: int) -> None:
         """The branch that decided that a row was reached."""
@@ -172,6 +190,7 @@ class History:
                 self.decide(self.control.kept(n, writer), Decided(price + self.control_cost, n, "kept"))
         if rest:
             self.before.append(n)
+            self.leave(n, price, NO_REGISTER)
         if not found and price <= DEAREST_FILLED and self.filled < MOST_FILLED and not self.trace.access(n).value:
             self.filled += 1
             for row in self.trace.beside(n):    # why not here?

@@ -14,6 +14,7 @@ from .instruction import BRANCH
 from .rows import KEEPS, LOADS, STORES, Trace
 
 LONGER = 3                  # how many rounds a loop has at least
+NO_CODE = -1
 MOST_CUTS = 12              # how many sets of places are tried
 OFTEN = 3                   # how often a place ran that then stopped
 MOST_STEPS = 24             # rows of a value that are looked at for the load that it came from
@@ -69,7 +70,7 @@ class Loop:
     def find_places(self) -> tuple[set[int], int]:
         """The places, and where the stay begins among the hart's rows."""
         end = len(self.codes)
-        latest = sorted(self.latest.items(), key=lambda item: -item[1])
+        latest = sorted(self.latest.items(), key=lambda item: -item[1]) + [(NO_CODE, -1)]     # before the first row
         cuts = [i for i in range(1, len(latest)) if end - latest[i][1] >= LONGER * (end - latest[i - 1][1])]
         for i in cuts[:MOST_CUTS]:
             places, begin = {at for at, _ in latest[:i]}, latest[i][1] + 1
@@ -80,6 +81,8 @@ class Loop:
     def longest_stay(self, places: set[int], before: int) -> int:
         """How many rows the hart stayed at most among these places before."""
         inside = [at in places for at in range(len(self.trace.codes))]
+        if not before:
+            return 0
         marks = bytes(map(inside.__getitem__, self.codes[:before]))
         return max(map(len, marks.split(b"\0")))
 

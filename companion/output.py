@@ -11,6 +11,7 @@ from .elf import FUNCTION, Elf
 from .instruction import A0, A1, A7, AMO, CALL, JUMP, LOAD, STORE, Instruction
 from .log import Log, read_log
 from .memory import Memory, quoted
+from .naming import named_elf, places_of
 from .options import parse
 from .places import Places
 from .program import Output
@@ -24,7 +25,7 @@ HELP = """Lists what the guest wrote: each write with its row, its place and its
 
 Writes are numbered from 0, and so are the bytes of each: `why LOG ELF --output N:BYTE` explains one. The text is put
 together from the rows of `joint`: bytes that no row loaded or stored, and that the file doesn't give for sure, are told
-as unknown. Companions show; the program proves."""
+as unknown. All rows of the log are read. Companions show; the program proves."""
 FORM = "output LOG ELF [--names ELF]"
 MOST_FRAMES = 4
 READ, WRITE, TOOK = 63, 64, 1 << 31     # the calls, and the least result of one that failed
@@ -105,10 +106,10 @@ def place_of(places: Places, tree: CallTree, write: Write) -> str:
 def main(words: list[str]) -> int:
     (log_name, elf_name), given = parse(words, {"--names": True}, 2, FORM)
     log, elf = read_log(log_name), Elf(elf_name)
-    named = Elf(given["--names"]) if "--names" in given else elf
+    named = named_elf(elf, given.get("--names", ""))
     tree = CallTree({symbol.address for symbol in named.functions if symbol.kind == FUNCTION})
     count = size = unknown = 0
-    with closing(Places(named)) as places, Output("joint", log.name, elf_name) as lines:
+    with closing(places_of(named)) as places, Output("joint", log.name, elf_name) as lines:
         for count, write in enumerate(Reader(log, elf, tree).writes(lines), 1):
             stream = STREAMS.get(write.stream, f"stream {write.stream}")
             streams.put(f"{count - 1:>3}. {counted(len(write.data), 'byte')} to {stream}, in {place_of(places, tree, write)}\n"

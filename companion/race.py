@@ -1,6 +1,7 @@
 """Groups the races of a log."""
 from __future__ import annotations
 
+import contextlib
 from contextlib import closing
 from typing import Optional
 
@@ -9,10 +10,10 @@ from .elf import Elf, Symbol
 from .errors import CompanionError
 from .facts import At
 from .history import History
-from .log import Log, read_log
+from .naming import named_elf, places_of
 from .options import parse, whole
-from .places import Places
 from .races import FENCED, ORDERED, TOO_MANY, AccessPair, Group, Races
+from .recent import FIRST_ROWS, LogFile
 from .rows import Trace, read_trace
 from .text import counted, number
 
@@ -161,8 +162,9 @@ def left_out(families: list[list[Group]], told: list[list[Group]]) -> list[str]:
     return [f"    .. {counted(rest, 'more group')} (--more) .."] if rest else []
 
 
-def judge(log: Log, elf_name: str, races: Races) -> Judged:
-    """The groups in order; if a hart faulted, the chain behind its fault is followed."""
+def judge(source: LogFile, elf_name: str, races: Races) -> Judged:
+    """The groups in order; if a hart faulted, the chain behind its fault is followed in the last rows."""
+    log = source.end(FIRST_ROWS)
     if not (log.faulted and races.groups):
         return Judged(races)
     trace = read_trace(log, elf_name)
@@ -172,12 +174,13 @@ def judge(log: Log, elf_name: str, races: Races) -> Judged:
 def main(words: list[str]) -> int:
     (log_name, elf_name), given = parse(words, {"--names": True, "--max": True, "--more": False}, 2, FORM)
     most = whole(given.get("--max", str(MOST)), 1, 1000000, "--max")
-    log, elf = read_log(log_name), Elf(elf_name)
-    named = Elf(given["--names"]) if "--names" in given else elf
-    with closing(Places(named)) as places:
-        races = Races(named, places).read(log_name, elf_name, most)
+    with contextlib.ExitStack() as opened:
+        source = opened.enter_context(closing(LogFile(log_name)))
+        elf = Elf(elf_name)
+        named = named_elf(elf, given.get("--names", ""))
+        races = Races(named, opened.enter_context(closing(places_of(named)))).read(log_name, elf_name, most)
         if races.over:
             raise CompanionError(f"races: more than {most} pairs; --max takes up to 1000000", TOO_MANY)
-        lines = report(races, judge(log, elf_name, races), "--more" in given)
+        lines = report(races, judge(source, elf_name, races), "--more" in given)
     streams.put("\n".join(lines) + "\n")
     return 0

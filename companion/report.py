@@ -33,7 +33,7 @@ def report(facts: Analysis, more: bool = False) -> list[Part]:
     parts += [Part("LAST ROWS", row_lines(facts)),
               Part(SUSPECTS_HEAD, suspect_lines(facts, MORE_SUSPECTS if more else SUSPECTS)),
               value_part(facts, MORE_LINES if more else LINES),
-              Part("FROM BEFORE: loads behind it that no row of the log stored",
+              Part(f"FROM BEFORE: loads behind it that no row {'that was read' if facts.log.unread else 'of the log'} stored",
                    origin_lines(facts, MORE_ORIGINS if more else ORIGINS))]
     if facts.log.harts > 1:
         parts.append(race_part(facts))
@@ -88,7 +88,8 @@ def call_lines(facts: Analysis) -> list[str]:
         said.append(f"{'from' if i else 'at':<5} {frame.address:08x} {frame.function}  {frame.place}{inlined}")
     if stack.left_out:
         said.insert(-1, f"      .. {counted(stack.left_out, 'more call')} ..")
-    return said + (["      (calls from before the log's first row aren't known)"] if stack.is_cut else [])
+    first = "the first row that was read" if facts.log.unread else "the log's first row"
+    return said + ([f"      (calls from before {first} aren't known)"] if stack.is_cut else [])
 
 
 def register_lines(facts: Analysis) -> list[str]:
@@ -104,7 +105,7 @@ def suspect_lines(facts: Analysis, most: int) -> list[str]:
     said: list[str] = []
     for place, item in enumerate(facts.shown[:most], 1):
         said += one_suspect(facts, place, item)
-    return said or ["none: no row of the log stored the value"]
+    return said or [f"none: no row {'that was read' if facts.log.unread else 'of the log'} stored the value"]
 
 
 def one_suspect(facts: Analysis, place: int, item: Suspect) -> list[str]:
@@ -175,4 +176,13 @@ def last_lines(facts: Analysis) -> list[str]:
     trace = facts.trace
     rate = number(int(trace.rows / max(trace.seconds, 0.001)))
     said = f"{counted(trace.rows, 'row')} in {trace.seconds:.1f} s ({rate} a second)"
-    return [said] + facts.notes + facts.places.trouble()
+    return [said] + unread(facts) + facts.notes + facts.places.trouble()
+
+
+def unread(facts: Analysis) -> list[str]:
+    """What of the log wasn't looked at."""
+    log = facts.log
+    if not log.unread:
+        return []
+    return [f"Only the last {counted(log.rows(), 'row')} were read: {number(log.unread)} bytes of records before them weren't "
+            "looked at. --rows N reads the last N."]

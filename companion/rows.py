@@ -6,20 +6,24 @@ that a row touched, and one for each pair of a load's and a store's code."""
 from __future__ import annotations
 
 import bisect
+import itertools
 import time
 from array import array
 from typing import AbstractSet, Callable, Iterable, NamedTuple, Optional, Sequence, Tuple
 
+from . import streams
 from .calls import CallTree
 from .instruction import A0, A1, A7, AMO, CALL, JUMP, LOAD, NAMES, SP, STORE, Instruction
 from .log import Log
 from .program import Output
+from .text import number
 
 # A row's flags. OFFSET: the byte of its word. UNSTORED: no row stored what it loads. CHANGED: a `read` call did since the
 # last row. KEEPS: it stores what it loads, as a lock's spinning does.
 OFFSET, LOADS, STORES, UNSTORED, CHANGED, FAULTS, KEEPS = 3, 4, 8, 16, 32, 64, 128
 BESIDE = 64                 # how far from a word another is beside it
 READ_CALL, WRITE_CALL = b"0000003f", b"00000040"
+AT_ONCE = 1 << 12           # lines between two looks at the progress
 
 
 class Hart:
@@ -126,22 +130,27 @@ class Trace:
         self.harts: dict[int, Hart] = {}
         for i in range(log.harts):
             self.harts[i] = Hart(i, first[i].registers, first[i].start > 0) if i in first else Hart(i, (0,) * 32, False)
+        self.latest: Optional[Hart] = None      # whose row was read last
         self.rows, self.seconds = 0, 0.0
 
     def read(self, lines: Iterable[bytes]) -> None:
-        began = time.time()
-        self.read_rows(lines, {b"%d" % number: hart for number, hart in self.harts.items()})
-        self.harts = {number: hart for number, hart in self.harts.items() if hart.last}
-        self.last = {number: hart.last for number, hart in self.harts.items()}
-        self.final = {number: [0] + [int(value[-8:], 16) for value in hart.values[1:]] for number, hart in self.harts.items()}
+        began, progress, total = time.time(), streams.Progress(), number(self.log.rows())
+        harts, left = {b"%d" % each: hart for each, hart in self.harts.items()}, iter(lines)
+        while self.read_rows(list(itertools.islice(left, AT_ONCE)), harts):
+            progress.tell(f"{number(len(self.pc) - 1)} of {total} rows are read")
+        progress.clear()
+        self.harts = {each: hart for each, hart in self.harts.items() if hart.last}
+        self.last = {each: hart.last for each, hart in self.harts.items()}
+        self.final = {each: [0] + [int(value[-8:], 16) for value in hart.values[1:]] for each, hart in self.harts.items()}
         if self.fault:
             self.regs = self.final[self.fault.hart]
         self.writer_of, self.held = {}, {}
         self.seconds, self.rows = time.time() - began, len(self.pc) - 1
 
-    def read_rows(self, lines: Iterable[bytes], harts: dict[bytes, Hart]) -> None:
-        """The one loop over all rows: as short as it can be, since its speed is the reader's."""
-        code, before, n, by_kind = self.code, None, 0, self.handlers()
+    def read_rows(self, lines: Sequence[bytes], harts: dict[bytes, Hart]) -> bool:
+        """The one loop over all rows: as short as it can be, since its speed is the reader's. It says whether more lines
+        may come."""
+        code, before, n, by_kind = self.code, self.latest, len(self.pc) - 1, self.handlers()
         add_pc, add_hart, add_d1, add_d2 = self.pc.append, self.hart.append, self.d1.append, self.d2.append
         add_dm, add_flags, add_value = self.dm.append, self.flags.append, self.values.append
         for line in lines:
@@ -150,7 +159,7 @@ class Trace:
             hart = harts.get(words[0])
             if hart is None:
                 if words[0] == b"word":         # the words of memory come behind all rows
-                    return
+                    return False
                 continue                        # the end of an interval
             n += 1
             if hart is not before:
@@ -179,6 +188,8 @@ class Trace:
             else:
                 add_value(0)
             hart.last = n
+        self.latest = before
+        return bool(lines)
 
     def handlers(self) -> list[Optional[Handler]]:
         """What each kind of instruction does beside its registers: a function that gives dm and flags, or None."""
@@ -299,14 +310,14 @@ class Trace:
         at = bisect.bisect_right(hart.rows, n) - 1
         return hart.counts[at] + n - hart.rows[at]
 
-    def row_of(self, number: int, count: int) -> int:
+    def row_of(self, of: int, count: int) -> int:
         """The row of a hart's count, or 0 if the log has none."""
-        hart = self.harts.get(number)
+        hart = self.harts.get(of)
         at = bisect.bisect_right(hart.counts, count) - 1 if hart else -1
         if at < 0 or not hart:
             return 0
         n = hart.rows[at] + count - hart.counts[at]
-        return n if n <= hart.last and self.hart[n] == number else 0
+        return n if n <= hart.last and self.hart[n] == of else 0
 
     def jump_at(self, n: int) -> int:
         """Which of the jumps a row is."""

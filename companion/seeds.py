@@ -5,7 +5,6 @@ import contextlib
 import os
 import signal
 import subprocess
-import sys
 import tempfile
 import time
 from typing import Optional, Sequence
@@ -35,7 +34,6 @@ RECORD_OPTIONS = {"--lean": False, "--seed": True, **{name: True for name in VAL
 FAULT, ENDS = 10, (0, 10, 11)  # statuses of recordings that were made
 NOT_FOUND = 22
 LAST_SEED = 2**64 - 1
-PAUSE = 0.2  # seconds between two lines of progress
 
 
 class Words:
@@ -102,26 +100,6 @@ class Trial:
                 os.replace(name, output)
 
 
-class Progress:
-    """One line on a terminal, written over and over."""
-
-    def __init__(self, count: int) -> None:
-        self.count, self.begin, self.shown = count, time.monotonic(), 0.0
-        self.is_shown = sys.stderr.isatty()
-
-    def tell(self, done: int, found: Optional[Trial]) -> None:
-        now = time.monotonic()
-        if self.is_shown and now - self.shown >= PAUSE:
-            self.shown = now
-            rate = done / max(now - self.begin, 0.001)
-            lowest = f", the lowest so far is {found.seed}" if found else ""
-            streams.draw(f"{done} of {self.count} seeds, {rate:.1f} a second{lowest}")
-
-    def clear(self) -> None:
-        if self.is_shown and self.shown:
-            streams.draw("")
-
-
 class Search:
     """Trials by ascending seeds; those above the lowest that was found are given up."""
 
@@ -131,7 +109,7 @@ class Search:
         self.running: dict[int, Trial] = {}  # by process
         self.found: Optional[Trial] = None
         self.done = 0
-        self.progress = Progress(len(seeds))
+        self.progress, self.count, self.began = streams.Progress(), len(seeds), time.monotonic()
 
     def start(self) -> None:
         while self.found is None and len(self.running) < self.jobs:
@@ -162,6 +140,11 @@ class Search:
         else:
             raise CompanionError(trial.refusal(), status if status > 0 else UNREADABLE)
 
+    def tell(self) -> None:
+        rate = self.done / max(time.monotonic() - self.began, 0.001)
+        lowest = f", the lowest so far is {self.found.seed}" if self.found else ""
+        self.progress.tell(f"{self.done} of {self.count} seeds, {rate:.1f} a second{lowest}")
+
     def run(self) -> Optional[Trial]:
         """The trial of the lowest seed that ends as wanted, or None."""
         try:
@@ -170,7 +153,7 @@ class Search:
                 process, status = os.wait()
                 trial = self.running.pop(process)
                 self.take(trial, trial.end(status))
-                self.progress.tell(self.done, self.found)
+                self.tell()
                 self.start()
         finally:
             self.progress.clear()

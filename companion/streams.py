@@ -5,9 +5,12 @@ import io
 import os
 import signal
 import sys
+import time
 from typing import Any
 
 from .errors import UNWRITABLE, CompanionError
+
+PAUSE = 0.2                 # seconds between two lines of progress
 
 
 def prepare() -> None:
@@ -51,6 +54,25 @@ def tell(line: str) -> None:
 def draw(text: str) -> None:
     """One line on a terminal, over the one before."""
     show(f"\r{text}\x1b[K")
+
+
+class Progress:
+    """One line on a terminal, written over and over; elsewhere nothing."""
+
+    def __init__(self) -> None:
+        self.is_shown, self.drawn = sys.stderr.isatty(), 0.0
+
+    def tell(self, text: str) -> None:
+        """Draws a line, unless the one before was drawn just now."""
+        now = time.monotonic()
+        if self.is_shown and now - self.drawn >= PAUSE:
+            self.drawn = now
+            draw(text)
+
+    def clear(self) -> None:
+        if self.drawn:
+            draw("")
+            self.drawn = 0.0
 
 
 def show(text: str) -> None:

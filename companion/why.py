@@ -14,18 +14,19 @@ from .report import report
 
 HELP = """Explains a crash: what happened, where, and which store, call or arithmetic is behind it, likeliest first.
 
-    zelkuma why LOG ELF [--names ELF] [--row HART:COUNT] [--output N:BYTE] [--more] [--html FILE]
+    zelkuma why LOG ELF [--names ELF] [--row HART:COUNT] [--output N:BYTE] [--rows N] [--more] [--html FILE]
 
 --names   the same program with names and lines, if ELF was stripped
 --row     asks of another row than the fault's
 --output  asks of a byte that the guest wrote, as `zelkuma output` numbers them
+--rows    how many of the last rows are read; without it a million, and five if values near the fault come from before
 --more    longer lists
 --html    saves the same text as a page, too
 
 It reads the rows of `joint`, keeps some 30 bytes of each, and shows what they say; the ranking is its own judgement.
 Companions show; the program proves."""
-FORM = "why LOG ELF [--names ELF] [--row HART:COUNT] [--output N:BYTE] [--more] [--html FILE]"
-OPTIONS = {"--names": True, "--row": True, "--output": True, "--more": False, "--html": True}
+FORM = "why LOG ELF [--names ELF] [--row HART:COUNT] [--output N:BYTE] [--rows N] [--more] [--html FILE]"
+OPTIONS = {"--names": True, "--row": True, "--output": True, "--rows": True, "--more": False, "--html": True}
 
 
 def save(name: str, text: str) -> None:
@@ -37,17 +38,17 @@ def save(name: str, text: str) -> None:
             raise CompanionError(f"{name} takes no more: {error.strerror}", UNWRITABLE)
 
 
-def byte_of(text: str | None) -> Byte | None:
+def byte_of(text: str) -> Byte:
     """The byte that N:BYTE says."""
-    if text is None:
-        return None
     write, _, place = text.partition(":")
     return Byte(whole(write, 0, 1 << 31, "the write of --output N:BYTE"), whole(place, 0, 1 << 31, "the byte of --output N:BYTE"))
 
 
 def main(words: list[str]) -> int:
     (log, elf), given = parse(words, OPTIONS, 2, FORM)
-    with closing(analysed(log, elf, given.get("--names"), given.get("--row"), byte_of(given.get("--output")))) as analysis:
+    rows = whole(given["--rows"], 1, 1 << 41, "--rows") if "--rows" in given else 0
+    byte = byte_of(given["--output"]) if "--output" in given else None
+    with closing(analysed(log, elf, given.get("--names", ""), given.get("--row", ""), rows, byte)) as analysis:
         parts = report(analysis, "--more" in given)
     if "--html" in given:
         save(given["--html"], page(f"Why {os.path.basename(elf)} ended", parts))

@@ -1,6 +1,6 @@
 """What the tests of the companions share: recordings, calls of companions, and the count of what passed.
 
-The program is the one that the companions find. Each test file ends with `finish()`, which prints 'N passed, N failed'."""
+The program is the one that the companions find. lib/case.py has the class of tests on top of these."""
 import os
 import shutil
 import subprocess

@@ -118,7 +118,7 @@ class ViewTest(case.Case):
     def test_without_addr2line(self):
         words = "view", self.record("tills", "--seed", "1", "--harts", "2"), self.elf("tills"), "--names", self.names("tills")
         status, page, err = common.companion(*words, environment={"PATH": ""})
-        self.assertEqual((status, err), (0, ""))
+        self.assertEqual((status, err.count("\n"), "no addr2line" in err), (0, 1, True))
         data = data_of(page)
         self.assertEqual(["no addr2line" in note for note in data["notes"]], [True])
         self.assertEqual(data["places"][data["where"]], ["sell", "00010194", ""])

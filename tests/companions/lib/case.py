@@ -48,6 +48,17 @@ class Case(unittest.TestCase):
         self.assertEqual((status, err), (0, ""), words)
         return said
 
+    def check(self, what, good, seen=""):
+        """One test of several; the others go on if it fails. `seen` is shown then."""
+        with self.subTest(what):
+            self.assertTrue(good, seen)
+
+    def refused(self, what, status, words, *call, **given):
+        """A call that has to end with a status and one line on err, which holds these words."""
+        found, _, err = common.companion(*call, **given)
+        good = found == status and err.count("\n") == 1 and words in err and "Traceback" not in err
+        self.check(what, good, (found, err[-2000:]))
+
     def refuses(self, status, *words):
         """A companion refuses with one line on err and a status, and prints nothing. Gives the line."""
         found, said, err = common.companion(*words)

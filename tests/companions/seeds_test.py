@@ -12,7 +12,8 @@ import time
 
 sys.path.insert(0, os.path.join(os.path.dirname(os.path.abspath(__file__)), "gdb"))
 
-from cases import Skipped, run_cases
+import cases
+from cases import Skipped
 from common import COMPANION, EXAMPLES, PROGRAM
 from recordings import Recordings
 
@@ -140,6 +141,8 @@ def case_blocks_of_seeds_by_parallel(recordings):
     assert folder.names() == ["BOOK.1", "BOOK.4", "LOG.1", "LOG.4"]
 
 
+Cases = cases.tests_of(globals())
+
+
 if __name__ == "__main__":
-    with Recordings() as scratch:
-        sys.exit(run_cases(dict(globals()), scratch))
+    cases.main()
