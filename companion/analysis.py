@@ -1,8 +1,6 @@
 """What follows from the facts of a crash: its history, its suspects, and where values came from."""
 from __future__ import annotations
 
-from typing import Optional
-
 from .control import Control
 from .elf import FUNCTION, Elf
 from .facts import Byte, Facts, asked_row, find_starts, race_pairs
@@ -27,7 +25,7 @@ class Analysis(Facts):
     origin                  what it took from before the rows"""
 
     def __init__(self, source: LogFile, log: Log, elf: Elf, named: Elf, trace: Trace, row: str = "",
-                 output: Optional[Byte] = None) -> None:
+                 output: Byte | None = None) -> None:
         super().__init__(log, elf, named, trace, row, output)
         self.file = source
         recursion = find_recursion(trace, self.start)
@@ -57,7 +55,7 @@ def leads_into(history: History, log: Log, more: Log) -> bool:
 
 
 def analysed(log_name: str, elf_name: str, names: str = "", row: str = "", rows: int = 0,
-             output: Optional[Byte] = None) -> Analysis:
+             output: Byte | None = None) -> Analysis:
     """Reads the end of a log, its rows and the names, and analyses them. `names` is a file with names, if ELF has none.
     `rows` says how many of the last rows are read; without it more if values near the fault come from before the first.
     For a byte of the output all are, since writes are numbered from the first."""

@@ -54,7 +54,7 @@ class Facts:
     last     the last rows up to `start`
     notes    lines for the end of a report"""
 
-    def __init__(self, log: Log, elf: Elf, named: Elf, trace: Trace, row: str = "", output: Optional[Byte] = None) -> None:
+    def __init__(self, log: Log, elf: Elf, named: Elf, trace: Trace, row: str = "", output: Byte | None = None) -> None:
         self.output = output
         self.log, self.elf, self.named, self.trace, self.asked = log, elf, named, trace, row
         self.places = places_of(named)
