@@ -22,6 +22,7 @@ WORDS = {
     "view": "draws a log as one page",
     "gdb": "lets gdb attach to a log",
     "bucket": "sorts logs by the cause of their end",
+    "output": "lists what the guest wrote",
     "seeds": "searches seeds for one that crashes",
 }
 INTERRUPTED = 130           # what a shell says of a program that Ctrl-C ended

@@ -7,7 +7,9 @@ from typing import NamedTuple
 from . import program
 from .elf import Elf
 from .errors import NO_INTERVAL, REFUSED, CompanionError
+from .instruction import STORE
 from .log import Log
+from .loops import Loop
 from .options import whole
 from .naming import NO_TOOL, places_of
 from .places import Frame
@@ -16,6 +18,13 @@ from .text import clean
 
 LAST_ROWS = 12
 LOOP_ROWS, MOST_LOADS = 300, 12         # what a hart did last, if it didn't fault
+MOST_EXITS = 12
+
+
+class Byte(NamedTuple):
+    """A byte of the guest's output: of which of its writes, and which of that. Both count from 0."""
+    write: int
+    place: int
 
 
 class StackFrame(NamedTuple):
@@ -37,23 +46,28 @@ class Facts:
     """log, elf, trace
     named    the ELF with names (--names), else elf
     places   functions and lines
-    start    the row that is asked of: the fault's, or a hart's last load
+    start    the row that is asked of: the fault's, the store of a byte of the output, or an exit of a loop
     starts   it, and others that the history begins with
-    hangs    whether `starts` are the loads of a loop
+    loops    of the harts that came to their limit; hangs: whether `starts` are of such a loop
+    output   the byte of the output that is asked of
     faulted  whether `start` is the fault
     last     the last rows up to `start`
     notes    lines for the end of a report"""
 
-    def __init__(self, log: Log, elf: Elf, named: Elf, trace: Trace, row: str = "") -> None:
+    def __init__(self, log: Log, elf: Elf, named: Elf, trace: Trace, row: str = "", output: Byte | None = None) -> None:
+        self.output = output
         self.log, self.elf, self.named, self.trace, self.asked = log, elf, named, trace, row
         self.places = places_of(named)
         self.notes = self.first_notes()
         if not trace.last:
             raise CompanionError(f"the log holds no row: the records of a hart's last interval passed its --log-size "
                                  f"{log.size}; --format 2 keeps the interval of a crash", NO_INTERVAL)
-        self.starts = find_starts(log, trace, row)
+        asks_of_end = not row and not output and not trace.fault
+        self.loops = [Loop(trace, hart) for hart in limited(log, trace)] if asks_of_end else []
+        exits = [item.row for loop in self.loops for item in loop.exits[:MOST_EXITS] if item.leads_out]
+        self.starts = [writer_of(trace, output)] if output else exits or find_starts(log, trace, row)
         self.start = self.starts[0]
-        self.hangs = not row and not trace.fault and bool(trace.flags[self.start] & LOADS)
+        self.hangs = bool(self.loops)
         self.faulted = trace.fault is not None and trace.fault.row == self.start
         self.last = trace.last_rows(self.start, LAST_ROWS)
 
@@ -104,17 +118,34 @@ def find_starts(log: Log, trace: Trace, row: str) -> list[int]:
         return [find_row(trace, asked_row(row))]
     if trace.fault:
         return [trace.fault.row]
-    limited = [hart for hart, end in sorted(log.ends.items()) if end.reason == "limit" and hart in trace.last]
-    if not limited:
+    harts = limited(log, trace)
+    if not harts:
         return [max(trace.last.values())]
     # What a hart that hangs waits for is in the loads of its loop.
     loads: list[int] = []
     seen: set[int] = set()
-    for n in reversed(trace.last_rows(trace.last[limited[0]], LOOP_ROWS)):
+    for n in reversed(trace.last_rows(trace.last[harts[0]], LOOP_ROWS)):
         if trace.flags[n] & LOADS and trace.pc[n] not in seen and len(loads) < MOST_LOADS:
             seen.add(trace.pc[n])
             loads.append(n)
-    return loads or [trace.last[limited[0]]]
+    return loads or [trace.last[harts[0]]]
+
+
+def limited(log: Log, trace: Trace) -> list[int]:
+    """The harts that came to their limit."""
+    return [hart for hart, end in sorted(log.ends.items()) if end.reason == "limit" and hart in trace.last]
+
+
+def writer_of(trace: Trace, byte: Byte) -> int:
+    """The store that gave a byte of the output, or else the row that wrote it."""
+    if byte.write >= len(trace.writes) or byte.place >= trace.writes[byte.write].size:
+        raise CompanionError(f"the log holds no byte {byte.place} of a write {byte.write}: `zelkuma output` lists them",
+                             NO_INTERVAL)
+    place = trace.writes[byte.write].address + byte.place
+    writer = trace.written[place & ~3]
+    while writer and trace.code_of(writer).kind == STORE and not trace.mask(writer) >> (place & 3) & 1:
+        writer = trace.dm[writer]
+    return writer or trace.writes[byte.write].row
 
 
 @dataclass(frozen=True)

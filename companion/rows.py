@@ -9,11 +9,11 @@ import bisect
 import itertools
 import time
 from array import array
-from typing import Callable, Iterable, Iterator, NamedTuple, Optional, Sequence, Tuple
+from typing import AbstractSet, Callable, Iterable, Iterator, NamedTuple, Optional, Sequence, Tuple
 
 from . import streams
 from .calls import CallTree
-from .instruction import A0, A1, A7, AMO, CALL, JUMP, LOAD, NAMES, STORE, Instruction
+from .instruction import A0, A1, A7, AMO, CALL, JUMP, LOAD, NAMES, SP, STORE, Instruction
 from .log import Log
 from .program import Output
 from .text import number
@@ -21,7 +21,8 @@ from .text import number
 # A row's flags. OFFSET: the byte of its word. UNSTORED: no row stored what it loads. CHANGED: a `read` call did since the
 # last row. KEEPS: it stores what it loads, as a lock's spinning does.
 OFFSET, LOADS, STORES, UNSTORED, CHANGED, FAULTS, KEEPS = 3, 4, 8, 16, 32, 64, 128
-READ_CALL = b"0000003f"
+BESIDE = 64                 # how far from a word another is beside it
+READ_CALL, WRITE_CALL = b"0000003f", b"00000040"
 AT_ONCE = 1 << 12           # lines between two looks at the progress
 
 
@@ -81,6 +82,19 @@ class ReadCall(NamedTuple):
     size: int
 
 
+class WriteCall(NamedTuple):
+    """A `write` call that took so many bytes from an address."""
+    row: int
+    address: int
+    size: int
+
+
+class Tail(NamedTuple):
+    """A jump to a function: its row and what a0 was."""
+    row: int
+    a0: int
+
+
 class Stores(NamedTuple):
     """The stores that gave a load its bytes, latest first, and a mask of the bytes that no row stored."""
     rows: list[int]
@@ -96,15 +110,20 @@ class Trace:
     d1, d2  the rows that wrote its first and second register; dm: the row that stored the word that it accesses
     values  what it put into its register
     pairs   {load's code << 32 | 1 + store's code, 0 if there is none: how many rows}
-    reads   the `read` calls
+    reads   the `read` calls; writes: the `write` calls
+    written of the write that is asked for, {address of a word: the row that stored it}
     jumps   the rows of calls and returns; jump_a0: a0 there, which is an argument or a result; jump_writer: its writer
+    tails   of jumps to functions their row and a0
     harts   {hart: what is known of it}, of those that have a row
     last    {hart: its last row}; final: {hart: its registers at the end}
     fault   or None; regs: the registers of its hart
     rows    how many there are; seconds: how long it took to read them"""
 
-    def __init__(self, log: Log) -> None:
-        self.log = log
+    def __init__(self, log: Log, entries: AbstractSet[int] = frozenset(), output: int = -1) -> None:
+        """`entries` is where functions begin, and `output` the number of the write that is asked for."""
+        self.log, self.output = log, output
+        self.writes: list[WriteCall] = []
+        self.written: dict[int, int] = {}
         self.code: dict[bytes, Instruction] = {}
         self.codes: list[Instruction] = []
         self.pc, self.hart, self.flags = array("I", [0]), array("B", [0]), array("B", [0])
@@ -114,11 +133,12 @@ class Trace:
         self.atomic_rows, self.stored = array("I"), array("I")  # of atomics that load and store: what they store
         self.silent: set[int] = set()           # calls that put nothing into their register
         self.jumps, self.jump_a0, self.jump_writer = array("I"), array("I"), array("I")
+        self.tails: list[Tail] = []
         self.pairs: dict[int, int] = {}
         self.reads: list[ReadCall] = []
         self.fault: Optional[Fault] = None
         self.regs: list[int] = []
-        self.tree = CallTree()
+        self.tree = CallTree(entries)
         self.writer_of: dict[int, int] = {}     # address of a word: its last writer's row
         self.held: dict[int, bytes] = {}        # address of a word: its value
         first = log.first_intervals()
@@ -258,7 +278,14 @@ class Trace:
             self.silent.add(n)
         elif values[A7][-8:] == READ_CALL and parts[1][-8:] < b"80000000":
             self.reads.append(ReadCall(n, hart.number, int(values[A1][-8:], 16), int(parts[1][-8:], 16)))
+        elif values[A7][-8:] == WRITE_CALL and parts[1][-8:] < b"80000000":
+            self.write_call(WriteCall(n, int(values[A1][-8:], 16), int(parts[1][-8:], 16)))
         return 0, 0
+
+    def write_call(self, call: WriteCall) -> None:
+        if len(self.writes) == self.output:
+            self.written = {word: self.writer_of.get(word, 0) for word in range(call.address & ~3, call.address + call.size, 4)}
+        self.writes.append(call)
 
     def jump(self, n: int, hart: Hart, ins: Instruction, _parts: list[bytes]) -> tuple[int, int]:
         if ins.call or ins.ret:
@@ -269,6 +296,11 @@ class Trace:
                 hart.node = self.tree.called(hart.node, ins.pc)
             else:
                 hart.node = self.tree.returned(hart.node, int(hart.values[ins.rs1][-8:], 16))
+            hart.jumps.append(n)
+            hart.nodes.append(hart.node)
+        elif ins.leads in self.tree.entries:
+            hart.node = self.tree.went(hart.node, ins.pc)
+            self.tails.append(Tail(n, int(hart.values[A0][-8:], 16)))
             hart.jumps.append(n)
             hart.nodes.append(hart.node)
         return 0, 0
@@ -393,6 +425,23 @@ class Trace:
             writer = self.dm[writer]
         return Stores(found, need)
 
+    def beside(self, load: int) -> list[int]:
+        """The stores by which the same instruction got other words, of the nearest word on each side of a load's."""
+        codes = {(pair & 0xffffffff) - 1 for pair in self.pairs if pair >> 32 == self.pc[load]}
+        place, before, after = self.access(load).address, (0, 0), (1 << 32, 0)
+        for n, address in zip(self.access_rows, self.addresses):
+            if self.pc[n] in codes and self.flags[n] & STORES and n < load:
+                if before[0] <= address < place:
+                    before = address, n
+                elif place < address <= after[0]:
+                    after = address, n
+        return [n for address, n in (before, after) if n and abs(address - place) <= BESIDE]
+
+    def is_spill(self, load: int, store: int) -> bool:
+        """Whether a load takes back the register that a store put aside on the stack."""
+        taken, put = self.code_of(load), self.code_of(store)
+        return taken.rs1 == put.rs1 == SP and taken.kind == LOAD and taken.rd == put.rs2 and self.hart[load] == self.hart[store]
+
 
 def parse_row(line: bytes) -> Optional[Row]:
     """The row that a line of `replay` or `joint` tells, or None if it tells of something else."""
@@ -426,9 +475,9 @@ def rows_of(log_name: str, elf_name: str) -> Iterator[Row]:
                 yield row
 
 
-def read_trace(log: Log, elf_name: str) -> Trace:
+def read_trace(log: Log, elf_name: str, entries: AbstractSet[int] = frozenset(), output: int = -1) -> Trace:
     """All rows of a log."""
-    trace = Trace(log)
+    trace = Trace(log, entries, output)
     with Output("joint", log.name, elf_name) as lines:
         trace.read(lines)
     return trace

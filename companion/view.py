@@ -18,7 +18,7 @@ from .options import parse, whole
 from .origins import advice
 from .race import Judged, family_word, pairs_of
 from .races import AccessPair, Group, Races
-from .report import DID, STORED, unread
+from .report import ALONE, DID, STORED, unread
 from .suspect import Suspect
 from .text import as_text, number
 from .view_chain import Way, chain_boxes
@@ -73,7 +73,7 @@ class View:
         self.crash, self.trace, self.log, self.places = crash, crash.trace, crash.log, crash.places
         self.page = Page(self.trace, self.places, self.log)
         self.fault = self.trace.fault if crash.faulted else None
-        self.suspects = ([item for item in crash.suspects if item.shown] or crash.suspects)[:SUSPECTS]
+        self.suspects = crash.shown[:SUSPECTS]
         self.races: Optional[Races] = None
         self.race_groups: list[dict[str, Any]] = []
         self.race_total, self.races_note = 0, ""
@@ -115,7 +115,7 @@ class View:
         steps = [self.step(words, row) for words, row in item.extra]
         if item.kind in STORED:
             steps.append(self.step(STORED[item.kind], item.store))
-        has_load = item.kind not in ("lost", "calls")
+        has_load = item.kind not in ALONE
         if has_load:
             steps.append(self.step("loaded it in", item.load))
         return dict(at=self.page.point(item.guilty), place=self.page.place_of_row(item.guilty), did=DID[item.kind],

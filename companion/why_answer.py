@@ -6,8 +6,9 @@ from typing import Any
 from .analysis import Analysis
 from .answers import LONGEST, place_of
 from .fault import fault_words
+from .hang import hang_lines
 from .instruction import NAMES
-from .report import DID
+from .report import ALONE, DID
 from .suspect import Suspect
 
 
@@ -29,7 +30,8 @@ def why_answer(facts: Analysis) -> dict[str, Any]:
         "calls": [{"address": f"{frame.address:08x}", "function": frame.function, "place": frame.place,
                    "inlined": frame.inlined} for frame in stack.frames],
         "calls_cut": stack.is_cut,
-        "registers": {} if facts.asked else {name: f"{value:08x}" for name, value in zip(NAMES, trace.final[hart])},
+        "hang": hang_lines(facts, True) if facts.loops else [],
+        "registers": {} if facts.asked or facts.output else {name: f"{value:08x}" for name, value in zip(NAMES, trace.final[hart])},
         "last_rows": [trace.text(n) for n in facts.last],
         "suspects": [suspect_answer(facts, item) for item in facts.shown[:LONGEST]],
         "values": [{"hart": line.hart, "place": line.place, "rows": line.rows, "cost": line.cost,
@@ -42,7 +44,7 @@ def why_answer(facts: Analysis) -> dict[str, Any]:
 
 
 def suspect_answer(facts: Analysis, item: Suspect) -> dict[str, Any]:
-    has_load = item.kind not in ("lost", "calls")
+    has_load = item.kind not in ALONE
     return {"kind": item.kind, "did": DID[item.kind], "guilty": row_of(facts, item.guilty),
             "store": row_of(facts, item.store) if has_load else None,
             "load": row_of(facts, item.load) if has_load else None,

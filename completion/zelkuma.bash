@@ -24,6 +24,7 @@ race LOG ELF
 view LOG ELF
 gdb LOG ELF
 bucket LOG ELF
+output LOG ELF
 seeds FROM TO -- RECORD-WORDS
 '
 # a command, an option of it, and what its value is
@@ -45,6 +46,7 @@ record --ways2 N
 audit --input FILE
 why --names ELF
 why --row HART:COUNT
+why --output N:BYTE
 why --rows N
 why --more
 why --html FILE
@@ -61,6 +63,8 @@ gdb --end
 gdb --trace
 bucket --names ELF
 bucket --json
+output --names ELF
+output --json
 seeds -j N
 seeds --until STATUS
 seeds --json

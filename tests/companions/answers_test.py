@@ -55,6 +55,15 @@ class AnswersTest(case.Case):
         self.assertEqual(set(found), documented("bucket"))
         self.assertEqual(found["line"] + "\n", self.says("bucket", log, elf))
 
+    def test_output(self):
+        log, elf = self.record("word_count", "--seed", "1"), self.elf("word_count")
+        found, text = self.answer("output", log, elf), self.says("output", log, elf)
+        self.assertEqual(set(found), {"writes", "dropped_records"})
+        self.assertGreater(len(found["writes"]), 0)
+        for number, write in enumerate(found["writes"]):
+            self.assertIn(f"{number:>3}. {len(write['bytes'])} byte", text)
+            self.assertIn(write["row"], text)
+
     def test_seeds(self):
         words = ["--", "--harts", "2", self.elf("hand_over"), common.path("seeds.log"), common.path("seeds.book")]
         found = json.loads(self.says("seeds", "--json", "1", "9", *words))
