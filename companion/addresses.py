@@ -6,7 +6,8 @@ from contextlib import closing
 from typing import NamedTuple
 
 from .elf import EXECUTABLE, Elf
-from .places import Places
+from .naming import places_of
+from .places import LONGEST_LINE_NUMBER
 
 MOST_CODE = 1 << 22
 
@@ -21,7 +22,7 @@ def addresses_of(elf: Elf, name: str) -> list[Named]:
     """The addresses of a name."""
     found = sorted({Named(symbol.address, symbol.name) for symbol in elf.symbols if symbol.name == name})
     file, _, line = name.rpartition(":")
-    if found or not (file and line.isascii() and line.isdigit()):
+    if found or not (file and line.isascii() and line.isdigit() and len(line) <= LONGEST_LINE_NUMBER):
         return found
     return addresses_of_line(elf, file, int(line))
 
@@ -29,7 +30,7 @@ def addresses_of(elf: Elf, name: str) -> list[Named]:
 def addresses_of_line(elf: Elf, file: str, line: int) -> list[Named]:
     """Where each piece of code of a line begins. The tools answer lines of addresses alone, so all code is asked."""
     found, before = [], False
-    with closing(Places(elf)) as places:
+    with closing(places_of(elf)) as places:
         code = code_of(elf)
         places.fetch(code)
         for pc in code:

@@ -9,6 +9,7 @@ import bisect
 from typing import NamedTuple, Optional
 
 from .elf import WRITABLE, Elf
+from .instruction import RA
 from .rows import LOADS, STORES, Trace
 
 LOWEST, NEAR, LARGEST = 4096, 1024, 1 << 16
@@ -53,11 +54,18 @@ class Blocks:
         givers = self.givers(found)
         for given in found:
             if given.block.giver in givers:
-                self.by_address.setdefault(given.block.address, []).append(given.block)
+                self.add(given.block)
                 self.writers.setdefault(given.writer, []).append(given.block)
         self.addresses = sorted(self.by_address)
         self.collect_arguments()
         self.taker = self.takers()
+
+    def add(self, block: Block) -> None:
+        """A block replaces those that were given out within its call at the same address, as malloc's are in calloc."""
+        there = self.by_address.setdefault(block.address, [])
+        while there and there[-1].call > block.call:
+            there.pop()
+        there.append(block)
 
     def matched(self) -> list[Given]:
         """The blocks of all calls that return an address of data."""
@@ -106,7 +114,7 @@ class Blocks:
         calls: dict[int, list[int]] = {}
         for at in range(self.first, len(self.trace.jumps)):
             n = self.trace.jumps[at]
-            if self.trace.code_of(n).call:
+            if self.trace.code_of(n).rd == RA:
                 calls.setdefault(self.trace.jump_a0[at], []).append(n)
         for block in (given.block for given in found):
             key = block.giver, block.address
@@ -124,8 +132,13 @@ class Blocks:
         trace = self.trace
         for at in range(self.first, len(trace.jumps)):
             n = trace.jumps[at]
-            if trace.jump_a0[at] in self.by_address and trace.code_of(n).call:
+            if trace.jump_a0[at] in self.by_address and trace.code_of(n).rd == RA:
                 self.arguments.setdefault(trace.jump_a0[at], []).append(CallWith(n, self.entry(n)))
+        for tail in trace.tails:
+            if tail.a0 in self.by_address:
+                self.arguments.setdefault(tail.a0, []).append(CallWith(tail.row, self.entry(tail.row)))
+        for calls in self.arguments.values():
+            calls.sort()
 
     def takers(self) -> dict[int, int]:
         """Of each giver the function that is called most often between two times that it gives an address out."""
@@ -148,7 +161,7 @@ class Blocks:
         while todo and len(seen) < STEPS:
             n = todo.pop()
             for block in self.writers.get(n, ()):
-                if 0 <= address - block.address < LARGEST and (best is None or block.call > best.call):
+                if 0 <= address - block.address < LARGEST and (best is None or self.rank(block) > self.rank(best)):
                     best = block
             if best is not None and n < best.call:
                 continue
@@ -157,6 +170,19 @@ class Blocks:
                     seen.add(source)
                     todo.append(source)
         return best
+
+    def rank(self, block: Block) -> tuple[bool, int]:
+        """Of the blocks behind a pointer the latest counts, of those that somebody takes back if there are any."""
+        return block.giver in self.taker, block.call
+
+    def twice(self) -> list[tuple[int, int]]:
+        """The calls that gave a block back twice: both rows."""
+        found = []
+        for address, blocks in self.by_address.items():
+            for block, following in zip(blocks, blocks[1:] + [None]):
+                rows = self.given_back(block, block.back, following.call if following else self.trace.rows + 1)
+                found += list(zip(rows, rows[1:]))
+        return sorted(found)
 
     def is_over(self, block: Block, address: int, row: int) -> bool:
         """Whether an address that a row accessed is in another block, handed out behind this one, or in its header."""

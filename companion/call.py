@@ -22,6 +22,7 @@ WORDS = {
     "view": "draws a log as one page",
     "gdb": "lets gdb attach to a log",
     "bucket": "sorts logs by the cause of their end",
+    "output": "lists what the guest wrote",
     "seeds": "searches for turns by which a program crashes",
     "again": "makes a recording again, with a larger log",
 }

@@ -1,12 +1,12 @@
 """Call stacks, rebuilt from the calls and returns along a hart's rows.
 
 Calls are a tree, which all harts share: a node is the place of a call made in another node; node 0 is the outermost.
-A return goes to the nearest node whose call it returns behind; one that fits none changes nothing, and so do longjmp,
-hand-made returns and tail calls."""
+A return goes to the nearest node whose call it returns behind; one that fits none changes nothing, and so do longjmp
+and hand-made returns. A jump to where a function begins is a call too, which returns for the function that made it."""
 from __future__ import annotations
 
 from array import array
-from typing import NamedTuple
+from typing import AbstractSet, NamedTuple
 
 
 class Above(NamedTuple):
@@ -21,7 +21,10 @@ class Above(NamedTuple):
 class CallTree:
     """parent, call_pc, depth: of each node."""
 
-    def __init__(self) -> None:
+    def __init__(self, entries: AbstractSet[int] = frozenset()) -> None:
+        """`entries` is where functions begin."""
+        self.entries = entries
+        self.tails: set[int] = set()            # the nodes of jumps
         self.parent, self.call_pc, self.depth = array("I", [0]), array("I", [0]), array("I", [0])
         self.child: dict[int, int] = {}         # {node above << 32 | place of the call: node}
 
@@ -34,6 +37,12 @@ class CallTree:
             self.parent.append(node)
             self.call_pc.append(pc)
             self.depth.append(self.depth[node] + 1)
+        return found
+
+    def went(self, node: int, pc: int) -> int:
+        """The node of a jump to a function. Of several in a row the last is kept, so that the tree stays small."""
+        found = self.called(self.parent[node] if node in self.tails else node, pc)
+        self.tails.add(found)
         return found
 
     def returned(self, node: int, pc: int) -> int:

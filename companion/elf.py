@@ -66,7 +66,7 @@ class Elf:
     def read_segments(self) -> None:
         first, = struct.unpack_from("<I", self.data, 28)
         count, = struct.unpack_from("<H", self.data, 44)
-        self.headers_end = first + 32 * count
+        self.headers_end: int = first + 32 * count
         view = memoryview(self.data)
         for i in range(min(count, MOST_SEGMENTS)):
             kind, offset, address, _, in_file, in_memory, flags, _ = struct.unpack_from("<8I", self.data, first + 32 * i)
@@ -128,13 +128,25 @@ class Elf:
         """Bytes that no run can change, or None."""
         return self.bytes_at(address, size) if self.is_read_only(address) else None
 
-    def loads_the_same(self, other: Elf) -> bool:
-        """Whether both files load the same program. The file's own headers, which a stripped copy has otherwise,
-        can lie in a segment, and aren't compared."""
-        def bodies(elf: Elf) -> list[Segment]:
-            head = elf.headers_end if elf.parts and elf.parts[0].body[:4] == b"\x7fELF" else 0
-            return [part._replace(body=part.body[head if at == 0 else 0:]) for at, part in enumerate(elf.parts)]
-        return bodies(self) == bodies(other)
+    def difference(self, other: Elf) -> str:
+        """What differs between the programs that both files load, or nothing. The file's own headers, which a stripped
+        copy has otherwise, can lie in a segment, and aren't compared."""
+        if len(self.parts) != len(other.parts):
+            return f"it loads {len(self.parts)} segments, not {len(other.parts)}"
+        for at, (part, its) in enumerate(zip(self.parts, other.parts)):
+            if part[:3] != its[:3]:
+                return (f"its segment {at + 1} is {part.size} bytes at {part.address:08x} with flags {part.flags}, "
+                        f"not {its.size} bytes at {its.address:08x} with flags {its.flags}")
+            begin = max(self.headers_in(part), other.headers_in(its))
+            if part.body[begin:] != its.body[begin:]:
+                one, two = bytes(part.body), bytes(its.body)
+                first = next((i for i, (a, b) in enumerate(zip(one[begin:], two[begin:]), begin) if a != b), None)
+                return f"other bytes from {part.address + (min(len(one), len(two)) if first is None else first):08x} on"
+        return ""
+
+    def headers_in(self, part: Segment) -> int:
+        """How many bytes of the file's own headers a segment begins with."""
+        return self.headers_end if part.body[:4] == b"\x7fELF" else 0
 
     def object_at(self, address: int) -> Symbol | None:
         """The symbol of the object that holds an address, or None."""

@@ -2,19 +2,29 @@
 from __future__ import annotations
 
 from dataclasses import dataclass
-from typing import NamedTuple, Optional
+from typing import NamedTuple
 
 from . import program
 from .elf import Elf
 from .errors import NO_INTERVAL, REFUSED, CompanionError
-from .log import Log, read_log
+from .instruction import STORE
+from .log import Log
+from .loops import Loop
 from .options import whole
-from .places import Frame, Places
-from .rows import LOADS, Trace, read_trace
+from .naming import NO_TOOL, places_of
+from .places import Frame
+from .rows import LOADS, Trace
 from .text import clean
 
 LAST_ROWS = 12
 LOOP_ROWS, MOST_LOADS = 300, 12         # what a hart did last, if it didn't fault
+MOST_EXITS = 12
+
+
+class Byte(NamedTuple):
+    """A byte of the guest's output: of which of its writes, and which of that. Both count from 0."""
+    write: int
+    place: int
 
 
 class StackFrame(NamedTuple):
@@ -36,65 +46,38 @@ class Facts:
     """log, elf, trace
     named    the ELF with names (--names), else elf
     places   functions and lines
-    start    the row that is asked of: the fault's, or a hart's last load
+    start    the row that is asked of: the fault's, the store of a byte of the output, or an exit of a loop
     starts   it, and others that the history begins with
-    hangs    whether `starts` are the loads of a loop
+    loops    of the harts that came to their limit; hangs: whether `starts` are of such a loop
+    output   the byte of the output that is asked of
     faulted  whether `start` is the fault
     last     the last rows up to `start`
     notes    lines for the end of a report"""
 
-    def __init__(self, log: Log, elf: Elf, named: Elf, trace: Trace, row: Optional[str] = None) -> None:
+    def __init__(self, log: Log, elf: Elf, named: Elf, trace: Trace, row: str = "", output: Byte | None = None) -> None:
+        self.output = output
         self.log, self.elf, self.named, self.trace, self.asked = log, elf, named, trace, row
-        self.places = Places(named)
+        self.places = places_of(named)
         self.notes = self.first_notes()
         if not trace.last:
             raise CompanionError(f"the log holds no row: the records of a hart's last interval passed its --log-size "
                                  f"{log.size}; --format 2 keeps the interval of a crash", NO_INTERVAL)
-        self.starts = self.find_starts(row)
+        asks_of_end = not row and not output and not trace.fault
+        self.loops = [Loop(trace, hart) for hart in limited(log, trace)] if asks_of_end else []
+        exits = [item.row for loop in self.loops for item in loop.exits[:MOST_EXITS] if item.leads_out]
+        self.starts = [writer_of(trace, output)] if output else exits or find_starts(log, trace, row)
         self.start = self.starts[0]
-        self.hangs = not row and not trace.fault and bool(trace.flags[self.start] & LOADS)
+        self.hangs = bool(self.loops)
         self.faulted = trace.fault is not None and trace.fault.row == self.start
         self.last = trace.last_rows(self.start, LAST_ROWS)
 
     def first_notes(self) -> list[str]:
-        found = []
-        if self.named is not self.elf and not self.named.loads_the_same(self.elf):
-            found.append("--names: its segments differ from the recorded program's; names may be wrong")
         if not self.named.symbols:
-            found.append(f"{clean(self.named.name)} has no names: --names takes the same program with its names")
-        elif not self.places.tool:
-            found.append("no addr2line was found: there are the names of symbols, and no lines")
-        return found
+            return [f"{clean(self.named.name)} has no names: --names takes the same program with its names"]
+        return [] if self.places.tool else [NO_TOOL]
 
     def close(self) -> None:
         self.places.close()
-
-    def find_starts(self, row: Optional[str]) -> list[int]:
-        trace = self.trace
-        if row:
-            return [self.asked_row(row)]
-        if trace.fault:
-            return [trace.fault.row]
-        limited = [hart for hart, end in sorted(self.log.ends.items()) if end.reason == "limit" and hart in trace.last]
-        if not limited:
-            return [max(trace.last.values())]
-        # What a hart that hangs waits for is in the loads of its loop.
-        loads: list[int] = []
-        seen: set[int] = set()
-        for n in reversed(trace.last_rows(trace.last[limited[0]], LOOP_ROWS)):
-            if trace.flags[n] & LOADS and trace.pc[n] not in seen and len(loads) < MOST_LOADS:
-                seen.add(trace.pc[n])
-                loads.append(n)
-        return loads or [trace.last[limited[0]]]
-
-    def asked_row(self, row: str) -> int:
-        hart, colon, count = row.partition(":")
-        if not colon:
-            raise CompanionError(f"--row has to be HART:COUNT, not {row!r}", REFUSED)
-        n = self.trace.row_of(whole(hart, 0, 255, "the hart of --row"), whole(count, 0, 1 << 41, "the count of --row"))
-        if not n:
-            raise CompanionError(f"the log holds no row {row}", NO_INTERVAL)
-        return n
 
     def pc_of(self, n: int) -> int:
         return self.trace.code_of(n).pc
@@ -129,7 +112,40 @@ class Facts:
         return ", ".join(f"hart {hart} {end.reason} {end.value:08x}" for hart, end in sorted(self.log.ends.items()))
 
 
-MOST_RACES, TOO_MANY = 2000, 20
+def find_starts(log: Log, trace: Trace, row: str) -> list[int]:
+    """The rows that a history begins with."""
+    if row:
+        return [find_row(trace, asked_row(row))]
+    if trace.fault:
+        return [trace.fault.row]
+    harts = limited(log, trace)
+    if not harts:
+        return [max(trace.last.values())]
+    # What a hart that hangs waits for is in the loads of its loop.
+    loads: list[int] = []
+    seen: set[int] = set()
+    for n in reversed(trace.last_rows(trace.last[harts[0]], LOOP_ROWS)):
+        if trace.flags[n] & LOADS and trace.pc[n] not in seen and len(loads) < MOST_LOADS:
+            seen.add(trace.pc[n])
+            loads.append(n)
+    return loads or [trace.last[harts[0]]]
+
+
+def limited(log: Log, trace: Trace) -> list[int]:
+    """The harts that came to their limit."""
+    return [hart for hart, end in sorted(log.ends.items()) if end.reason == "limit" and hart in trace.last]
+
+
+def writer_of(trace: Trace, byte: Byte) -> int:
+    """The store that gave a byte of the output, or else the row that wrote it."""
+    if byte.write >= len(trace.writes) or byte.place >= trace.writes[byte.write].size:
+        raise CompanionError(f"the log holds no byte {byte.place} of a write {byte.write}: `zelkuma output` lists them",
+                             NO_INTERVAL)
+    place = trace.writes[byte.write].address + byte.place
+    writer = trace.written[place & ~3]
+    while writer and trace.code_of(writer).kind == STORE and not trace.mask(writer) >> (place & 3) & 1:
+        writer = trace.dm[writer]
+    return writer or trace.writes[byte.write].row
 
 
 @dataclass(frozen=True)
@@ -137,6 +153,24 @@ class At:
     """An instruction: a hart and its count."""
     hart: int
     count: int
+
+
+def asked_row(row: str) -> At:
+    """The instruction that --row names."""
+    hart, colon, count = row.partition(":")
+    if not colon:
+        raise CompanionError(f"--row has to be HART:COUNT, not {row!r}", REFUSED)
+    return At(whole(hart, 0, 255, "the hart of --row"), whole(count, 0, 1 << 41, "the count of --row"))
+
+
+def find_row(trace: Trace, at: At) -> int:
+    n = trace.row_of(at.hart, at.count)
+    if not n:
+        raise CompanionError(f"the log holds no row {at.hart}:{at.count}", NO_INTERVAL)
+    return n
+
+
+MOST_RACES, TOO_MANY = 2000, 20
 
 
 class RacePairs(NamedTuple):

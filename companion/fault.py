@@ -2,10 +2,17 @@
 from __future__ import annotations
 
 from .elf import Elf
-from .instruction import AMO, LOAD, NAMES, SP, STORE
+from .instruction import AMO, LOAD, NAMES, OP_SYSTEM, SP, STORE
 from .rows import Fault, Trace
 from .text import as_text
 
+# Words that other processors know, and registers that words with this opcode access.
+PRIVILEGED = {0x30200073: "mret", 0x10200073: "sret", 0x10500073: "wfi"}
+CSRS = {0xc00: "cycle (as rdcycle does)", 0xc01: "time (as rdtime does)", 0xc02: "instret (as rdinstret does)",
+        0xc80: "cycleh (as rdcycleh does)", 0xc81: "timeh (as rdtimeh does)", 0xc82: "instreth (as rdinstreth does)",
+        0xf14: "mhartid", 0x300: "mstatus", 0x301: "misa", 0x304: "mie", 0x305: "mtvec", 0x340: "mscratch", 0x341: "mepc",
+        0x342: "mcause", 0x343: "mtval", 0x344: "mip", 0x001: "fflags", 0x002: "frm", 0x003: "fcsr"}
+OP_FLOAT = 0x07, 0x27, 0x43, 0x47, 0x4b, 0x4f, 0x53
 PAGE = 4096                 # nothing below is mapped
 VERBS = {"Load": "loads from", "Store": "stores to", "Fetch": "jumps to", "Target": "jumps to"}
 
@@ -32,7 +39,7 @@ def reason(trace: Trace, elf: Elf, fault: Fault) -> str:
     if name == "Breakpoint":
         return "It ran into an ebreak (a trap or abort)."
     if name == "Illegal":
-        return f"{value:08x} is no instruction of RV32IMA."
+        return f"{value:08x} is no instruction of RV32IMA{illegal_words(value)}."
     if name == "StoreReadOnly":
         return f"It stores to {value:08x}, which is in a read-only segment{near(elf, value)}."
     if name.endswith("Misaligned"):
@@ -43,6 +50,18 @@ def reason(trace: Trace, elf: Elf, fault: Fault) -> str:
     if value >= trace.log.memory:
         return f"It {verb} {value:08x}, which is not mapped: memory ends at {trace.log.memory:08x}."
     return f"It {verb} {value:08x}, where there is no code."
+
+
+def illegal_words(word: int) -> str:
+    """What a word is that isn't one of RV32IMA, as far as it is known."""
+    if word in PRIVILEGED:
+        return f": it is {PRIVILEGED[word]}, which is of privileged code"
+    if word & 127 == OP_SYSTEM and word >> 12 & 3:
+        csr = word >> 20
+        return f": it accesses {CSRS.get(csr, f'register {csr:03x}')}, a control and status register"
+    if word & 3 != 3 and word:
+        return ": it may be a compressed instruction, which -march=rv32ima doesn't make"
+    return ": it is of floating point, which -march=rv32ima doesn't make" if word & 127 in OP_FLOAT else ""
 
 
 def near(elf: Elf, address: int) -> str:

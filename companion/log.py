@@ -1,10 +1,11 @@
 """What the log file itself says beside the rows: settings, intervals, Ends and Edges, according to docs/FORMAT.md."""
 from __future__ import annotations
 
+import re
 import struct
 from array import array
 from dataclasses import dataclass
-from typing import NamedTuple
+from typing import Iterator, NamedTuple
 
 from . import program
 from .errors import BAD_LOG, CompanionError
@@ -16,6 +17,9 @@ REASONS = {1: "length", 2: "call", 3: "exit", 4: "group", 5: "stopped", 6: "guar
            22: "LoadMisaligned", 23: "StoreOutside", 24: "StoreMisaligned", 25: "StoreReadOnly"}
 NO_END = ""                                     # the reason of an interval without an End
 HEAD_1, HEAD_2, DIGEST, SEAL = 92, 136, 32, 48  # bytes before the records, of a digest, of what ends a block
+# Most records are FirstLoads: so many that follow each other are passed at once. The sizes are those of SIZES.
+RUNS = re.compile(rb"(?:\x02.{9}){1,1000}|\x01.{145}|\x05.{18}|\x06.{14}|\x03.|\x04.", re.S)
+FIRST_FAULT = 17                                # the number of the first reason that is a fault
 
 
 @dataclass
@@ -51,22 +55,24 @@ class Log:
     intervals  in the log's order
     ends       {hart: its last End}
     edges      all of them, as columns
-    seen       how many records of each tag
+    records    how many records it has
     bytes      how long the file is
-    faulted    whether a hart did"""
+    faulted    whether a hart did
+    name       of the file; shown: of the file that was asked of, if this is its end alone
+    unread     how many bytes of that file come before"""
 
-    def __init__(self, name: str, data: bytes) -> None:
+    def __init__(self, name: str, data: bytes, shown: str = "", unread: int = 0) -> None:
         """`data` has to be what `check` takes: records are read as they stand. CompanionError if they end too early."""
-        self.name, self.bytes = name, len(data)
+        self.name, self.bytes, self.shown, self.unread = name, len(data), shown or name, unread
         self.version = self.harts = self.length = self.limit = self.size = self.memory = self.dropped = 0
         self.intervals: list[Interval] = []
         self.ends: dict[int, End] = {}
-        self.seen = [0] * 7
+        self.records = 0
         self.edges = Edges(array("Q"), array("Q"), array("B"), array("B"))
         try:
             self.read_records(self.read_head(data))
         except (struct.error, IndexError, KeyError):
-            raise CompanionError(f"log: {name} changed while it was read", BAD_LOG)
+            raise CompanionError(f"log: {self.shown} changed while it was read", BAD_LOG)
         self.faulted = any(is_fault(end.reason) for end in self.ends.values())
 
     def read_head(self, data: bytes) -> bytes:
@@ -83,31 +89,33 @@ class Log:
         return b"".join(reversed(pieces))
 
     def read_records(self, records: bytes) -> None:
-        at = 0
         opened: dict[int, Interval] = {}
-        while at < len(records):
-            tag, hart = records[at], records[at + 1]
-            self.seen[tag] += 1
+        for record in runs_of(records):
+            tag, hart = record[0], record[1]
+            self.records += len(record) // SIZES[tag]
             if tag == HEADER:
-                opened[hart] = self.header(records, at, hart)
+                opened[hart] = self.header(record)
             elif tag == EDGE:
-                count, source, source_count = struct.unpack_from("<QBQ", records, at + 2)
+                count, source, source_count = struct.unpack_from("<QBQ", record, 2)
                 for column, value in zip(self.edges, (count, source_count, hart, source)):
                     column.append(value)
             elif tag == END:
-                count, reason, value = struct.unpack_from("<QBI", records, at + 2)
+                count, reason, value = struct.unpack_from("<QBI", record, 2)
                 self.ends[hart] = End(count, REASONS[reason], value)
                 interval = opened.pop(hart, None)
                 if interval:                    # the Header of the log's first End can be lost
                     interval.end, interval.reason, interval.value = count, REASONS[reason], value
-            at += SIZES[tag]
 
-    def header(self, records: bytes, at: int, hart: int) -> Interval:
+    def header(self, record: bytes) -> Interval:
         """A new interval."""
-        number, count, pc = struct.unpack_from("<QQI", records, at + 2)
-        registers = (pc,) + struct.unpack_from("<31I", records, at + 22)
-        self.intervals.append(Interval(hart, number, count, count, NO_END, 0, registers))
+        number, count, pc = struct.unpack_from("<QQI", record, 2)
+        registers = (pc,) + struct.unpack_from("<31I", record, 22)
+        self.intervals.append(Interval(record[1], number, count, count, NO_END, 0, registers))
         return self.intervals[-1]
+
+    def rows(self) -> int:
+        """How many instructions its intervals have."""
+        return sum(interval.end - interval.start for interval in self.intervals)
 
     def first_intervals(self) -> dict[int, Interval]:
         """{hart: its first interval in the log}"""
@@ -117,9 +125,26 @@ class Log:
         return found
 
 
+def runs_of(records: bytes) -> Iterator[bytes]:
+    """Each record; FirstLoads that follow each other are one piece."""
+    return (found[0] for found in RUNS.finditer(records))
+
+
+def check(name: str) -> None:
+    """Has the program check a log."""
+    try:
+        program.output("check", name)
+    except CompanionError as error:
+        if error.status == BAD_LOG:
+            with open(name, "rb") as file:
+                if file.read(4) == b"\x7fELF":
+                    raise CompanionError(f"log: {name} is an ELF file, and the log is named before it: LOG ELF", BAD_LOG)
+        raise
+
+
 def read_log(name: str) -> Log:
     """A log that the program has checked."""
-    program.output("check", name)
+    check(name)
     with open(name, "rb") as file:
         return Log(name, file.read())
 

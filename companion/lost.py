@@ -4,14 +4,18 @@ from __future__ import annotations
 from typing import NamedTuple, Optional, Sequence
 
 from .facts import Facts
-from .history import History
+from .history import ADDRESS, History
 from .instruction import ALU, STORE, Instruction
-from .rows import Trace
+from .rows import LOADS, STORES, Trace
 from .suspect import Suspect
 
 MOST = 300                  # rows that are looked at, nearest to the fault first
-BECAME_ZERO, WAS_CUT = 12, 6
-MASKS = {255: 8, 65535: 16}
+BECAME_ZERO, WAS_CUT, MASKED, BELOW_ZERO = 12, 6, 2, 14
+SMALL = 1 << 16             # how far below zero a difference may be
+MASKS = {(1 << width) - 1: width for width in range(4, 12)}
+ZEROED, DIVIDED = ("mul", "sll", "slli", "srli"), ("div", "divu", "rem", "remu")
+ALIGNMENT, SUMS = 10, ("add", "addi", "sub", "or", "ori")
+STEPS = 14                  # rows of a compared value that are looked at
 
 
 class Narrowing(NamedTuple):
@@ -49,9 +53,14 @@ def narrowing(trace: Trace, n: int) -> Optional[Narrowing]:
         left = trace.d1[n]
         if left and trace.code_of(left).name == "slli" and width_kept(trace.code_of(left)) == width_kept(ins):
             return Narrowing(n, trace.d1[left], 0)
-    elif ins.name in ("mul", "sll", "slli") or ins.name == "andi" and ins.word >> 20 in MASKS:
+    elif ins.name in ZEROED[:3] + DIVIDED or is_halving(ins) or ins.name == "andi" and ins.word >> 20 in MASKS:
         return Narrowing(n, trace.d1[n], trace.d2[n])
     return None
+
+
+def is_halving(ins: Instruction) -> bool:
+    """A shift that divides by 2, 4 or 8."""
+    return ins.name == "srli" and 1 <= (ins.word >> 20 & 31) <= 3
 
 
 def width_kept(ins: Instruction) -> int:
@@ -79,12 +88,66 @@ def loss(trace: Trace, rows: Narrowing) -> Optional[Loss]:
     ins, before = trace.code_of(rows.row), trace.result_of(rows.first)
     if before is None:
         return None
-    if ins.name in ("mul", "sll", "slli"):
+    if ins.name in DIVIDED:
+        return Loss(BECAME_ZERO, f"{before:08x} was divided by 0") if trace.result_of(rows.second) == 0 else None
+    if ins.name in ZEROED and not is_cut(trace, rows):
         zero = trace.result_of(rows.row) == 0 and before and (ins.name != "mul" or trace.result_of(rows.second))
         return Loss(BECAME_ZERO, f"{before:08x} became 0: all its bits were lost") if zero else None
     width = 8 * ins.width if ins.kind == STORE else width_kept(ins) or MASKS.get(ins.word >> 20, 32)
     after = before & (1 << width) - 1
+    if ins.kind != STORE and (1 << 32) - before <= SMALL and trace.result_of(rows.row) == after:
+        return Loss(BELOW_ZERO, f"{before - (1 << 32)}, below zero, became {after:08x}")
     signed = after | (0xffffffff << width & 0xffffffff if after >> width - 1 else 0)
     if before in (after, signed):
         return None
-    return Loss(WAS_CUT if after else BECAME_ZERO, f"{before:08x} was cut to {width} bits, and became {after:08x}")
+    worth = MASKED if width not in (8, 16) else WAS_CUT if after else BECAME_ZERO
+    return Loss(worth, f"{before:08x} was cut to {width} bits, and became {after:08x}")
+
+
+def lost_alignment(facts: Facts, history: History) -> list[Suspect]:
+    """Where the address of a misaligned access stopped being a multiple of its width, the nearest such row of each line."""
+    trace, fault = facts.trace, facts.trace.fault
+    if not facts.faulted or not fault or not fault.name.endswith("Misaligned"):
+        return []
+    width = 4 if fault.name.startswith("Target") else fault.instruction.width
+    found: dict[str, Suspect] = {}
+    for n in sorted(history.cost, key=lambda row: (history.cost[row], -row)):
+        if history.cost[n] >= ADDRESS:
+            break
+        before, after = trace.result_of(trace.d1[n]), trace.result_of(n)
+        second = trace.result_of(trace.d2[n]) or 0
+        if trace.code_of(n).name in SUMS and before and after and after % width and not before % width and not second % width:
+            suspect = found.setdefault(facts.line(n), Suspect("odd", n, n, history.cost[n]))
+            if not suspect.why:
+                suspect.sign(ALIGNMENT, f"{before:08x}, a multiple of {width}, became {after:08x}")
+    return list(found.values())
+
+
+class Cut(NamedTuple):
+    """A row that lost bits, and what, in words."""
+    row: int
+    words: str
+
+
+def cut_behind(trace: Trace, row: int) -> Optional[Cut]:
+    """The nearest row behind a row's value that kept only some bits of a value, if it lost one."""
+    todo, seen = [row], {0}
+    for n in todo:
+        if n in seen or len(seen) > STEPS:
+            continue
+        seen.add(n)
+        rows = narrowing(trace, n)
+        said = loss(trace, rows) if rows and is_cut(trace, rows) else None
+        if said:
+            return Cut(n, said.words)
+        if trace.flags[n] & LOADS:
+            todo += trace.writers(n).rows
+        else:
+            todo += [trace.d2[n]] if trace.flags[n] & STORES else [trace.d1[n], trace.d2[n]]
+    return None
+
+
+def is_cut(trace: Trace, rows: Narrowing) -> bool:
+    """Whether a row keeps the lowest bits of a value: it stores some bytes, is a mask, or the second of two shifts."""
+    ins = trace.code_of(rows.row)
+    return ins.kind == STORE or ins.name == "andi" or bool(width_kept(ins)) and ins.name in ("srli", "srai")

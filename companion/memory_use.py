@@ -7,10 +7,13 @@ from __future__ import annotations
 from .blocks import Block, Blocks
 from .facts import Facts
 from .history import History
+from .instruction import ALU
 from .lost import lost_bits, narrowings
+from .rows import LOADS, STORES
 from .suspect import Extra, Suspect
 
 GIVEN_BACK, NEVER_WRITTEN, OVER_THE_END = 16, 14, 10
+TWICE, MOST_TWICE = 8, 3     # what such a suspect costs, and how many there may be: else a taker is none
 SIZE_ROWS = 2000            # rows of a size's history
 
 
@@ -30,6 +33,9 @@ class MemoryUse:
         loaded = self.blocks.behind(trace.d1[item.load], address)
         if loaded is None:
             return []
+        back = [n for n in self.blocks.given_back(loaded, loaded.back, item.load) if n < item.store]
+        if back:
+            return self.used_after(item, back[-1], address)
         if self.blocks.is_over(loaded, address, item.load):
             return self.over_the_end(item, loaded, "the load reads")
         if item.store < loaded.call:
@@ -42,6 +48,16 @@ class MemoryUse:
         if stored.giver == loaded.giver and stored.address == loaded.address and stored.call > loaded.call:
             return self.given_back(item, loaded, stored)
         return []
+
+    def given_back_twice(self) -> list[Suspect]:
+        """Blocks that were given back twice, whatever the history: no sound program does that."""
+        found = []
+        for first, second in self.blocks.twice():
+            suspect = Suspect("twice", first, first, TWICE)
+            suspect.sign(GIVEN_BACK, "the memory was given back twice")
+            suspect.extra.append(Extra("and again by", second))
+            found.append(suspect)
+        return found if len(found) <= MOST_TWICE else []
 
     def over_the_end(self, item: Suspect, block: Block, words: str) -> list[Suspect]:
         """An access outside of its block. Its size is suspect, so what the giver was asked for has a history of its own."""
@@ -82,6 +98,35 @@ class MemoryUse:
         """The load's block was handed out after the store."""
         return self.suspect("unwritten", item, block.call, NEVER_WRITTEN,
                             "nothing wrote the word since the block was given out: it has old bytes")
+
+    def used_after(self, item: Suspect, back: int, address: int) -> list[Suspect]:
+        """A pointer that was kept over the call that gave its memory back."""
+        owner = self.blocks.behind(self.trace.d1[item.store], address)
+        again = "given out again, and" if owner and owner.call > back else "and"
+        found = self.suspect("back", item, back, GIVEN_BACK, f"the memory was given back, {again} still used")
+        kept = self.kept_pointer(item.load, back)
+        for suspect in found:
+            if kept:
+                suspect.extra.append(Extra("the pointer is older: it comes from", kept))
+        return found
+
+    def kept_pointer(self, load: int, back: int) -> int:
+        """The row that a load's pointer comes from, as it was before a row: copies and spills of it are passed."""
+        trace, n = self.trace, self.trace.d1[load]
+        while n:
+            ins, before = trace.code_of(n), 0
+            if trace.flags[n] & LOADS:
+                before = next(iter(trace.writers(n).rows), 0)
+                if n < back and not (before and trace.is_spill(n, before)):
+                    return n
+            elif trace.flags[n] & STORES:
+                before = trace.d2[n]
+            elif ins.kind == ALU:
+                if n < back and not ins.move:
+                    return n
+                before = trace.d1[n]
+            n = before
+        return 0
 
     def given_back(self, item: Suspect, loaded: Block, stored: Block) -> list[Suspect]:
         """The block that the store used was handed out after the load's, and has the same memory."""

@@ -9,8 +9,8 @@ from . import streams
 from .addresses import addresses_of
 from .elf import Elf
 from .errors import MISSING, CompanionError
+from .naming import places_of
 from .options import parse
-from .places import Places
 
 HELP = """Functions and lines of addresses, and addresses of names.
 
@@ -27,7 +27,7 @@ class Filter:
     """Puts the name of its place behind each line that tells of one."""
 
     def __init__(self, elf: Elf) -> None:
-        self.elf, self.places = elf, Places(elf)
+        self.elf, self.places = elf, places_of(elf)
         self.kept: dict[bytes, bytes] = {}      # third word of a row: what is put behind, with the line's end
         self.last: dict[bytes, bytes] = {}      # hart: what was put behind its last row
 

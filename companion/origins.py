@@ -41,6 +41,7 @@ def origins(facts: Facts, history: History) -> dict[Origin, Loads]:
 
 def came_from(facts: Facts, n: int) -> str:
     told, dropped = facts.trace.load_of(n), facts.log.dropped
+    before = "stored before the rows that were read" if facts.log.unread else "stored before the log"
     if told is None:
         return "no row tells"
     address, value = told
@@ -52,15 +53,15 @@ def came_from(facts: Facts, n: int) -> str:
     value &= mask
     if value == (facts.elf.word(address) or 0) & mask:
         kind = "the program file" if value else "zero from the start: never stored"
-        return kind + " (or stored before the log)" if dropped else kind
-    return "stored before the log" if dropped else "no row tells"
+        return f"{kind} (or {before})" if dropped else kind
+    return before if dropped else "no row tells"
 
 
 def advice(log: Log) -> list[str]:
     """Which option would have kept what the log gave up."""
-    if not log.dropped:
+    if not log.dropped or log.unread:           # what wasn't read is told elsewhere
         return []
-    kept = max(1, sum(log.seen))
+    kept = max(1, log.records)
     whole = log.size + log.dropped * max(1, log.size // kept)
     said = [f"The log gave up {number(log.dropped)} records before its first: values can come from there."]
     if whole <= LARGEST_LOG:

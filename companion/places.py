@@ -15,6 +15,7 @@ from typing import Iterable, NamedTuple, Optional, Sequence
 from .elf import Elf
 from .text import clean
 
+PACKAGE = "binutils-riscv64-unknown-elf"        # of Debian, with the first of these
 TOOLS = ("riscv64-unknown-elf-addr2line", "riscv64-linux-gnu-addr2line", "llvm-addr2line")
 AT_ONCE = 100               # so many questions fit into a pipe, whatever the answers' length
 # The seconds that a tool may take altogether: so many, and more for each address, which is a hundred times what it needs.

@@ -1,35 +1,38 @@
 """Groups the races of a log."""
 from __future__ import annotations
 
+import contextlib
 from contextlib import closing
-from typing import Optional
+from typing import Any, Optional
 
 from . import streams
+from .answers import LONGEST, place_of, put_answer
 from .elf import Elf, Symbol
 from .errors import CompanionError
 from .facts import At
 from .history import History
-from .log import Log, read_log
+from .naming import named_elf, places_of
 from .options import parse, whole
-from .places import Places
-from .races import FENCED, ORDERED, TOO_MANY, AccessPair, Group, Races
+from .races import FENCED, ORDERED, TOO_MANY, Access, AccessPair, Group, Races
+from .recent import FIRST_ROWS, LogFile, open_log
 from .rows import Trace, read_trace
 from .text import counted, number
 
 HELP = """Groups the races of a log by the two places and the word, the likeliest cause of its fault first. Words of one object
 with the same places, as an array's, are told together.
 
-    zelkuma race LOG ELF [--names ELF] [--max N] [--more]
+    zelkuma race LOG ELF [--names ELF] [--max N] [--more] [--json]
 
 --names   the program with its names and lines, if ELF was stripped
 --max     how many pairs are asked for at most, 1 to 1000000 (200000 without it)
 --more    tells all groups; without it the first twelve
+--json    prints one JSON object in place of the text (docs/JSON.md)
 
 First come groups on the chain of values behind the fault, then those in the function that faulted, then the others;
 behind them groups that fences order if they are meant so, and last the fenced accesses themselves: loads and stores
 beside a `fence`, as GCC writes acquire and release. That order and the grouping are this command's own judgement.
 The exact list is that of `zelkuma races`: pairs of accesses that no atomic instruction orders."""
-FORM = "race LOG ELF [--names ELF] [--max N] [--more]"
+FORM = "race LOG ELF [--names ELF] [--max N] [--more] [--json]"
 FAR = 1 << 20                                # what a row costs that isn't on the chain
 MOST, GROUPS_TOLD, BRIEF_TOLD = 200000, 12, 6
 KINDS = ("", ORDERED, FENCED)                # in the order in which groups are told
@@ -161,23 +164,44 @@ def left_out(families: list[list[Group]], told: list[list[Group]]) -> list[str]:
     return [f"    .. {counted(rest, 'more group')} (--more) .."] if rest else []
 
 
-def judge(log: Log, elf_name: str, races: Races) -> Judged:
-    """The groups in order; if a hart faulted, the chain behind its fault is followed."""
+def judge(source: LogFile, elf_name: str, races: Races) -> Judged:
+    """The groups in order; if a hart faulted, the chain behind its fault is followed in the last rows."""
+    log = source.end(FIRST_ROWS)
     if not (log.faulted and races.groups):
         return Judged(races)
     trace = read_trace(log, elf_name)
     return Judged(races, trace, History(trace, [trace.fault.row])) if trace.fault else Judged(races)
 
 
+def race_answer(races: Races, judged: Judged) -> dict[str, Any]:
+    return {"pairs": races.total, "groups": [family_answer(races, judged, family) for family in judged.families()]}
+
+
+def family_answer(races: Races, judged: Judged, family: list[Group]) -> dict[str, Any]:
+    one, other = judged.pair(family[0])
+    return {"pairs": pairs_of(family), "words": [f"{group.word:08x}" for group in family[:LONGEST]],
+            "name": family_word(races, family), "kind": family[0].kind, "judged": judged.reason(family[0]),
+            "one": access_answer(races, one), "other": access_answer(races, other)}
+
+
+def access_answer(races: Races, access: Access) -> dict[str, Any]:
+    return {"hart": access.hart, "count": access.count, "did": access.verb(), "row": access.row,
+            "place": place_of(races.places, access.pc)}
+
+
 def main(words: list[str]) -> int:
-    (log_name, elf_name), given = parse(words, {"--names": True, "--max": True, "--more": False}, 2, FORM)
+    (log_name, elf_name), given = parse(words, {"--names": True, "--max": True, "--more": False, "--json": False}, 2, FORM)
     most = whole(given.get("--max", str(MOST)), 1, 1000000, "--max")
-    log, elf = read_log(log_name), Elf(elf_name)
-    named = Elf(given["--names"]) if "--names" in given else elf
-    with closing(Places(named)) as places:
-        races = Races(named, places).read(log_name, elf_name, most)
+    with contextlib.ExitStack() as opened:
+        source = opened.enter_context(closing(open_log(log_name)))
+        elf = Elf(elf_name)
+        named = named_elf(elf, given.get("--names", ""))
+        races = Races(named, opened.enter_context(closing(places_of(named)))).read(log_name, elf_name, most)
         if races.over:
             raise CompanionError(f"races: more than {most} pairs; --max takes up to 1000000", TOO_MANY)
-        lines = report(races, judge(log, elf_name, races), "--more" in given)
-    streams.put("\n".join(lines) + "\n")
+        judged = judge(source, elf_name, races)
+        if "--json" in given:
+            put_answer("race", **race_answer(races, judged))
+        else:
+            streams.put("\n".join(report(races, judged, "--more" in given)) + "\n")
     return 0

@@ -2,7 +2,9 @@
 from __future__ import annotations
 
 from .analysis import Analysis
+from .facts import Byte
 from .fault import fault_words
+from .hang import hang_lines
 from .history import ADDRESS
 from .instruction import NAMES
 from .origins import advice
@@ -13,26 +15,33 @@ from .text import as_text, counted, number, short
 SUSPECTS, MORE_SUSPECTS, LINES, MORE_LINES, ORIGINS, MORE_ORIGINS = 5, 12, 10, 40, 6, 20
 ROW_WIDTH, TEXT_WIDTH, MOST_CALLS = 84, 78, 9
 SUSPECTS_HEAD = ("SUSPECTS, likeliest first (a load and the store that it got; what a call did to the memory; "
-                 "arithmetic that lost bits)")
+                 "arithmetic that lost bits; a branch)")
 # What the guilty row of each kind did, and what its other two rows did.
-DID = {"store": "stored it in", "back": "gave the memory back in", "unwritten": "got the memory in",
-       "lost": "lost bits in", "calls": "calls itself in"}
+DID = {"store": "stored it in", "back": "gave the memory back in", "unwritten": "got the memory in", "twice": "gave the memory back in",
+       "lost": "lost bits in", "odd": "lost the alignment in", "calls": "calls itself in", "branch": "chose the way in", "exit": "never left its loop by"}
+ALONE = "twice", "lost", "odd", "calls", "branch", "exit"     # kinds that have no load
 STORED = {"back": "the new owner stored in", "unwritten": "the old bytes were stored in"}
 
 
 def report(facts: Analysis, more: bool = False) -> list[Part]:
-    parts = [Part("FAULT" if facts.faulted else "ROW" if facts.asked else "END", head_lines(facts)),
-             Part("CALLS", call_lines(facts))]
-    if not facts.asked:
+    parts = [Part(heading(facts), head_lines(facts))]
+    if facts.loops:
+        parts.append(Part("HANG", hang_lines(facts, more)))
+    parts.append(Part("CALLS", call_lines(facts)))
+    if not facts.asked and not facts.output:
         parts.append(Part("REGISTERS", register_lines(facts)))
     parts += [Part("LAST ROWS", row_lines(facts)),
               Part(SUSPECTS_HEAD, suspect_lines(facts, MORE_SUSPECTS if more else SUSPECTS)),
               value_part(facts, MORE_LINES if more else LINES),
-              Part("FROM BEFORE: loads behind it that no row of the log stored",
+              Part(f"FROM BEFORE: loads behind it that no row {'that was read' if facts.log.unread else 'of the log'} stored",
                    origin_lines(facts, MORE_ORIGINS if more else ORIGINS))]
     if facts.log.harts > 1:
         parts.append(race_part(facts))
     return parts + [Part("", last_lines(facts))]
+
+
+def heading(facts: Analysis) -> str:
+    return "OUTPUT" if facts.output else "ROW" if facts.asked else "FAULT" if facts.faulted else "END"
 
 
 def head_lines(facts: Analysis) -> list[str]:
@@ -44,14 +53,30 @@ def head_lines(facts: Analysis) -> list[str]:
         said += fault_words(trace, trace.fault, facts.named)
         if trace.fault.name == "FetchOutside" and len(facts.last) > 1:
             at, verb = facts.last[-2], "By the jump in"
+    elif facts.output:
+        said = output_lines(facts, facts.output)
     elif facts.asked:
         said = [f"Asked of hart {hart} at count {count} (not the fault)"]
     else:
-        what = "the last load (what it waits for, if it hangs)" if facts.hangs else "the last row"
+        what = "a branch that would have ended the loop" if facts.hangs else "the last row"
         said = ["No hart faulted: " + facts.ends(), f"Below is {what} of hart {hart}."]
         said += [f"hart {each} is in {facts.where(n)}" for each, n in sorted(trace.last.items())]
     source = facts.source(at)
     return said + [f"{verb} {facts.where(at)}{':  ' + source if source else ''}"]
+
+
+def output_lines(facts: Analysis, byte: Byte) -> list[str]:
+    """What was written, and who stored the byte."""
+    trace, call = facts.trace, facts.trace.writes[byte.write]
+    said = [f"Asked of byte {byte.place} of write {byte.write}, which took {counted(call.size, 'byte')} from {call.address:08x}",
+            f"hart {trace.hart[call.row]} wrote it at count {number(trace.count_of(call.row))} in {facts.where(call.row)}"]
+    if facts.start == call.row:
+        return said + ["No row stored the byte: below is the write."]
+    told = trace.store_of(facts.start)
+    place = call.address + byte.place & 3
+    value = bytes([told.value >> 8 * place & 255]) if told else b""
+    return said + [f"The byte is {repr(value)[1:]}: hart {trace.hart[facts.start]} stored it at count "
+                   f"{number(trace.count_of(facts.start))}."]
 
 
 def call_lines(facts: Analysis) -> list[str]:
@@ -63,7 +88,8 @@ def call_lines(facts: Analysis) -> list[str]:
         said.append(f"{'from' if i else 'at':<5} {frame.address:08x} {frame.function}  {frame.place}{inlined}")
     if stack.left_out:
         said.insert(-1, f"      .. {counted(stack.left_out, 'more call')} ..")
-    return said + (["      (calls from before the log's first row aren't known)"] if stack.is_cut else [])
+    first = "the first row that was read" if facts.log.unread else "the log's first row"
+    return said + ([f"      (calls from before {first} aren't known)"] if stack.is_cut else [])
 
 
 def register_lines(facts: Analysis) -> list[str]:
@@ -79,7 +105,7 @@ def suspect_lines(facts: Analysis, most: int) -> list[str]:
     said: list[str] = []
     for place, item in enumerate(facts.shown[:most], 1):
         said += one_suspect(facts, place, item)
-    return said or ["none: no row of the log stored the value"]
+    return said or [f"none: no row {'that was read' if facts.log.unread else 'of the log'} stored the value"]
 
 
 def one_suspect(facts: Analysis, place: int, item: Suspect) -> list[str]:
@@ -88,11 +114,12 @@ def one_suspect(facts: Analysis, place: int, item: Suspect) -> list[str]:
         said += [f"   {words} {facts.where(n)}   {facts.source(n)}"] + guilty_lines(facts, n)
     if item.kind in STORED:
         said += ["   " + did(facts, item.store, STORED[item.kind]), "      " + short(facts.trace.text(item.store))]
-    if item.kind not in ("lost", "calls"):
+    if item.kind not in ALONE:
         said += ["   " + did(facts, item.load, "loaded it in"),
                  "      " + short(facts.trace.text(item.load)) + data_words(facts, item.load)]
     times = f" ({number(item.rows)} such pairs)" if item.rows > 1 else ""
-    return said + ["   because: " + "; ".join([distance(item)] + item.why) + times]
+    reasons = item.why if item.kind == "exit" else [distance(item)] + item.why
+    return said + ["   because: " + "; ".join(reasons) + times]
 
 
 def did(facts: Analysis, n: int, words: str) -> str:
@@ -117,7 +144,7 @@ def data_words(facts: Analysis, n: int) -> str:
 
 def distance(item: Suspect) -> str:
     if item.cost < ADDRESS:
-        return f"{counted(item.cost, 'step')} of value from the fault"
+        return f"{counted(item.cost, 'step')} of value from it"
     return f"behind an address or a branch (at a cost of {item.cost})"
 
 
@@ -149,4 +176,13 @@ def last_lines(facts: Analysis) -> list[str]:
     trace = facts.trace
     rate = number(int(trace.rows / max(trace.seconds, 0.001)))
     said = f"{counted(trace.rows, 'row')} in {trace.seconds:.1f} s ({rate} a second)"
-    return [said] + facts.notes + facts.places.trouble()
+    return [said] + unread(facts) + facts.notes + facts.places.trouble()
+
+
+def unread(facts: Analysis) -> list[str]:
+    """What of the log wasn't looked at."""
+    log = facts.log
+    if not log.unread:
+        return []
+    return [f"Only the last {counted(log.rows(), 'row')} were read: {number(log.unread)} bytes of records before them weren't "
+            "looked at. --rows N reads the last N."]

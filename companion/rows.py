@@ -6,19 +6,45 @@ that a row touched, and one for each pair of a load's and a store's code."""
 from __future__ import annotations
 
 import bisect
+import itertools
 import time
 from array import array
-from typing import Callable, Iterable, NamedTuple, Optional, Sequence, Tuple
+from typing import AbstractSet, Callable, Iterable, Iterator, NamedTuple, Optional, Sequence, Tuple
 
+from . import streams
 from .calls import CallTree
-from .instruction import A0, A1, A7, AMO, CALL, JUMP, LOAD, NAMES, STORE, Instruction
+from .instruction import A0, A1, A7, AMO, CALL, JUMP, LOAD, NAMES, SP, STORE, Instruction
 from .log import Log
 from .program import Output
+from .text import number
 
 # A row's flags. OFFSET: the byte of its word. UNSTORED: no row stored what it loads. CHANGED: a `read` call did since the
 # last row. KEEPS: it stores what it loads, as a lock's spinning does.
 OFFSET, LOADS, STORES, UNSTORED, CHANGED, FAULTS, KEEPS = 3, 4, 8, 16, 32, 64, 128
-READ_CALL = b"0000003f"
+BESIDE = 64                 # how far from a word another is beside it
+READ_CALL, WRITE_CALL = b"0000003f", b"00000040"
+AT_ONCE = 1 << 12           # lines between two looks at the progress
+
+
+class Access(NamedTuple):
+    """What a row loaded or stored: where, and the whole word."""
+    address: int
+    value: int
+
+
+class Row(NamedTuple):
+    """An instruction that was done: `ic` is its hart's count before it, `word` is None without code; `register` is the name
+    of what it wrote, or empty, and `result` the value; `fault` is the name of the fault, or empty."""
+    hart: int
+    ic: int
+    pc: int
+    word: Optional[int]
+    text: str
+    register: str
+    result: int
+    load: Optional[Access]
+    store: Optional[Access]
+    fault: str
 
 
 class Hart:
@@ -56,10 +82,17 @@ class ReadCall(NamedTuple):
     size: int
 
 
-class Access(NamedTuple):
-    """What a row loaded or stored: where, and the whole word."""
+class WriteCall(NamedTuple):
+    """A `write` call that took so many bytes from an address."""
+    row: int
     address: int
-    value: int
+    size: int
+
+
+class Tail(NamedTuple):
+    """A jump to a function: its row and what a0 was."""
+    row: int
+    a0: int
 
 
 class Stores(NamedTuple):
@@ -77,15 +110,20 @@ class Trace:
     d1, d2  the rows that wrote its first and second register; dm: the row that stored the word that it accesses
     values  what it put into its register
     pairs   {load's code << 32 | 1 + store's code, 0 if there is none: how many rows}
-    reads   the `read` calls
+    reads   the `read` calls; writes: the `write` calls
+    written of the write that is asked for, {address of a word: the row that stored it}
     jumps   the rows of calls and returns; jump_a0: a0 there, which is an argument or a result; jump_writer: its writer
+    tails   of jumps to functions their row and a0
     harts   {hart: what is known of it}, of those that have a row
     last    {hart: its last row}; final: {hart: its registers at the end}
     fault   or None; regs: the registers of its hart
     rows    how many there are; seconds: how long it took to read them"""
 
-    def __init__(self, log: Log) -> None:
-        self.log = log
+    def __init__(self, log: Log, entries: AbstractSet[int] = frozenset(), output: int = -1) -> None:
+        """`entries` is where functions begin, and `output` the number of the write that is asked for."""
+        self.log, self.output = log, output
+        self.writes: list[WriteCall] = []
+        self.written: dict[int, int] = {}
         self.code: dict[bytes, Instruction] = {}
         self.codes: list[Instruction] = []
         self.pc, self.hart, self.flags = array("I", [0]), array("B", [0]), array("B", [0])
@@ -95,33 +133,39 @@ class Trace:
         self.atomic_rows, self.stored = array("I"), array("I")  # of atomics that load and store: what they store
         self.silent: set[int] = set()           # calls that put nothing into their register
         self.jumps, self.jump_a0, self.jump_writer = array("I"), array("I"), array("I")
+        self.tails: list[Tail] = []
         self.pairs: dict[int, int] = {}
         self.reads: list[ReadCall] = []
         self.fault: Optional[Fault] = None
         self.regs: list[int] = []
-        self.tree = CallTree()
+        self.tree = CallTree(entries)
         self.writer_of: dict[int, int] = {}     # address of a word: its last writer's row
         self.held: dict[int, bytes] = {}        # address of a word: its value
         first = log.first_intervals()
         self.harts: dict[int, Hart] = {}
         for i in range(log.harts):
             self.harts[i] = Hart(i, first[i].registers, first[i].start > 0) if i in first else Hart(i, (0,) * 32, False)
+        self.latest: Optional[Hart] = None      # whose row was read last
         self.rows, self.seconds = 0, 0.0
 
     def read(self, lines: Iterable[bytes]) -> None:
-        began = time.time()
-        self.read_rows(lines, {b"%d" % number: hart for number, hart in self.harts.items()})
-        self.harts = {number: hart for number, hart in self.harts.items() if hart.last}
-        self.last = {number: hart.last for number, hart in self.harts.items()}
-        self.final = {number: [0] + [int(value[-8:], 16) for value in hart.values[1:]] for number, hart in self.harts.items()}
+        began, progress, total = time.time(), streams.Progress(), number(self.log.rows())
+        harts, left = {b"%d" % each: hart for each, hart in self.harts.items()}, iter(lines)
+        while self.read_rows(list(itertools.islice(left, AT_ONCE)), harts):
+            progress.tell(f"{number(len(self.pc) - 1)} of {total} rows are read")
+        progress.clear()
+        self.harts = {each: hart for each, hart in self.harts.items() if hart.last}
+        self.last = {each: hart.last for each, hart in self.harts.items()}
+        self.final = {each: [0] + [int(value[-8:], 16) for value in hart.values[1:]] for each, hart in self.harts.items()}
         if self.fault:
             self.regs = self.final[self.fault.hart]
         self.writer_of, self.held = {}, {}
         self.seconds, self.rows = time.time() - began, len(self.pc) - 1
 
-    def read_rows(self, lines: Iterable[bytes], harts: dict[bytes, Hart]) -> None:
-        """The one loop over all rows: as short as it can be, since its speed is the reader's."""
-        code, before, n, by_kind = self.code, None, 0, self.handlers()
+    def read_rows(self, lines: Sequence[bytes], harts: dict[bytes, Hart]) -> bool:
+        """The one loop over all rows: as short as it can be, since its speed is the reader's. It says whether more lines
+        may come."""
+        code, before, n, by_kind = self.code, self.latest, len(self.pc) - 1, self.handlers()
         add_pc, add_hart, add_d1, add_d2 = self.pc.append, self.hart.append, self.d1.append, self.d2.append
         add_dm, add_flags, add_value = self.dm.append, self.flags.append, self.values.append
         for line in lines:
@@ -130,7 +174,7 @@ class Trace:
             hart = harts.get(words[0])
             if hart is None:
                 if words[0] == b"word":         # the words of memory come behind all rows
-                    return
+                    return False
                 continue                        # the end of an interval
             n += 1
             if hart is not before:
@@ -159,6 +203,8 @@ class Trace:
             else:
                 add_value(0)
             hart.last = n
+        self.latest = before
+        return bool(lines)
 
     def handlers(self) -> list[Optional[Handler]]:
         """What each kind of instruction does beside its registers: a function that gives dm and flags, or None."""
@@ -232,7 +278,14 @@ class Trace:
             self.silent.add(n)
         elif values[A7][-8:] == READ_CALL and parts[1][-8:] < b"80000000":
             self.reads.append(ReadCall(n, hart.number, int(values[A1][-8:], 16), int(parts[1][-8:], 16)))
+        elif values[A7][-8:] == WRITE_CALL and parts[1][-8:] < b"80000000":
+            self.write_call(WriteCall(n, int(values[A1][-8:], 16), int(parts[1][-8:], 16)))
         return 0, 0
+
+    def write_call(self, call: WriteCall) -> None:
+        if len(self.writes) == self.output:
+            self.written = {word: self.writer_of.get(word, 0) for word in range(call.address & ~3, call.address + call.size, 4)}
+        self.writes.append(call)
 
     def jump(self, n: int, hart: Hart, ins: Instruction, _parts: list[bytes]) -> tuple[int, int]:
         if ins.call or ins.ret:
@@ -243,6 +296,11 @@ class Trace:
                 hart.node = self.tree.called(hart.node, ins.pc)
             else:
                 hart.node = self.tree.returned(hart.node, int(hart.values[ins.rs1][-8:], 16))
+            hart.jumps.append(n)
+            hart.nodes.append(hart.node)
+        elif ins.leads in self.tree.entries:
+            hart.node = self.tree.went(hart.node, ins.pc)
+            self.tails.append(Tail(n, int(hart.values[A0][-8:], 16)))
             hart.jumps.append(n)
             hart.nodes.append(hart.node)
         return 0, 0
@@ -267,14 +325,14 @@ class Trace:
         at = bisect.bisect_right(hart.rows, n) - 1
         return hart.counts[at] + n - hart.rows[at]
 
-    def row_of(self, number: int, count: int) -> int:
+    def row_of(self, of: int, count: int) -> int:
         """The row of a hart's count, or 0 if the log has none."""
-        hart = self.harts.get(number)
+        hart = self.harts.get(of)
         at = bisect.bisect_right(hart.counts, count) - 1 if hart else -1
         if at < 0 or not hart:
             return 0
         n = hart.rows[at] + count - hart.counts[at]
-        return n if n <= hart.last and self.hart[n] == number else 0
+        return n if n <= hart.last and self.hart[n] == of else 0
 
     def jump_at(self, n: int) -> int:
         """Which of the jumps a row is."""
@@ -308,6 +366,19 @@ class Trace:
         if self.flags[n] & LOADS:
             found = found._replace(value=self.stored[bisect.bisect_left(self.atomic_rows, n)])
         return found
+
+    def last_store(self, address: int, before: int = 0) -> int:
+        """The latest row that stored to a word, of those before a row or of all; 0 if none did."""
+        at = bisect.bisect_left(self.access_rows, before) if before else len(self.access_rows)
+        while at > 0:
+            at -= 1
+            if self.addresses[at] & ~3 == address & ~3 and self.flags[self.access_rows[at]] & STORES:
+                return self.access_rows[at]
+        return 0
+
+    def calls_at(self, n: int) -> list[int]:
+        """The places of all calls that a row is in, innermost first."""
+        return self.tree.calls(self.node_of(n), len(self.tree.depth)).calls
 
     def result_of(self, n: int) -> Optional[int]:
         """What a row put into its register, or None."""
@@ -354,10 +425,59 @@ class Trace:
             writer = self.dm[writer]
         return Stores(found, need)
 
+    def beside(self, load: int) -> list[int]:
+        """The stores by which the same instruction got other words, of the nearest word on each side of a load's."""
+        codes = {(pair & 0xffffffff) - 1 for pair in self.pairs if pair >> 32 == self.pc[load]}
+        place, before, after = self.access(load).address, (0, 0), (1 << 32, 0)
+        for n, address in zip(self.access_rows, self.addresses):
+            if self.pc[n] in codes and self.flags[n] & STORES and n < load:
+                if before[0] <= address < place:
+                    before = address, n
+                elif place < address <= after[0]:
+                    after = address, n
+        return [n for address, n in (before, after) if n and abs(address - place) <= BESIDE]
 
-def read_trace(log: Log, elf_name: str) -> Trace:
+    def is_spill(self, load: int, store: int) -> bool:
+        """Whether a load takes back the register that a store put aside on the stack."""
+        taken, put = self.code_of(load), self.code_of(store)
+        return taken.rs1 == put.rs1 == SP and taken.kind == LOAD and taken.rd == put.rs2 and self.hart[load] == self.hart[store]
+
+
+def parse_row(line: bytes) -> Optional[Row]:
+    """The row that a line of `replay` or `joint` tells, or None if it tells of something else."""
+    parts = line.decode("ascii", "replace").rstrip("\n").split(" | ")
+    words = parts[0].split(" ", 4)
+    if not words[0].isdigit() or len(words) < 5:
+        return None
+    register, result, fault = "", 0, ""
+    accesses: dict[str, Access] = {}
+    for told in parts[1:]:
+        kind, _, rest = told.partition(" ")
+        if kind == "fault":
+            fault = rest.split(" ")[0]
+        elif kind in ("load", "store"):
+            address, _, value = rest.partition("=")
+            accesses[kind] = Access(int(address, 16), int(value, 16))
+        else:
+            register, _, value = told.partition("=")
+            result = int(value, 16)
+    word = None if words[3][0] == "-" else int(words[3], 16)
+    return Row(int(words[0]), int(words[1]), int(words[2], 16), word, words[4], register, result, accesses.get("load"),
+               accesses.get("store"), fault)
+
+
+def rows_of(log_name: str, elf_name: str) -> Iterator[Row]:
+    """Each row of a log, in the order of `joint`. Nothing is kept, so a log may be large."""
+    with Output("joint", log_name, elf_name) as lines:
+        for line in lines:
+            row = parse_row(line)
+            if row:
+                yield row
+
+
+def read_trace(log: Log, elf_name: str, entries: AbstractSet[int] = frozenset(), output: int = -1) -> Trace:
     """All rows of a log."""
-    trace = Trace(log)
+    trace = Trace(log, entries, output)
     with Output("joint", log.name, elf_name) as lines:
         trace.read(lines)
     return trace

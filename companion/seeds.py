@@ -3,16 +3,17 @@ from __future__ import annotations
 
 import os
 import signal
-from typing import Mapping, Sequence
+from typing import Mapping, Optional, Sequence
 
 from . import streams
+from .answers import LONGEST, put_answer
 from .errors import REFUSED, CompanionError
 from .options import parse, whole
-from .recording import ENDS, FAULT, Kind, RecordWords, scratch
+from .recording import ENDS, FAULT, Kind, Plan, RecordWords, scratch
 from .text import number
 from .trials import Count, Ending, Search
 
-HELP = """zelkuma seeds [-j N] [--until STATUS] [--only KIND,..] FROM TO -- RECORD-WORDS
+HELP = """zelkuma seeds [-j N] [--until STATUS] [--only KIND,..] [--json] FROM TO -- RECORD-WORDS
 
 Records a program by one order of turns after another, on all processors, until a run ends as wanted.
 
@@ -33,10 +34,11 @@ Ctrl-C ends the search: the table is printed, what was found is kept, and the st
     -j N             so many recordings at a time; without it, as many as there are processors
     --until STATUS   0 (done), 10 (a fault) or 11 (a hart came to the limit); without it 10
     --only KIND,..   these kinds alone
+    --json           prints one JSON object in place of the text (docs/JSON.md)
 
 One recording in threads is under way at a time. One that spins on a busy machine takes long: give a --limit.
 Numbers may end in K, M or G. Trials are saved beside LOG and BOOK, in folders that are taken away again."""
-FORM = "seeds [-j N] [--until STATUS] [--only KIND,..] FROM TO -- RECORD-WORDS"
+FORM = "seeds [-j N] [--until STATUS] [--only KIND,..] [--json] FROM TO -- RECORD-WORDS"
 KINDS = {"seeds": Kind.SEED, "bursts": Kind.BURSTS, "sleepers": Kind.SLEEPER, "threads": Kind.THREADS}
 HEAD = "status", "count", "first", "place"
 NOT_FOUND, INTERRUPTED = 22, 130
@@ -61,22 +63,52 @@ def kinds_of(options: Mapping[str, str], is_lean: bool) -> list[Kind]:
     return sorted({KINDS[word] for word in words})
 
 
+def in_order(counts: Mapping[Ending, Count]) -> list[tuple[Ending, Count]]:
+    return sorted(counts.items(), key=lambda item: (item[0].status, item[1].first))
+
+
 def table(counts: Mapping[Ending, Count]) -> str:
     rows = [HEAD] + [(str(ending.status), number(count.count), str(count.first), ending.place)
-                     for ending, count in sorted(counts.items(), key=lambda item: (item[0].status, item[1].first))]
+                     for ending, count in in_order(counts)]
     widths = [max(len(row[column]) for row in rows) for column in range(3)]
     return "".join("  ".join([cell.ljust(width) for cell, width in zip(row, widths)] + [row[3]]) + "\n" for row in rows)
 
 
 def tell(search: Search) -> None:
-    """Saves what was found, and prints it and how the runs ended."""
+    """Prints what was found, and how the runs ended."""
     text, found = "", search.found
     if found is not None:
-        found.save()
         text = f"{found.plan}: status {search.until}\n{search.words.shown(found.plan)}\n"
     if search.endings.counts:
         text += table(search.endings.counts)
     streams.put(text)
+
+
+def fields_of(plan: Optional[Plan]) -> dict[str, object]:
+    return {"kind": plan.kind.name.lower() if plan else None, "number": plan.number if plan else None}
+
+
+def tell_json(search: Search) -> None:
+    plan, counts = search.found.plan if search.found else None, search.endings.counts
+    endings = [{"status": ending.status, "place": ending.place, "count": count.count, **fields_of(count.first)}
+               for ending, count in in_order(counts)]
+    put_answer("seeds", **fields_of(plan), seed=plan.number if plan and plan.kind is Kind.SEED else None,
+               command=search.words.shown(plan) if plan else None, status=search.until, **{"from": search.numbers.start},
+               to=search.numbers.stop - 1, tried=sum(count.count for count in counts.values()), endings=endings[:LONGEST])
+
+
+def find(search: Search, is_json: bool) -> None:
+    """Searches, saves what was found, and tells how the runs ended: as text also those before a refusal."""
+    try:
+        search.run()
+    finally:
+        streams.on_interrupt(signal.SIG_IGN)
+        if search.found is not None:
+            search.found.save()
+        if not is_json:
+            tell(search)
+    if is_json:
+        tell_json(search)
 
 
 def status_of(search: Search, names: Sequence[str], first: int, last: int) -> int:
@@ -90,7 +122,7 @@ def status_of(search: Search, names: Sequence[str], first: int, last: int) -> in
 
 def main(words: list[str]) -> int:
     own, rest = split(words)
-    (low, high), options = parse(own, {"--jobs": True, "--until": True, "--only": True}, 2, FORM)
+    (low, high), options = parse(own, {"--jobs": True, "--until": True, "--only": True, "--json": False}, 2, FORM)
     first, last = whole(low, 0, LAST_NUMBER, "FROM"), whole(high, 0, LAST_NUMBER, "TO")
     if last < first:
         raise CompanionError(f"TO is {last}, which is below FROM", REFUSED)
@@ -104,12 +136,8 @@ def main(words: list[str]) -> int:
     folders = [scratch(output) for output in record.outputs]
     search = Search(record, range(first, last + 1), kinds, until, jobs, [folder.name for folder in folders])
     try:
-        search.run()
+        find(search, "--json" in options)
     finally:
-        streams.on_interrupt(signal.SIG_IGN)
-        try:
-            tell(search)
-        finally:
-            for folder in folders:
-                folder.cleanup()
+        for folder in folders:
+            folder.cleanup()
     return status_of(search, [name for name, kind in KINDS.items() if kind in kinds], first, last)

@@ -1,7 +1,7 @@
 """What may be guilty of a crash, likeliest first.
 
 A suspect is a load and the store that it got, memory that was used after it was given back or before it was written, a
-row that lost bits, or a call that goes on calling itself. Its score is the cost at which the history of the fault
+row that lost bits, a branch that chose the way, or a call that goes on calling itself. Its score is the cost at which the history of the fault
 reached it, less what its signs are worth; the lowest score is the likeliest.
 
 The signs, and what each is worth, were set by looking at few programs: tests/crashes/README.md says which, and how well
@@ -11,16 +11,17 @@ from __future__ import annotations
 import math
 from typing import Sequence
 
+from .branches import branch_suspects, exit_suspects
 from .facts import At, Facts
 from .history import ADDRESS, History, Pair
 from .instruction import AMO, SP, STORE
-from .lost import lost_bits, narrowings
+from .lost import lost_alignment, lost_bits, narrowings
 from .memory_use import MemoryUse
 from .suspect import Suspect, rank
 from .text import counted, number
 
 OTHER_HART, NARROW, RACE, OTHER_FUNCTION, RARITY = 8, 12, 6, 3, 5
-CLOSES, CLOSE = 4, 3        # the store that closed a circle, and how near to the loop its load is
+CLOSES, CLOSE = 8, 3        # the store that closed a circle, and how near to the loop its load is
 SYMPTOM = 8                 # a stack that has grown into data is a consequence of its depth
 NEAR_STORE = 6              # what a near store is worth less
 MOST_LOOKED_AT = 60         # pairs of loads and stores whose rows are read
@@ -41,7 +42,8 @@ class Ranking:
         stores = sorted(self.stores(), key=rank)
         memory = MemoryUse(facts, history)
         found = [suspect for item in stores[:MOST_LOOKED_AT] for suspect in memory.judge(item)]
-        found += lost_bits(facts, history, narrowings(self.trace, history))
+        found += memory.given_back_twice() + lost_bits(facts, history, narrowings(self.trace, history))
+        found += lost_alignment(facts, history) + branch_suspects(facts, history) + exit_suspects(facts)
         self.found = sorted(stores + found + recursion, key=rank)
 
     def stores(self) -> list[Suspect]:
@@ -82,7 +84,7 @@ class Ranking:
         if trace.hart[store] != trace.hart[load]:
             item.sign(OTHER_HART, "another hart stored it")
         stored, loaded = trace.code_of(store), trace.code_of(load)
-        if stored.kind == STORE and loaded.kind != AMO and stored.width < loaded.width:
+        if stored.kind == STORE and loaded.kind != AMO and stored.width < loaded.width and not self.is_copied(load):
             item.sign(NARROW, f"stored as {SIZES[0][stored.width]}, loaded as a {SIZES[1][loaded.width]}")
         if self.is_recursive and stored.rs1 == SP and loaded.rs1 != SP:
             item.sign(-SYMPTOM, "the stack has grown into this data")
@@ -99,6 +101,10 @@ class Ranking:
             item.sign(RACE, "a race: no atomic instruction orders them")
         self.judge_distance(item)
 
+    def is_copied(self, load: int) -> bool:
+        """Whether a load's word went on into memory as it was, as the parts of a copied object do."""
+        return load in self.history.parent and self.trace.code_of(self.history.parent[load].row).kind == STORE
+
     def judge_rarity(self, item: Suspect) -> None:
         trace = self.trace
         times = trace.pairs.get(trace.pc[item.load] << 32 | trace.pc[item.store] + 1, 1)
@@ -110,11 +116,12 @@ class Ranking:
         """Near stores are let in on the chain of values, but for a register that its function put aside."""
         trace, load, store = self.trace, item.load, item.store
         distance = load - store
+        if trace.is_spill(load, store):
+            item.shown = False
+            return
         if self.history.is_far(load, store):
             if trace.hart[load] == trace.hart[store]:
                 item.why.append(f"{counted(distance, 'row')} earlier")
             return
-        spill = (trace.code_of(load).rs1 == SP and trace.code_of(store).rs1 == SP and
-                 self.places.function(trace.code_of(load).pc) == self.places.function(trace.code_of(store).pc))
-        item.shown = item.cost < ADDRESS and not spill
+        item.shown = item.cost < ADDRESS
         item.sign(-NEAR_STORE, f"{counted(distance, 'row')} earlier")

@@ -14,11 +14,11 @@ from . import streams
 from .analysis import Analysis, analysed
 from .fault import fault_words
 from .instruction import NAMES
-from .options import parse
+from .options import parse, whole
 from .origins import advice
 from .race import Judged, family_word, pairs_of
 from .races import AccessPair, Group, Races
-from .report import DID, STORED
+from .report import ALONE, DID, STORED, unread
 from .suspect import Suspect
 from .text import as_text, number
 from .view_chain import Way, chain_boxes
@@ -27,14 +27,15 @@ from .view_rows import PageRows
 
 HELP = """Draws a log as one page, to look at in a browser: harts, intervals, Edges, races, the fault, and the chain behind it.
 
-    zelkuma view LOG ELF [--names ELF] [--row HART:COUNT] > page.html
+    zelkuma view LOG ELF [--names ELF] [--row HART:COUNT] [--rows N] > page.html
 
 --names   the program with its names and lines, if ELF was stripped
 --row     asks for the chain behind another row than the fault's
+--rows    how many of the last rows are read, as for why
 
 The page is one file that needs no network and no other file. It holds names and lines of source of the program.
 Companions show; the program proves: rows, intervals, Edges and races are the program's, suspects are a judgement."""
-FORM = "view LOG ELF [--names ELF] [--row HART:COUNT]"
+FORM = "view LOG ELF [--names ELF] [--row HART:COUNT] [--rows N]"
 SCRIPTS = ("model.js", "timeline.js", "arrows.js", "rows.js", "panels.js", "chain.js", "controls.js")
 RACES_ASKED, RACE_GROUPS, ARCS = 20000, 40, 12
 SUSPECTS, ORIGINS = 3, 6
@@ -72,7 +73,7 @@ class View:
         self.crash, self.trace, self.log, self.places = crash, crash.trace, crash.log, crash.places
         self.page = Page(self.trace, self.places, self.log)
         self.fault = self.trace.fault if crash.faulted else None
-        self.suspects = ([item for item in crash.suspects if item.shown] or crash.suspects)[:SUSPECTS]
+        self.suspects = crash.shown[:SUSPECTS]
         self.races: Optional[Races] = None
         self.race_groups: list[dict[str, Any]] = []
         self.race_total, self.races_note = 0, ""
@@ -114,7 +115,7 @@ class View:
         steps = [self.step(words, row) for words, row in item.extra]
         if item.kind in STORED:
             steps.append(self.step(STORED[item.kind], item.store))
-        has_load = item.kind not in ("lost", "calls")
+        has_load = item.kind not in ALONE
         if has_load:
             steps.append(self.step("loaded it in", item.load))
         return dict(at=self.page.point(item.guilty), place=self.page.place_of_row(item.guilty), did=DID[item.kind],
@@ -170,16 +171,17 @@ class View:
         edges, (strips, functions), ways = page.edges(), page.strips(), self.ways()
         origins = self.origins_drawn(ways)
         rows = self.rows(edges, ways, origins)
-        data = dict(
-            elf=os.path.basename(crash.elf.name), log=os.path.basename(log.name), harts=log.harts, bytes=log.bytes,
-            rows=self.trace.rows, dropped=log.dropped, intervals=page.intervals(), segments=page.segments(),
+        data: dict[str, Any] = dict(
+            elf=os.path.basename(crash.elf.name), log=os.path.basename(log.shown), harts=log.harts, bytes=log.bytes,
+            rows=self.trace.rows, dropped=log.dropped, unread=log.unread, intervals=page.intervals(), segments=page.segments(),
             edges=edges, allEdges=len(log.edges.counts), strips=strips, functions=functions,
             ends=[[hart, end.count, end.reason, f"{end.value:08x}"] for hart, end in sorted(log.ends.items())],
             races=self.race_groups, allRaces=self.races.total if self.races else 0,
             raceGroups=self.race_total, racesNote=self.races_note,
             windows=rows.as_data(), nodes=rows.nodes, chain=chain_boxes(page, crash.history, ways, origins))
         data.update(self.end_data())
-        data.update(codes=page.code_list, places=page.place_list)
+        told = [data["where"]] + [item["place"] for item in data["suspects"]]
+        data.update(codes=page.code_list, places=page.place_list, around={each: page.around(each) for each in told})
         return data
 
     def end_data(self) -> dict[str, Any]:
@@ -187,7 +189,7 @@ class View:
         crash, history = self.crash, self.crash.history
         final = self.trace.final[self.trace.hart[crash.start]]
         return dict(
-            start=self.page.point(crash.start), where=self.where(), notes=crash.notes + crash.places.trouble(),
+            start=self.page.point(crash.start), where=self.where(), notes=crash.notes + unread(crash) + crash.places.trouble(),
             fault=[self.fault.name, f"{self.fault.value:08x}"] if self.fault else None,
             words=fault_words(self.trace, self.fault, crash.named) if self.fault else [],
             suspects=[self.suspect(item) for item in self.suspects], noSuspect=self.no_suspect(),
@@ -208,8 +210,9 @@ def quoted(text: str) -> str:
 
 
 def main(words: list[str]) -> int:
-    (log_name, elf_name), given = parse(words, {"--names": True, "--row": True}, 2, FORM)
-    with closing(analysed(log_name, elf_name, given.get("--names"), given.get("--row"))) as crash:
+    (log_name, elf_name), given = parse(words, {"--names": True, "--row": True, "--rows": True}, 2, FORM)
+    rows = whole(given["--rows"], 1, 1 << 41, "--rows") if "--rows" in given else 0
+    with closing(analysed(log_name, elf_name, given.get("--names", ""), given.get("--row", ""), rows)) as crash:
         view = View(crash)
         # The page says that it is UTF-8, whatever the terminal's encoding is.
         streams.put_bytes(page_text(view.title(), view.data()).encode("utf-8", "backslashreplace"))

@@ -6,6 +6,7 @@ from typing import NamedTuple, Union
 from .log import NO_END, Log
 from .places import Places
 from .rows import Trace
+from .text import clean
 
 EDGES = 6000            # in the page at most: a half of them evenly over all rows, the other half at the end
 EDGE_STEPS = 1500       # the even half takes its Edges from so many equal parts of the rows
@@ -63,6 +64,12 @@ class Spots(NamedTuple):
     parts: list[tuple[int, int]]
 
 
+class Around(NamedTuple):
+    """Lines of source, and the number of the first."""
+    first: int
+    lines: list[str]
+
+
 class Code(NamedTuple):
     pc: int
     text: str
@@ -76,6 +83,7 @@ class Page:
         self.trace, self.places, self.log = trace, places, log
         self.place_known: dict[int, int] = {}
         self.place_list: list[list[Union[str, list[str]]]] = []
+        self.place_pcs: list[int] = []
         self.code_known: dict[int, int] = {}
         self.code_list: list[Code] = []
 
@@ -90,7 +98,16 @@ class Page:
                 entry += [[frame.function, f"{frame.file}:{frame.line}"] for frame in frames[1:]]
             found = self.place_known[pc] = len(self.place_list)
             self.place_list.append(entry)
+            self.place_pcs.append(pc)
         return found
+
+    def around(self, place: int) -> Around:
+        """The line of source at a place, the one before and the one behind, if the source is there."""
+        frame = self.places.innermost(self.place_pcs[place])
+        lines = self.places.source_lines(frame.path) if frame.line else []
+        first = max(1, frame.line - 1)
+        some = lines[first - 1:frame.line + 1] if frame.line <= len(lines) else []
+        return Around(first, [clean(text.expandtabs(4).rstrip())[:SOURCE_LENGTH] for text in some])
 
     def code(self, at: int) -> int:
         """The number of an instruction."""

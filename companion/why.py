@@ -6,24 +6,30 @@ from contextlib import closing
 
 from . import streams
 from .analysis import analysed
+from .answers import put_answer
 from .errors import UNWRITABLE, CompanionError
-from .options import parse
+from .facts import Byte
+from .options import parse, whole
 from .page import page
 from .report import report
+from .why_answer import why_answer
 
 HELP = """Explains a crash: what happened, where, and which store, call or arithmetic is behind it, likeliest first.
 
-    zelkuma why LOG ELF [--names ELF] [--row HART:COUNT] [--more] [--html FILE]
+    zelkuma why LOG ELF [--names ELF] [--row HART:COUNT] [--output N:BYTE] [--rows N] [--more] [--html FILE] [--json]
 
---names  the same program with names and lines, if ELF was stripped
---row    asks of another row than the fault's
---more   longer lists
---html   saves the same text as a page, too
+--names   the same program with names and lines, if ELF was stripped
+--row     asks of another row than the fault's
+--output  asks of a byte that the guest wrote, as `zelkuma output` numbers them
+--rows    how many of the last rows are read; without it a million, and five if values near the fault come from before
+--more    longer lists
+--html    saves the same text as a page, too
+--json    prints one JSON object in place of the text (docs/JSON.md)
 
 It reads the rows of `joint`, keeps some 30 bytes of each, and shows what they say; the ranking is its own judgement.
 Companions show; the program proves."""
-FORM = "why LOG ELF [--names ELF] [--row HART:COUNT] [--more] [--html FILE]"
-OPTIONS = {"--names": True, "--row": True, "--more": False, "--html": True}
+FORM = "why LOG ELF [--names ELF] [--row HART:COUNT] [--output N:BYTE] [--rows N] [--more] [--html FILE] [--json]"
+OPTIONS = {"--names": True, "--row": True, "--output": True, "--rows": True, "--more": False, "--html": True, "--json": False}
 
 
 def save(name: str, text: str) -> None:
@@ -35,12 +41,24 @@ def save(name: str, text: str) -> None:
             raise CompanionError(f"{name} takes no more: {error.strerror}", UNWRITABLE)
 
 
+def byte_of(text: str) -> Byte:
+    """The byte that N:BYTE says."""
+    write, _, place = text.partition(":")
+    return Byte(whole(write, 0, 1 << 31, "the write of --output N:BYTE"), whole(place, 0, 1 << 31, "the byte of --output N:BYTE"))
+
+
 def main(words: list[str]) -> int:
     (log, elf), given = parse(words, OPTIONS, 2, FORM)
-    with closing(analysed(log, elf, given.get("--names"), given.get("--row"))) as analysis:
+    rows = whole(given["--rows"], 1, 1 << 41, "--rows") if "--rows" in given else 0
+    byte = byte_of(given["--output"]) if "--output" in given else None
+    with closing(analysed(log, elf, given.get("--names", ""), given.get("--row", ""), rows, byte)) as analysis:
         parts = report(analysis, "--more" in given)
+        if "--json" in given:
+            put_answer("why", **why_answer(analysis))
     if "--html" in given:
         save(given["--html"], page(f"Why {os.path.basename(elf)} ended", parts))
+    if "--json" in given:
+        return 0
     lines = []
     for part in parts:
         lines += [part.heading] if part.heading else []

@@ -26,6 +26,7 @@ race LOG ELF
 view LOG ELF
 gdb LOG ELF
 bucket LOG ELF
+output LOG ELF
 seeds FROM TO -- RECORD-WORDS
 again LOG ELF BOOK NEWLOG
 '
@@ -48,20 +49,29 @@ record --ways2 N
 audit --input FILE
 why --names ELF
 why --row HART:COUNT
+why --output N:BYTE
+why --rows N
 why --more
 why --html FILE
+why --json
 race --names ELF
 race --max N
 race --more
+race --json
 view --names ELF
 view --row HART:COUNT
+view --rows N
 gdb --port N
 gdb --end
 gdb --trace
 bucket --names ELF
+bucket --json
+output --names ELF
+output --json
 seeds -j N
 seeds --until STATUS
 seeds --only KIND,..
+seeds --json
 again --input FILE
 again --log-size N
 again --interval N

@@ -26,8 +26,6 @@ class BucketTest(case.Case):
         self.check("two causes, two lines", seen[0].startswith("limit acquire - ") and seen[1].startswith("LoadOutside serve "), seen)
         line = bucket(record("tills", example("tills"), "--harts", "2", "--seed", "1"), example("tills"))
         self.check("a stripped program has its addresses", line.startswith("LoadOutside 00010194 - "), line)
-        named = bucket(record("tills", example("tills"), "--harts", "2", "--seed", "1"), example("tills"), "--names", ring)
-        self.check("--names of another program gives a line, too", named.startswith("LoadOutside "), named)
         line = bucket(record("count", example("word_count"), "--seed", "1"), example("word_count"))
         self.check("a run that exits is told by its code", line.split()[0] in ("exit", "group") and line.endswith(" - -\n"), line)
 

@@ -6,6 +6,7 @@ import shutil
 import subprocess
 import sys
 import tempfile
+from typing import NamedTuple
 
 HERE = os.path.dirname(os.path.abspath(__file__))
 TOP = os.path.dirname(os.path.dirname(HERE))
@@ -77,12 +78,43 @@ def named_examples():
     return folder if os.listdir(folder) else None
 
 
+class Crash(NamedTuple):
+    """A line of tests/crashes/cases.txt."""
+    name: str
+    guilty: str                 # FILE:LINE
+    kind: str
+    group: str
+    harts: str
+    seed: str
+    limit: str
+    ends: str                   # the status of its recording
+    wrong: str                  # the wrong byte of its output, N:BYTE, or nothing
+
+    @property
+    def elf(self):
+        return os.path.join(CRASHES, self.name + ".elf")
+
+    @property
+    def options(self):
+        return ["--harts", self.harts, "--seed", self.seed, "--limit", self.limit]
+
+    @property
+    def lines(self):
+        with open(os.path.join(CRASHES, self.name + ".c")) as file:
+            return file.read().count("\n")
+
+
+def crashes():
+    """The crashing programs, by name."""
+    with open(os.path.join(CRASHES, "cases.txt")) as file:
+        rows = [line.split() for line in file if line.strip() and line[0] != "#"]
+    return {row[0]: Crash(*row[:8], wrong=row[8].strip("-")) for row in rows}
+
+
 def crash(name):
     """Records one of the crashing programs: (log, elf)."""
-    with open(os.path.join(CRASHES, "cases.txt")) as file:
-        words = next(line.split() for line in file if line.startswith(name + " "))
-    elf = os.path.join(CRASHES, name + ".elf")
-    return record(name, elf, "--harts", words[2], "--seed", words[3], "--limit", words[4]), elf
+    case = crashes()[name]
+    return record(name, case.elf, *case.options), case.elf
 
 
 def example(name):

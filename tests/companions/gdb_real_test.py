@@ -205,7 +205,7 @@ def case_monkey(names):
     assert hits > 5, hits
 
 
-Cases = cases.tests_of(globals())
+Cases = cases.tests_of(globals(), GDB, Names)
 
 
 if __name__ == "__main__":

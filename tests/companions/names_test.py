@@ -46,7 +46,7 @@ class NamesTest(case.Case):
         log, elf = self.crash("use_after_free")
         row = b"0 0 00010074 00002197 auipc gp,0x2 | gp=00012074\n"
         status, text, err = companion("names", elf, given=row, environment={"PATH": "/nowhere"})
-        self.check("without addr2line there are symbols", status == 0 and text.endswith("| _start\n"), text + err)
+        self.check("without addr2line there are symbols, and that is said", "no addr2line" in err and status == 0 and text.endswith("| _start\n"), text + err)
         status, text, err = companion("names", example("tills"), given=row)
         self.check("a stripped file adds nothing, and that is said",
                    status == 0 and text.encode() == row and err == "zelkuma: tills.elf has no names: it is stripped\n", text + err)

@@ -1,5 +1,6 @@
 """How a companion ends whatever its streams, its environment and Ctrl-C do: a line and a status, never a traceback."""
 import os
+import pty
 import signal
 import subprocess
 import sys
@@ -85,6 +86,26 @@ class OutputsTest(case.Case):
             self.assertEqual((status, err), (0, ""))
             self.assertIn("zelkuma %s " % word, said)
         self.assertIn("Companions show", common.companion("help", environment={"PYTHONOPTIMIZE": "2"})[1])
+
+
+    def test_progress_on_a_terminal(self):
+        log, elf = self.crash("hang")
+        for words in (("why", log, elf), ("bucket", log, elf)):
+            ours, theirs = pty.openpty()
+            done = subprocess.run([sys.executable, common.COMPANION, *words], stdout=subprocess.PIPE, stderr=theirs, check=False)
+            os.close(theirs)
+            said = os.read(ours, 65536).decode()
+            os.close(ours)
+            self.assertEqual(done.returncode, 0)
+            self.assertRegex(said, r"\A\r4,096 of 60,000 rows are read\x1b\[K(\r[\d,]+ of 60,000 rows are read\x1b\[K)*\r\x1b\[K\Z")
+
+    def test_numbers_that_are_too_long(self):
+        log, elf = self.crash("hang")
+        for words in (("names", elf, "hang.c:" + "9" * 5000), ("why", log, elf, "--row", "0:" + "9" * 5000),
+                      ("why", log, elf, "--rows", "9" * 5000), ("race", log, elf, "--max", "9" * 5000)):
+            status, _, err = common.companion(*words)
+            self.assertIn(status, (2, 4), words)
+            self.assertEqual((err.count("\n"), "failed inside" in err), (1, False))
 
 
 class InterruptTest(case.Case):

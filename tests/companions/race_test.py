@@ -77,7 +77,7 @@ class RaceTest(case.Case):
     def test_a_guilty_line_that_races_is_in_the_first_groups(self):
         for name in ("race_ring", "race_settings"):
             text = self.says("race", *self.crash(name))
-            self.assertIn("/* guilty */", text[:text.find(" 3. ")], name)
+            self.assertIn(common.crashes()[name].guilty, text[:text.find(" 3. ")], name)
 
     def test_it_says_whose_judgement_it_is(self):
         self.assertIn("own judgement; zelkuma races lists each", self.says("race", self.tills(), self.elf("tills")))

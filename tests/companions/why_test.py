@@ -73,11 +73,9 @@ class WhyTest(case.Case):
         again = companion("why", log, elf)[1]
         self.check("the same text twice, but for the times", text.split("\n")[:-2] == again.split("\n")[:-2])
         without = companion("why", log, elf, environment={"PATH": "/nowhere"})[1]
-        self.check("without addr2line it has functions, and says so", "no addr2line was found" in without and "In main" in without, without[-300:])
+        self.check("without addr2line it has functions, and says so", "no addr2line is here" in without and "In main" in without, without[-300:])
         asked = companion("why", log, elf, "--row", "0:100")[1]
         self.check("--row asks of another row", asked.startswith("ROW\n  Asked of hart 0 at count 100"), asked[:200])
-        other = companion("why", log, elf, "--names", example("sort"))[1]
-        self.check("--names of another program is told", "its segments differ" in other, other[-300:])
         status, text, _ = companion("why", record("bare", example("tills"), "--seed", "1", "--harts", "2"), example("tills"))
         self.check("a stripped program: addresses, and --names is told", status == 0 and "In 00010194" in text and
                    "has no names: --names takes" in text, text[:600])

@@ -1,5 +1,6 @@
 """Test files of functions whose names begin with `case_`, as tests of unittest: each gets the file's own recordings."""
 import os
+import shutil
 import sys
 import unittest
 
@@ -10,13 +11,16 @@ from recordings import Recordings
 Skipped = unittest.SkipTest
 
 
-def tests_of(names):
-    """The cases among the names of a module, as a class of tests. The recordings are there while its tests run."""
+def tests_of(names, needs="", given=lambda recordings: recordings):
+    """The cases among the names of a module, as a class of tests. The recordings are there while its tests run; what is
+    `given` of them is handed to each. `needs` is a program without which all are skipped."""
     scratch = Recordings()
 
     class Cases(unittest.TestCase):
         @classmethod
         def setUpClass(cls):
+            if needs and not shutil.which(needs):
+                raise Skipped(f"{needs} isn't installed")
             scratch.__enter__()
 
         @classmethod
@@ -25,7 +29,7 @@ def tests_of(names):
 
     def method(function):
         def test(_self):
-            function(scratch)
+            function(given(scratch))
         test.__doc__ = function.__doc__
         return test
 
