@@ -27,7 +27,7 @@ from .view_rows import PageRows
 
 HELP = """Draws a log as one page, to look at in a browser: harts, intervals, Edges, races, the fault, and the chain behind it.
 
-    zelkuma view LOG ELF [--names ELF] [--row HART:COUNT] [--rows N] > page.html
+    zelkuma view LOG ELF [--names ELF] [--row HART:IC] [--rows N] > page.html
 
 --names   the program with its names and lines, if ELF was stripped
 --row     asks for the chain behind another row than the fault's
@@ -35,7 +35,7 @@ HELP = """Draws a log as one page, to look at in a browser: harts, intervals, Ed
 
 The page is one file that needs no network and no other file. It holds names and lines of source of the program.
 Companions show; the program proves: rows, intervals, Edges and races are the program's, suspects are a judgement."""
-FORM = "view LOG ELF [--names ELF] [--row HART:COUNT] [--rows N]"
+FORM = "view LOG ELF [--names ELF] [--row HART:IC] [--rows N]"
 SCRIPTS = ("model.js", "timeline.js", "arrows.js", "rows.js", "panels.js", "chain.js", "controls.js")
 RACES_ASKED, RACE_GROUPS, ARCS = 20000, 40, 12
 SUSPECTS, ORIGINS = 3, 6

@@ -16,7 +16,7 @@ from .why_answer import why_answer
 
 HELP = """Explains a crash: what happened, where, and which store, call or arithmetic is behind it, likeliest first.
 
-    zelkuma why LOG ELF [--names ELF] [--row HART:COUNT] [--output N:BYTE] [--rows N] [--more] [--html FILE] [--json]
+    zelkuma why LOG ELF [--names ELF] [--row HART:IC] [--output N:BYTE] [--rows N] [--more] [--html FILE] [--json]
 
 --names   the same program with names and lines, if ELF was stripped
 --row     asks of another row than the fault's
@@ -28,7 +28,7 @@ HELP = """Explains a crash: what happened, where, and which store, call or arith
 
 It reads the rows of `joint`, keeps some 30 bytes of each, and shows what they say; the ranking is its own judgement.
 Companions show; the program proves."""
-FORM = "why LOG ELF [--names ELF] [--row HART:COUNT] [--output N:BYTE] [--rows N] [--more] [--html FILE] [--json]"
+FORM = "why LOG ELF [--names ELF] [--row HART:IC] [--output N:BYTE] [--rows N] [--more] [--html FILE] [--json]"
 OPTIONS = {"--names": True, "--row": True, "--output": True, "--rows": True, "--more": False, "--html": True, "--json": False}
 
 

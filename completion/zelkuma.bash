@@ -48,7 +48,7 @@ record --sets2 N
 record --ways2 N
 audit --input FILE
 why --names ELF
-why --row HART:COUNT
+why --row HART:IC
 why --output N:BYTE
 why --rows N
 why --more
@@ -59,7 +59,7 @@ race --max N
 race --more
 race --json
 view --names ELF
-view --row HART:COUNT
+view --row HART:IC
 view --rows N
 gdb --port N
 gdb --end
