@@ -7,6 +7,7 @@ from typing import Mapping, Optional, Sequence
 
 from . import streams
 from .answers import LONGEST, put_answer
+from .call import INTERRUPTED
 from .errors import REFUSED, CompanionError
 from .options import parse, whole
 from .recording import ENDS, FAULT, Kind, Plan, RecordWords, scratch
@@ -41,7 +42,7 @@ Numbers may end in K, M or G. Trials are saved beside LOG and BOOK, in folders t
 FORM = "seeds [-j N] [--until STATUS] [--only KIND,..] [--json] FROM TO -- RECORD-WORDS"
 KINDS = {"seeds": Kind.SEED, "bursts": Kind.BURSTS, "sleepers": Kind.SLEEPER, "threads": Kind.THREADS}
 HEAD = "status", "count", "first", "place"
-NOT_FOUND, INTERRUPTED = 22, 130
+NOT_FOUND = 22
 LAST_NUMBER = 2**64 - 1
 
 
