@@ -28,7 +28,7 @@ PAGES = {
     "docs/DEFINITIONS.md": None,
     "docs/FORMAT.md": 3700,
     "docs/GDB.md": 1300,
-    "docs/GUIDE.md": 5600,
+    "docs/GUIDE.md": 6700,
     "docs/INTERNALS.md": 4000,
     "docs/JSON.md": 600,
     "docs/PROOF.md": 3000,
