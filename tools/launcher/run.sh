@@ -53,7 +53,7 @@ run() { # WORD..
     if [ "$1" = record ]; then
         . "$top/tools/launcher/targets.sh"
         read_words
-        [ -n "$complaint" ] || check_targets
+        [ -n "$complaint" ] || { check_schedule && check_targets; }
     fi
     # without a reader of err no advice can be read
     [ ! /dev/fd/2 -ef /dev/null ] || exec "$program" "${words[@]}"

@@ -85,13 +85,11 @@ read_words() {
         return
     fi
     for ((at = 1; at < ${#words[@]}; at++)); do
-        if [[ -z $only_names && ${words[at]} == -- ]]; then
-            only_names=1
-        elif [[ -z $only_names && ${words[at]} == -?* ]]; then
-            read_option "${words[0]}"
-        else
-            names+=("${words[at]}")
-        fi
+        case $only_names${words[at]} in
+        --) only_names=name: ;;
+        -?*) read_option "${words[0]}" ;;
+        *) names+=("${words[at]}") ;;
+        esac
     done
     read_names "${words[0]}"
 }
