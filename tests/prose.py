@@ -23,7 +23,7 @@ LONGEST_CELL = 60
 # sources and has the words of the code, so of it only the links are judged here.
 PAGES = {
     "README.md": 900,
-    "docs/COMMANDS.md": 4100,
+    "docs/COMMANDS.md": 4200,
     "docs/DECISIONS.md": 3000,
     "docs/DEFINITIONS.md": None,
     "docs/FORMAT.md": 3700,
