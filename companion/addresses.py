@@ -1,36 +1,56 @@
 """Addresses of names: NAME of a function or an object, or FILE:LINE."""
+from __future__ import annotations
+
 import os
+from contextlib import closing
+from typing import NamedTuple
 
-from places import Places
+from .elf import EXECUTABLE, Elf
+from .naming import places_of
+from .places import LONGEST_LINE_NUMBER
 
-EXECUTABLE, MOST_CODE = 1, 1 << 22
+MOST_CODE = 1 << 22
 
 
-def addresses_of(elf, name):
-    """[(address, what is there)] of a name, by address."""
-    found = sorted({(symbol[0], symbol[3]) for symbol in elf.symbols if symbol[3] == name})
+class Named(NamedTuple):
+    """An address, and what is there."""
+    address: int
+    what: str
+
+
+def addresses_of(elf: Elf, name: str) -> list[Named]:
+    """The addresses of a name."""
+    found = sorted({Named(symbol.address, symbol.name) for symbol in elf.symbols if symbol.name == name})
     file, _, line = name.rpartition(":")
-    if found or not (file and line.isascii() and line.isdigit()):
+    if found or not (file and line.isascii() and line.isdigit() and len(line) <= LONGEST_LINE_NUMBER):
         return found
     return addresses_of_line(elf, file, int(line))
 
 
-def addresses_of_line(elf, file, line):
+def addresses_of_line(elf: Elf, file: str, line: int) -> list[Named]:
     """Where each piece of code of a line begins. The tools answer lines of addresses alone, so all code is asked."""
-    places, found, before = Places(elf), [], False
-    for start, size, flags, _ in elf.parts:
-        if flags & EXECUTABLE:
-            code = range(start, start + min(size, MOST_CODE), 4)
-            places.fetch(code)
-            for pc in code:
-                here = [frame for frame in places.frames(pc) if frame[2] == line and is_file(frame[3], file)]
-                if here and not before:
-                    found.append((pc, "%s %s:%d" % here[0][:3]))
-                before = bool(here)
+    found, before = [], False
+    with closing(places_of(elf)) as places:
+        code = code_of(elf)
+        places.fetch(code)
+        for pc in code:
+            here = [frame for frame in places.frames(pc) if frame.line == line and is_file(frame.path, file)]
+            if here and not before:
+                found.append(Named(pc, f"{here[0].function} {here[0].file}:{here[0].line}"))
+            before = bool(here)
     return found
 
 
-def is_file(path, name):
+def code_of(elf: Elf) -> list[int]:
+    """The addresses of all code that the file holds: so many bytes at most, however often it loads them."""
+    found: set[int] = set()
+    for part in elf.parts:
+        if part.flags & EXECUTABLE and len(found) * 4 < MOST_CODE:
+            found.update(range(part.address, part.address + min(len(part.body), MOST_CODE), 4))
+    return sorted(found)
+
+
+def is_file(path: str, name: str) -> bool:
     """Whether a name is a path's end, by whole parts of it."""
     path, name = os.path.normpath(path), os.path.normpath(name)
     return path == name or path.endswith("/" + name)

@@ -3,10 +3,14 @@
 A *giver* is a function that returns addresses of memory which aren't near its argument (malloc). A *taker* is the
 function that is called with such an address before the giver returns it again (free). A function that returns one
 address again and again with no such call between is a look-up, and no giver."""
-import bisect
+from __future__ import annotations
 
-from elf import WRITABLE
-from rows import LOADS, STORES
+import bisect
+from typing import NamedTuple, Optional
+
+from .elf import WRITABLE, Elf
+from .instruction import RA
+from .rows import LOADS, STORES, Trace
 
 LOWEST, NEAR, LARGEST = 4096, 1024, 1 << 16
 MOST_JUMPS = 500000         # so many of the latest calls and returns are looked at, which bounds the memory
@@ -18,32 +22,55 @@ class Block:
     """An address that a giver returned."""
     __slots__ = ("call", "back", "giver", "address")
 
-    def __init__(self, call, back, giver, address):
+    def __init__(self, call: int, back: int, giver: int, address: int) -> None:
         self.call, self.back, self.giver, self.address = call, back, giver, address
+
+
+class Given(NamedTuple):
+    """A block, and the row that wrote its address into a0."""
+    block: Block
+    writer: int
+
+
+class CallWith(NamedTuple):
+    """A call with an address as its argument: its row, and the function that is called."""
+    row: int
+    function: int
 
 
 class Blocks:
     """by_address   {address: the blocks that were given out there, in order}; addresses: these, sorted
-    arguments    {address: [(row, function)] of the calls with it, in order}
+    arguments    {address: the calls with it, in order}
+    writers      {row: the blocks whose address it wrote into a0}
     taker        {giver: taker}"""
 
-    def __init__(self, trace, elf):
+    def __init__(self, trace: Trace, elf: Elf) -> None:
         self.trace, self.elf = trace, elf
-        self.by_address, self.arguments, self.writers = {}, {}, {}
+        self.by_address: dict[int, list[Block]] = {}
+        self.arguments: dict[int, list[CallWith]] = {}
+        self.writers: dict[int, list[Block]] = {}
         self.first = max(0, len(trace.jumps) - MOST_JUMPS)
         found = self.matched()
         givers = self.givers(found)
-        for block, writer in found:
-            if block.giver in givers:
-                self.by_address.setdefault(block.address, []).append(block)
-                self.writers.setdefault(writer, []).append(block)
+        for given in found:
+            if given.block.giver in givers:
+                self.add(given.block)
+                self.writers.setdefault(given.writer, []).append(given.block)
         self.addresses = sorted(self.by_address)
         self.collect_arguments()
         self.taker = self.takers()
 
-    def matched(self):
-        """[(block, the row that wrote the address into a0)] of all calls that return an address of data."""
-        trace, stacks, found = self.trace, {}, []
+    def add(self, block: Block) -> None:
+        """A block replaces those that were given out within its call at the same address, as malloc's are in calloc."""
+        there = self.by_address.setdefault(block.address, [])
+        while there and there[-1].call > block.call:
+            there.pop()
+        there.append(block)
+
+    def matched(self) -> list[Given]:
+        """The blocks of all calls that return an address of data."""
+        trace, found = self.trace, []
+        stacks: dict[int, list[int]] = {}       # {hart: its calls, as places among the jumps}
         for at in range(self.first, len(trace.jumps)):
             n = trace.jumps[at]
             stack = stacks.setdefault(trace.hart[n], [])
@@ -54,10 +81,10 @@ class Blocks:
             address = trace.jump_a0[at]
             if call is not None and self.is_given(address, trace.jump_a0[call]):
                 entry = self.entry(trace.jumps[call])
-                found.append((Block(trace.jumps[call], n, entry, address), trace.jump_writer[at]))
+                found.append(Given(Block(trace.jumps[call], n, entry, address), trace.jump_writer[at]))
         return found
 
-    def call_behind(self, n, stack):
+    def call_behind(self, n: int, stack: list[int]) -> Optional[int]:
         """The call that a return belongs to: the one that the next row follows."""
         trace = self.trace
         known = n < trace.rows and trace.hart[n + 1] == trace.hart[n]
@@ -67,26 +94,29 @@ class Blocks:
                 return call
         return None
 
-    def entry(self, call):
+    def entry(self, call: int) -> int:
         """Where the called function begins: the place of its first row."""
         trace, hart, n = self.trace, self.trace.hart[call], call + 1
         while n <= trace.rows and trace.hart[n] != hart:
             n += 1
         return trace.code_of(n).pc if n <= trace.rows else 0
 
-    def is_given(self, address, argument):
+    def is_given(self, address: int, argument: int) -> bool:
         part = self.elf.part_of(address)
-        return (address % 4 == 0 and LOWEST <= address < self.trace.log.memory and not (part and not part[2] & WRITABLE)
+        return (address % 4 == 0 and LOWEST <= address < self.trace.log.memory and not (part and not part.flags & WRITABLE)
                 and abs(address - argument) >= NEAR)
 
-    def givers(self, found):
+    def givers(self, found: list[Given]) -> set[int]:
         """The functions whose addresses come again only after a call with them."""
-        latest, again, alone, calls = {}, {}, {}, {}
+        latest: dict[tuple[int, int], int] = {}
+        again: dict[int, int] = {}
+        alone: dict[int, int] = {}
+        calls: dict[int, list[int]] = {}
         for at in range(self.first, len(self.trace.jumps)):
             n = self.trace.jumps[at]
-            if self.trace.code_of(n).call:
+            if self.trace.code_of(n).rd == RA:
                 calls.setdefault(self.trace.jump_a0[at], []).append(n)
-        for block, _ in found:
+        for block in (given.block for given in found):
             key = block.giver, block.address
             before = latest.get(key)
             if before is not None:
@@ -98,16 +128,21 @@ class Blocks:
             latest[key] = block.back
         return {giver for giver, _ in latest if alone.get(giver, 0) <= again.get(giver, 0)}
 
-    def collect_arguments(self):
+    def collect_arguments(self) -> None:
         trace = self.trace
         for at in range(self.first, len(trace.jumps)):
             n = trace.jumps[at]
-            if trace.jump_a0[at] in self.by_address and trace.code_of(n).call:
-                self.arguments.setdefault(trace.jump_a0[at], []).append((n, self.entry(n)))
+            if trace.jump_a0[at] in self.by_address and trace.code_of(n).rd == RA:
+                self.arguments.setdefault(trace.jump_a0[at], []).append(CallWith(n, self.entry(n)))
+        for tail in trace.tails:
+            if tail.a0 in self.by_address:
+                self.arguments.setdefault(tail.a0, []).append(CallWith(tail.row, self.entry(tail.row)))
+        for calls in self.arguments.values():
+            calls.sort()
 
-    def takers(self):
+    def takers(self) -> dict[int, int]:
         """Of each giver the function that is called most often between two times that it gives an address out."""
-        votes = {}
+        votes: dict[tuple[int, int], int] = {}
         for address, blocks in self.by_address.items():
             for first, second in zip(blocks, blocks[1:]):
                 for n, function in self.arguments.get(address, ()):
@@ -119,14 +154,14 @@ class Blocks:
             found[giver] = function
         return found
 
-    def behind(self, row, address):
+    def behind(self, row: int, address: int) -> Optional[Block]:
         """The block that a pointer came from, by the row that wrote the pointer and the address that it leads to."""
-        trace, seen, best = self.trace, {row}, None
-        todo = [row]
+        seen, todo = {row}, [row]
+        best: Optional[Block] = None
         while todo and len(seen) < STEPS:
             n = todo.pop()
             for block in self.writers.get(n, ()):
-                if 0 <= address - block.address < LARGEST and (best is None or block.call > best.call):
+                if 0 <= address - block.address < LARGEST and (best is None or self.rank(block) > self.rank(best)):
                     best = block
             if best is not None and n < best.call:
                 continue
@@ -136,7 +171,20 @@ class Blocks:
                     todo.append(source)
         return best
 
-    def is_over(self, block, address, row):
+    def rank(self, block: Block) -> tuple[bool, int]:
+        """Of the blocks behind a pointer the latest counts, of those that somebody takes back if there are any."""
+        return block.giver in self.taker, block.call
+
+    def twice(self) -> list[tuple[int, int]]:
+        """The calls that gave a block back twice: both rows."""
+        found = []
+        for address, blocks in self.by_address.items():
+            for block, following in zip(blocks, blocks[1:] + [None]):
+                rows = self.given_back(block, block.back, following.call if following else self.trace.rows + 1)
+                found += list(zip(rows, rows[1:]))
+        return sorted(found)
+
+    def is_over(self, block: Block, address: int, row: int) -> bool:
         """Whether an address that a row accessed is in another block, handed out behind this one, or in its header."""
         place = bisect.bisect_right(self.addresses, block.address)
         if place == len(self.addresses) or self.addresses[place] - HEADER > address:
@@ -145,16 +193,16 @@ class Blocks:
                   if other.back < row and other.giver == block.giver]
         return bool(others) and not self.given_back(others[-1], others[-1].back, row)
 
-    def sources(self, n):
+    def sources(self, n: int) -> list[int]:
         """The rows that a row's value comes from."""
         trace = self.trace
         if trace.flags[n] & LOADS:
-            return trace.writers(n)[0]
+            return trace.writers(n).rows
         if trace.flags[n] & STORES:
             return [trace.d2[n]]
         return [trace.d1[n], trace.d2[n]] if trace.code_of(n).rd else []
 
-    def given_back(self, block, low, high):
+    def given_back(self, block: Block, low: int, high: int) -> list[int]:
         """The calls of the taker with a block's address between two rows."""
         taker = self.taker.get(block.giver)
         return [n for n, function in self.arguments.get(block.address, ()) if function == taker and low < n < high]

@@ -1,140 +1,193 @@
-"""All that is known of a crash: the rows, the names, and the texts of the rows that a report shows."""
-import program
-from elf import Elf
-from errors import NO_INTERVAL, REFUSED, CompanionError
-from log import Log
-from options import whole
-from places import Places
-from rows import LOADS, Trace
-from text import clean
+"""All that is known of a crash: the rows, the names, and which rows a report begins with."""
+from __future__ import annotations
+
+from dataclasses import dataclass
+from typing import NamedTuple
+
+from . import program
+from .elf import Elf
+from .errors import NO_INTERVAL, REFUSED, CompanionError
+from .instruction import STORE
+from .log import Log
+from .loops import Loop
+from .options import whole
+from .naming import NO_TOOL, places_of
+from .places import Frame
+from .rows import LOADS, Trace
+from .text import clean
 
 LAST_ROWS = 12
 LOOP_ROWS, MOST_LOADS = 300, 12         # what a hart did last, if it didn't fault
+MOST_EXITS = 12
+
+
+class Byte(NamedTuple):
+    """A byte of the guest's output: of which of its writes, and which of that. Both count from 0."""
+    write: int
+    place: int
+
+
+class StackFrame(NamedTuple):
+    """A call: its address, the function, FILE:LINE or nothing, and whether it is inlined in the next one."""
+    address: int
+    function: str
+    place: str
+    inlined: bool
+
+
+class Stack(NamedTuple):
+    """Calls, innermost first; how many are left out before the last one; whether earlier calls are unknown."""
+    frames: list[StackFrame]
+    left_out: int
+    is_cut: bool
 
 
 class Facts:
     """log, elf, trace
     named    the ELF with names (--names), else elf
     places   functions and lines
-    start    the row that is asked of: the fault's, or a hart's last load
+    start    the row that is asked of: the fault's, the store of a byte of the output, or an exit of a loop
     starts   it, and others that the history begins with
-    hangs    whether `starts` are the loads of a loop
-    texts    {row: (text, node of the calls, whether earlier calls are unknown)} of the rows fetched so far
+    loops    of the harts that came to their limit; hangs: whether `starts` are of such a loop
+    output   the byte of the output that is asked of
+    faulted  whether `start` is the fault
+    last     the last rows up to `start`
     notes    lines for the end of a report"""
 
-    def __init__(self, log_name, elf_name, names=None, row=None):
-        self.log = Log(log_name)
-        self.elf = Elf(elf_name)
-        self.named = Elf(names) if names else self.elf
-        self.notes, self.texts, self.recursion, self.asked = [], {}, [], row
-        if names and not self.named.loads_the_same(self.elf):
-            self.notes.append("--names: its segments differ from the recorded program's; names may be wrong")
-        self.places = Places(self.named)
-        if not self.named.symbols:
-            self.notes.append("%s has no names: --names takes the same program with its names" % clean(self.named.name))
-        elif not self.places.tool:
-            self.notes.append("no addr2line was found: there are the names of symbols, and no lines")
-        self.trace = Trace(self.log, elf_name)
-        if not self.trace.last:
-            raise CompanionError("the log holds no row: the records of a hart's last interval passed its --log-size %d; "
-                                 "--format 2 keeps the interval of a crash" % self.log.size, NO_INTERVAL)
-        self.starts = self.find_starts(row)
+    def __init__(self, log: Log, elf: Elf, named: Elf, trace: Trace, row: str = "", output: Byte | None = None) -> None:
+        self.output = output
+        self.log, self.elf, self.named, self.trace, self.asked = log, elf, named, trace, row
+        self.places = places_of(named)
+        self.notes = self.first_notes()
+        if not trace.last:
+            raise CompanionError(f"the log holds no row: the records of a hart's last interval passed its --log-size "
+                                 f"{log.size}; --format 2 keeps the interval of a crash", NO_INTERVAL)
+        asks_of_end = not row and not output and not trace.fault
+        self.loops = [Loop(trace, hart) for hart in limited(log, trace)] if asks_of_end else []
+        exits = [item.row for loop in self.loops for item in loop.exits[:MOST_EXITS] if item.leads_out]
+        self.starts = [writer_of(trace, output)] if output else exits or find_starts(log, trace, row)
         self.start = self.starts[0]
-        self.hangs = not row and not self.trace.fault and bool(self.trace.flags[self.start] & LOADS)
-        self.faulted = bool(self.trace.fault and self.trace.fault[0] == self.start)
-        self.last = self.trace.last_rows(self.start, LAST_ROWS)
+        self.hangs = bool(self.loops)
+        self.faulted = trace.fault is not None and trace.fault.row == self.start
+        self.last = trace.last_rows(self.start, LAST_ROWS)
 
-    def find_starts(self, row):
-        trace = self.trace
-        if row:
-            return [self.asked_row(row)]
-        if trace.fault:
-            return [trace.fault[0]]
-        limited = [hart for hart, end in sorted(self.log.ends.items()) if end[1] == "limit" and hart in trace.last]
-        if not limited:
-            return [max(trace.last.values())]
-        # What a hart that hangs waits for is in the loads of its loop.
-        loads, seen = [], set()
-        for n in reversed(trace.last_rows(trace.last[limited[0]], LOOP_ROWS)):
-            if trace.flags[n] & LOADS and trace.pc[n] not in seen and len(loads) < MOST_LOADS:
-                seen.add(trace.pc[n])
-                loads.append(n)
-        return loads or [trace.last[limited[0]]]
+    def first_notes(self) -> list[str]:
+        if not self.named.symbols:
+            return [f"{clean(self.named.name)} has no names: --names takes the same program with its names"]
+        return [] if self.places.tool else [NO_TOOL]
 
-    def asked_row(self, row):
-        hart, colon, count = row.partition(":")
-        if not colon:
-            raise CompanionError("--row has to be HART:COUNT, not %r" % row, REFUSED)
-        n = self.trace.row_of(whole(hart, 0, 255, "the hart of --row"), whole(count, 0, 1 << 41, "the count of --row"))
-        if not n:
-            raise CompanionError("the log holds no row %s" % row, NO_INTERVAL)
-        return n
+    def close(self) -> None:
+        self.places.close()
 
-    def fetch(self, rows):
-        """Reads the texts of rows, those that it hasn't, in one pass over all."""
-        missing = {n for n in rows if n and n not in self.texts}
-        if missing:
-            self.texts.update(self.trace.second_pass(missing))
-            self.places.fetch({self.trace.code_of(n).pc for n in missing})
-
-    def text(self, n):
-        return self.texts[n][0] if n in self.texts else ""
-
-    def memory_of(self, n, what):
-        """(address, value) of what a fetched row loaded or stored, or None."""
-        _, found, told = self.text(n).rpartition("| %s " % what)
-        return (int(told[:8], 16), int(told[9:17], 16)) if found else None
-
-    def result_of(self, n):
-        """What a fetched row put into its register, or None."""
-        parts = self.text(n).split(" | ")
-        if n and len(parts) > 1 and self.trace.code_of(n).rd:
-            return int(parts[1][-8:], 16)
-        return None
-
-    def pc_of(self, n):
+    def pc_of(self, n: int) -> int:
         return self.trace.code_of(n).pc
 
-    def where(self, n):
+    def where(self, n: int) -> str:
         return self.places.where(self.pc_of(n))
 
-    def line(self, n):
+    def line(self, n: int) -> str:
         return self.places.line(self.pc_of(n))
 
-    def source(self, n):
+    def source(self, n: int) -> str:
         return self.places.source(self.pc_of(n))
 
-    def frames(self, n, most):
-        """[(address, function, FILE:LINE, inlined)] of a fetched row and the calls over it, innermost first; how many
-        calls are left out before the last one; whether earlier calls are unknown."""
-        _, node, cut = self.texts[n]
-        calls, more, first = self.trace.tree.calls(node, most)
-        chain = [self.pc_of(n)] + calls + ([first] if more else [])
+    def stack(self, n: int, most: int) -> Stack:
+        """The place of a row and so many of the calls over it, innermost first."""
+        above = self.trace.tree.calls(self.trace.node_of(n), most)
+        chain = [self.pc_of(n)] + above.calls + ([above.first] if above.more else [])
         self.places.fetch(chain)
         said = []
         for at in chain:
-            frames = self.places.frames(at) or [("", "", 0, "")]
-            for depth, (name, file, line, _) in enumerate(frames):
-                said.append((at, name, "%s:%d" % (file, line) if line else "", depth + 1 < len(frames)))
-        return said, max(0, more - 1), cut
+            frames = self.places.frames(at) or [Frame("", "", 0, "")]
+            for depth, frame in enumerate(frames, 1):
+                place = f"{frame.file}:{frame.line}" if frame.line else ""
+                said.append(StackFrame(at, frame.function, place, depth < len(frames)))
+        return Stack(said, max(0, above.more - 1), self.trace.is_cut(n))
 
-    def ends(self):
-        return ", ".join("hart %d %s %08x" % (hart, end[1], end[2]) for hart, end in sorted(self.log.ends.items()))
+    def callers(self, n: int) -> list[StackFrame]:
+        """The innermost calls over a row."""
+        return self.stack(n, 3).frames[1:4]
+
+    def ends(self) -> str:
+        return ", ".join(f"hart {hart} {end.reason} {end.value:08x}" for hart, end in sorted(self.log.ends.items()))
+
+
+def find_starts(log: Log, trace: Trace, row: str) -> list[int]:
+    """The rows that a history begins with."""
+    if row:
+        return [find_row(trace, asked_row(row))]
+    if trace.fault:
+        return [trace.fault.row]
+    harts = limited(log, trace)
+    if not harts:
+        return [max(trace.last.values())]
+    # What a hart that hangs waits for is in the loads of its loop.
+    loads: list[int] = []
+    seen: set[int] = set()
+    for n in reversed(trace.last_rows(trace.last[harts[0]], LOOP_ROWS)):
+        if trace.flags[n] & LOADS and trace.pc[n] not in seen and len(loads) < MOST_LOADS:
+            seen.add(trace.pc[n])
+            loads.append(n)
+    return loads or [trace.last[harts[0]]]
+
+
+def limited(log: Log, trace: Trace) -> list[int]:
+    """The harts that came to their limit."""
+    return [hart for hart, end in sorted(log.ends.items()) if end.reason == "limit" and hart in trace.last]
+
+
+def writer_of(trace: Trace, byte: Byte) -> int:
+    """The store that gave a byte of the output, or else the row that wrote it."""
+    if byte.write >= len(trace.writes) or byte.place >= trace.writes[byte.write].size:
+        raise CompanionError(f"the log holds no byte {byte.place} of a write {byte.write}: `zelkuma output` lists them",
+                             NO_INTERVAL)
+    place = trace.writes[byte.write].address + byte.place
+    writer = trace.written[place & ~3]
+    while writer and trace.code_of(writer).kind == STORE and not trace.mask(writer) >> (place & 3) & 1:
+        writer = trace.dm[writer]
+    return writer or trace.writes[byte.write].row
+
+
+@dataclass(frozen=True)
+class At:
+    """An instruction: a hart and its count."""
+    hart: int
+    count: int
+
+
+def asked_row(row: str) -> At:
+    """The instruction that --row names."""
+    hart, colon, count = row.partition(":")
+    if not colon:
+        raise CompanionError(f"--row has to be HART:COUNT, not {row!r}", REFUSED)
+    return At(whole(hart, 0, 255, "the hart of --row"), whole(count, 0, 1 << 41, "the count of --row"))
+
+
+def find_row(trace: Trace, at: At) -> int:
+    n = trace.row_of(at.hart, at.count)
+    if not n:
+        raise CompanionError(f"the log holds no row {at.hart}:{at.count}", NO_INTERVAL)
+    return n
 
 
 MOST_RACES, TOO_MANY = 2000, 20
 
 
-def race_pairs(facts):
-    """([(hart, count, hart, count, address)] of `races`, what to say if they aren't listed)"""
-    if facts.log.harts < 2:
-        return [], ""
-    text, status = program.output("races", facts.log.name, facts.elf.name, str(MOST_RACES), accept=(0, TOO_MANY))
-    if status == TOO_MANY:
-        return [], "more than %d races: not listed" % MOST_RACES
+class RacePairs(NamedTuple):
+    """The pairs that `races` lists, and what to say if they aren't listed."""
+    pairs: list[frozenset[At]]
+    note: str
+
+
+def race_pairs(log: Log, elf: Elf) -> RacePairs:
+    if log.harts < 2:
+        return RacePairs([], "")
+    said = program.output("races", log.name, elf.name, str(MOST_RACES), accept=(0, TOO_MANY))
+    if said.status == TOO_MANY:
+        return RacePairs([], f"more than {MOST_RACES} races: not listed")
     found = []
-    for line in text.split("\n"):
-        words = line.split(" ")
-        if words[0] == "race":
-            found.append(tuple(int(word) for word in words[1:5]) + (int(words[5], 16),))
-    return found, ""
+    for line in said.text.split("\n"):
+        if line.startswith("race "):
+            one, count, other, other_count = map(int, line.split(" ")[1:5])
+            found.append(frozenset((At(one, count), At(other, other_count))))
+    return RacePairs(found, "")

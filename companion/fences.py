@@ -3,14 +3,20 @@
 GCC for RV32IMA writes an acquire load as `lw; fence` and a release store as `fence; sw`. The recorder takes
 neither for synchronisation, so both appear in the list of races. Telling them apart is a guess from the code."""
 
+from __future__ import annotations
+
+from typing import Callable, Optional
+
+WordAt = Callable[[int], Optional[int]]         # gives the instruction at an address
+
 LOAD, STORE, AMO, FENCE = 0x03, 0x23, 0x2f, 0x0f
 ARITHMETIC = (0x13, 0x33, 0x37, 0x17)
 NEAR = 3                # the compiler may put some arithmetic between the access and its fence
 READ, WRITE = 2, 1      # bits of a fence's two sets
 
 
-def is_fenced(word_at, pc):
-    """Whether the access at pc has acquire or release meaning; word_at gives the instruction at an address."""
+def is_fenced(word_at: WordAt, pc: int) -> bool:
+    """Whether the access at pc has acquire or release meaning."""
     word = word_at(pc)
     if word is None:
         return False
@@ -18,13 +24,13 @@ def is_fenced(word_at, pc):
     if kind == AMO:
         return True
     if kind == LOAD:
-        return bool(_near_fence(word_at, pc, 4) >> 24 & READ)
+        return bool(near_fence(word_at, pc, 4) >> 24 & READ)
     if kind == STORE:
-        return bool(_near_fence(word_at, pc, -4) >> 20 & WRITE)
+        return bool(near_fence(word_at, pc, -4) >> 20 & WRITE)
     return False
 
 
-def _near_fence(word_at, pc, step):
+def near_fence(word_at: WordAt, pc: int, step: int) -> int:
     """The word of the fence that is next to pc in one direction, or 0."""
     for distance in range(1, NEAR + 1):
         word = word_at(pc + step * distance)

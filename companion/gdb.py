@@ -1,4 +1,22 @@
-"""zelkuma gdb LOG ELF [--port N] [--end] [--trace]
+"""Lets gdb attach to a log."""
+from __future__ import annotations
+
+import socket
+import sys
+from typing import Mapping, Optional
+
+from . import streams
+from .bridge.fills import Fills
+from .bridge.memory import Memory
+from .bridge.packets import PacketStream
+from .bridge.server import Server
+from .bridge.session import Session, begin_session
+from .elf import Elf
+from .errors import UNREADABLE, CompanionError
+from .log import Log, read_log
+from .options import parse, whole
+
+HELP = """zelkuma gdb LOG ELF [--port N] [--end] [--trace]
 
 Lets gdb attach to a recording: harts are threads, and it goes forward and back.
 
@@ -15,28 +33,15 @@ serve as both. The session begins where the log does; `continue` goes to the cra
 
 Companions show; the program proves. What gdb shows is what `debug` says of the log, and ELF of memory that
 nothing touched."""
-import socket
-import sys
-
-from bridge.fills import Fills
-from bridge.memory import Memory
-from bridge.packets import PacketStream
-from bridge.server import Server
-from bridge.session import Session
-from elf import Elf
-from errors import UNREADABLE, CompanionError
-from log import Log
-from options import parse, whole
-
 FORM = "gdb LOG ELF [--port N] [--end] [--trace]"
 LOOPBACK = "127.0.0.1"
 
 
-def wait_for_gdb(port):
-    """Returns the one connection that is taken."""
+def wait_for_gdb(port: int) -> socket.socket:
+    """The one connection that is taken."""
     try:
         with socket.create_server((LOOPBACK, port), backlog=1) as server:
-            print(f"port {server.getsockname()[1]}", file=sys.stderr, flush=True)
+            streams.tell(f"port {server.getsockname()[1]}")
             peer, _ = server.accept()
     except OSError as error:
         raise CompanionError(f"port {port}: {error.strerror}", UNREADABLE)
@@ -44,7 +49,7 @@ def wait_for_gdb(port):
     return peer
 
 
-def serve(log, elf, session, peer, options):
+def serve(log: Log, elf: Elf, session: Session, peer: Optional[socket.socket], options: Mapping[str, str]) -> None:
     """Serves the connection, or what reads and writes this process's own input and output."""
     source, sink = (peer.fileno(),) * 2 if peer else (sys.stdin.fileno(), sys.stdout.fileno())
     stream, fills = PacketStream(source, sink, "--trace" in options), Fills(session.steps, log)
@@ -54,11 +59,11 @@ def serve(log, elf, session, peer, options):
         pass
 
 
-def main(words):
-    (log, elf), options = parse(words, {"--port": True, "--end": False, "--trace": False}, 2, FORM)
+def main(words: list[str]) -> int:
+    (log_name, elf_name), options = parse(words, {"--port": True, "--end": False, "--trace": False}, 2, FORM)
     port = whole(options["--port"], 0, 65535, "--port") if "--port" in options else None
-    log, elf = Log(log), Elf(elf)
-    session = Session(log, elf)
+    log, elf = read_log(log_name), Elf(elf_name)
+    session = begin_session(log, elf_name)
     try:
         if port is None:
             serve(log, elf, session, None, options)

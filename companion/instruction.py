@@ -1,4 +1,6 @@
 """What an instruction reads and writes, from its word. One object for each address and word of a log."""
+from __future__ import annotations
+
 ALU, LOAD, STORE, AMO, CALL, BRANCH, JUMP, NONE = range(8)
 NAMES = ("zero ra sp gp tp t0 t1 t2 s0 s1 a0 a1 a2 a3 a4 a5 a6 a7 s2 s3 s4 s5 s6 s7 s8 s9 s10 s11 "
          "t3 t4 t5 t6").split()
@@ -11,25 +13,28 @@ OP_IMMEDIATE, OP_REGISTER, OP_LUI, OP_AUIPC = 0x13, 0x33, 0x37, 0x17
 
 class Instruction:
     """at      its number among those of the log
+    row     its address, word and text as a row has them
     kind    one of the eight above; rd, rs1, rs2 are 0 if it has none
     width   the bytes that it accesses
-    call, ret, move     a jump that links, a return, a plain copy of a register"""
-    __slots__ = ("at", "pc", "word", "text", "kind", "rd", "rs1", "rs2", "width", "call", "ret", "move", "name")
+    call, ret, move     a jump that links, a return, a plain copy of a register
+    leads   where a branch or a jump by an offset leads, else 0"""
+    __slots__ = ("at", "row", "pc", "word", "text", "kind", "rd", "rs1", "rs2", "width", "call", "ret", "move", "name",
+                 "leads")
 
-    def __init__(self, at, key):
+    def __init__(self, at: int, key: bytes) -> None:
         """`key` is the row's address, word and text."""
         words = key.split(b" ", 2)
-        self.at, self.pc = at, int(words[0], 16)
+        self.at, self.pc, self.row = at, int(words[0], 16), key.decode("ascii", "replace")
         self.text = words[2].decode("ascii", "replace") if len(words) > 2 else "-"
         self.name = self.text.split(" ")[0]
         self.kind, self.rd, self.rs1, self.rs2, self.width = NONE, 0, 0, 0, 4
         self.call = self.ret = self.move = False
-        self.word = 0
+        self.word = self.leads = 0
         if words[1] != b"--------" and self.text not in ("illegal", "-"):
             self.word = int(words[1], 16)
             self.decode()
 
-    def decode(self):
+    def decode(self) -> None:
         word = self.word
         low, f3 = word & 127, word >> 12 & 7
         rd, rs1, rs2 = word >> 7 & 31, word >> 15 & 31, word >> 20 & 31
@@ -41,11 +46,16 @@ class Instruction:
             self.kind, self.rd, self.rs1, self.rs2 = AMO, rd, rs1, rs2
         elif low == OP_BRANCH:
             self.kind, self.rs1, self.rs2 = BRANCH, rs1, rs2
+            offset = (word >> 8 & 15) << 1 | (word >> 25 & 63) << 5 | (word >> 7 & 1) << 11
+            self.leads = self.pc + offset - (word >> 31 << 12)
         elif low == OP_SYSTEM:
             self.kind, self.rd, self.rs1, self.rs2 = CALL, A0, A1, A2
         elif low in (OP_JAL, OP_JALR):
             self.kind, self.rd, self.rs1 = JUMP, rd, rs1 if low == OP_JALR else 0
             self.call = rd in LINKS
+            if low == OP_JAL:
+                offset = (word >> 21 & 1023) << 1 | (word >> 20 & 1) << 11 | (word >> 12 & 255) << 12
+                self.leads = self.pc + offset - (word >> 31 << 20)
             self.ret = low == OP_JALR and rd == 0 and rs1 in LINKS
         elif low in (OP_IMMEDIATE, OP_REGISTER, OP_LUI, OP_AUIPC):
             self.kind, self.rd = ALU, rd

@@ -1,14 +1,38 @@
 """Arithmetic behind a fault that lost bits: a value that was cut to 8 or 16 bits, a product or a shift that became 0."""
-from instruction import ALU, STORE
-from suspect import Suspect
+from __future__ import annotations
+
+from typing import NamedTuple, Optional, Sequence
+
+from .facts import Facts
+from .history import ADDRESS, History
+from .instruction import ALU, STORE, Instruction
+from .rows import LOADS, STORES, Trace
+from .suspect import Suspect
 
 MOST = 300                  # rows that are looked at, nearest to the fault first
-BECAME_ZERO, WAS_CUT = 12, 6
-MASKS = {255: 8, 65535: 16}
+BECAME_ZERO, WAS_CUT, MASKED, BELOW_ZERO = 12, 6, 2, 14
+SMALL = 1 << 16             # how far below zero a difference may be
+MASKS = {(1 << width) - 1: width for width in range(4, 12)}
+ZEROED, DIVIDED = ("mul", "sll", "slli", "srli"), ("div", "divu", "rem", "remu")
+ALIGNMENT, SUMS = 10, ("add", "addi", "sub", "or", "ori")
+STEPS = 14                  # rows of a compared value that are looked at
 
 
-def narrowings(trace, history):
-    """[(row, the row of the value before, the row of a second value)] of rows in the history that can lose bits."""
+class Narrowing(NamedTuple):
+    """A row that can lose bits, the row of the value before, and the row of a second value, or 0."""
+    row: int
+    first: int
+    second: int
+
+
+class Loss(NamedTuple):
+    """What lost bits are worth, and in words."""
+    worth: int
+    words: str
+
+
+def narrowings(trace: Trace, history: History) -> list[Narrowing]:
+    """The rows of the history that can lose bits, nearest first."""
     found = []
     for n in sorted(history.cost, key=lambda row: (history.cost[row], -row)):
         rows = narrowing(trace, n)
@@ -19,31 +43,36 @@ def narrowings(trace, history):
     return found
 
 
-def narrowing(trace, n):
+def narrowing(trace: Trace, n: int) -> Optional[Narrowing]:
     ins = trace.code_of(n)
     if ins.kind == STORE and ins.width < 4:
-        return n, trace.d2[n], 0
+        return Narrowing(n, trace.d2[n], 0)
     if ins.kind != ALU:
         return None
     if ins.name in ("srli", "srai") and width_kept(ins):
         left = trace.d1[n]
         if left and trace.code_of(left).name == "slli" and width_kept(trace.code_of(left)) == width_kept(ins):
-            return n, trace.d1[left], 0
-    elif ins.name in ("mul", "sll", "slli") or ins.name == "andi" and ins.word >> 20 in MASKS:
-        return n, trace.d1[n], trace.d2[n]
+            return Narrowing(n, trace.d1[left], 0)
+    elif ins.name in ZEROED[:3] + DIVIDED or is_halving(ins) or ins.name == "andi" and ins.word >> 20 in MASKS:
+        return Narrowing(n, trace.d1[n], trace.d2[n])
     return None
 
 
-def width_kept(ins):
+def is_halving(ins: Instruction) -> bool:
+    """A shift that divides by 2, 4 or 8."""
+    return ins.name == "srli" and 1 <= (ins.word >> 20 & 31) <= 3
+
+
+def width_kept(ins: Instruction) -> int:
     """How many bits a shift by 16 or 24 keeps, else 0."""
     return {16: 16, 24: 8}.get(ins.word >> 20 & 31, 0)
 
 
-def lost_bits(facts, history, rows):
+def lost_bits(facts: Facts, history: History, rows: Sequence[Narrowing]) -> list[Suspect]:
     """The suspects among these rows, one of each source line."""
-    found = {}
-    for n, first, second in rows:
-        said = loss(facts, n, first, second)
+    found: dict[str, Suspect] = {}
+    for each in rows:
+        n, said = each.row, loss(facts.trace, each)
         if said:
             line = facts.places.line(facts.trace.code_of(n).pc)
             if line in found:
@@ -54,18 +83,71 @@ def lost_bits(facts, history, rows):
     return list(found.values())
 
 
-def loss(facts, n, first, second):
-    """(what it is worth, in words) if bits were lost there."""
-    ins, before = facts.trace.code_of(n), facts.result_of(first)
+def loss(trace: Trace, rows: Narrowing) -> Optional[Loss]:
+    """What was lost there, if bits were."""
+    ins, before = trace.code_of(rows.row), trace.result_of(rows.first)
     if before is None:
         return None
-    if ins.name in ("mul", "sll", "slli"):
-        after, other = facts.result_of(n), facts.result_of(second)
-        zero = after == 0 and before and (ins.name != "mul" or other)
-        return (BECAME_ZERO, "%08x became 0: all its bits were lost" % before) if zero else None
+    if ins.name in DIVIDED:
+        return Loss(BECAME_ZERO, f"{before:08x} was divided by 0") if trace.result_of(rows.second) == 0 else None
+    if ins.name in ZEROED and not is_cut(trace, rows):
+        zero = trace.result_of(rows.row) == 0 and before and (ins.name != "mul" or trace.result_of(rows.second))
+        return Loss(BECAME_ZERO, f"{before:08x} became 0: all its bits were lost") if zero else None
     width = 8 * ins.width if ins.kind == STORE else width_kept(ins) or MASKS.get(ins.word >> 20, 32)
     after = before & (1 << width) - 1
+    if ins.kind != STORE and (1 << 32) - before <= SMALL and trace.result_of(rows.row) == after:
+        return Loss(BELOW_ZERO, f"{before - (1 << 32)}, below zero, became {after:08x}")
     signed = after | (0xffffffff << width & 0xffffffff if after >> width - 1 else 0)
     if before in (after, signed):
         return None
-    return WAS_CUT if after else BECAME_ZERO, "%08x was cut to %d bits, and became %08x" % (before, width, after)
+    worth = MASKED if width not in (8, 16) else WAS_CUT if after else BECAME_ZERO
+    return Loss(worth, f"{before:08x} was cut to {width} bits, and became {after:08x}")
+
+
+def lost_alignment(facts: Facts, history: History) -> list[Suspect]:
+    """Where the address of a misaligned access stopped being a multiple of its width, the nearest such row of each line."""
+    trace, fault = facts.trace, facts.trace.fault
+    if not facts.faulted or not fault or not fault.name.endswith("Misaligned"):
+        return []
+    width = 4 if fault.name.startswith("Target") else fault.instruction.width
+    found: dict[str, Suspect] = {}
+    for n in sorted(history.cost, key=lambda row: (history.cost[row], -row)):
+        if history.cost[n] >= ADDRESS:
+            break
+        before, after = trace.result_of(trace.d1[n]), trace.result_of(n)
+        second = trace.result_of(trace.d2[n]) or 0
+        if trace.code_of(n).name in SUMS and before and after and after % width and not before % width and not second % width:
+            suspect = found.setdefault(facts.line(n), Suspect("odd", n, n, history.cost[n]))
+            if not suspect.why:
+                suspect.sign(ALIGNMENT, f"{before:08x}, a multiple of {width}, became {after:08x}")
+    return list(found.values())
+
+
+class Cut(NamedTuple):
+    """A row that lost bits, and what, in words."""
+    row: int
+    words: str
+
+
+def cut_behind(trace: Trace, row: int) -> Optional[Cut]:
+    """The nearest row behind a row's value that kept only some bits of a value, if it lost one."""
+    todo, seen = [row], {0}
+    for n in todo:
+        if n in seen or len(seen) > STEPS:
+            continue
+        seen.add(n)
+        rows = narrowing(trace, n)
+        said = loss(trace, rows) if rows and is_cut(trace, rows) else None
+        if said:
+            return Cut(n, said.words)
+        if trace.flags[n] & LOADS:
+            todo += trace.writers(n).rows
+        else:
+            todo += [trace.d2[n]] if trace.flags[n] & STORES else [trace.d1[n], trace.d2[n]]
+    return None
+
+
+def is_cut(trace: Trace, rows: Narrowing) -> bool:
+    """Whether a row keeps the lowest bits of a value: it stores some bytes, is a mask, or the second of two shifts."""
+    ins = trace.code_of(rows.row)
+    return ins.kind == STORE or ins.name == "andi" or bool(width_kept(ins)) and ins.name in ("srli", "srai")

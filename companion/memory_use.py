@@ -2,31 +2,40 @@
 
 Both rows of a suspect, a load and the store that it got, have a pointer; each pointer came from a block that a giver
 handed out (blocks.py). Whether it is the same block says what went wrong."""
-from blocks import Blocks
-from history import History
-from lost import lost_bits, narrowings
-from suspect import Suspect
+from __future__ import annotations
+
+from .blocks import Block, Blocks
+from .facts import Facts
+from .history import History
+from .instruction import ALU
+from .lost import lost_bits, narrowings
+from .rows import LOADS, STORES
+from .suspect import Extra, Suspect
 
 GIVEN_BACK, NEVER_WRITTEN, OVER_THE_END = 16, 14, 10
+TWICE, MOST_TWICE = 8, 3     # what such a suspect costs, and how many there may be: else a taker is none
 SIZE_ROWS = 2000            # rows of a size's history
 
 
 class MemoryUse:
-    def __init__(self, facts, history):
+    def __init__(self, facts: Facts, history: History) -> None:
         self.facts, self.trace, self.history = facts, facts.trace, history
         self.blocks = Blocks(facts.trace, facts.elf)
-        self.told = set()
+        self.told: set[tuple[str, int, int]] = set()
 
-    def judge(self, item):
+    def judge(self, item: Suspect) -> list[Suspect]:
         """The suspects that a load and its store are: none, or one of a kind that names the call."""
         trace = self.trace
-        where = self.facts.memory_of(item.load, "load")
+        where = trace.load_of(item.load)
         if where is None or not self.blocks.by_address:
             return []
-        address = where[0]
+        address = where.address
         loaded = self.blocks.behind(trace.d1[item.load], address)
         if loaded is None:
             return []
+        back = [n for n in self.blocks.given_back(loaded, loaded.back, item.load) if n < item.store]
+        if back:
+            return self.used_after(item, back[-1], address)
         if self.blocks.is_over(loaded, address, item.load):
             return self.over_the_end(item, loaded, "the load reads")
         if item.store < loaded.call:
@@ -40,44 +49,86 @@ class MemoryUse:
             return self.given_back(item, loaded, stored)
         return []
 
-    def over_the_end(self, item, block, words):
+    def given_back_twice(self) -> list[Suspect]:
+        """Blocks that were given back twice, whatever the history: no sound program does that."""
+        found = []
+        for first, second in self.blocks.twice():
+            suspect = Suspect("twice", first, first, TWICE)
+            suspect.sign(GIVEN_BACK, "the memory was given back twice")
+            suspect.extra.append(Extra("and again by", second))
+            found.append(suspect)
+        return found if len(found) <= MOST_TWICE else []
+
+    def over_the_end(self, item: Suspect, block: Block, words: str) -> list[Suspect]:
         """An access outside of its block. Its size is suspect, so what the giver was asked for has a history of its own."""
-        if (item.guilty, block.call) not in self.told:
-            self.told.add((item.guilty, block.call))
-            item.sign(OVER_THE_END, "%s over the end of its block, into another" % words)
-            item.extra.append(("that block was given out in", block.call))
+        if self.is_new("over", item.guilty, block.call):
+            item.sign(OVER_THE_END, f"{words} over the end of its block, into another")
+            item.extra.append(Extra("that block was given out in", block.call))
         size = self.trace.jump_writer[self.trace.jump_at(block.call)]
-        if not size or ("size", size) in self.told:
+        if not size or not self.is_new("size", size):
             return []
-        self.told.add(("size", size))
         history = History(self.trace, [size], SIZE_ROWS)
-        rows = narrowings(self.trace, history)
-        self.facts.fetch([n for found in rows for n in found])
-        found = lost_bits(self.facts, history, rows)
+        found = lost_bits(self.facts, history, narrowings(self.trace, history))
         for suspect in found:
             suspect.why.append("it is behind the size of a block that was too small")
             suspect.cost += item.cost
             suspect.score += item.cost - OVER_THE_END
-            suspect.extra.append(("the block was given out in", block.call))
+            suspect.extra.append(Extra("the block was given out in", block.call))
         return found
 
-    def suspect(self, kind, item, guilty, worth, words):
+    def is_new(self, kind: str, row: int, other: int = 0) -> bool:
+        """Whether something is told the first time."""
+        key = kind, row, other
+        if key in self.told:
+            return False
+        self.told.add(key)
+        return True
+
+    def suspect(self, kind: str, item: Suspect, guilty: int, worth: int, words: str) -> list[Suspect]:
         """A suspect once for each row that is guilty."""
-        if (kind, guilty) in self.told:
+        if not self.is_new(kind, guilty):
             return []
-        self.told.add((kind, guilty))
         found = Suspect(kind, item.load, item.store, item.cost)
         found.guilty = guilty
         found.sign(worth, words)
         item.shown = False                      # this one tells of both its rows
         return [found]
 
-    def unwritten(self, item, block):
+    def unwritten(self, item: Suspect, block: Block) -> list[Suspect]:
         """The load's block was handed out after the store."""
         return self.suspect("unwritten", item, block.call, NEVER_WRITTEN,
                             "nothing wrote the word since the block was given out: it has old bytes")
 
-    def given_back(self, item, loaded, stored):
+    def used_after(self, item: Suspect, back: int, address: int) -> list[Suspect]:
+        """A pointer that was kept over the call that gave its memory back."""
+        owner = self.blocks.behind(self.trace.d1[item.store], address)
+        again = "given out again, and" if owner and owner.call > back else "and"
+        found = self.suspect("back", item, back, GIVEN_BACK, f"the memory was given back, {again} still used")
+        kept = self.kept_pointer(item.load, back)
+        for suspect in found:
+            if kept:
+                suspect.extra.append(Extra("the pointer is older: it comes from", kept))
+        return found
+
+    def kept_pointer(self, load: int, back: int) -> int:
+        """The row that a load's pointer comes from, as it was before a row: copies and spills of it are passed."""
+        trace, n = self.trace, self.trace.d1[load]
+        while n:
+            ins, before = trace.code_of(n), 0
+            if trace.flags[n] & LOADS:
+                before = next(iter(trace.writers(n).rows), 0)
+                if n < back and not (before and trace.is_spill(n, before)):
+                    return n
+            elif trace.flags[n] & STORES:
+                before = trace.d2[n]
+            elif ins.kind == ALU:
+                if n < back and not ins.move:
+                    return n
+                before = trace.d1[n]
+            n = before
+        return 0
+
+    def given_back(self, item: Suspect, loaded: Block, stored: Block) -> list[Suspect]:
         """The block that the store used was handed out after the load's, and has the same memory."""
         rows = self.blocks.given_back(loaded, loaded.back, stored.call)
         if rows:
@@ -89,5 +140,5 @@ class MemoryUse:
             return []
         found = self.suspect("back", item, before[-2], GIVEN_BACK, "the memory was given back twice, and so has two owners")
         for suspect in found:
-            suspect.extra.append(("and again by", before[-1]))
+            suspect.extra.append(Extra("and again by", before[-1]))
         return found

@@ -1,20 +1,24 @@
-"""Functions and lines of addresses, and addresses of names.
+"""The filter that puts functions and lines behind rows, and the addresses of names."""
+from __future__ import annotations
+
+import os
+import sys
+from contextlib import closing
+
+from . import streams
+from .addresses import addresses_of
+from .elf import Elf
+from .errors import MISSING, CompanionError
+from .naming import places_of
+from .options import parse
+
+HELP = """Functions and lines of addresses, and addresses of names.
 
     zelkuma names ELF               a filter: puts the function and line behind each row that it reads
     zelkuma names ELF NAME..        prints the address of a function, an object or FILE:LINE, for `break` and `word`
 
 ELF is the program with its names and lines (gcc -g); the log may be of the same program stripped. Lines come from
 addr2line of binutils or LLVM; without one there are the names of ELF's symbols, and without these the rows alone."""
-import os
-import sys
-
-from addresses import addresses_of
-from elf import Elf
-from errors import MISSING, CompanionError
-from options import parse
-from places import Places
-from text import clean
-
 FORM = "names ELF [NAME | FILE:LINE]..."
 CHUNK = 1 << 16
 
@@ -22,12 +26,15 @@ CHUNK = 1 << 16
 class Filter:
     """Puts the name of its place behind each line that tells of one."""
 
-    def __init__(self, elf):
-        self.elf, self.places = elf, Places(elf)
-        self.kept = {}                          # third word of a row: what is put behind, with the line's end
-        self.last = {}                          # hart: what was put behind its last row
+    def __init__(self, elf: Elf) -> None:
+        self.elf, self.places = elf, places_of(elf)
+        self.kept: dict[bytes, bytes] = {}      # third word of a row: what is put behind, with the line's end
+        self.last: dict[bytes, bytes] = {}      # hart: what was put behind its last row
 
-    def line(self, line):
+    def close(self) -> None:
+        self.places.close()
+
+    def line(self, line: bytes) -> bytes:
         """A line with its end."""
         words = line.split(None, 3)
         if len(words) < 3:
@@ -41,7 +48,7 @@ class Filter:
             return line[:-1] + behind
         return self.other(line, words)
 
-    def of_address(self, text):
+    def of_address(self, text: bytes) -> bytes:
         """What is put behind an address of code."""
         try:
             said = self.places.named(int(text, 16))
@@ -49,7 +56,7 @@ class Filter:
             return b"\n"
         return b" | %s\n" % said.encode() if said else b"\n"
 
-    def of_data(self, text):
+    def of_data(self, text: bytes) -> bytes:
         """What is put behind an address of data."""
         try:
             said = self.elf.data_name(int(text[:8], 16))
@@ -57,7 +64,7 @@ class Filter:
             return b"\n"
         return b" | %s\n" % said.encode() if said else b"\n"
 
-    def other(self, line, words):
+    def other(self, line: bytes, words: list[bytes]) -> bytes:
         """A line that is no row: an end, one of `list`, of `debug`, of `races`, a word of memory."""
         kind, said = words[0] if words else b"", b"\n"
         if kind == b"end" and len(words) > 2:
@@ -74,7 +81,7 @@ class Filter:
             said = self.of_address(words[3].split()[0])
         return line[:-1] + said
 
-    def list_line(self, words):
+    def list_line(self, words: list[bytes]) -> bytes:
         """A line of `list` tells no address of code but for a jump that found none there."""
         if len(words) != 3:
             return b"\n"
@@ -83,34 +90,33 @@ class Filter:
         return self.of_data(words[2]) if words[1].startswith((b"Load", b"Store")) else b"\n"
 
 
-def filter_input(elf):
+def filter_input(elf: Elf) -> int:
     """Each piece of the input is answered at once, so a session of `debug` can be read through it."""
-    rows, rest = Filter(elf), b""
-    source, out = sys.stdin.buffer, sys.stdout.buffer
-    while True:
-        piece = source.read1(CHUNK)
-        lines = (rest + piece).split(b"\n")
-        rest = lines.pop()
-        out.write(b"".join([rows.line(line + b"\n") for line in lines]))
-        out.flush()
-        if not piece:
-            break
-    if rest:                                    # a last line without an end gets none
-        out.write(rows.line(rest + b"\n")[:-1])
+    rest, source = b"", open(sys.stdin.fileno(), "rb", closefd=False)
+    with closing(Filter(elf)) as rows:
+        while True:
+            piece = source.read1(CHUNK)
+            lines = (rest + piece).split(b"\n")
+            rest = lines.pop()
+            streams.put_bytes(b"".join([rows.line(line + b"\n") for line in lines]))
+            if not piece:
+                break
+        if rest:                                # a last line without an end gets none
+            streams.put_bytes(rows.line(rest + b"\n")[:-1])
     return 0
 
 
-def main(words):
+def main(words: list[str]) -> int:
     names, _ = parse(words, {}, range(1, 1000), FORM)
     elf = Elf(names[0])
     if not elf.symbols:
-        sys.stderr.write("zelkuma: %s has no names: it is stripped\n" % clean(os.path.basename(elf.name)))
+        streams.say(f"{os.path.basename(elf.name)} has no names: it is stripped")
     if len(names) == 1:
         return filter_input(elf)
     for name in names[1:]:
         found = addresses_of(elf, name)
         if not found:
-            raise CompanionError("%s has no %s" % (os.path.basename(elf.name), name), MISSING)
-        for address, said in found:
-            print("%08x %s" % (address, said))
+            raise CompanionError(f"{os.path.basename(elf.name)} has no {name}", MISSING)
+        for each in found:
+            streams.put(f"{each.address:08x} {each.what}\n")
     return 0

@@ -1,38 +1,64 @@
 """Reads the words of a companion: names, and options as `--more`, `--html FILE` or `--html=FILE`."""
-from errors import REFUSED, CompanionError
+from __future__ import annotations
+
+import re
+from typing import Mapping, NamedTuple, NoReturn, Sequence
+
+from .errors import REFUSED, CompanionError
+
+TIMES = {"": 1, "K": 1 << 10, "M": 1 << 20, "G": 1 << 30}
 
 
-def parse(words, known, names, form):
-    """(names, {option: value}). `known` says of each option if it takes a value; `names` how many names there are,
-    as a number or a range of them; `form` is shown if the words are refused."""
-    def refuse(why):
-        raise CompanionError("%s; the words are: %s" % (why, form), REFUSED)
+class Words(NamedTuple):
+    """names    the words that are no options
+    options  {option: its value}; of one without a value the value is empty"""
+    names: list[str]
+    options: dict[str, str]
 
-    found, given, words = [], {}, list(words)
-    while words:
-        word = words.pop(0)
+
+def parse(words: Sequence[str], known: Mapping[str, bool], names: int | range, form: str) -> Words:
+    """`known` says of each option if it takes a value; `names` how many names there are, as a number or a range of them;
+    `form` is shown if the words are refused."""
+    def refuse(why: str) -> NoReturn:
+        raise CompanionError(f"{why}; the words are: {form}", REFUSED)
+
+    found: list[str] = []
+    given: dict[str, str] = {}
+    left = list(words)
+    while left:
+        word = left.pop(0)
         option, equals, value = word.partition("=")
         if word == "--":
-            found, words = found + words, []
+            found, left = found + left, []
         elif not word.startswith("--"):
             found.append(word)
         elif option not in known or option in given:
-            refuse("option %s is %s" % (option, "given twice" if option in given else "unknown"))
+            refuse(f"option {option} is {'given twice' if option in given else 'unknown'}")
         elif not known[option]:
             if equals:
-                refuse("option %s takes no value" % option)
-            given[option] = True
+                refuse(f"option {option} takes no value")
+            given[option] = ""
         else:
-            if not equals and not words:
-                refuse("option %s needs a value" % option)
-            given[option] = value if equals else words.pop(0)
+            if not equals and not left:
+                refuse(f"option {option} needs a value")
+            given[option] = value if equals else left.pop(0)
     if len(found) not in (names if isinstance(names, range) else (names,)):
-        refuse("%d names are given" % len(found))
-    return found, given
+        refuse(f"{len(found)} names are given")
+    return Words(found, given)
 
 
-def whole(text, low, high, what):
+def decimal(text: str) -> str:
+    """A number that ends in K, M or G, or begins with 0x, in decimal, as the script zelkuma hands it to `record`. Any other
+    word stays as it is."""
+    found = re.fullmatch(r"0x([0-9a-fA-F]{1,16})|([0-9]{1,20})([KMG]?)", text)
+    if not found:
+        return text
+    return str(int(found[1], 16) if found[1] else int(found[2]) * TIMES[found[3]])
+
+
+def whole(text: str, low: int, high: int, what: str) -> int:
     """The number that a word says, if it is one from `low` to `high`."""
-    if not (text.isascii() and text.isdigit() and len(text) < 21 and low <= int(text) <= high):
-        raise CompanionError("%s has to be a number from %d to %d, not %r" % (what, low, high, text), REFUSED)
-    return int(text)
+    number = decimal(text)
+    if not (number.isascii() and number.isdigit() and low <= int(number) <= high):
+        raise CompanionError(f"{what} has to be a number from {low} to {high}, not {text!r}", REFUSED)
+    return int(number)

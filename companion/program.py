@@ -1,15 +1,20 @@
 """Runs the proved program, and hands on what it refuses with its own line and status."""
-import os
-import subprocess
-import tempfile
+from __future__ import annotations
 
-from errors import CompanionError
+import os
+import signal
+import subprocess
+from types import TracebackType
+from typing import Iterator, NamedTuple, Sequence
+
+from .errors import CompanionError
 
 BUFFER = 1 << 20
 NOT_BUILT = 1
+LONGEST_REFUSAL = 1 << 16
 
 
-def path():
+def path() -> str:
     """The program: $ZELKUMA_PROGRAM, which the launcher sets, else the one built in this repository."""
     named = os.environ.get("ZELKUMA_PROGRAM")
     top = os.path.dirname(os.path.dirname(os.path.abspath(__file__)))
@@ -17,56 +22,64 @@ def path():
                                         os.path.join(top, "release", "zelkuma-x86_64-linux")]:
         if os.access(found, os.X_OK) and os.path.isfile(found):
             return found
-    raise CompanionError("%s is no program; `zelkuma build` builds it" % named if named else
-                         "the program isn't built; `zelkuma build` builds it", NOT_BUILT)
+    what = f"{named} is no program" if named else "the program isn't built"
+    raise CompanionError(f"{what}; `zelkuma build` builds it", NOT_BUILT)
 
 
 class Output:
     """The lines, as bytes, that a command of the program prints. Use it by `with`: a reader that stops early
     ends the program. A status that isn't in `accept` raises the program's own line, after the last line is read."""
 
-    def __init__(self, command, *names, accept=(0,)):
-        self.words, self.accept = [path(), command, "--"] + list(names), accept
-        self.status = None
+    def __init__(self, command: str, *names: str, accept: Sequence[int] = (0,), options: Sequence[str] = ()) -> None:
+        self.words, self.accept = [path(), command, *options, "--", *names], accept
+        self.status: int | None = None
 
-    def __enter__(self):
-        self.errors = tempfile.TemporaryFile()
+    def __enter__(self) -> Output:
         try:
             self.process = subprocess.Popen(self.words, stdin=subprocess.DEVNULL, stdout=subprocess.PIPE,
-                                            stderr=self.errors, bufsize=BUFFER)
+                                            stderr=subprocess.PIPE, bufsize=BUFFER)
         except OSError as error:
-            raise CompanionError("%s can't be run: %s" % (self.words[0], error.strerror), NOT_BUILT)
+            raise CompanionError(f"{self.words[0]} can't be run: {error.strerror}", NOT_BUILT)
+        assert self.process.stdout and self.process.stderr
+        self.out, self.err = self.process.stdout, self.process.stderr
         return self
 
-    def __iter__(self):
-        yield from self.process.stdout
+    def __iter__(self) -> Iterator[bytes]:
+        yield from self.out
         self.finish()
 
-    def read(self):
+    def read(self) -> bytes:
         """All that it prints."""
-        data = self.process.stdout.read()
+        data = self.out.read()
         self.finish()
         return data
 
-    def finish(self):
+    def finish(self) -> None:
         """Waits for the end, and raises if the status isn't accepted."""
         self.status = self.process.wait()
+        if self.status == -signal.SIGINT:
+            raise KeyboardInterrupt
         if self.status not in self.accept:
-            self.errors.seek(0)
-            lines = self.errors.read(65536).decode("utf-8", "replace").strip().split("\n")
-            line = lines[-1].split(": ", 1)[-1] if lines[-1] else "the program ended with %d" % self.status
-            raise CompanionError(line, self.status if self.status > 0 else NOT_BUILT)
+            last = self.err.read(LONGEST_REFUSAL).decode("utf-8", "replace").strip().split("\n")[-1]
+            said = last.split(": ", 1)[-1] or f"the program ended with {self.status}"
+            raise CompanionError(said, self.status if self.status > 0 else NOT_BUILT)
 
-    def __exit__(self, *_):
+    def __exit__(self, _type: type[BaseException] | None, _error: BaseException | None,
+                 _where: TracebackType | None) -> None:
         if self.status is None:
             self.process.kill()
             self.process.wait()
-        self.process.stdout.close()
-        self.errors.close()
+        self.out.close()
+        self.err.close()
 
 
-def output(command, *names, accept=(0,)):
-    """What a command prints, as text, and its status."""
-    with Output(command, *names, accept=accept) as out:
+class Said(NamedTuple):
+    """What a command printed, as text, and its status."""
+    text: str
+    status: int
+
+
+def output(command: str, *names: str, accept: Sequence[int] = (0,), options: Sequence[str] = ()) -> Said:
+    with Output(command, *names, accept=accept, options=options) as out:
         text = out.read().decode("ascii", "replace")
-    return text, out.status
+    return Said(text, out.status or 0)

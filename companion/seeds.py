@@ -1,217 +1,144 @@
-"""zelkuma seeds [-j N] [--until STATUS] FROM TO -- RECORD-WORDS
+"""Searches for turns by which a program ends as wanted."""
+from __future__ import annotations
 
-Records a program by one seed after another, on all processors, until a run ends as wanted.
+import os
+import signal
+from typing import Mapping, Optional, Sequence
 
-    zelkuma seeds 1 1000 -- --harts 2 hand_over.elf LOG BOOK
+from . import streams
+from .answers import LONGEST, put_answer
+from .call import INTERRUPTED
+from .errors import REFUSED, CompanionError
+from .options import parse, whole
+from .recording import ENDS, FAULT, Kind, Plan, RecordWords, scratch
+from .text import number
+from .trials import Count, Ending, Search
 
-RECORD-WORDS are those of `record` but for --seed. Of the seeds FROM to TO the lowest is found whose
-recording ends with STATUS: `seed 3: status 10` is printed, and LOG and BOOK are those of that seed.
-Without one nothing is saved, and the status is 22.
+HELP = """zelkuma seeds [-j N] [--until STATUS] [--only KIND,..] [--json] FROM TO -- RECORD-WORDS
+
+Records a program by one order of turns after another, on all processors, until a run ends as wanted.
+
+    zelkuma seeds 1 1000 -- --harts 4 buffers.elf LOG BOOK
+
+RECORD-WORDS are those of `record` but for --seed. Of each number from FROM to TO all kinds of turns are tried:
+
+    seeds            a hart is drawn for each turn
+    bursts           one hart keeps its turns for a while, then another is drawn
+    sleepers         one hart takes no turn for a while
+    threads          no number draws them: the harts run side by side
+
+LOG and BOOK are those of the first run that ends with STATUS; if a number draws its turns, no lower one does.
+Its kind and number are printed, and the command that makes it again. A table tells how the runs up to it ended: status,
+count, the first of them, and of a fault the line of `bucket`. If none ends so, nothing is saved, and the status is 22.
+Ctrl-C ends the search: the table is printed, what was found is kept, and the status is 130.
 
     -j N             so many recordings at a time; without it, as many as there are processors
     --until STATUS   0 (done), 10 (a fault) or 11 (a hart came to the limit); without it 10
+    --only KIND,..   these kinds alone
+    --json           prints one JSON object in place of the text (docs/JSON.md)
 
-Trials are saved beside LOG and BOOK, in folders that are taken away again."""
-import contextlib
-import os
-import signal
-import subprocess
-import sys
-import tempfile
-import time
-
-import program
-from errors import REFUSED, UNREADABLE, CompanionError
-from options import parse, whole
-
-FORM = "seeds [-j N] [--until STATUS] FROM TO -- RECORD-WORDS"
-RECORD_FORM = "[OPTION..] ELF LOG BOOK, as for record, but for --seed"
-VALUES = "--input --format --harts --interval --limit --log-size --memory --sets --ways --line --sets2 --ways2"
-RECORD_OPTIONS = {"--lean": False, "--seed": True, **{name: True for name in VALUES.split()}}
-FAULT, ENDS = 10, (0, 10, 11)  # statuses of recordings that were made
+One recording in threads is under way at a time. One that spins on a busy machine takes long: give a --limit.
+Numbers may end in K, M or G. Trials are saved beside LOG and BOOK, in folders that are taken away again."""
+FORM = "seeds [-j N] [--until STATUS] [--only KIND,..] [--json] FROM TO -- RECORD-WORDS"
+KINDS = {"seeds": Kind.SEED, "bursts": Kind.BURSTS, "sleepers": Kind.SLEEPER, "threads": Kind.THREADS}
+HEAD = "status", "count", "first", "place"
 NOT_FOUND = 22
-LAST_SEED = 2**64 - 1
-PAUSE = 0.2  # seconds between two lines of progress
+LAST_NUMBER = 2**64 - 1
 
 
-class Words:
-    """What the words of `record` name."""
-
-    def __init__(self, words):
-        names, options = parse(words, RECORD_OPTIONS, range(2, 4), RECORD_FORM)
-        if "--seed" in options:
-            raise CompanionError("the seeds are FROM to TO, so --seed can't be given", REFUSED)
-        if len(names) == 2 and "--lean" not in options:
-            raise CompanionError("the words of record have no BOOK", REFUSED)
-        self.elf, *self.outputs = names
-        self.options = [f"{name}={value}" if value is not True else name for name, value in options.items()]
-        self.outputs = [os.path.realpath(name) for name in self.outputs]
-        for output in self.outputs:
-            self._check(output, [self.elf] + [options[name] for name in ("--input",) if name in options])
-
-    def _check(self, output, inputs):
-        """An output takes another file's place in the end: it has to be no input, and no device."""
-        if os.path.exists(output) and not os.path.isfile(output):
-            raise CompanionError(f"{output} is no file that can be replaced", UNREADABLE)
-        for name in inputs:
-            if os.path.exists(output) and os.path.exists(name) and os.path.samefile(output, name):
-                raise CompanionError(f"{output} is read and would be replaced", REFUSED)
-
-    def command(self, seed, outputs):
-        return [program.path(), "record", *self.options, f"--seed={seed}", "--", self.elf, *outputs]
-
-
-class Trial:
-    """A recording by one seed, under way or done."""
-
-    def __init__(self, words, seed, folders):
-        self.seed, self.words = seed, words
-        self.outputs = [os.path.join(folder, f"{seed}.{number}") for number, folder in enumerate(folders)]
-        with open(self.outputs[0] + ".err", "wb") as said:
-            self.process = subprocess.Popen(words.command(seed, self.outputs), stdin=subprocess.DEVNULL,
-                                            stdout=subprocess.DEVNULL, stderr=said)
-
-    def end(self, status):
-        """Takes the status that the system tells of the process."""
-        self.process.returncode = os.WEXITSTATUS(status) if os.WIFEXITED(status) else -os.WTERMSIG(status)
-        return self.process.returncode
-
-    def kill(self):
-        """Ends it, if it hasn't ended. Popen's own kill would take its status, which `run` waits for."""
-        with contextlib.suppress(ProcessLookupError):
-            os.kill(self.process.pid, signal.SIGKILL)
-
-    def refusal(self):
-        with open(self.outputs[0] + ".err", "rb") as said:
-            lines = said.read().decode("utf-8", "replace").strip().split("\n")
-        return lines[-1].split(": ", 1)[-1] or f"the recording of seed {self.seed} ended with {self.process.returncode}"
-
-    def remove(self):
-        for name in self.outputs + [self.outputs[0] + ".err"]:
-            if os.path.exists(name):
-                os.remove(name)
-
-    def save(self):
-        for name, output in zip(self.outputs, self.words.outputs):
-            if os.path.exists(name):
-                os.replace(name, output)
-
-
-class Progress:
-    """One line on a terminal, written over and over."""
-
-    def __init__(self, count):
-        self._count, self._begin, self._shown = count, time.monotonic(), 0.0
-        self._is_shown = sys.stderr.isatty()
-
-    def tell(self, done, found):
-        now = time.monotonic()
-        if self._is_shown and now - self._shown >= PAUSE:
-            self._shown = now
-            rate = done / max(now - self._begin, 0.001)
-            lowest = f", the lowest so far is {found.seed}" if found else ""
-            sys.stderr.write(f"\r{done} of {self._count} seeds, {rate:.1f} a second{lowest}\x1b[K")
-            sys.stderr.flush()
-
-    def clear(self):
-        if self._is_shown and self._shown:
-            sys.stderr.write("\r\x1b[K")
-            sys.stderr.flush()
-
-
-class Search:
-    """Trials by ascending seeds; those above the lowest that was found are given up."""
-
-    def __init__(self, words, seeds, until, jobs, folders):
-        self._words, self._seeds, self._until = words, iter(seeds), until
-        self._jobs, self._folders = jobs, folders
-        self._running = {}  # by process
-        self._found, self._done = None, 0
-        self._progress = Progress(len(seeds))
-
-    def _start(self):
-        while self._found is None and len(self._running) < self._jobs:
-            seed = next(self._seeds, None)
-            if seed is None:
-                return
-            trial = Trial(self._words, seed, self._folders)
-            self._running[trial.process.pid] = trial
-
-    def _give_up(self):
-        """Ends the trials above the lowest that was found."""
-        for trial in self._running.values():
-            if trial.seed > self._found.seed:
-                trial.kill()
-
-    def _take(self, trial, status):
-        """Takes a trial that has ended."""
-        self._done += 1
-        if self._found is not None and trial.seed > self._found.seed:
-            trial.remove()
-        elif status == self._until:
-            if self._found is not None:
-                self._found.remove()
-            self._found = trial
-            self._give_up()
-        elif status in ENDS:
-            trial.remove()
-        else:
-            raise CompanionError(trial.refusal(), status if status > 0 else UNREADABLE)
-
-    def run(self):
-        """Returns the trial of the lowest seed that ends as wanted, or None."""
-        try:
-            self._start()
-            while self._running:
-                process, status = os.wait()
-                trial = self._running.pop(process)
-                self._take(trial, trial.end(status))
-                self._progress.tell(self._done, self._found)
-                self._start()
-        finally:
-            self._progress.clear()
-            for trial in self._running.values():
-                trial.kill()
-                trial.process.wait()
-        return self._found
-
-
-def split(words):
-    """Returns the words before the first `--`, with -j as an option of its full name, and those behind it."""
+def split(words: list[str]) -> tuple[list[str], list[str]]:
+    """The words before the first `--`, with -j as an option of its full name, and those behind it."""
     at = words.index("--") if "--" in words else len(words)
     own = ["--jobs" if word == "-j" else "--jobs=" + word[2:] if word[:2] == "-j" else word for word in words[:at]]
     return own, words[at + 1:]
 
 
-def scratch(output):
-    """A folder beside an output, so that the file found takes its place in one step."""
+def kinds_of(options: Mapping[str, str], is_lean: bool) -> list[Kind]:
+    """The kinds of turns, in order. Turns of threads can be taken again only from BOOK."""
+    words = options["--only"].split(",") if "--only" in options else [name for name in KINDS if name != "threads" or not is_lean]
+    for word in words:
+        if word not in KINDS:
+            raise CompanionError(f"--only takes some of {', '.join(KINDS)}, with commas between them, not {word!r}", REFUSED)
+    if is_lean and "threads" in words:
+        raise CompanionError("with --lean there is no BOOK, by which a recording in threads could be made again", REFUSED)
+    return sorted({KINDS[word] for word in words})
+
+
+def in_order(counts: Mapping[Ending, Count]) -> list[tuple[Ending, Count]]:
+    return sorted(counts.items(), key=lambda item: (item[0].status, item[1].first))
+
+
+def table(counts: Mapping[Ending, Count]) -> str:
+    rows = [HEAD] + [(str(ending.status), number(count.count), str(count.first), ending.place)
+                     for ending, count in in_order(counts)]
+    widths = [max(len(row[column]) for row in rows) for column in range(3)]
+    return "".join("  ".join([cell.ljust(width) for cell, width in zip(row, widths)] + [row[3]]) + "\n" for row in rows)
+
+
+def tell(search: Search) -> None:
+    """Prints what was found, and how the runs ended."""
+    text, found = "", search.found
+    if found is not None:
+        text = f"{found.plan}: status {search.until}\n{search.words.shown(found.plan)}\n"
+    if search.endings.counts:
+        text += table(search.endings.counts)
+    streams.put(text)
+
+
+def fields_of(plan: Optional[Plan]) -> dict[str, object]:
+    return {"kind": plan.kind.name.lower() if plan else None, "number": plan.number if plan else None}
+
+
+def tell_json(search: Search) -> None:
+    plan, counts = search.found.plan if search.found else None, search.endings.counts
+    endings = [{"status": ending.status, "place": ending.place, "count": count.count, **fields_of(count.first)}
+               for ending, count in in_order(counts)]
+    put_answer("seeds", **fields_of(plan), seed=plan.number if plan and plan.kind is Kind.SEED else None,
+               command=search.words.shown(plan) if plan else None, status=search.until, **{"from": search.numbers.start},
+               to=search.numbers.stop - 1, tried=sum(count.count for count in counts.values()), endings=endings[:LONGEST])
+
+
+def find(search: Search, is_json: bool) -> None:
+    """Searches, saves what was found, and tells how the runs ended: as text also those before a refusal."""
     try:
-        return tempfile.TemporaryDirectory(prefix=".seeds-", dir=os.path.dirname(output))
-    except OSError as error:
-        raise CompanionError(f"{os.path.dirname(output)}: {error.strerror}", UNREADABLE)
+        search.run()
+    finally:
+        streams.on_interrupt(signal.SIG_IGN)
+        if search.found is not None:
+            search.found.save()
+        if not is_json:
+            tell(search)
+    if is_json:
+        tell_json(search)
 
 
-def main(words):
+def status_of(search: Search, names: Sequence[str], first: int, last: int) -> int:
+    if search.stopped:
+        return INTERRUPTED
+    if search.found is not None:
+        return 0
+    streams.say(f"none of {', '.join(names)} from {first} to {last} ends with status {search.until}")
+    return NOT_FOUND
+
+
+def main(words: list[str]) -> int:
     own, rest = split(words)
-    (first, last), options = parse(own, {"--jobs": True, "--until": True}, 2, FORM)
-    first, last = whole(first, 0, LAST_SEED, "FROM"), whole(last, 0, LAST_SEED, "TO")
+    (low, high), options = parse(own, {"--jobs": True, "--until": True, "--only": True, "--json": False}, 2, FORM)
+    first, last = whole(low, 0, LAST_NUMBER, "FROM"), whole(high, 0, LAST_NUMBER, "TO")
     if last < first:
         raise CompanionError(f"TO is {last}, which is below FROM", REFUSED)
     until = whole(options.get("--until", str(FAULT)), 0, max(ENDS), "--until")
     if until not in ENDS:
         raise CompanionError(f"--until has to be one of {', '.join(map(str, ENDS))}", REFUSED)
-    jobs = whole(options["--jobs"], 1, 1024, "-j") if "--jobs" in options else len(os.sched_getaffinity(0))
-    record = Words(rest)
+    record = RecordWords(rest)
+    kinds = kinds_of(options, record.is_lean)
+    processors = 1 if kinds == [Kind.THREADS] else len(os.sched_getaffinity(0))
+    jobs = whole(options["--jobs"], 1, 1024, "-j") if "--jobs" in options else processors
     folders = [scratch(output) for output in record.outputs]
+    search = Search(record, range(first, last + 1), kinds, until, jobs, [folder.name for folder in folders])
     try:
-        seeds = range(first, last + 1)
-        found = Search(record, seeds, until, jobs, [folder.name for folder in folders]).run()
-        if found is None:
-            sys.stderr.write(f"zelkuma: no seed from {first} to {last} ends with status {until}\n")
-            return NOT_FOUND
-        found.save()
-        print(f"seed {found.seed}: status {until}")
-        return 0
+        find(search, "--json" in options)
     finally:
         for folder in folders:
             folder.cleanup()
+    return status_of(search, [name for name, kind in KINDS.items() if kind in kinds], first, last)

@@ -1,29 +1,43 @@
 """One suspect of a crash."""
+from __future__ import annotations
+
+from typing import NamedTuple
+
+
+class Extra(NamedTuple):
+    """A row that tells more of a suspect, and what it did, in words."""
+    words: str
+    row: int
 
 
 class Suspect:
     """kind         "store": a load and the store that it got
                  "back": memory that was used after it was given back
+                 "twice": memory that was given back twice
                  "unwritten": memory that was used before it was written
                  "lost": arithmetic that lost bits
+                 "odd": arithmetic that lost an address's alignment
+                 "branch": a branch that chose the way; "exit": one that would have ended a loop
                  "calls": a function that goes on calling itself
     load, store  its rows; they are the same row if it has only one
     guilty       the row that the suspect is about
-    extra        [(words, row)]: more rows that tell of it
+    extra        more rows that tell of it
     cost, score  how far from the fault it is, and that less what its signs are worth
     why          the signs, in words
     rows         how many pairs of rows are of the same two lines
     shown        whether the report shows it"""
 
-    def __init__(self, kind, load, store, cost):
+    def __init__(self, kind: str, load: int, store: int, cost: int) -> None:
         self.kind, self.load, self.store, self.guilty = kind, load, store, store
-        self.cost, self.score = cost, cost
-        self.why, self.extra, self.rows, self.shown = [], [], 1, True
+        self.cost, self.score = cost, float(cost)
+        self.why: list[str] = []
+        self.extra: list[Extra] = []
+        self.rows, self.shown = 1, True
 
-    def sign(self, worth, words):
+    def sign(self, worth: float, words: str) -> None:
         self.score -= worth
         self.why.append(words)
 
 
-def rank(suspect):
+def rank(suspect: Suspect) -> tuple[float, int, int]:
     return suspect.score, suspect.cost, -suspect.load

@@ -1,22 +1,27 @@
 """What may be guilty of a crash, likeliest first.
 
 A suspect is a load and the store that it got, memory that was used after it was given back or before it was written, a
-row that lost bits, or a call that goes on calling itself. Its score is the cost at which the history of the fault
+row that lost bits, a branch that chose the way, or a call that goes on calling itself. Its score is the cost at which the history of the fault
 reached it, less what its signs are worth; the lowest score is the likeliest.
 
 The signs, and what each is worth, were set by looking at few programs: tests/crashes/README.md says which, and how well
 they do on others."""
-import math
+from __future__ import annotations
 
-from history import ADDRESS
-from instruction import AMO, SP, STORE
-from lost import lost_bits, narrowings
-from memory_use import MemoryUse
-from suspect import Suspect, rank
-from text import counted, number
+import math
+from typing import Sequence
+
+from .branches import branch_suspects, exit_suspects
+from .facts import At, Facts
+from .history import ADDRESS, History, Pair
+from .instruction import AMO, SP, STORE
+from .lost import lost_alignment, lost_bits, narrowings
+from .memory_use import MemoryUse
+from .suspect import Suspect, rank
+from .text import counted, number
 
 OTHER_HART, NARROW, RACE, OTHER_FUNCTION, RARITY = 8, 12, 6, 3, 5
-CLOSES, CLOSE = 4, 3        # the store that closed a circle, and how near to the loop its load is
+CLOSES, CLOSE = 8, 3        # the store that closed a circle, and how near to the loop its load is
 SYMPTOM = 8                 # a stack that has grown into data is a consequence of its depth
 NEAR_STORE = 6              # what a near store is worth less
 MOST_LOOKED_AT = 60         # pairs of loads and stores whose rows are read
@@ -24,28 +29,27 @@ SIZES = {1: "bytes", 2: "halves"}, {2: "half", 4: "word"}
 
 
 class Ranking:
-    """found: the suspects, likeliest first. It needs the texts of rows, and `further` rows are fetched with them, since
-    each time that texts are fetched costs a pass over all rows."""
+    """found: the suspects, likeliest first."""
 
-    def __init__(self, facts, history, races, further):
-        self.facts, self.trace, self.places = facts, facts.trace, facts.places
-        self.history, self.races = history, races
-        self.loads = {}                         # a load's code: how many rows
+    def __init__(self, facts: Facts, history: History, races: Sequence[frozenset[At]], recursion: list[Suspect],
+                 loop: Sequence[int]) -> None:
+        """`recursion` is suspects that are known, and `loop` the rows that a loop or a recursion follows."""
+        self.trace, self.places = facts.trace, facts.places
+        self.history, self.races, self.is_recursive, self.loop = history, set(races), bool(recursion), set(loop)
+        self.loads: dict[int, int] = {}         # a load's code: how many rows
         for pair, times in self.trace.pairs.items():
             self.loads[pair >> 32] = self.loads.get(pair >> 32, 0) + times
         stores = sorted(self.stores(), key=rank)
-        looked_at = stores[:MOST_LOOKED_AT]
-        narrow = narrowings(self.trace, history)
-        facts.fetch(further + [n for item in looked_at for n in (item.load, item.store)] +
-                    [n for rows in narrow for n in rows])
         memory = MemoryUse(facts, history)
-        found = [suspect for item in looked_at for suspect in memory.judge(item)]
-        self.found = sorted(stores + found + lost_bits(facts, history, narrow) + facts.recursion, key=rank)
+        found = [suspect for item in stores[:MOST_LOOKED_AT] for suspect in memory.judge(item)]
+        found += memory.given_back_twice() + lost_bits(facts, history, narrowings(self.trace, history))
+        found += lost_alignment(facts, history) + branch_suspects(facts, history) + exit_suspects(facts)
+        self.found = sorted(stores + found + recursion, key=rank)
 
-    def stores(self):
+    def stores(self) -> list[Suspect]:
         """A suspect for each two source lines of loads and stores, with its signs."""
-        trace, places, groups = self.trace, self.places, {}
-        far = self.history.far
+        trace, places, far = self.trace, self.places, self.history.far
+        groups: dict[tuple[str, str, bool], Suspect] = {}
         places.fetch({trace.code_of(n).pc for key in far for n in key} |
                      {trace.code_of(trace.dm[store]).pc for _, store in far if trace.dm[store]})
         closing = self.closing_pair()
@@ -53,7 +57,7 @@ class Ranking:
             key = (places.line(trace.code_of(load).pc), places.line(trace.code_of(store).pc),
                    trace.hart[store] != trace.hart[load])
             item = groups.get(key)
-            pair = load, store
+            pair = Pair(load, store)
             nearer = item is None or ((item.load, item.store) != closing and (price, -load) < (item.cost, -item.load))
             if nearer or pair == closing:
                 groups[key] = Suspect("store", load, store, price)
@@ -65,24 +69,24 @@ class Ranking:
                 item.sign(CLOSES, "the latest store that the loop or the calls follow: it may have closed a circle")
         return list(groups.values())
 
-    def closing_pair(self):
+    def closing_pair(self) -> Pair:
         """What a loop or a recursion follows is often a circle: the latest far store in it closed it. With its load."""
-        loop, latest = set(self.facts.loop), (0, 0)
+        latest = Pair(0, 0)
         for (load, store), price in self.history.far.items():
-            if (price <= CLOSE and (store, load) > latest and self.history.is_far(load, store) and
-                    self.history.root(load) in loop):
-                latest = store, load
-        return latest[1], latest[0]
+            if (price <= CLOSE and (store, load) > (latest.store, latest.load) and self.history.is_far(load, store) and
+                    self.history.root(load) in self.loop):
+                latest = Pair(load, store)
+        return latest
 
-    def judge(self, item):
+    def judge(self, item: Suspect) -> None:
         """The signs of a load and its store."""
         trace, load, store = self.trace, item.load, item.store
         if trace.hart[store] != trace.hart[load]:
             item.sign(OTHER_HART, "another hart stored it")
         stored, loaded = trace.code_of(store), trace.code_of(load)
-        if stored.kind == STORE and loaded.kind != AMO and stored.width < loaded.width:
-            item.sign(NARROW, "stored as %s, loaded as a %s" % (SIZES[0][stored.width], SIZES[1][loaded.width]))
-        if self.facts.recursion and stored.rs1 == SP and loaded.rs1 != SP:
+        if stored.kind == STORE and loaded.kind != AMO and stored.width < loaded.width and not self.is_copied(load):
+            item.sign(NARROW, f"stored as {SIZES[0][stored.width]}, loaded as a {SIZES[1][loaded.width]}")
+        if self.is_recursive and stored.rs1 == SP and loaded.rs1 != SP:
             item.sign(-SYMPTOM, "the stack has grown into this data")
         if load in self.history.decided:
             item.why.append("it decided the way to here")
@@ -91,28 +95,33 @@ class Ranking:
         if old and stored.kind == STORE:
             where = trace.code_of(old).pc
             if self.places.function(where) != self.places.function(stored.pc):
-                item.sign(OTHER_FUNCTION, "over what %s stored" % self.places.where(where))
-        pair = frozenset((trace.hart[n], trace.count_of(n)) for n in (load, store))
+                item.sign(OTHER_FUNCTION, f"over what {self.places.where(where)} stored")
+        pair = frozenset(At(trace.hart[n], trace.count_of(n)) for n in (load, store))
         if pair in self.races:
             item.sign(RACE, "a race: no atomic instruction orders them")
         self.judge_distance(item)
 
-    def judge_rarity(self, item):
+    def is_copied(self, load: int) -> bool:
+        """Whether a load's word went on into memory as it was, as the parts of a copied object do."""
+        return load in self.history.parent and self.trace.code_of(self.history.parent[load].row).kind == STORE
+
+    def judge_rarity(self, item: Suspect) -> None:
         trace = self.trace
         times = trace.pairs.get(trace.pc[item.load] << 32 | trace.pc[item.store] + 1, 1)
         whole = self.loads.get(trace.pc[item.load], 1)
         if whole >= 4 and times * 10 <= whole:
-            item.sign(RARITY * math.log10(whole / times), "rare here: %s of %s loads" % (number(times), number(whole)))
+            item.sign(RARITY * math.log10(whole / times), f"rare here: {number(times)} of {number(whole)} loads")
 
-    def judge_distance(self, item):
+    def judge_distance(self, item: Suspect) -> None:
         """Near stores are let in on the chain of values, but for a register that its function put aside."""
         trace, load, store = self.trace, item.load, item.store
         distance = load - store
+        if trace.is_spill(load, store):
+            item.shown = False
+            return
         if self.history.is_far(load, store):
             if trace.hart[load] == trace.hart[store]:
-                item.why.append("%s earlier" % counted(distance, "row"))
+                item.why.append(f"{counted(distance, 'row')} earlier")
             return
-        spill = (trace.code_of(load).rs1 == SP and trace.code_of(store).rs1 == SP and
-                 self.places.function(trace.code_of(load).pc) == self.places.function(trace.code_of(store).pc))
-        item.shown = item.cost < ADDRESS and not spill
-        item.sign(-NEAR_STORE, "%s earlier" % counted(distance, "row"))
+        item.shown = item.cost < ADDRESS
+        item.sign(-NEAR_STORE, f"{counted(distance, 'row')} earlier")

@@ -1,24 +1,25 @@
 """Words for people: numbers, cut lines, and what a hostile file must not get into a terminal."""
+from __future__ import annotations
 
 
-def clean(text):
+def clean(text: str) -> str:
     """The text without control characters: a name in an ELF can hold any bytes."""
     return text if text.isprintable() else "".join(c if c.isprintable() else " " if c == "\t" else "?" for c in text)
 
 
-def number(value):
-    return "{:,}".format(value)
+def number(value: int) -> str:
+    return f"{value:,}"
 
 
-def counted(value, noun):
-    return "%s %s%s" % (number(value), noun, "" if value == 1 else "s")
+def counted(value: int, noun: str) -> str:
+    return f"{number(value)} {noun}{'' if value == 1 else 's'}"
 
 
-def short(text, width=92):
+def short(text: str, width: int = 92) -> str:
     return text if len(text) <= width else text[:width - 2] + ".."
 
 
-def as_text(value):
+def as_text(value: int) -> str:
     """A word's four bytes as text if at least three of them are, and the rest are zeros; else nothing."""
     body = value.to_bytes(4, "little").rstrip(b"\0")
     good = len(body) >= 3 and all(32 <= c < 127 or c in (9, 10, 13) for c in body)

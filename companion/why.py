@@ -1,66 +1,67 @@
-"""Explains a crash: what happened, where, and which store, call or arithmetic is behind it, likeliest first.
+"""Explains a crash."""
+from __future__ import annotations
 
-    zelkuma why LOG ELF [--names ELF] [--row HART:COUNT] [--more] [--html FILE]
-
---names  the same program with names and lines, if ELF was stripped
---row    asks of another row than the fault's
---more   longer lists
---html   saves the same text as a page, too
-
-It reads the rows of `joint`, keeps 18 bytes of each, and shows what they say; the ranking is its own judgement.
-Companions show; the program proves."""
 import os
-import sys
+from contextlib import closing
 
-from facts import Facts, race_pairs
-from history import History
-from options import parse
-from origins import nearest_before, origins
-from page import page
-from recursion import find_recursion
-from report import MORE_LINES, MORE_SUSPECTS, report
-from suspects import Ranking
+from . import streams
+from .analysis import analysed
+from .answers import put_answer
+from .errors import UNWRITABLE, CompanionError
+from .facts import Byte
+from .options import parse, whole
+from .page import page
+from .report import report
+from .why_answer import why_answer
 
-FORM = "why LOG ELF [--names ELF] [--row HART:COUNT] [--more] [--html FILE]"
-OPTIONS = {"--names": True, "--row": True, "--more": False, "--html": True}
+HELP = """Explains a crash: what happened, where, and which store, call or arithmetic is behind it, likeliest first.
 
+    zelkuma why LOG ELF [--names ELF] [--row HART:IC] [--output N:BYTE] [--rows N] [--more] [--html FILE] [--json]
 
-class Analysis(Facts):
-    """Facts, and what follows from them:
+--names   the same program with names and lines, if ELF was stripped
+--row     asks of another row than the fault's
+--output  asks of a byte that the guest wrote, as `zelkuma output` numbers them
+--rows    how many of the last rows are read; without it a million, and five if values near the fault come from before
+--more    longer lists
+--html    saves the same text as a page, too
+--json    prints one JSON object in place of the text (docs/JSON.md)
 
-    recursion, loop         a call that calls itself, and the rows that a loop or a recursion follows
-    history, suspects       and `shown`, those of them that the report tells
-    races, races_note       what `races` lists, and why nothing if so
-    lines                   the history by source lines
-    origin                  what it took from before the rows"""
-
-    def __init__(self, log_name, elf_name, names=None, row=None, races=None):
-        """`races` are (races, races_note) if they are known."""
-        super().__init__(log_name, elf_name, names, row)
-        self.recursion, given = find_recursion(self)
-        self.loop = self.starts[0 if self.hangs else 1:] + [n for n in given if n != self.start]
-        self.history = History(self.trace, self.starts + self.loop)
-        self.races, self.races_note = races or race_pairs(self)
-        pairs = {frozenset(((a, b), (c, d))) for a, b, c, d, _ in self.races}
-        self.lines = self.history.lines(self.places)
-        shown = self.last + list(self.trace.last.values()) + [line[3] for line in self.lines[:MORE_LINES]]
-        self.suspects = Ranking(self, self.history, pairs, shown + nearest_before(self.history)).found
-        self.shown = [item for item in self.suspects if item.shown] or self.suspects
-        self.fetch([n for item in self.shown[:MORE_SUSPECTS]
-                    for n in [item.load, item.store, item.guilty] + [row for _, row in item.extra]])
-        self.origin = origins(self, self.history)
+It reads the rows of `joint`, keeps some 30 bytes of each, and shows what they say; the ranking is its own judgement.
+Companions show; the program proves."""
+FORM = "why LOG ELF [--names ELF] [--row HART:IC] [--output N:BYTE] [--rows N] [--more] [--html FILE] [--json]"
+OPTIONS = {"--names": True, "--row": True, "--output": True, "--rows": True, "--more": False, "--html": True, "--json": False}
 
 
-def main(words):
-    names, given = parse(words, OPTIONS, 2, FORM)
-    analysis = Analysis(names[0], names[1], given.get("--names"), given.get("--row"))
-    parts = report(analysis, "--more" in given)
+def save(name: str, text: str) -> None:
+    with open(name, "wb") as file:
+        try:
+            file.write(text.encode("utf-8", "backslashreplace"))
+            file.flush()
+        except OSError as error:
+            raise CompanionError(f"{name} takes no more: {error.strerror}", UNWRITABLE)
+
+
+def byte_of(text: str) -> Byte:
+    """The byte that N:BYTE says."""
+    write, _, place = text.partition(":")
+    return Byte(whole(write, 0, 1 << 31, "the write of --output N:BYTE"), whole(place, 0, 1 << 31, "the byte of --output N:BYTE"))
+
+
+def main(words: list[str]) -> int:
+    (log, elf), given = parse(words, OPTIONS, 2, FORM)
+    rows = whole(given["--rows"], 1, 1 << 41, "--rows") if "--rows" in given else 0
+    byte = byte_of(given["--output"]) if "--output" in given else None
+    with closing(analysed(log, elf, given.get("--names", ""), given.get("--row", ""), rows, byte)) as analysis:
+        parts = report(analysis, "--more" in given)
+        if "--json" in given:
+            put_answer("why", **why_answer(analysis))
     if "--html" in given:
-        with open(given["--html"], "w", encoding="utf-8") as file:
-            file.write(page("Why %s ended" % os.path.basename(names[1]), parts))
-    for head, lines in parts:
-        if head:
-            sys.stdout.write(head + "\n")
-        for line in lines:
-            sys.stdout.write(("  " + line if head else line) + "\n")
+        save(given["--html"], page(f"Why {os.path.basename(elf)} ended", parts))
+    if "--json" in given:
+        return 0
+    lines = []
+    for part in parts:
+        lines += [part.heading] if part.heading else []
+        lines += ["  " + line if part.heading else line for line in part.lines]
+    streams.put("".join(line + "\n" for line in lines))
     return 0

@@ -26,7 +26,9 @@ race LOG ELF
 view LOG ELF
 gdb LOG ELF
 bucket LOG ELF
+output LOG ELF
 seeds FROM TO -- RECORD-WORDS
+again LOG ELF BOOK NEWLOG
 '
 # a command, an option of it, and what its value is
 _zelkuma_options='
@@ -46,20 +48,33 @@ record --sets2 N
 record --ways2 N
 audit --input FILE
 why --names ELF
-why --row HART:COUNT
+why --row HART:IC
+why --output N:BYTE
+why --rows N
 why --more
 why --html FILE
+why --json
 race --names ELF
 race --max N
 race --more
+race --json
 view --names ELF
-view --row HART:COUNT
+view --row HART:IC
+view --rows N
 gdb --port N
 gdb --end
 gdb --trace
 bucket --names ELF
+bucket --json
+output --names ELF
+output --json
 seeds -j N
 seeds --until STATUS
+seeds --only KIND,..
+seeds --json
+again --input FILE
+again --log-size N
+again --interval N
 '
 
 # Prints the lines of a table that begin with a word, without it.
@@ -108,7 +123,7 @@ _zelkuma() {
         choice=$(_zelkuma_firsts "$_zelkuma_commands")
     elif [[ $current == -* ]]; then
         choice=$(_zelkuma_firsts "$(_zelkuma_rows "$_zelkuma_options" "${words[0]}")")
-    elif [[ $(_zelkuma_next "${words[@]}") =~ ^(ELF|LOG|BOOK|NEW|FILE|PREFIX)$ ]]; then
+    elif [[ $(_zelkuma_next "${words[@]}") =~ ^(ELF|LOG|BOOK|NEW|NEWLOG|FILE|PREFIX)$ ]]; then
         return # which leaves it to the names of files
     fi
     compopt +o default

@@ -6,13 +6,13 @@
     read_log.py --salvage LOG   the same of the last good blocks of a damaged file of version 2
 """
 import hashlib
+import os
 import struct
 import sys
 
-SIZES = {1: 146, 2: 10, 3: 2, 4: 2, 5: 19, 6: 15}
-REASONS = {1: "length", 2: "call", 3: "exit", 4: "group", 5: "stopped", 6: "guard", 7: "limit",
-           17: "Illegal", 18: "Breakpoint", 19: "FetchOutside", 20: "TargetMisaligned", 21: "LoadOutside",
-           22: "LoadMisaligned", 23: "StoreOutside", 24: "StoreMisaligned", 25: "StoreReadOnly"}
+sys.path.insert(0, os.path.dirname(os.path.dirname(os.path.abspath(__file__))))
+from companion.log import REASONS, SIZES
+
 FIELDS = ((1, 1, 16), (2, 1, 10**7), (3, 1, 2**40), (4, 16384, 2**28), (5, 65536, 2**26),
           (6, 1, 1024), (7, 1, 16), (8, 1, 16), (10, 1, 2), (11, 0, 4096), (12, 0, 16))
 

@@ -5,7 +5,7 @@
 set -u
 . "$(dirname "$0")/fresh_start.sh"
 top=$(cd "$(dirname "$0")/.." && pwd)
-program=${1:-$(cd "$top/companion" && python3 -B -c 'import program; print(program.path())' 2>/dev/null)}
+program=${1:-$(cd "$top" && python3 -B -c 'from companion import program; print(program.path())' 2>/dev/null)}
 [ -x "$program" ] || { echo "companions: there is no program ${program:-in this repository}" >&2; exit 1; }
 ZELKUMA_PROGRAM=$(readlink -f "$program")
 export ZELKUMA_PROGRAM

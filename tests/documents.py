@@ -7,7 +7,7 @@ An example can be pasted: a block ```sh has commands, and a block ```text right 
 from them; without such a block that is nothing. A block whose first line begins with a prompt ('$ ') can't be pasted,
 and is refused.
 
-All examples of a document run in one bash, one after another, in a folder with examples/, tests/crashes/, LICENSE and
+All examples of a document run in one bash, one after another, in a folder with examples/, tests/crashes/, companion/, LICENSE and
 ./zelkuma, which runs PROGRAM as an installed one does, and with another folder for /tmp/. A line '...' stands for any
 lines. Not run is a block behind a line '<!-- not run -->', nor one behind '<!-- needs NAME -->' if there is no command
 or file NAME, which is said. With --write the document gets what was printed, where it differs.
@@ -79,6 +79,9 @@ def printed_by(commands, program, room):
     os.symlink(f"{room}/installed/bin/zelkuma", f"{room}/top/zelkuma")
     shutil.copytree(f"{TOP}/examples", f"{room}/top/examples")
     shutil.copytree(f"{TOP}/tests/crashes", f"{room}/top/tests/crashes")
+    shutil.copytree(f"{TOP}/companion", f"{room}/top/companion")
+    os.makedirs(f"{room}/top/release")
+    os.symlink(program, f"{room}/top/release/zelkuma-x86_64-linux")     # where scripts of the package look for it
     shutil.copy(f"{TOP}/LICENSE", f"{room}/top")
     script = "".join(f"{it.replace('/tmp/', f'{room}/tmp/')}__status=$?; echo '{END}'; (exit $__status)\n" for it in commands)
     how = {"cwd": f"{room}/top", "stdin": subprocess.DEVNULL, "stdout": subprocess.PIPE, "stderr": subprocess.STDOUT}

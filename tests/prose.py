@@ -28,11 +28,13 @@ PAGES = {
     "docs/DEFINITIONS.md": None,
     "docs/FORMAT.md": 3700,
     "docs/GDB.md": 1300,
-    "docs/GUIDE.md": 5000,
+    "docs/GUIDE.md": 6700,
     "docs/INTERNALS.md": 4000,
+    "docs/JSON.md": 600,
     "docs/PROOF.md": 3000,
+    "docs/PYTHON.md": 400,
     "docs/VIEW.md": 1300,
-    "docs/WHY.md": 1300,
+    "docs/WHY.md": 1750,
 }
 
 # What "where" may follow: a place, or a verb that asks for one.

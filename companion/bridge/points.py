@@ -1,5 +1,11 @@
 """Breakpoints and watchpoints, looked for in the steps that are known."""
-from collections import namedtuple
+from __future__ import annotations
+
+from typing import Iterator, NamedTuple, Optional
+
+from .fills import Fills
+from .lines import Pattern
+from .steps import Steps
 
 SIZES = {b"sb": 1, b"lb": 1, b"lbu": 1, b"sh": 2, b"lh": 2, b"lhu": 2}  # all other accesses are of words
 FEW = 16  # watched bytes up to which each address is looked for by itself, which is faster
@@ -10,12 +16,22 @@ WATCH_KINDS = {"2": ("watch", (b"| store ",)), "3": ("rwatch", (b"| load ",)),
 BREAK_KINDS = ("0", "1")
 WRITE_KINDS = ("2", "4")
 
-Hit = namedtuple("Hit", "place hart")
-Watch = namedtuple("Watch", "kind first length")
+
+class Hit(NamedTuple):
+    """A place where a hart stands at a breakpoint."""
+    place: int
+    hart: int
 
 
-def _touches(line, watch):
-    """Says whether a row loads or stores one of the watched bytes, if that is watched."""
+class Watch(NamedTuple):
+    """Watched bytes, by gdb's number of the kind."""
+    kind: str
+    first: int
+    length: int
+
+
+def touches(line: bytes, watch: Watch) -> bool:
+    """Whether a row loads or stores one of the watched bytes, if that is watched."""
     size = SIZES.get(line.split(b" ", 5)[4], 4)
     for word in WATCH_KINDS[watch.kind][1]:
         at = line.find(word)
@@ -26,77 +42,79 @@ def _touches(line, watch):
     return False
 
 
-def _hart_of(line):
+def hart_of(line: bytes) -> int:
     return int(line.split(b" ", 1)[0])
 
 
 class Points:
     """What is set. Setting a point twice, or taking out one that isn't set, changes nothing."""
 
-    def __init__(self, steps, fills):
-        self._steps, self._fills = steps, fills
-        self.breaks, self._watches = set(), []
+    def __init__(self, steps: Steps, fills: Fills) -> None:
+        self.steps, self.fills = steps, fills
+        self.breaks: set[int] = set()
+        self.watches: list[Watch] = []
 
-    def change(self, is_set, kind, address, length):
+    def change(self, is_set: bool, kind: str, address: int, length: int) -> bool:
         """Sets a point or takes it out. Returns whether there are such points."""
         if kind in BREAK_KINDS:
             (self.breaks.add if is_set else self.breaks.discard)(address)
             return True
         watch = Watch(kind, address, length)
-        if kind in WATCH_KINDS and is_set != (watch in self._watches):
-            (self._watches.append if is_set else self._watches.remove)(watch)
+        if kind in WATCH_KINDS and is_set != (watch in self.watches):
+            (self.watches.append if is_set else self.watches.remove)(watch)
         return kind in WATCH_KINDS
 
-    def next_break(self, start, end, last=False, only=None):
-        """Returns the first place in [start, end) where a hart stands before a breakpoint's row, or the
+    def next_break(self, start: int, end: int, last: bool = False, only: Optional[int] = None) -> Optional[Hit]:
+        """The first place in [start, end) where a hart stands before a breakpoint's row, or the
         last one; of all harts, or of one only. A hart that comes to a breakpoint behind its last row
         has no row there: its arrival is such a place too."""
-        def at_pc(pc):
-            def accepts(line):
+        def at_pc(pc: bytes) -> Pattern:
+            def accepts(line: bytes) -> bool:
                 words = line.split(b" ", 3)
                 return words[2] == pc and only in (None, int(words[0]))
-            return b" %s " % pc, accepts
+            return Pattern(b" %s " % pc, accepts)
 
-        found = self._steps.lines.find([at_pc(b"%08x" % address) for address in self.breaks], start, end, last)
-        hits = [] if found is None else [Hit(found, self._steps.hart_at(found))]
-        for hart, (place, pc) in self._steps.arrivals.items():
+        found = self.steps.lines.find([at_pc(b"%08x" % address) for address in self.breaks], start, end, last)
+        hits = [] if found is None else [Hit(found, self.steps.hart_at(found))]
+        for hart, (place, pc) in self.steps.arrivals.items():
             reached = start < place < end if last else start < place <= end
             if pc in self.breaks and reached and only in (None, hart):
                 hits.append(Hit(place, hart))
-        return (max if last else min)(hits, default=None)
+        return (max(hits) if last else min(hits)) if hits else None
 
-    def _patterns(self, watch, only):
-        def accepts(line):
-            return _touches(line, watch) and only in (None, _hart_of(line))
+    def patterns(self, watch: Watch, only: Optional[int]) -> Iterator[Pattern]:
+        def accepts(line: bytes) -> bool:
+            return touches(line, watch) and only in (None, hart_of(line))
 
         for word in WATCH_KINDS[watch.kind][1]:
             if watch.length > FEW:
-                yield word, accepts
+                yield Pattern(word, accepts)
                 continue
             # A row tells the first byte that it accesses, up to three before the watched one.
             for address in range(max(0, watch.first - 3), watch.first + watch.length):
-                yield b"%s%08x=" % (word, address), accepts
+                yield Pattern(b"%s%08x=" % (word, address), accepts)
 
-    def _next_fill(self, watch, start, end, last, only):
+    def next_fill(self, watch: Watch, start: int, end: int, last: bool, only: Optional[int]) -> Optional[int]:
         """The same of what `read` calls filled, which are writes."""
         if watch.kind not in WRITE_KINDS:
             return None
         while True:
-            found = self._fills.find(watch.first, watch.length, start, end, last)
-            if found is None or only in (None, self._steps.hart_at(found)):
+            found = self.fills.find(watch.first, watch.length, start, end, last)
+            if found is None or only in (None, self.steps.hart_at(found)):
                 return found
             start, end = (start, found) if last else (found + 1, end)
 
-    def next_watch(self, start, end, last=False, only=None):
-        """Returns the first step in [start, end) that makes a watched access, or the last one."""
-        patterns = [pattern for watch in self._watches for pattern in self._patterns(watch, only)]
-        found = [self._steps.lines.find(patterns, start, end, last)]
-        found += [self._next_fill(watch, start, end, last, only) for watch in self._watches]
-        return (max if last else min)([place for place in found if place is not None], default=None)
+    def next_watch(self, start: int, end: int, last: bool = False, only: Optional[int] = None) -> Optional[int]:
+        """The first step in [start, end) that makes a watched access, or the last one."""
+        patterns = [pattern for watch in self.watches for pattern in self.patterns(watch, only)]
+        found = [self.steps.lines.find(patterns, start, end, last)]
+        found += [self.next_fill(watch, start, end, last, only) for watch in self.watches]
+        places = [place for place in found if place is not None]
+        return (max(places) if last else min(places)) if places else None
 
-    def watch_at(self, place):
-        """Returns what gdb is told of the watchpoint that the row at a place meets."""
-        line = self._steps.lines.line(place)
-        watch = next(watch for watch in self._watches if _touches(line, watch)
-                     or self._next_fill(watch, place, place + 1, False, None) is not None)
+    def watch_at(self, place: int) -> str:
+        """What gdb is told of the watchpoint that the row at a place meets."""
+        line = self.steps.lines.line(place)
+        watch = next(watch for watch in self.watches if touches(line, watch)
+                     or self.next_fill(watch, place, place + 1, False, None) is not None)
         return f"{WATCH_KINDS[watch.kind][0]}:{watch.first:x};"

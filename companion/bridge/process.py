@@ -1,9 +1,12 @@
 """One process of `debug`: commands go in, lines come out."""
+from __future__ import annotations
+
 import os
 import subprocess
+from typing import NoReturn
 
-import program
-from errors import CompanionError
+from .. import program
+from ..errors import CompanionError
 
 END_MARK = "?"  # an unknown command: its answer, the same mark, ends the lines of those before it
 FULL = 15 << 20  # bytes of commands; `debug` takes 2^24
@@ -12,56 +15,57 @@ FULL = 15 << 20  # bytes of commands; `debug` takes 2^24
 class DebugProcess:
     """Answers commands. The hart that `step` and `regs` speak of is chosen once, not each time."""
 
-    def __init__(self, log, elf):
-        self._words = [program.path(), "debug", "--", log, elf]
-        self._start()
+    def __init__(self, log: str, elf: str) -> None:
+        self.words = [program.path(), "debug", "--", log, elf]
+        self.start()
 
-    def _start(self):
-        self._process = subprocess.Popen(self._words, stdin=subprocess.PIPE, stdout=subprocess.PIPE,
-                                         stderr=subprocess.PIPE, bufsize=0)
-        self._sent = 0
-        self._hart = 0
+    def start(self) -> None:
+        self.process = subprocess.Popen(self.words, stdin=subprocess.PIPE, stdout=subprocess.PIPE,
+                                        stderr=subprocess.PIPE, bufsize=0)
+        assert self.process.stdin and self.process.stdout and self.process.stderr
+        self.commands, self.answers, self.refusals = self.process.stdin, self.process.stdout, self.process.stderr
+        self.sent = 0
+        self.hart = 0
 
-    def close(self):
-        self._process.stdin.close()
-        self._process.stdout.close()
-        self._process.stderr.close()
-        self._process.wait()
+    def close(self) -> None:
+        for stream in (self.commands, self.answers, self.refusals):
+            stream.close()
+        self.process.wait()
 
-    def restart(self):
+    def restart(self) -> None:
         """Goes back to the session's start, with room for as many commands again."""
         self.close()
-        self._start()
+        self.start()
 
-    def is_nearly_full(self):
-        return self._sent > FULL
+    def is_nearly_full(self) -> bool:
+        return self.sent > FULL
 
-    def _fail(self):
-        said = self._process.stderr.read().decode(errors="replace").strip()
-        status = self._process.wait()
+    def fail(self) -> NoReturn:
+        said = self.refusals.read().decode(errors="replace").strip()
+        status = self.process.wait()
         raise CompanionError(said.split("\n")[-1] or "debug has ended", status or 1)
 
-    def ask(self, *commands):
-        """Returns the bytes of the answers, one after another."""
+    def ask(self, *commands: str) -> bytes:
+        """The bytes of the answers, one after another."""
         text = "".join(command + "\n" for command in (*commands, END_MARK)).encode()
-        self._sent += len(text)
+        self.sent += len(text)
         try:
-            self._process.stdin.write(text)
+            self.commands.write(text)
         except OSError:
-            self._fail()
+            self.fail()
         pieces, tail = [], b"\n"
         while not tail.endswith(b"\n?\n"):
-            piece = os.read(self._process.stdout.fileno(), 1 << 20)
+            piece = os.read(self.answers.fileno(), 1 << 20)
             if not piece:
-                self._fail()
+                self.fail()
             pieces.append(piece)
             tail = (tail + piece)[-3:]
         return b"".join(pieces)[:-2]
 
-    def ask_of(self, hart, *commands):
+    def ask_of(self, hart: int, *commands: str) -> bytes:
         """The same of a hart."""
-        if hart == self._hart:
+        if hart == self.hart:
             return self.ask(*commands)
-        self._hart = hart
+        self.hart = hart
         answer = self.ask(f"hart {hart}", *commands)
         return answer[answer.index(b"\n") + 1:]

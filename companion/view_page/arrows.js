@@ -166,11 +166,15 @@ function timelineNotes({ shown, lost }) {
       ? `${commas(shown)} of ${plural(D.allEdges, "Edge")} are drawn, one for each place on the screen${kept}${before}. Zoom in for more.`
       : `${D.allEdges === 1 ? "The one Edge is" : `All ${commas(D.allEdges)} Edges are`} drawn.`);
   }
-  if (D.dropped) notes.push(`The log dropped its first ${plural(D.dropped, "record")}: what they told is faded on the left.`);
+  if (D.unread) notes.push(`Only the last ${plural(D.rows, "row")} of the log were read: what was before is faded on the left.`);
+  else if (D.dropped) notes.push(`The log dropped its first ${plural(D.dropped, "record")}: what they told is faded on the left.`);
   if (state.order === "count" && D.harts > 1) {
     notes.push("Each hart has counts of its own: two points above each other aren't at the same time. Races are drawn for a chosen group.");
   } else if (D.races.length) {
     notes.push(state.race < 0 ? "Choose a group of races below to see all its arcs." : "The arcs are those of the chosen group of races.");
+  }
+  if (D.fault && D.harts > 1 && state.order === "joint") {
+    notes.push("Nothing orders the last instructions of the other harts and the fault, so their bars may go on behind its line.");
   }
   return notes;
 }

@@ -47,8 +47,7 @@ function showEnd() {
   const where = element("p", D.fault ? "It happened in " : "Shown below: ");
   where.append(element("b", placeText(D.where)));
   box.append(where);
-  const { source } = place(D.where);
-  if (source) box.append(element("span", source, "source"));
+  box.append(sourceBox(D.where));
   const calls = element("ul", undefined, "calls");
   const found = rowAt(start.hart, start.count);
   if (found) showCalls(calls, found.window, found.at);
@@ -86,14 +85,22 @@ function suspectBox(suspect, rank) {
   go.id = `suspect-${rank + 1}`;
   head.append(go);
   box.append(head);
-  const { source } = place(suspect.place);
-  if (source) box.append(element("span", source, "source"));
+  box.append(sourceBox(suspect.place));
   if (suspect.calledFrom.length) box.append(element("div", `called from ${suspect.calledFrom.join(" ‹ ")}`, "dim"));
   for (const step of suspect.steps) box.append(suspectStep(step));
   const tags = element("div", undefined, "tags");
   for (const reason of suspect.why) tags.append(element("span", reason, "tag"));
   if (suspect.pairs > 1) tags.append(element("span", `${commas(suspect.pairs)} such pairs`, "tag"));
   box.append(tags);
+  return box;
+}
+
+/* The line of source at a place, between the one before and the one behind; nothing if the source isn't there. */
+function sourceBox(index) {
+  const box = element("div", undefined, "lines");
+  const [first, lines] = D.around[index] || [0, []];
+  const here = Number(place(index).line.split(":").pop());
+  lines.forEach((text, i) => box.append(element("div", `${first + i}  ${text}`, first + i === here ? "source" : "source beside")));
   return box;
 }
 

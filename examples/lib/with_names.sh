@@ -2,9 +2,9 @@
 # Read by the scripts that build programs with names and lines, which run it at the top of the repository. Paths in the
 # ELF files begin there, and objects have fixed names: each machine builds the same bytes.
 
-compile_with_names() { # OBJECT SOURCE
+compile_with_names() { # OBJECT SOURCE [OPTION..]
     riscv64-unknown-elf-gcc -march=rv32ima -mabi=ilp32 -mstrict-align -O2 -g -Wall -Wextra -Werror -ffreestanding -fno-pic \
-        -fno-tree-loop-distribute-patterns "-ffile-prefix-map=$PWD=." "-Wa,--debug-prefix-map,$PWD=." -I examples/lib -c -o "$1" "$2"
+        -fno-tree-loop-distribute-patterns "-ffile-prefix-map=$PWD=." "-Wa,--debug-prefix-map,$PWD=." -I examples/lib -c -o "$1" "${@:2}"
 }
 
 # Links the sources with the start and the system calls of the examples.

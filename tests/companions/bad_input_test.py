@@ -8,13 +8,14 @@ import struct
 import subprocess
 import sys
 
-from common import (COMPANION, CRASHES, PROGRAM, check, companion, crash, example, finish, need_addr2line, path, record,
-                    refused)
-# Modules of the companions, which common lets be found.
-from elf import Elf
-from errors import CompanionError
-from log import EDGE, HEADER, SIZES
-from places import Places
+sys.path.insert(0, os.path.join(os.path.dirname(os.path.abspath(__file__)), "lib"))
+import case
+from common import COMPANION, CRASHES, PROGRAM, companion, example, path
+# common lets the package be found
+from companion.elf import Elf
+from companion.errors import CompanionError
+from companion.log import EDGE, HEADER, SIZES
+from companion.places import Places
 
 HEAD = 92                                       # the bytes before the records in a log of version 1
 
@@ -42,110 +43,102 @@ def stuck_log():
     return write("stuck.log", data + hashlib.sha256(data).digest())
 
 
-def logs(log, elf):
-    stuck = stuck_log()
-    for word in ("why", "bucket"):
-        refused("%s: a log of another program" % word, 8, "program differs", word, log, example("sort"))
-        refused("%s: an empty file" % word, 7, "log: ", word, write("empty", b""), elf)
-        refused("%s: no log" % word, 7, "log: BadMagic", word, write("text", b"x" * 500), elf)
-        refused("%s: no such file" % word, 4, "missing", word, path("nowhere"), elf)
-        refused("%s: a folder" % word, 3, "store failed", word, os.path.dirname(elf), elf)
-        refused("%s: a stuck log" % word, 15, "replay: Stuck", word, stuck, example("counter"))
-        refused("%s: no ELF" % word, 4, "missing", word, log, path("nowhere"))
-        refused("%s: too few words" % word, 2, "the words are", word, log)
-        refused("%s: an unknown option" % word, 2, "unknown", word, log, elf, "--what")
-        refused("%s: --names that is no ELF" % word, 6, "no 32-bit", word, log, elf, "--names", path("text"))
-    hang, none = os.path.join(CRASHES, "hang.elf"), path("none.log")
-    subprocess.run([PROGRAM, "record", "--seed", "1", "--log-size", "16384", "--interval", "10000000", "--sets", "1",
-                    "--ways", "1", "--line", "1", "--limit", "60000", hang, none, path("none.book")],
-                   stdout=subprocess.PIPE, stderr=subprocess.PIPE)
-    refused("why: a log that kept no interval", 14, "passed its --log-size 16384", "why", none, hang)
-    refused("bucket: a log that kept no interval", 14, "holds no", "bucket", none, hang)
-    refused("why: a row that isn't there", 14, "no row 0:99999999", "why", log, elf, "--row", "0:99999999")
-    refused("why: --row without a count", 2, "HART:COUNT", "why", log, elf, "--row", "7")
-    refused("why: a page that can't be saved", 4, "missing", "why", log, elf, "--html", path("nowhere/page.html"))
-    refused("names: no ELF", 6, "no 32-bit", "names", path("text"))
-    refused("no such companion", 2, "no companion is called", "nothing")
-    refused("no such program", 1, "is no program", "why", log, elf, environment={"ZELKUMA_PROGRAM": path("nowhere")})
+class BadInputTest(case.Case):
+    def test_logs(self):
+        log, elf = self.crash("use_after_free")
+        stuck = stuck_log()
+        for word in ("why", "bucket"):
+            self.refused("%s: a log of another program" % word, 8, "program differs", word, log, example("sort"))
+            self.refused("%s: an empty file" % word, 7, "log: ", word, write("empty", b""), elf)
+            self.refused("%s: no log" % word, 7, "log: BadMagic", word, write("text", b"x" * 500), elf)
+            self.refused("%s: no such file" % word, 4, "missing", word, path("nowhere"), elf)
+            self.refused("%s: a folder" % word, 3, "store failed", word, os.path.dirname(elf), elf)
+            self.refused("%s: a stuck log" % word, 15, "replay: Stuck", word, stuck, example("counter"))
+            self.refused("%s: no ELF" % word, 4, "missing", word, log, path("nowhere"))
+            self.refused("%s: too few words" % word, 2, "the words are", word, log)
+            self.refused("%s: an unknown option" % word, 2, "unknown", word, log, elf, "--what")
+            self.refused("%s: --names that is no ELF" % word, 6, "no 32-bit", word, log, elf, "--names", path("text"))
+        hang, none = os.path.join(CRASHES, "hang.elf"), path("none.log")
+        subprocess.run([PROGRAM, "record", "--seed", "1", "--log-size", "16384", "--interval", "10000000", "--sets", "1",
+                        "--ways", "1", "--line", "1", "--limit", "60000", hang, none, path("none.book")],
+                       stdout=subprocess.PIPE, stderr=subprocess.PIPE)
+        self.refused("why: a log that kept no interval", 14, "passed its --log-size 16384", "why", none, hang)
+        self.refused("bucket: a log that kept no interval", 14, "holds no", "bucket", none, hang)
+        self.refused("why: a row that isn't there", 14, "no row 0:99999999", "why", log, elf, "--row", "0:99999999")
+        self.refused("why: --row without a count", 2, "HART:COUNT", "why", log, elf, "--row", "7")
+        self.refused("why: a page that can't be saved", 4, "missing", "why", log, elf, "--html", path("nowhere/page.html"))
+        self.refused("names: no ELF", 6, "no 32-bit", "names", path("text"))
+        self.refused("no such companion", 2, "no companion is called", "nothing")
+        self.refused("no such program", 1, "is no program", "why", log, elf, environment={"ZELKUMA_PROGRAM": path("nowhere")})
+
+    def test_closed_pipe(self):
+        log, elf = self.crash("use_after_free")
+        for words in (("why", log, elf, "--more"), ("names", elf)):
+            process = subprocess.Popen([sys.executable, COMPANION] + list(words), stdin=subprocess.PIPE, stdout=subprocess.PIPE,
+                                       stderr=subprocess.PIPE)
+            process.stdout.close()
+            try:
+                process.stdin.write(b"0 0 00010074 00002197 auipc gp,0x2\n" * 20000)
+                process.stdin.close()
+            except BrokenPipeError:
+                pass
+            err = process.stderr.read()
+            self.check("%s: a closed pipe is status 13, without a word" % words[0], process.wait() == 13 and not err, err)
+
+    def test_hostile_elf(self):
+        """Any bytes behind the first few: refused, or read; never another error."""
+        elf = self.crash("use_after_free")[1]
+        with open(elf, "rb") as file:
+            good = file.read()
+        draw, bad = random.Random(5), []
+        for _ in range(300):
+            data = bytearray(good[:draw.choice((52, 300, len(good)))])
+            for _ in range(draw.randrange(1, 30)):
+                data[draw.randrange(24, min(len(data), draw.choice((52, 400, len(data)))))] = draw.choice((0, 1, 255, draw.randrange(256)))
+            try:
+                found = Elf(write("bad.elf", bytes(data)))
+                found.word(0x10074), found.data_name(0x19000), found.bytes_at(0x10000, 64)
+                Places(found, ()).where(0x10100)
+            except CompanionError:
+                pass
+            except Exception as error:              # what this test is for
+                bad.append(repr(error))
+        self.check("300 damaged ELF files: read or refused", not bad, bad[:3])
+
+    def test_hostile_log(self):
+        """Records of any bytes under a good digest: what the program takes, `why` takes, and what it refuses, `why` refuses."""
+        stuck_log()
+        with open(path("two.log"), "rb") as file:
+            good = file.read()
+        draw, seen = random.Random(7), {}
+        for _ in range(25):
+            data = bytearray(good[:-32])
+            for _ in range(draw.randrange(1, 4)):
+                data[draw.randrange(HEAD, len(data))] = draw.choice((0, 1, 255, draw.randrange(256)))
+            status, _, err = companion("why", write("bad.log", bytes(data) + hashlib.sha256(data).digest()), example("counter"))
+            seen[status] = seen.get(status, 0) + 1
+            if status not in (0, 7, 14, 15) or err.count("\n") > (status > 0):
+                self.check("a forged log is refused or explained", False, (status, err))
+        self.check("25 forged logs: explained or refused, by status %s" % seen, len(seen) > 1)
+
+    def test_hostile_names(self):
+        log, elf = self.crash("use_after_free")
+        with open(elf, "rb") as file:
+            data = file.read()
+        named = write("x.elf", data.replace(b"main\0", b"<b>\x1b\0").replace(b"arena\0", b"<img>\0"))
+        status, text, err = companion("why", log, elf, "--names", named, "--html", path("<img src=x>.html"))
+        with open(path("<img src=x>.html")) as file:
+            page = file.read()
+        self.check("a symbol's control characters stay out of the terminal", status == 0 and "\x1b" not in text and "<b>?" in text, err + text[:500])
+        self.check("a symbol stays text in the page", "&lt;b&gt;?" in page and "<b>" not in page and "<img" not in page)
+        odd = path("<script>\x1b.elf")
+        with open(odd, "wb") as file:
+            file.write(data)
+        companion("why", log, odd, "--html", path("odd.html"))
+        with open(path("odd.html")) as file:
+            page = file.read()
+        self.check("a file's name stays text in the page", "&lt;script&gt;?.elf" in page and "<script" not in page)
 
 
-def closed_pipe(log, elf):
-    for words in (("why", log, elf, "--more"), ("names", elf)):
-        process = subprocess.Popen([sys.executable, COMPANION] + list(words), stdin=subprocess.PIPE, stdout=subprocess.PIPE,
-                                   stderr=subprocess.PIPE)
-        process.stdout.close()
-        try:
-            process.stdin.write(b"0 0 00010074 00002197 auipc gp,0x2\n" * 20000)
-            process.stdin.close()
-        except BrokenPipeError:
-            pass
-        err = process.stderr.read()
-        check("%s: a closed pipe is status 13, without a word" % words[0], process.wait() == 13 and not err, err)
-
-
-def hostile_elf(elf):
-    """Any bytes behind the first few: refused, or read; never another error."""
-    with open(elf, "rb") as file:
-        good = file.read()
-    draw, bad = random.Random(5), []
-    for _ in range(300):
-        data = bytearray(good[:draw.choice((52, 300, len(good)))])
-        for _ in range(draw.randrange(1, 30)):
-            data[draw.randrange(24, min(len(data), draw.choice((52, 400, len(data)))))] = draw.choice((0, 1, 255, draw.randrange(256)))
-        try:
-            found = Elf(write("bad.elf", bytes(data)))
-            found.word(0x10074), found.data_name(0x19000), found.bytes_at(0x10000, 64)
-            Places(found, ()).where(0x10100)
-        except CompanionError:
-            pass
-        except Exception as error:              # what this test is for
-            bad.append(repr(error))
-    check("300 damaged ELF files: read or refused", not bad, bad[:3])
-
-
-def hostile_log():
-    """Records of any bytes under a good digest: what the program takes, `why` takes, and what it refuses, `why` refuses."""
-    with open(path("two.log"), "rb") as file:
-        good = file.read()
-    draw, seen = random.Random(7), {}
-    for _ in range(25):
-        data = bytearray(good[:-32])
-        for _ in range(draw.randrange(1, 4)):
-            data[draw.randrange(HEAD, len(data))] = draw.choice((0, 1, 255, draw.randrange(256)))
-        status, _, err = companion("why", write("bad.log", bytes(data) + hashlib.sha256(data).digest()), example("counter"))
-        seen[status] = seen.get(status, 0) + 1
-        if status not in (0, 7, 14, 15) or err.count("\n") > (status > 0):
-            check("a forged log is refused or explained", False, (status, err))
-    check("25 forged logs: explained or refused, by status %s" % seen, len(seen) > 1)
-
-
-def hostile_names(log, elf):
-    with open(elf, "rb") as file:
-        data = file.read()
-    named = write("x.elf", data.replace(b"main\0", b"<b>\x1b\0").replace(b"arena\0", b"<img>\0"))
-    status, text, err = companion("why", log, elf, "--names", named, "--html", path("<img src=x>.html"))
-    with open(path("<img src=x>.html")) as file:
-        page = file.read()
-    check("a symbol's control characters stay out of the terminal", status == 0 and "\x1b" not in text and "<b>?" in text, err + text[:500])
-    check("a symbol stays text in the page", "&lt;b&gt;?" in page and "<b>" not in page and "<img" not in page)
-    odd = path("<script>\x1b.elf")
-    with open(odd, "wb") as file:
-        file.write(data)
-    companion("why", log, odd, "--html", path("odd.html"))
-    with open(path("odd.html")) as file:
-        page = file.read()
-    check("a file's name stays text in the page", "&lt;script&gt;?.elf" in page and "<script" not in page)
-
-
-def main():
-    need_addr2line()
-    log, elf = crash("use_after_free")
-    logs(log, elf)
-    closed_pipe(log, elf)
-    hostile_elf(elf)
-    hostile_log()
-    hostile_names(log, elf)
-    finish()
-
-
-main()
+if __name__ == "__main__":
+    case.main()

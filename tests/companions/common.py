@@ -1,17 +1,18 @@
 """What the tests of the companions share: recordings, calls of companions, and the count of what passed.
 
-The program is the one that the companions find. Each test file ends with `finish()`, which prints 'N passed, N failed'."""
+The program is the one that the companions find. lib/case.py has the class of tests on top of these."""
 import os
 import shutil
 import subprocess
 import sys
 import tempfile
+from typing import NamedTuple
 
 HERE = os.path.dirname(os.path.abspath(__file__))
 TOP = os.path.dirname(os.path.dirname(HERE))
 COMPANION = os.path.join(TOP, "companion")
-sys.path.insert(0, COMPANION)
-from program import path as program_path        # noqa: E402
+sys.path.insert(0, TOP)
+from companion.program import path as program_path      # noqa: E402
 PROGRAM = program_path()
 EXAMPLES = os.path.join(TOP, "examples")
 CRASHES = os.path.join(TOP, "tests", "crashes")
@@ -53,9 +54,13 @@ def record(name, elf, *words):
     return log
 
 
+def present_tools():
+    return [tool for tool in TOOLS if shutil.which(tool)]
+
+
 def need_addr2line():
     """Ends a test file, with a line, if no tool tells lines of addresses."""
-    if not any(shutil.which(tool) for tool in TOOLS):
+    if not present_tools():
         skip(os.path.basename(sys.argv[0]), "none of %s is there" % ", ".join(TOOLS))
         finish()
 
@@ -73,12 +78,43 @@ def named_examples():
     return folder if os.listdir(folder) else None
 
 
+class Crash(NamedTuple):
+    """A line of tests/crashes/cases.txt."""
+    name: str
+    guilty: str                 # FILE:LINE
+    kind: str
+    group: str
+    harts: str
+    seed: str
+    limit: str
+    ends: str                   # the status of its recording
+    wrong: str                  # the wrong byte of its output, N:BYTE, or nothing
+
+    @property
+    def elf(self):
+        return os.path.join(CRASHES, self.name + ".elf")
+
+    @property
+    def options(self):
+        return ["--harts", self.harts, "--seed", self.seed, "--limit", self.limit]
+
+    @property
+    def lines(self):
+        with open(os.path.join(CRASHES, self.name + ".c")) as file:
+            return file.read().count("\n")
+
+
+def crashes():
+    """The crashing programs, by name."""
+    with open(os.path.join(CRASHES, "cases.txt")) as file:
+        rows = [line.split() for line in file if line.strip() and line[0] != "#"]
+    return {row[0]: Crash(*row[:8], wrong=row[8].strip("-")) for row in rows}
+
+
 def crash(name):
     """Records one of the crashing programs: (log, elf)."""
-    with open(os.path.join(CRASHES, "cases.txt")) as file:
-        words = next(line.split() for line in file if line.startswith(name + " "))
-    elf = os.path.join(CRASHES, name + ".elf")
-    return record(name, elf, "--harts", words[2], "--seed", words[3], "--limit", words[4]), elf
+    case = crashes()[name]
+    return record(name, case.elf, *case.options), case.elf
 
 
 def example(name):
@@ -90,10 +126,10 @@ def output(*words):
     return subprocess.run([PROGRAM] + list(words), stdout=subprocess.PIPE, stderr=subprocess.DEVNULL).stdout
 
 
-def companion(*words, given=b"", environment=None):
-    """(status, output, err) of a companion."""
+def companion(*words, given=b"", environment=None, bound=None):
+    """(status, output, err) of a companion, which has to end within so many seconds."""
     done = subprocess.run([sys.executable, COMPANION] + list(words), input=given, stdout=subprocess.PIPE, stderr=subprocess.PIPE,
-                          env=dict(os.environ, **(environment or {})))
+                          env=dict(os.environ, **(environment or {})), timeout=bound)
     return done.returncode, done.stdout.decode("utf-8", "replace"), done.stderr.decode("utf-8", "replace")
 
 

@@ -9,8 +9,7 @@ import common
 
 import forged
 
-import fences
-import races
+from companion import fences, races
 
 LOAD, STORE, ADD, BRANCH = 0x0007a703, 0x00e7a023, 0x00000013, 0xfef6fce3       # lw, sw, addi, bgeu
 FENCE_ALL, FENCE_RELEASE, FENCE_WRITES = 0x0ff0000f, 0x0310000f, 0x0110000f      # iorw,iorw; rw,w; w,w
@@ -78,7 +77,7 @@ class RaceTest(case.Case):
     def test_a_guilty_line_that_races_is_in_the_first_groups(self):
         for name in ("race_ring", "race_settings"):
             text = self.says("race", *self.crash(name))
-            self.assertIn("/* guilty */", text[:text.find(" 3. ")], name)
+            self.assertIn(common.crashes()[name].guilty, text[:text.find(" 3. ")], name)
 
     def test_it_says_whose_judgement_it_is(self):
         self.assertIn("own judgement; zelkuma races lists each", self.says("race", self.tills(), self.elf("tills")))
@@ -120,7 +119,7 @@ class FencesTest(case.Case):
         self.assertFalse(self.fenced([0x0320000f, STORE], 1))   # rw,r: no write waits
 
     def test_a_way_over_a_fence(self):
-        way = [10, 20, 30], [5, 40, 60]         # fenced stores, and the least count that loads one of them or a later one
+        way = races.Way([10, 20, 30], [5, 40, 60])      # fenced stores, and the least count that loads one of them or a later one
         self.assertTrue(races.leads(way, 20, 40))
         self.assertTrue(races.leads(way, 15, 41))
         self.assertFalse(races.leads(way, 21, 59))

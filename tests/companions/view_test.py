@@ -14,7 +14,8 @@ import common
 import forged
 import hostile
 
-import view_data
+from companion import log as logs
+from companion import view_data
 
 
 class Reader(html.parser.HTMLParser):
@@ -60,6 +61,15 @@ class ViewTest(case.Case):
         suspect = data["suspects"][0]
         self.assertEqual(data["places"][suspect["place"]][:2], ["put_text", "machine.c:18"])
         self.assertEqual(suspect["steps"][-1]["about"], "members+576 'rten'")
+
+    def test_lines_of_source_stand_around_places(self):
+        data = data_of(self.says("view", *self.crash("use_after_free")))
+        first, lines = data["around"][str(data["where"])]
+        self.assertEqual((first, len(lines)), (47, 3))
+        self.assertIn("return session->user[0]", lines[1])
+        self.assertEqual(set(map(int, data["around"])), {data["where"]} | {item["place"] for item in data["suspects"]})
+        stripped = self.record("wild_store", "--seed", "1"), self.elf("wild_store")
+        self.assertEqual({len(lines) for _, lines in data_of(self.says("view", *stripped))["around"].values()}, {0})
 
     def test_tills_has_its_race(self):
         data = data_of(self.view("tills", "--seed", "1", "--harts", "2"))
@@ -117,7 +127,7 @@ class ViewTest(case.Case):
     def test_without_addr2line(self):
         words = "view", self.record("tills", "--seed", "1", "--harts", "2"), self.elf("tills"), "--names", self.names("tills")
         status, page, err = common.companion(*words, environment={"PATH": ""})
-        self.assertEqual((status, err), (0, ""))
+        self.assertEqual((status, err.count("\n"), "no addr2line" in err), (0, 1, True))
         data = data_of(page)
         self.assertEqual(["no addr2line" in note for note in data["notes"]], [True])
         self.assertEqual(data["places"][data["where"]], ["sell", "00010194", ""])
@@ -211,7 +221,7 @@ class EdgesTest(unittest.TestCase):
     def test_evenly_chosen_edges_are_even(self):
         """Of a log whose Edges crowd at the end as many are chosen of each part."""
         class Log:
-            edges = [0] * 20000, [0] * 20000, [i % 2 for i in range(20000)], [1] * 20000
+            edges = logs.Edges([0] * 20000, [0] * 20000, [i % 2 for i in range(20000)], [1] * 20000)
 
         class Trace:
             rows = 10000

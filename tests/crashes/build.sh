@@ -1,13 +1,39 @@
 #!/usr/bin/env bash
 # Builds the crashing programs, with their names and lines: tests/crashes/build.sh [FOLDER]. Without a folder they
-# replace those that are kept here. The compiler is the one that examples/build.sh names.
+# replace those that are kept here. The compiler is the one that examples/build.sh names; programs called libc_* are
+# linked with picolibc, whose own names of lines are left out, as they are larger than the programs.
 set -eu
 here=$(cd "$(dirname "$0")" && pwd)
 to=$(realpath -m "${1:-$here}")
 mkdir -p "$to"
 cd "$here/../.."
 . examples/lib/with_names.sh
+library=$(mktemp -d)
+trap 'rm -rf "$library"' EXIT
+
+link_with_picolibc() { # ELF OBJECT..
+    local elf=$1 gcc=(riscv64-unknown-elf-gcc -mabi=ilp32 -march=rv32im)
+    shift
+    [ -e "$library/libc.a" ] || riscv64-unknown-elf-objcopy --strip-debug \
+        "/usr/lib/picolibc/riscv64-unknown-elf/lib/$("${gcc[@]}" -print-multi-directory)/libc.a" "$library/libc.a"
+    "${gcc[@]}" --specs=picolibc.specs -static -nostartfiles -T examples/picolibc/program.ld -Wl,--build-id=none \
+        -z max-page-size=4096 -o "$elf" "$@" "$library/libc.a"
+}
+
+build_with_picolibc() { # ELF SOURCE
+    local source objects=()
+    for source in examples/picolibc/start.S examples/picolibc/machine.c "$2"; do
+        objects+=("$library/$(basename "${source%.*}").o")
+        compile_with_names "${objects[-1]}" "$source" --specs=picolibc.specs -fhosted
+    done
+    link_with_picolibc "$1" "${objects[@]}"
+}
+
 for source in tests/crashes/*.c; do
     name=$(basename "$source" .c)
-    [ "$name" = heap ] || build_with_names "$to/$name.elf" tests/crashes/heap.c "$source"
+    case $name in
+        heap) ;;
+        libc_*) build_with_picolibc "$to/$name.elf" "$source" ;;
+        *) build_with_names "$to/$name.elf" tests/crashes/heap.c "$source" ;;
+    esac
 done

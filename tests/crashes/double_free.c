@@ -30,7 +30,7 @@ static void sweep(void)
 {
     for (int i = 0; i < BOX; i++)
         if (++box[i]->age > 8)
-            give(box[i]); /* guilty */
+            give(box[i]);
 }
 
 static unsigned read_message(int i)

@@ -16,7 +16,7 @@ static struct timer *waiting;
 static void start(struct timer *timer, unsigned due)
 {
     timer->due = due;
-    timer->next = waiting; /* guilty */
+    timer->next = waiting;
     waiting = timer;
 }
 

@@ -20,7 +20,7 @@ static void release(void)
 
 static int transfer(unsigned from, unsigned to, int amount)
 {
-    acquire(); /* guilty */
+    acquire();
     if (accounts[from] < amount)
         return 0;
     accounts[from] -= amount;

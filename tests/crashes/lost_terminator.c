@@ -22,7 +22,7 @@ static struct label labels[RECORDS];
 static void set_code(struct record *record, const char *code)
 {
     unsigned at = 0;
-    while (at < sizeof record->code && code[at]) { /* guilty */
+    while (at < sizeof record->code && code[at]) {
         record->code[at] = code[at];
         at++;
     }

@@ -26,7 +26,7 @@ static struct list *new_list(const char *name)
 
 static void grow(struct list *list)
 {
-    list->room *= 2; /* guilty */
+    list->room *= 2;
     unsigned *items = take(list->room);
     for (unsigned i = 0; i < list->count; i++)
         items[i] = list->items[i];

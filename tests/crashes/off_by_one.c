@@ -29,7 +29,7 @@ static void forget(struct router *router, unsigned gone)
 {
     for (unsigned i = 0; i <= router->size; i++)
         if (router->routes[i][0] == gone || router->routes[i][1] > 40)
-            router->routes[i][0] = 0xffff; /* guilty */
+            router->routes[i][0] = 0xffff;
 }
 
 static unsigned forward(struct router *router, unsigned from)

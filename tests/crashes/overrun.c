@@ -34,7 +34,7 @@ static void set_topic(struct channel *channel, const char *topic, const char *re
         *to++ = *topic++;
     *to++ = '/';
     while (*region)
-        *to++ = *region++; /* guilty */
+        *to++ = *region++;
     *to = 0;
 }
 

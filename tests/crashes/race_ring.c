@@ -27,7 +27,7 @@ static void push(unsigned number)
     while (tail - head >= RING)
         ;
     unsigned place = tail % RING;
-    tail = tail + 1; /* guilty */
+    tail = tail + 1;
     task->size = weigh(number);
     ring[place] = task;
 }

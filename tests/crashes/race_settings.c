@@ -20,7 +20,7 @@ static void install(unsigned number)
     next->scale = &scales[number % 4];
     current = next;
     if (old)
-        old->scale = 0; /* guilty */
+        old->scale = 0;
 }
 
 static unsigned compute(unsigned value)

@@ -23,7 +23,7 @@ static void enter(struct folder *parent, struct folder *folder)
 {
     folder->parent = parent;
     folder->next = parent->first;
-    parent->first = folder; /* guilty */
+    parent->first = folder;
 }
 
 static unsigned sum_of(const struct folder *folder)

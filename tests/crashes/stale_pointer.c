@@ -18,7 +18,7 @@ static void grow(void)
     struct player *wider = take(2 * room * sizeof *wider);
     for (unsigned i = 0; i < count; i++)
         wider[i] = players[i];
-    give(players); /* guilty */
+    give(players);
     players = wider;
     room *= 2;
 }

@@ -21,7 +21,7 @@ static void type(struct line *line, const char *text)
 
 static void end_with(struct line *line, char mark)
 {
-    line->text[line->length - 1] = mark; /* guilty */
+    line->text[line->length - 1] = mark;
 }
 
 static void erase_word(struct line *line)

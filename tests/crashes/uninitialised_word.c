@@ -20,7 +20,7 @@ static unsigned finished;
 
 static struct job *new_job(unsigned cost)
 {
-    struct job *job = take(sizeof *job); /* guilty */
+    struct job *job = take(sizeof *job);
     job->cost = cost;
     job->priority = cost % 5;
     if (cost > 20)

@@ -28,7 +28,7 @@ static struct session *open_session(const char *user)
 
 static void close_session(unsigned number)
 {
-    give(sessions[number]); /* guilty */
+    give(sessions[number]);
     sessions[number] = 0;
 }
 

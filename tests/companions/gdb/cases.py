@@ -1,31 +1,44 @@
-"""Runs the functions of a test whose names begin with `case_`."""
+"""Test files of functions whose names begin with `case_`, as tests of unittest: each gets the file's own recordings."""
+import os
+import shutil
 import sys
-import traceback
+import unittest
+
+sys.path.insert(0, os.path.join(os.path.dirname(os.path.dirname(os.path.abspath(__file__))), "lib"))
+import case
+from recordings import Recordings
+
+Skipped = unittest.SkipTest
 
 
-class Skipped(Exception):
-    """Why a case can't be tried here."""
+def tests_of(names, needs="", given=lambda recordings: recordings):
+    """The cases among the names of a module, as a class of tests. The recordings are there while its tests run; what is
+    `given` of them is handed to each. `needs` is a program without which all are skipped."""
+    scratch = Recordings()
+
+    class Cases(unittest.TestCase):
+        @classmethod
+        def setUpClass(cls):
+            if needs and not shutil.which(needs):
+                raise Skipped(f"{needs} isn't installed")
+            scratch.__enter__()
+
+        @classmethod
+        def tearDownClass(cls):
+            scratch.__exit__()
+
+    def method(function):
+        def test(_self):
+            function(given(scratch))
+        test.__doc__ = function.__doc__
+        return test
+
+    Cases.__module__, Cases.__qualname__ = names["__name__"], "Cases"
+    for name in [name for name in names if name.startswith("case_")]:
+        setattr(Cases, "test_" + name[len("case_"):], method(names[name]))
+    return Cases
 
 
-def chosen(names, words):
-    """Returns the names that have one of these words, or all."""
-    return {name: case for name, case in names.items() if not words or any(word in name for word in words)}
-
-
-def run_cases(names, *given):
-    """Runs each with what is given; returns the exit status. A case may return how many it stands for."""
-    passed = failed = 0
-    for name, case in sorted(names.items()):
-        if not name.startswith("case_"):
-            continue
-        try:
-            count = case(*given)
-            passed += 1 if count is None else count
-        except Skipped as why:
-            print(f"skipped: {name}: {why}")
-        except Exception:  # a case that ends early has failed, whatever ended it
-            traceback.print_exc(file=sys.stdout)
-            print(f"failed: {name}")
-            failed += 1
-    print(f"{passed} passed, {failed} failed")
-    return 1 if failed else 0
+def main():
+    """Runs the cases of the file that calls it: all, or by -k WORD those with it in their names."""
+    case.main()

@@ -5,11 +5,11 @@ import struct
 import subprocess
 import sys
 
-from common import COMPANION
+from common import COMPANION, TOP
 
 # The same session with less room for commands than the program has.
-SMALL_ROOM = ("import sys; sys.path.insert(0, %r); import bridge.process, gdb; bridge.process.FULL = %d; "
-              "sys.exit(gdb.main(sys.argv[1:]))")
+SMALL_ROOM = ("import sys; sys.path.insert(0, %r); from companion import gdb; from companion.bridge import process; "
+              "process.FULL = %d; sys.exit(gdb.main(sys.argv[1:]))")
 
 
 def checksum(body):
@@ -20,7 +20,7 @@ class Client:
     """One session. `client(TEXT)` sends a packet and returns the answer's text."""
 
     def __init__(self, log, elf, *options, room=None):
-        start = [COMPANION, "gdb"] if room is None else ["-c", SMALL_ROOM % (COMPANION, room)]
+        start = [COMPANION, "gdb"] if room is None else ["-c", SMALL_ROOM % (TOP, room)]
         self.process = subprocess.Popen([sys.executable, *start, log, elf, *options], bufsize=0,
                                         stdin=subprocess.PIPE, stdout=subprocess.PIPE, stderr=subprocess.PIPE)
         self._data = b""

@@ -1,13 +1,11 @@
 """unittest on top of the companions' common test functions: recordings by example, and what a companion says."""
 import os
-import shutil
 import sys
 import unittest
 
 sys.path.insert(0, os.path.dirname(os.path.dirname(os.path.abspath(__file__))))
 import common
 
-sys.path.insert(0, common.COMPANION)
 logs = {}
 
 
@@ -34,9 +32,12 @@ class Case(unittest.TestCase):
 
     def crash(self, name):
         """The log and the ELF of one of tests/crashes, whose lines only an addr2line can tell."""
-        if not any(map(shutil.which, common.TOOLS)):
-            self.skipTest("no addr2line is installed")
+        self.needs_addr2line()
         return common.crash(name)
+
+    def needs_addr2line(self):
+        if not common.present_tools():
+            self.skipTest("no addr2line is installed")
 
     def program(self, *words):
         return common.output(*words).decode("ascii")
@@ -46,6 +47,17 @@ class Case(unittest.TestCase):
         status, said, err = common.companion(*words)
         self.assertEqual((status, err), (0, ""), words)
         return said
+
+    def check(self, what, good, seen=""):
+        """One test of several; the others go on if it fails. `seen` is shown then."""
+        with self.subTest(what):
+            self.assertTrue(good, seen)
+
+    def refused(self, what, status, words, *call, **given):
+        """A call that has to end with a status and one line on err, which holds these words."""
+        found, _, err = common.companion(*call, **given)
+        good = found == status and err.count("\n") == 1 and words in err and "Traceback" not in err
+        self.check(what, good, (found, err[-2000:]))
 
     def refuses(self, status, *words):
         """A companion refuses with one line on err and a status, and prints nothing. Gives the line."""

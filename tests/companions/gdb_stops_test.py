@@ -1,17 +1,14 @@
 #!/usr/bin/env python3
-"""Tries by a client of gdb's protocol where `zelkuma gdb` stops, on small recordings; needs no gdb.
-
-    gdb_stops.py [CASE..]     all cases, or those with these words in their names
-"""
+"""Tries by a client of gdb's protocol where `zelkuma gdb` stops, on small recordings; needs no gdb."""
 import os
 import re
 import sys
 
 sys.path.insert(0, os.path.join(os.path.dirname(os.path.abspath(__file__)), "gdb"))
 
-from cases import chosen, run_cases
+import cases
 from client import Client, Stop
-from recordings import (A0, A1, A2, A7, DATA, ECALL, EXIT, SEGV, T0, T1, T2, TRAP, Recordings, addi, atomic,
+from recordings import (A0, A1, A2, A7, DATA, ECALL, EXIT, SEGV, T0, T1, T2, TRAP, addi, atomic,
                         branch_unless_equal, load, lui, pc_of, store)
 from reference import Reference, agrees, run, size
 
@@ -290,6 +287,8 @@ def case_13_another_order(recordings):
     assert client.close() == 0
 
 
+Cases = cases.tests_of(globals())
+
+
 if __name__ == "__main__":
-    with Recordings() as scratch:
-        sys.exit(run_cases(chosen(globals(), sys.argv[1:]), scratch))
+    cases.main()

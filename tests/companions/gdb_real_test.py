@@ -1,8 +1,6 @@
 #!/usr/bin/env python3
 """Tries `zelkuma gdb` by the real gdb-multiarch, whose answers are compared with `gdb/sessions`.
 
-    gdb_real.py [CASE..]     all cases, or those with these words in their names
-
 Where gdb isn't installed nothing is tried, and so with the sessions that need names where the
 compiler isn't there, or makes other programs of the examples than those that are kept. It says so.
 """
@@ -16,9 +14,10 @@ import sys
 
 sys.path.insert(0, os.path.join(os.path.dirname(os.path.abspath(__file__)), "gdb"))
 
-from cases import Skipped, chosen, run_cases
+import cases
+from cases import Skipped
 from common import COMPANION, EXAMPLES, TOP, crash
-from recordings import FAULTS, T2, Recordings, addi
+from recordings import FAULTS, T2, addi
 from reference import run
 
 GDB, COMPILER = "gdb-multiarch", "riscv64-unknown-elf-gcc"
@@ -206,9 +205,8 @@ def case_monkey(names):
     assert hits > 5, hits
 
 
+Cases = cases.tests_of(globals(), GDB, Names)
+
+
 if __name__ == "__main__":
-    if not shutil.which(GDB):
-        print(f"skipped: {GDB} isn't installed\n0 passed, 0 failed")
-        sys.exit(0)
-    with Recordings() as scratch:
-        sys.exit(run_cases(chosen(globals(), sys.argv[1:]), Names(scratch)))
+    cases.main()

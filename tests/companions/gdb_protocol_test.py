@@ -1,8 +1,5 @@
 #!/usr/bin/env python3
-"""Tries by a client of gdb's protocol what `zelkuma gdb` answers and refuses, on small recordings; needs no gdb.
-
-    gdb_protocol.py [CASE..]     all cases, or those with these words in their names
-"""
+"""Tries by a client of gdb's protocol what `zelkuma gdb` answers and refuses, on small recordings; needs no gdb."""
 import hashlib
 import os
 import re
@@ -13,10 +10,10 @@ import sys
 
 sys.path.insert(0, os.path.join(os.path.dirname(os.path.abspath(__file__)), "gdb"))
 
-from cases import chosen, run_cases
+import cases
 from client import Client, Stop
 from common import COMPANION, EXAMPLES
-from recordings import EXIT, FAULTS, SEGV, T0, T2, TRAP, Recordings, addi, pc_of
+from recordings import EXIT, FAULTS, SEGV, T0, T2, TRAP, addi, pc_of
 from reference import Reference, agrees, run
 
 INTERRUPTED = 2  # gdb's number of SIGINT
@@ -179,6 +176,8 @@ def case_16_port_of_this_machine_alone(recordings):
         assert refusal(log, elf, "--port", str(taken.getsockname()[1]))[0] == 3
 
 
+Cases = cases.tests_of(globals())
+
+
 if __name__ == "__main__":
-    with Recordings() as scratch:
-        sys.exit(run_cases(chosen(globals(), sys.argv[1:]), scratch))
+    cases.main()

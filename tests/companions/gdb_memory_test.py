@@ -1,16 +1,13 @@
 #!/usr/bin/env python3
-"""Tries by a client of gdb's protocol what `zelkuma gdb` says of memory, on small recordings; needs no gdb.
-
-    gdb_memory.py [CASE..]     all cases, or those with these words in their names
-"""
+"""Tries by a client of gdb's protocol what `zelkuma gdb` says of memory, on small recordings; needs no gdb."""
 import os
 import sys
 
 sys.path.insert(0, os.path.join(os.path.dirname(os.path.abspath(__file__)), "gdb"))
 
-from cases import chosen, run_cases
+import cases
 from client import Client, Stop
-from recordings import (A0, A1, A2, A7, DATA, ECALL, EXIT, FIRST, SEGV, T0, T1, Recordings, addi, branch_unless_equal,
+from recordings import (A0, A1, A2, A7, DATA, ECALL, EXIT, FIRST, SEGV, T0, T1, addi, branch_unless_equal,
                         load, lui, pc_of, store)
 from reference import Reference, agrees
 
@@ -151,6 +148,8 @@ def case_03_calls_whose_registers_were_set_before_the_log(recordings):
     assert client.close() == 0
 
 
+Cases = cases.tests_of(globals())
+
+
 if __name__ == "__main__":
-    with Recordings() as scratch:
-        sys.exit(run_cases(chosen(globals(), sys.argv[1:]), scratch))
+    cases.main()

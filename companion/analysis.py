@@ -1,0 +1,80 @@
+"""What follows from the facts of a crash: its history, its suspects, and where values came from."""
+from __future__ import annotations
+
+from .control import Control
+from .elf import FUNCTION, Elf
+from .facts import Byte, Facts, asked_row, find_starts, race_pairs
+from .history import NO_REGISTER, History
+from .log import Log
+from .naming import named_elf
+from .origins import origins
+from .recent import FIRST_ROWS, MORE_ROWS, Asked, LogFile, open_log
+from .recursion import find_recursion
+from .rows import Trace, read_trace
+from .suspects import Ranking
+
+ALL_ROWS = 1 << 42
+
+
+class Analysis(Facts):
+    """Facts, and what follows from them:
+
+    history, suspects       and `shown`, those of them that the report tells
+    races                   the pairs that `races` lists
+    lines                   the history by source lines
+    origin                  what it took from before the rows"""
+
+    def __init__(self, source: LogFile, log: Log, elf: Elf, named: Elf, trace: Trace, row: str = "",
+                 output: Byte | None = None) -> None:
+        super().__init__(log, elf, named, trace, row, output)
+        self.file = source
+        recursion = find_recursion(trace, self.start)
+        loop = self.starts[0 if self.hangs else 1:] + [n for n in recursion.given if n != self.start]
+        self.history = History(trace, self.starts + loop, control=Control(trace, elf),
+                               is_output=output is not None)
+        self.races = race_pairs(log, elf)
+        self.lines = self.history.lines(self.places)
+        self.suspects = Ranking(self, self.history, self.races.pairs, recursion.suspects, loop).found
+        self.shown = [item for item in self.suspects if item.shown] or [item for item in self.suspects if item.kind != "branch"]
+        self.origin = origins(self, self.history)
+
+    def close(self) -> None:
+        super().close()
+        self.file.close()
+
+
+def leads_into(history: History, log: Log, more: Log) -> bool:
+    """Whether rows that more of the log has may tell where values came from: one was loaded, or is in a register that had
+    another value at the start of an interval before."""
+    for hart, register in history.left:
+        known = log.first_intervals()[hart].registers[register]
+        earlier = {interval.registers[register] for interval in more.intervals if interval.hart == hart}
+        if register == NO_REGISTER or earlier != {known}:
+            return True
+    return False
+
+
+def analysed(log_name: str, elf_name: str, names: str = "", row: str = "", rows: int = 0,
+             output: Byte | None = None) -> Analysis:
+    """Reads the end of a log, its rows and the names, and analyses them. `names` is a file with names, if ELF has none.
+    `rows` says how many of the last rows are read; without it more if values near the fault come from before the first.
+    For a byte of the output all are, since writes are numbered from the first."""
+    source = open_log(log_name)
+    try:
+        elf = Elf(elf_name)
+        named = named_elf(elf, names)
+        asked = Asked(asked_row(row).hart, asked_row(row).count) if row else None
+        entries = {symbol.address for symbol in named.functions if symbol.kind == FUNCTION}
+        rows = ALL_ROWS if output else rows
+        log = source.end(rows or FIRST_ROWS, asked)
+        trace = read_trace(log, elf_name, entries, output.write if output else -1)
+        if log.unread and not rows and trace.last:
+            more = source.end(MORE_ROWS, asked)
+            if leads_into(History(trace, find_starts(log, trace, row)), log, more):
+                log, trace = more, read_trace(more, elf_name, entries)
+            else:
+                log = source.end(FIRST_ROWS, asked)
+        return Analysis(source, log, elf, named, trace, row, output)
+    except BaseException:
+        source.close()
+        raise

@@ -1,0 +1,119 @@
+"""Which branch decided that a row was reached, by the code and by the way that the run went.
+
+A row depends on the nearest branch before it, in its function or in those that called it, from whose other side the
+function can end without coming to the row's place. The code is read from the ELF file as far as it can be reached."""
+from __future__ import annotations
+
+from typing import Optional
+
+from .elf import Elf
+from .instruction import BRANCH, JUMP, Instruction
+from .rows import Trace
+
+MOST_PLACES = 4000          # so many places are looked at for a way round
+MOST_ROWS = 2000            # so many rows are looked at for a branch
+
+
+class Control:
+    def __init__(self, trace: Trace, elf: Elf) -> None:
+        self.trace, self.elf = trace, elf
+        self.code: dict[int, Optional[Instruction]] = {ins.pc: ins for ins in trace.codes}
+        self.ways: dict[tuple[int, int], bool] = {}
+        self.call_of = self.matched()
+
+    def matched(self) -> dict[int, int]:
+        """{row of a return: the row of its call}"""
+        trace, found = self.trace, {}
+        stacks: dict[int, list[int]] = {}
+        for n in trace.jumps:
+            stack = stacks.setdefault(trace.hart[n], [])
+            if trace.code_of(n).call:
+                stack.append(n)
+            elif stack:
+                found[n] = stack.pop()
+        return found
+
+    def before(self, row: int) -> int:
+        """The branch that decided that a row was reached, or 0."""
+        trace, hart = self.trace, self.trace.hart[row]
+        place, after, n = trace.code_of(row).pc, row, row - 1
+        for _ in range(MOST_ROWS):
+            if n <= 0:
+                break
+            if trace.hart[n] == hart:
+                ins = trace.code_of(n)
+                if ins.kind == BRANCH and self.is_decided(ins, trace.code_of(after).pc, place):
+                    return n
+                if ins.call:
+                    place = ins.pc              # the row's function was called here
+                after = n = self.call_of.get(n, n)  # what a call did is passed
+            n -= 1
+        return 0
+
+    def is_decided(self, branch: Instruction, went: int, place: int) -> bool:
+        """Whether a branch that went to one place could have ended without coming to another."""
+        other = other_side(branch, went)
+        return other is not None and self.can_avoid(other, place)
+
+    def can_avoid(self, start: int, place: int) -> bool:
+        """Whether a function can end from `start` on without coming to `place`."""
+        key = start, place
+        if key not in self.ways:
+            self.ways[key] = self.find_way(start, place)
+        return self.ways[key]
+
+    def find_way(self, start: int, place: int) -> bool:
+        seen, todo = {start}, [start]
+        while todo and len(seen) < MOST_PLACES:
+            at = todo.pop()
+            if at == place:
+                continue
+            following = self.following(at)
+            if not following:
+                return True
+            todo += [other for other in following if other not in seen]
+            seen.update(following)
+        return False
+
+    def following(self, pc: int) -> list[int]:
+        """The places that can come next in the same function: none at its end."""
+        ins = self.instruction(pc)
+        if ins is None or ins.ret or ins.kind == JUMP and not ins.call and not ins.leads:
+            return []
+        if ins.kind == BRANCH:
+            return [pc + 4, ins.leads]
+        return [ins.leads] if ins.kind == JUMP and not ins.call else [pc + 4]
+
+    def instruction(self, pc: int) -> Optional[Instruction]:
+        if pc not in self.code:
+            word = self.elf.word(pc) if pc % 4 == 0 and self.elf.is_code(pc) else None
+            self.code[pc] = None if word is None else Instruction(-1, b"%08x %08x ?" % (pc, word))
+        return self.code[pc]
+
+    def kept(self, load: int, store: int) -> int:
+        """The latest branch between a store and the load that got it which went past the store's place: had it gone the
+        other way, the word would have been stored again. Or 0."""
+        trace, hart = self.trace, self.trace.hart[load]
+        if trace.hart[store] != hart:
+            return 0
+        place, after = trace.code_of(store).pc, load
+        for n in range(load - 1, max(store, load - MOST_ROWS), -1):
+            if trace.hart[n] == hart:
+                if trace.code_of(n).kind == BRANCH and self.is_past(n, trace.code_of(after).pc, place):
+                    return n
+                after = n
+        return 0
+
+    def is_past(self, n: int, went: int, place: int) -> bool:
+        """Whether a branch could have gone on to a place that its way doesn't come to. A way back is a loop's."""
+        branch = self.trace.code_of(n)
+        other = other_side(branch, went)
+        return other is not None and other > branch.pc and not self.can_avoid(other, place) and self.can_avoid(went, place)
+
+
+def other_side(branch: Instruction, went: int) -> Optional[int]:
+    """Where a branch would have gone else; None if both of its sides are one place."""
+    passed = branch.pc + 4
+    if branch.leads == passed:
+        return None
+    return passed if went == branch.leads else branch.leads

@@ -1,0 +1,132 @@
+"""Recordings that a companion makes: the words of `record`, the turns that a recording takes, and its command."""
+from __future__ import annotations
+
+import contextlib
+import os
+import shlex
+import signal
+import subprocess
+import tempfile
+from enum import IntEnum
+from typing import Mapping, NamedTuple, Sequence
+
+from . import program
+from .errors import REFUSED, UNREADABLE, CompanionError
+from .options import decimal, parse
+
+RECORD_FORM = "[OPTION..] ELF LOG BOOK, as for record, but for --seed"
+NUMBERS = "--format --harts --interval --limit --log-size --memory --sets --ways --line --sets2 --ways2".split()
+RECORD_OPTIONS = {"--lean": False, "--seed": True, "--input": True, **{name: True for name in NUMBERS}}
+SCHEDULE = "ZELKUMA_SCHEDULE"   # the name in the environment of the turns that a recording without a seed takes
+ENDS = DONE, FAULT, LIMIT = 0, 10, 11   # the statuses of recordings that were made
+
+
+class Kind(IntEnum):
+    """Where the turns of a recording come from."""
+    SEED, BURSTS, SLEEPER, THREADS = range(4)
+
+
+class Plan(NamedTuple):
+    """A number, and how turns are drawn from it; of a recording in threads it only counts. Plans are tried in order."""
+    number: int
+    kind: Kind
+
+    def __str__(self) -> str:
+        return f"{self.kind.name.lower()} {self.number}"
+
+    def options(self) -> list[str]:
+        return [f"--seed={self.number}"] if self.kind is Kind.SEED else []
+
+    def schedule(self) -> str:
+        return f"{self.kind.name.lower()}:{self.number}" if self.kind in (Kind.BURSTS, Kind.SLEEPER) else ""
+
+
+class RecordWords:
+    """What the words of `record` name.
+
+    names    ELF, LOG, BOOK as they were given
+    outputs  where LOG and BOOK are in the end
+    is_lean  whether no BOOK is saved"""
+
+    def __init__(self, words: Sequence[str]) -> None:
+        self.names, options = parse(words, RECORD_OPTIONS, range(2, 4), RECORD_FORM)
+        self.is_lean = "--lean" in options
+        if "--seed" in options:
+            raise CompanionError("the seeds are FROM to TO, so --seed can't be given", REFUSED)
+        if len(self.names) == 2 and not self.is_lean:
+            raise CompanionError("the words of record have no BOOK", REFUSED)
+        self.elf, *self.outputs = self.names
+        self.options = options_of(options)
+        self.outputs = [os.path.realpath(name) for name in self.outputs]
+        if not self.is_lean and self.outputs[0] == self.outputs[1]:
+            raise CompanionError(f"LOG and BOOK are one file: {self.names[1]}", REFUSED)
+        for output in self.outputs:
+            check_output(output, [self.elf] + [options[name] for name in ("--input",) if name in options])
+
+    def command(self, plan: Plan, outputs: Sequence[str]) -> list[str]:
+        return [program.path(), "record", *self.options, *plan.options(), "--", self.elf, *outputs]
+
+    def shown(self, plan: Plan) -> str:
+        """What to type for the same recording. One in threads has its turns from BOOK, and so leaves it alone."""
+        names, schedule = self.names, plan.schedule()
+        if plan.kind is Kind.THREADS:
+            schedule = f"book:{names[2]}"
+            names = [self.elf] + [name + ".again" for name in names[1:]]
+        words = ["zelkuma", "record", *self.options, *plan.options()]
+        words += ["--"] * any(name.startswith("-") for name in names) + names
+        return " ".join([f"{SCHEDULE}={shlex.quote(schedule)}"] * bool(schedule) + [shlex.quote(word) for word in words])
+
+
+def options_of(options: Mapping[str, str]) -> list[str]:
+    """The options of `record` as words, with numbers in decimal."""
+    return [f"{name}={decimal(value) if name in NUMBERS else value}" if RECORD_OPTIONS[name] else name
+            for name, value in options.items()]
+
+
+def check_output(output: str, inputs: Sequence[str]) -> None:
+    """An output takes another file's place in the end: it has to be no input, and no device."""
+    if os.path.exists(output) and not os.path.isfile(output):
+        raise CompanionError(f"{output} is no file that can be replaced", UNREADABLE)
+    for name in inputs:
+        if os.path.exists(output) and os.path.exists(name) and os.path.samefile(output, name):
+            raise CompanionError(f"{output} is read and would be replaced", REFUSED)
+
+
+def environment(schedule: str) -> dict[str, str]:
+    """That of a recording with these turns. Without them its harts run in threads, whatever is set for this process."""
+    found = {name: value for name, value in os.environ.items() if name != SCHEDULE}
+    return dict(found, **{SCHEDULE: schedule}) if schedule else found
+
+
+def scratch(output: str) -> tempfile.TemporaryDirectory[str]:
+    """A folder beside an output, so that what is made there takes its place in one step."""
+    folder = os.path.dirname(os.path.realpath(output))
+    try:
+        return tempfile.TemporaryDirectory(prefix=".zelkuma-", dir=folder)
+    except OSError as error:
+        raise CompanionError(f"{folder}: {error.strerror}", UNREADABLE)
+
+
+class Child:
+    """A process whose output and err go into files."""
+
+    def __init__(self, words: Sequence[str], said: str, err: str, schedule: str = "") -> None:
+        self.said, self.err = said, err
+        with open(said, "wb") as out, open(err, "wb") as errors:
+            self.process = subprocess.Popen(words, stdin=subprocess.DEVNULL, stdout=out, stderr=errors,
+                                            env=environment(schedule))
+
+    def end(self, status: int) -> int:
+        """Takes the status that the system tells of the process."""
+        self.process.returncode = os.WEXITSTATUS(status) if os.WIFEXITED(status) else -os.WTERMSIG(status)
+        return self.process.returncode
+
+    def kill(self) -> None:
+        """Ends it, if it hasn't ended. Popen's own kill would take its status, which `os.wait` waits for."""
+        with contextlib.suppress(ProcessLookupError):
+            os.kill(self.process.pid, signal.SIGKILL)
+
+
+def last_line(name: str) -> str:
+    with open(name, "rb") as file:
+        return file.read().decode("utf-8", "replace").strip().split("\n")[-1]

@@ -1,0 +1,97 @@
+"""The three streams of a companion: whatever state they are in, a call ends with a line and a status."""
+from __future__ import annotations
+
+import io
+import os
+import signal
+import sys
+import time
+from typing import Any
+
+from .errors import UNWRITABLE, CompanionError
+
+PAUSE = 0.2                 # seconds between two lines of progress
+
+
+def prepare() -> None:
+    """Makes the streams usable. One that is closed is put on a file that takes nothing, so that no other file gets its
+    number, and what is written to it fails as on a full disk. A name may hold letters that the terminal lacks."""
+    for number, name in enumerate(("stdin", "stdout", "stderr")):
+        if getattr(sys, name) is None:
+            while os.open(os.devnull, os.O_RDONLY) < number:
+                pass                            # the lowest free number is given
+            setattr(sys, name, os.fdopen(number, "w" if number else "r", closefd=False))
+    for stream in (sys.stdout, sys.stderr):
+        if isinstance(stream, io.TextIOWrapper):
+            stream.reconfigure(errors="backslashreplace")
+
+
+def put(text: str) -> None:
+    """Prints text. CompanionError if the output takes no more."""
+    put_bytes(text.encode(sys.stdout.encoding or "utf-8", "backslashreplace"))
+
+
+def put_bytes(data: bytes) -> None:
+    try:
+        sys.stdout.buffer.write(data)
+        sys.stdout.buffer.flush()
+    except BrokenPipeError:
+        raise
+    except OSError as error:
+        raise CompanionError(f"the output takes no more: {error.strerror or error}", UNWRITABLE)
+
+
+def say(message: object) -> None:
+    """What went wrong, in one line on err."""
+    tell(f"zelkuma: {message}")
+
+
+def tell(line: str) -> None:
+    """One line on err, if that takes it. Control characters of a file's name stay out of the terminal."""
+    show("".join(c if c.isprintable() else "?" for c in line) + "\n")
+
+
+def draw(text: str) -> None:
+    """One line on a terminal, over the one before."""
+    show(f"\r{text}\x1b[K")
+
+
+class Progress:
+    """One line on a terminal, written over and over; elsewhere nothing."""
+
+    def __init__(self) -> None:
+        self.is_shown, self.drawn = sys.stderr.isatty(), 0.0
+
+    def tell(self, text: str) -> None:
+        """Draws a line, unless the one before was drawn just now."""
+        now = time.monotonic()
+        if self.is_shown and now - self.drawn >= PAUSE:
+            self.drawn = now
+            draw(text)
+
+    def clear(self) -> None:
+        if self.drawn:
+            draw("")
+            self.drawn = 0.0
+
+
+def show(text: str) -> None:
+    try:
+        sys.stderr.write(text)
+        sys.stderr.flush()
+    except OSError:
+        pass
+
+
+def give_up() -> None:
+    """What isn't written yet can't be: python must not try it again when it ends."""
+    for number in (1, 2):
+        null = os.open(os.devnull, os.O_WRONLY)
+        os.dup2(null, number)
+        os.close(null)
+
+
+def on_interrupt(handler: Any) -> None:
+    """Sets what Ctrl-C does, unless this process was started to ignore it."""
+    if signal.getsignal(signal.SIGINT) is not signal.SIG_IGN:
+        signal.signal(signal.SIGINT, handler)

@@ -1,0 +1,283 @@
+#!/usr/bin/env python3
+"""Tries `zelkuma seeds`: the kinds of turns, the lowest hit and its files, the table, Ctrl-C, what is refused, and GNU
+parallel on this machine."""
+import os
+import pty
+import re
+import shlex
+import shutil
+import signal
+import subprocess
+import sys
+import time
+
+sys.path.insert(0, os.path.join(os.path.dirname(os.path.abspath(__file__)), "gdb"))
+
+import cases
+from cases import Skipped
+from common import COMPANION, EXAMPLES, PROGRAM
+from recordings import Recordings, elf_of
+
+SEEDS = [sys.executable, COMPANION, "seeds"]
+HAND_OVER, BUFFERS, TWO_LOCKS = (os.path.join(EXAMPLES, name + ".elf") for name in ("hand_over", "buffers", "two_locks"))
+CRASHES, SLEEPER, NOT_FOUND = 3, 20, 22     # the lowest seed by which hand_over crashes, sleeper by which buffers does; none
+HEAD = "status  count  first"
+FOUR = ["--format=2", "--harts=4", "--limit=1000000"]
+
+
+def seeds(*words):
+    done = subprocess.run([*SEEDS, *words], stdin=subprocess.DEVNULL, stdout=subprocess.PIPE, stderr=subprocess.PIPE,
+                          universal_newlines=True, timeout=120, check=False)
+    assert "Traceback" not in done.stderr, done.stderr
+    return done.returncode, done.stdout, done.stderr
+
+
+def first_line(done):
+    """The status and the first line that was printed."""
+    return done[0], done[1].partition("\n")[0]
+
+
+def rows(said):
+    """The rows of a table, from its head on, as lists of cells."""
+    return [re.split("  +", line) for line in said[said.index(HEAD):].splitlines()[1:]]
+
+
+def again(said):
+    """Runs the command that is printed in the second line."""
+    words = shlex.split(said.split("\n")[1])
+    names = dict(word.split("=", 1) for word in words[:words.index("zelkuma")])
+    return subprocess.run([PROGRAM, *words[words.index("zelkuma") + 1:]], stdout=subprocess.DEVNULL,
+                          stderr=subprocess.DEVNULL, env=dict(os.environ, **names), check=False).returncode
+
+
+def content(name):
+    with open(name, "rb") as file:
+        return file.read()
+
+
+class Folder:
+    """A folder of a case: LOG and BOOK, and that nothing else is left in it."""
+
+    def __init__(self, recordings, name):
+        self.path = recordings.path(name)
+        os.mkdir(self.path)
+        self.log, self.book = os.path.join(self.path, "LOG"), os.path.join(self.path, "BOOK")
+
+    def names(self):
+        return sorted(os.listdir(self.path))
+
+
+def case_lowest_seed_and_its_files(recordings):
+    log, _ = recordings.example("hand_over", "--harts", "2", "--seed", str(CRASHES))
+    for jobs in (["-j", "1"], ["-j2"], ["-j", "8"], []):
+        folder = Folder(recordings, "found" + "".join(jobs))
+        done = seeds(*jobs, "--only", "seeds", "1", "40", "--", "--harts", "2", HAND_OVER, folder.log, folder.book)
+        command = f"zelkuma record --harts=2 --seed={CRASHES} {HAND_OVER} {folder.log} {folder.book}"
+        assert done[0] == 0 and done[1].startswith(f"seed {CRASHES}: status 10\n{command}\n{HEAD}  "), done
+        assert [row[:3] for row in rows(done[1])] == [["0", "2", "seed 1"], ["10", "1", "seed 3"]] and done[2] == "", done
+        assert content(folder.log) == content(log) and folder.names() == ["BOOK", "LOG"]
+        audit = subprocess.run([PROGRAM, "audit", folder.log, HAND_OVER, folder.book], stdout=subprocess.PIPE,
+                               check=True)
+        assert audit.stdout == b"agree\n"
+
+
+def case_other_ends(recordings):
+    folder = Folder(recordings, "ends")
+    words = ["--", "--harts=2", "--limit", "20000", os.path.join(EXAMPLES, "two_locks.elf"), folder.log, folder.book]
+    only = "--only", "seeds"
+    assert first_line(seeds(*only, "--until", "11", "5", "9", *words)) == (0, "seed 8: status 11")
+    done = seeds(*only, "--until=0", "8", "9", *words)
+    assert first_line(done) == (0, "seed 9: status 0")
+    assert rows(done[1]) == [["0", "1", "seed 9", "-"], ["11", "1", "seed 8", "-"]], done
+
+
+def case_none_is_found(recordings):
+    folder = Folder(recordings, "none")
+    recordings.write("none/LOG", b"of before")
+    status, out, err = seeds("--only", "seeds", "1", "2", "--", "--harts", "2", HAND_OVER, folder.log, folder.book)
+    assert status == NOT_FOUND and err == "zelkuma: none of seeds from 1 to 2 ends with status 10\n", err
+    assert out.startswith(HEAD) and rows(out) == [["0", "2", "seed 1", "-"]], out
+    assert content(folder.log) == b"of before" and folder.names() == ["LOG"]
+
+
+def case_without_a_list_of_turns(recordings):
+    folder = Folder(recordings, "lean")
+    done = seeds("--only", "seeds", "1", "9", "--", "--lean", "--harts", "2", HAND_OVER, folder.log, folder.book)
+    assert first_line(done) == (0, f"seed {CRASHES}: status 10"), done
+    assert folder.names() == ["LOG"]
+
+
+def case_kinds_in_turn(recordings):
+    """With each number all kinds; the first hit is kept, and its command makes it again, byte by byte."""
+    folder = Folder(recordings, "kinds")
+    words = ["1", "40", "--", *FOUR, BUFFERS, folder.log, folder.book]
+    outs = set()
+    for jobs in ("-j1", "-j3", "-j8"):
+        done = seeds(jobs, "--only", "sleepers,seeds,bursts", *words)
+        assert first_line(done) == (0, f"sleeper {SLEEPER}: status 10"), done
+        outs.add(done[1])
+    assert len(outs) == 1, outs
+    counts = rows(done[1])
+    assert counts[0] == ["0", str(3 * SLEEPER - 1), "seed 1", "-"], counts
+    assert counts[1][:3] == ["10", "1", f"sleeper {SLEEPER}"] and counts[1][3].startswith("LoadOutside fill_word "), counts
+    assert f"\nZELKUMA_SCHEDULE=sleeper:{SLEEPER} zelkuma record --format=2 " in done[1], done
+    before = content(folder.log), content(folder.book)
+    os.remove(folder.log)
+    assert again(done[1]) == 10 and (content(folder.log), content(folder.book)) == before
+
+
+def case_each_kind_alone(recordings):
+    folder = Folder(recordings, "alone")
+    words = ["--", *FOUR, BUFFERS, folder.log, folder.book]
+    for kinds, found in (("bursts", "bursts 29"), ("sleepers", "sleeper 20")):
+        assert first_line(seeds("--only", kinds, "18", "30", *words)) == (0, found + ": status 10")
+    done = seeds("--only=seeds", "18", "30", *words)
+    assert done[0] == NOT_FOUND and rows(done[1]) == [["0", "13", "seed 18", "-"]], done
+
+
+def case_threads(recordings):
+    """One in threads is told by its BOOK. Whatever this process' environment says, the harts run in threads."""
+    folder = Folder(recordings, "threads")
+    words = ["--harts", "2", "--limit", "20000", TWO_LOCKS, folder.log, folder.book]
+    os.environ["ZELKUMA_SCHEDULE"] = "book:/nowhere"
+    done = seeds("--only", "threads", "--until", "0", "1", "9", "--", *words)
+    del os.environ["ZELKUMA_SCHEDULE"]
+    assert done[0] == 0 and re.match(r"threads \d: status 0\n", done[1]), done
+    assert f"\nZELKUMA_SCHEDULE=book:{folder.book} zelkuma record " in done[1], done
+    assert again(done[1]) == 0 and content(folder.book + ".again") == content(folder.book)
+    assert content(folder.log + ".again") == content(folder.log)
+
+
+def case_all_kinds_of_one_number(recordings):
+    folder = Folder(recordings, "all")
+    done = seeds("--until", "11", "1", "1", "--", "--harts=2", "--limit", "20000", TWO_LOCKS, folder.log, folder.book)
+    assert done[0] == NOT_FOUND and rows(done[1]) == [["0", "4", "seed 1", "-"]] or "threads 1: status 11" in done[1], done
+    done = seeds("1", "1", "--", "--lean", "--harts=2", TWO_LOCKS, folder.log, folder.book)
+    assert done[0] == NOT_FOUND and rows(done[1]) == [["0", "3", "seed 1", "-"]], done
+
+
+def case_numbers_with_a_letter(recordings):
+    folder = Folder(recordings, "letters")
+    words = ["--harts", "0x2", "--limit=20K", "--log-size", "1M", TWO_LOCKS, folder.log, folder.book]
+    done = seeds("--only", "seeds", "--until", "11", "8", "1K", "--", *words)
+    assert first_line(done) == (0, "seed 8: status 11") and "--harts=2 --limit=20480 --log-size=1048576 " in done[1], done
+
+
+def case_the_place_of_each_fault(recordings):
+    """Faults are told apart by the line of bucket, and counted though another status is wanted."""
+    folder = Folder(recordings, "places")
+    done = seeds("--only", "seeds", "--until", "11", "1", "5", "--", "--harts", "2", HAND_OVER, folder.log, folder.book)
+    log, elf = recordings.example("hand_over", "--harts", "2", "--seed", str(CRASHES))
+    line = subprocess.run([sys.executable, COMPANION, "bucket", log, elf], stdout=subprocess.PIPE, check=True,
+                          universal_newlines=True).stdout.strip()
+    assert done[0] == NOT_FOUND and rows(done[1]) == [["0", "3", "seed 1", "-"], ["10", "2", "seed 3", line]], done
+
+
+def case_refusals(recordings):
+    folder = Folder(recordings, "refused")
+    elf = os.path.join(folder.path, "elf")
+    shutil.copy(HAND_OVER, elf)
+    good = ["--", "--harts", "2", elf, folder.log, folder.book]
+    for status, words in (
+            (2, ["1"]), (2, ["1", "2"]), (2, ["2", "1", *good]), (2, ["x", "2", *good]), (2, ["-j", "0", "1", "2", *good]),
+            (2, ["--until", "7", "1", "2", *good]), (2, ["1", "2", "--", "--seed", "1", *good[1:]]),
+            (2, ["1", "2", "--", "--nothing", *good[1:]]), (2, ["1", "2", "--", elf, folder.log]),
+            (2, ["1", "2", "--", "--harts", "99", *good[3:]]), (2, ["1", "2", "--", elf, elf, folder.book]),
+            (2, ["1", "2", "--", "--input", elf, HAND_OVER, elf, folder.book]),
+            (2, ["1", "2", "--", elf, folder.log, folder.log]), (2, ["--only", "seed", "1", "2", *good]),
+            (2, ["--only", "", "1", "2", *good]), (2, ["--only", "threads", "1", "2", "--", "--lean", *good[1:]]),
+            (2, ["1", "20P", *good]), (2, ["1", "2", "--", "--limit", "1X", *good[1:]]), (2, ["1", str(2**64), *good]),
+            (3, ["1", "2", "--", elf, folder.path, folder.book]), (3, ["1", "2", "--", elf, "/dev/null", folder.book]),
+            (3, ["1", "2", "--", elf, "/nowhere/LOG", folder.book]),
+            (4, ["1", "2", "--", os.path.join(folder.path, "none"), folder.log, folder.book]),
+            (6, ["1", "2", "--", os.path.join(EXAMPLES, "README.md"), folder.log, folder.book])):
+        done = seeds(*words)
+        assert done[0] == status and done[1] == "" and done[2].count("\n") == 1, (words, done)
+    assert folder.names() == ["elf"] and content(elf) == content(HAND_OVER)
+
+
+def interrupted(folder, is_due, *words, program=PROGRAM):
+    """Ctrl-C once this holds of the process: what is printed then."""
+    process = subprocess.Popen([*SEEDS, *words, folder.log, folder.book], stdout=subprocess.PIPE, stderr=subprocess.PIPE,
+                               start_new_session=True, universal_newlines=True, env=dict(os.environ, ZELKUMA_PROGRAM=program))
+    try:
+        while not is_due(process):
+            assert process.poll() is None, process.communicate()
+            time.sleep(0.02)
+        os.killpg(process.pid, signal.SIGINT)
+        out, err = process.communicate(timeout=60)
+    finally:
+        if process.poll() is None:
+            os.killpg(process.pid, signal.SIGKILL)
+    assert (process.returncode, err) == (130, ""), (process.returncode, err)
+    return out
+
+
+def trials(folder):
+    """The files of trials that are there."""
+    return {name for _, _, names in os.walk(folder.path) for name in names}
+
+
+def case_interrupted(recordings):
+    """Before a trial is over nothing is met, and nothing is printed; later the table is."""
+    folder = Folder(recordings, "stopped")
+    spins = recordings.write("spins.elf", elf_of([0x6f]))       # a jump to itself
+    words = "--only", "seeds", "0", "1000000", "--", "--limit=100000000"
+    assert interrupted(folder, lambda _: folder.names(), *words, spins) == "" and folder.names() == []
+    out = interrupted(folder, lambda _: any(re.match(r"seed-([2-9]|\d\d)", name) for name in trials(folder)), "-j1", *words, HAND_OVER)
+    assert rows(out)[0][2] == "seed 0" and folder.names() == [], out
+
+
+def case_interrupted_when_one_is_found(recordings):
+    """What was found is kept, though a lower one may come. (In place of the program a script that ends at once by drawn
+    turns, and never by a seed.)"""
+    folder = Folder(recordings, "kept")
+    script = recordings.write("program", b"#!/bin/bash\n[ -n \"${ZELKUMA_SCHEDULE-}\" ] || exec sleep 600\n"
+                              b"echo log >\"${@: -2:1}\"; echo book >\"${@: -1}\"\n")
+    os.chmod(script, 0o755)
+
+    def is_found(process):
+        with open(f"/proc/{process.pid}/task/{process.pid}/children", encoding="ascii") as children:
+            return "sleeper-0.1" in trials(folder) and len(children.read().split()) == 1
+
+    words = ["-j2", "--only", "seeds,sleepers", "--until", "0", "0", "9", "--", TWO_LOCKS]
+    out = interrupted(folder, is_found, *words, program=script)
+    assert out.startswith("sleeper 0: status 0\n") and rows(out) == [["0", "1", "sleeper 0", "-"]], out
+    assert folder.names() == ["BOOK", "LOG"] and content(folder.log) == b"log\n"
+
+
+def case_progress_on_a_terminal(recordings):
+    folder = Folder(recordings, "progress")
+    ours, theirs = pty.openpty()
+    words = ["--only", "seeds", "1", "2", "--", "--harts", "2", HAND_OVER, folder.log, folder.book]
+    done = subprocess.run([*SEEDS, *words], stdout=subprocess.PIPE, stderr=theirs, check=False)
+    os.close(theirs)
+    said = os.read(ours, 65536).decode()
+    os.close(ours)
+    assert done.returncode == NOT_FOUND
+    assert re.search(r"\r\d of 1 to 2, [\d.]+ runs a second, \d of status 0\x1b\[K", said), said
+    assert said.replace("\r\n", "").endswith("\r\x1b[Kzelkuma: none of seeds from 1 to 2 ends with status 10"), said
+
+
+def case_blocks_of_seeds_by_parallel(recordings):
+    """As over several machines, with a list of machines that has this one alone."""
+    if not shutil.which("parallel") or b"GNU" not in subprocess.run(
+            ["parallel", "--version"], stdout=subprocess.PIPE, stderr=subprocess.DEVNULL, check=False).stdout:
+        raise Skipped("GNU parallel isn't installed")
+    folder = Folder(recordings, "machines")
+    command = " ".join(map(shlex.quote, SEEDS)) + " --only seeds {} $(({} + 2)) -- --harts 2 " + " ".join(
+        map(shlex.quote, (HAND_OVER, folder.log))) + ".{} " + shlex.quote(folder.book) + ".{}"
+    done = subprocess.run(["parallel", "--will-cite", "--jobs", "1", "--sshloginfile",
+                           recordings.write("MACHINES", b":\n"), command, ":::", "1", "4", "7"],
+                          stdout=subprocess.PIPE, stderr=subprocess.PIPE, universal_newlines=True, timeout=120,
+                          check=False)
+    found = sorted((line for line in done.stdout.splitlines() if ": status" in line), key=lambda line: int(line.split()[1].rstrip(":")))
+    assert found == ["seed 3: status 10", "seed 5: status 10"], (done.stdout, done.stderr)
+    assert folder.names() == ["BOOK.1", "BOOK.4", "LOG.1", "LOG.4"]
+
+
+Cases = cases.tests_of(globals())
+
+
+if __name__ == "__main__":
+    cases.main()
