@@ -30,7 +30,7 @@ PAGES = {
     "docs/GDB.md": 1300,
     "docs/GUIDE.md": 6700,
     "docs/INTERNALS.md": 4000,
-    "docs/JSON.md": 600,
+    "docs/JSON.md": 650,
     "docs/PROOF.md": 3000,
     "docs/PYTHON.md": 400,
     "docs/VIEW.md": 1300,
