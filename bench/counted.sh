@@ -43,11 +43,11 @@ for program; do
     tell "audit of it" "$audit" "$taken" "a turn" "$((first / taken))"
     second=$(count record --seed 1 --format 2 "$top/examples/sort.elf" "$work/LOG" "$work/BOOK")
     tell "record in format 2" "$second" "$(turns)" "a turn"
-    read -r hart interval _ < <("$program" list "$work/LOG" | tail -n 1)
-    replay=$(count replay "$work/LOG" "$top/examples/sort.elf" "$hart" "$interval")
-    tell "replay of its last interval" "$replay" "$(wc -l <"$work/out")" "a row"
+    "$program" record --seed 1 --limit 1000000 --interval 1000000 --log-size 16777216 "$top/examples/sort.elf" "$work/LOG" "$work/BOOK" 2>/dev/null || true
+    replay=$(count replay "$work/LOG" "$top/examples/sort.elf" 0 0)
+    tell "replay of its first million rows" "$replay" "$(wc -l <"$work/out")" "a row"
     joint=$(count joint "$work/LOG" "$top/examples/sort.elf")
-    tell "joint" "$joint" "$(wc -l <"$work/out")" "a row"
+    tell "joint of them" "$joint" "$(wc -l <"$work/out")" "a row"
     input 8 12500
     harts=$(count record --seed 1 --format 2 --harts 8 --input "$work/input" "$top/bench/harts.elf" "$work/LOG" "$work/BOOK")
     tell "record, eight harts on the same words" "$harts" "$(turns)" "a turn"
