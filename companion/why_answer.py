@@ -8,6 +8,7 @@ from .answers import LONGEST, place_of
 from .fault import fault_words
 from .hang import hang_lines
 from .instruction import NAMES
+from .loops import Loop
 from .report import ALONE, DID
 from .suspect import Suspect
 
@@ -31,6 +32,7 @@ def why_answer(facts: Analysis) -> dict[str, Any]:
                    "inlined": frame.inlined} for frame in stack.frames],
         "calls_cut": stack.is_cut,
         "hang": hang_lines(facts, True) if facts.loops else [],
+        "loops": [loop_answer(facts, loop) for loop in facts.loops],
         "registers": {} if facts.asked or facts.output else {name: f"{value:08x}" for name, value in zip(NAMES, trace.final[hart])},
         "last_rows": [trace.text(n) for n in facts.last],
         "suspects": [suspect_answer(facts, item) for item in facts.shown[:LONGEST]],
@@ -43,9 +45,19 @@ def why_answer(facts: Analysis) -> dict[str, Any]:
         "notes": facts.notes + facts.places.trouble()}
 
 
+def loop_answer(facts: Analysis, loop: Loop) -> dict[str, Any]:
+    """The loop of a hart at its limit; `places` is empty if none is seen."""
+    codes = facts.trace.codes
+    return {"hart": loop.hart, "since": facts.trace.count_of(loop.first), "rows": loop.rows, "rounds": loop.rounds,
+            "places": [f"{pc:08x}" for pc in sorted(codes[at].pc for at in loop.places)[:LONGEST]],
+            "exits": [{"times": item.times, **row_of(facts, item.row)} for item in loop.exits[:LONGEST] if item.leads_out],
+            "stopped": [{"times": item.times, **row_of(facts, item.row)} for item in loop.stopped[:LONGEST]]}
+
+
 def suspect_answer(facts: Analysis, item: Suspect) -> dict[str, Any]:
     has_load = item.kind not in ALONE
     return {"kind": item.kind, "did": DID[item.kind], "guilty": row_of(facts, item.guilty),
             "store": row_of(facts, item.store) if has_load else None,
             "load": row_of(facts, item.load) if has_load else None,
+            "extra": [{"words": words, **row_of(facts, n)} for words, n in item.extra],
             "because": item.why, "cost": item.cost, "score": round(item.score, 2), "pairs": item.rows}

@@ -63,9 +63,9 @@ runs 2 "$zelkuma" replay LOG ELF 0x0 0
 has err "HART is a number from 0 to 18446744073709551615, and not '0x0'"
 
 what="files that can't be saved"
-refuses 3 "LOG can't be saved as 'no/LOG': there is no folder 'no'" record ELF no/LOG BOOK
+refuses 3 "LOG can't be saved as 'no/LOG': there is no folder 'no/'" record ELF no/LOG BOOK
 refuses 3 "BOOK can't be saved as '/no/where/BOOK': there is no folder '/no/where/'" record --seed=1 ELF LOG /no/where/BOOK
-refuses 3 "LOG can't be saved as 'ELF/LOG': there is no folder 'ELF'" record ELF ELF/LOG BOOK
+refuses 3 "LOG can't be saved as 'ELF/LOG': there is no folder 'ELF/'" record ELF ELF/LOG BOOK
 refuses 3 "LOG can't be saved: 'folder' is a folder" record ELF folder BOOK --harts 2
 refuses 3 "BOOK can't be saved: './' is a folder" record --input 2K ELF LOG ./
 long=$(printf 'x%.0s' {1..255})
@@ -77,13 +77,13 @@ refuses 3 "LOG can't be saved: its name has more than 255 bytes" record ELF "${l
 chmod a-w folder
 touch folder/old kept && chmod a-w folder/old kept
 if [ ! -w folder ]; then
-    refuses 3 "LOG can't be saved as 'folder/LOG': the folder 'folder' can't be written to" record ELF folder/LOG BOOK
+    refuses 3 "LOG can't be saved as 'folder/LOG': the folder 'folder/' can't be written to" record ELF folder/LOG BOOK
     refuses 3 "LOG can't be saved: 'kept' may not be written" record ELF kept BOOK
 else
     # (root may write everywhere, so another one has to try)
     as_another=("$(type -P setpriv)" --reuid 65534 --regid 65534 --clear-groups)
     runs 3 "${as_another[@]}" "$zelkuma" record ELF folder/LOG BOOK
-    says "zelkuma: LOG can't be saved as 'folder/LOG': the folder 'folder' can't be written to"
+    says "zelkuma: LOG can't be saved as 'folder/LOG': the folder 'folder/' can't be written to"
     runs 3 "${as_another[@]}" "$zelkuma" record ELF LOG kept
     says "zelkuma: LOG can't be saved: 'LOG' may not be written"
 fi
@@ -122,6 +122,25 @@ records ELF dangling BOOK
 [ -s LOG4 ] || fails "the link wasn't followed"
 runs 4 "$zelkuma" record no-file LOG BOOK
 says "bugnet: missing: no-file"
+
+what="turns that the environment names"
+for schedule in bursts sleeper: bursts:x sleeper:-1 bursts:18446744073709551616 list:LOG; do
+    export ZELKUMA_SCHEDULE=$schedule
+    refuses 2 "ZELKUMA_SCHEDULE is bursts:NUMBER, sleeper:NUMBER or book:FILE, and not '$schedule'" record ELF LOG BOOK
+done
+for schedule in bursts:0 bursts:+7 sleeper:18446744073709551615; do
+    export ZELKUMA_SCHEDULE=$schedule
+    runs 11 "$zelkuma" record --harts 2 --limit 2000 ELF drawn drawn-BOOK
+    runs 11 "$zelkuma" record --harts 2 --limit 2000 ELF LOG BOOK
+    cmp -s drawn LOG && cmp -s drawn-BOOK BOOK || fails "the same value gave another run"
+    export ZELKUMA_SCHEDULE=book:drawn-BOOK
+    runs 11 "$zelkuma" record --harts 2 --limit 2000 ELF LOG BOOK
+    cmp -s drawn LOG && cmp -s drawn-BOOK BOOK || fails "the list wasn't followed"
+done
+refuses 2 "LOG would destroy './drawn-BOOK', whose turns ZELKUMA_SCHEDULE names" record ELF ./drawn-BOOK BOOK
+runs 4 env ZELKUMA_SCHEDULE=book:no-file "$zelkuma" record ELF LOG BOOK
+says "bugnet: missing list of turns"
+unset ZELKUMA_SCHEDULE
 
 # Each line of words: the program refuses them just if the script knows why. A bare '@' stands for an empty word.
 what="words as the program reads them"

@@ -131,7 +131,15 @@ MUTANTS = [
         case("program_cases", "harts that run in threads leave the log of their list of turns"),
         case("program_cases", "four harts of a generated program in threads take the turns of a list"),
     ),
-    ("Each list waits without end, which only a recording may.", edit("bugnet", "each_list_waits_without_end")),
+    (
+        "Each list waits without end, which only a recording without a seed may.",
+        edit("bugnet", "each_list_waits_without_end"),
+    ),
+    ("A recording by seed is made in threads, which may wait.", edit("bugnet", "a_recording_by_seed_may_wait")),
+    # Schedules.
+    ("A hart that sleeps takes a turn.", edit("whole_runs", "a_sleeper_takes_a_turn")),
+    ("A given list of turns is not followed.", edit("whole_runs", "a_book_is_not_followed")),
+    ("The run ends with the list that it follows.", edit("whole_runs", "a_followed_list_is_not_finished")),
     # What is asked of the outside.
     ("A failed load is made again.", edit("log_commands", "a_failed_load_is_made_again")),
     ("A log is loaded once more than the command needs.", edit("bugnet", "a_log_is_loaded_twice")),

@@ -22,6 +22,8 @@ builds_nothing
 what="the program is shipped"
 runs 2 "$tree/tools/release.sh" a
 runs 0 "$tree/tools/release.sh"
+[ "$(grep ^kit "$stamp")" = "kit rattle-kit-13f logic 0" ] || fails "the stamp names another kit than the one that is here"
+runs 0 "$tree/tools/release.sh" rattle-kit-13b
 cmp -s "$shipped" "$built" || fails "it isn't the program that was built"
 [ -x "$shipped" ] || fails "it can't be executed"
 [ "$(grep ^kit "$stamp")" = "kit rattle-kit-13f logic 0
@@ -162,7 +164,7 @@ has err "what was built is not the shipped program"
 runs 1 "$tree/tests/release.sh"
 has err "the sources have changed since release/ was made; tools/release.sh renews release/"
 rm "$tree/crates/bugnet_main/out/zelkuma.stamp" # as the gate leaves it
-runs 0 "$tree/tools/release.sh"
+runs 0 "$tree/tools/release.sh" rattle-kit-13b
 runs 0 "$tree/tests/release.sh"
 
 # The gate's comparison, by a kit.

@@ -1,9 +1,9 @@
 #!/usr/bin/env bash
 # Ships the program that was built from these sources, by `./zelkuma build` or by the gate: release/ gets a copy of it
-# and a stamp that says what it was made from: tools/release.sh
+# and a stamp that says what it was made from: tools/release.sh [KIT ..]
 #
-# The stamp names the kit that is here, and then the other known ones: the gate fails on each of these if it builds other
-# bytes (tests/release.sh).
+# The stamp names the kit that is here, and then each KIT, which gave the same bytes elsewhere. With one that it names the
+# gate fails if other bytes are built (tests/release.sh).
 set -u
 top=$(cd "$(dirname "$0")/.." && pwd)
 
@@ -20,7 +20,9 @@ is_of_these_sources() { # SOURCES
     [ -z "$(find "$top/crates.txt" "$top"/crates/*/{src,specs,proofs} -type f -newer "$built" -print -quit)" ]
 }
 
-[ $# -eq 0 ] || stop 2 "it takes no word"
+for other; do
+    [[ " $kits " == *" $other "* ]] || stop 2 "it takes the names of other known kits, and not '$other': $kits"
+done
 [ -x "$built" ] || stop 1 "there is no program ${built#"$top/"}: './zelkuma build' makes it"
 kit=$(kit) || stop 1 "there is no command rt here, so it isn't known by which kit the program was built"
 sources=$(sources)
@@ -28,5 +30,5 @@ is_of_these_sources "$sources" || stop 1 "the sources have changed since the pro
 "$built" check "$folder/data/example.log" >&2 || stop 1 "the program that was built doesn't check $folder/data/example.log"
 mkdir -p "$top/release" &&
     install -m 755 -- "$built" "$shipped" &&
-    made "$sources" "$kit" "$shipped" $(other_kits "$kit") >"$shipped_stamp" || stop 3 "release/ can't be written"
+    made "$sources" "$kit" "$shipped" "$@" >"$shipped_stamp" || stop 3 "release/ can't be written"
 cat "$shipped_stamp"

@@ -8,16 +8,8 @@ stamp=$folder/out/zelkuma.stamp
 shipped=$top/release/zelkuma-x86_64-linux
 shipped_stamp=$top/release/STAMP
 
-# the kits by which it was proved and built
+# the kits by which it was proved and built, now or in an earlier state
 kits='rattle-kit-13f rattle-kit-13b'
-
-# The known kits but one.
-other_kits() { # KIT
-    local it
-    for it in $kits; do
-        [ "$it" = "${1%% *}" ] || echo "$it"
-    done
-}
 
 # The crates that the program is made from, lowest first: NAME: LIBRARY.. : WORDS, of crates.txt.
 crates() {

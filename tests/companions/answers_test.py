@@ -42,6 +42,15 @@ class AnswersTest(case.Case):
             self.assertIn(row, text)
         self.assertEqual(self.answer("why", log, elf, "--row", "0:100")["registers"], {})
 
+    def test_the_loops_of_a_hang(self):
+        found = self.answer("why", *self.crash("hang_width"))
+        loop = found["loops"][0]
+        self.assertEqual((loop["hart"], loop["since"], loop["rows"], loop["rounds"]), (0, 51660, 8340, 14))
+        self.assertEqual([item["place"]["line"] for item in loop["exits"]], [92, 68, 61])
+        self.assertIn(69, [item["place"]["line"] for item in loop["stopped"]])
+        self.assertEqual((found["suspects"][0]["kind"], found["suspects"][0]["store"]), ("exit", None))
+        self.assertEqual([point["place"]["line"] for point in found["suspects"][0]["extra"]], [43])
+
     def test_race(self):
         log, elf = self.crash("race_settings")
         found = self.answer("race", log, elf)

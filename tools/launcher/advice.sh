@@ -36,10 +36,10 @@ advise_on_log() {
     esac
 }
 
-# Says if the log of a run that ended in a fault (10) or at the limit (11) is of no use. With format 2 it always is.
+# Says if the log of a run that ended in a fault (10) or at the limit (11) is of no use.
 advise_on_recording() { # STATUS
     local lost="the interval of the fault" reason
-    [[ ${values[format]-1} == 1 && -f ${names[1]} ]] || return 0
+    [ -f "${names[1]}" ] || return 0
     [ "$1" -eq 10 ] || lost="any interval"
     while read -r _ _ _ _ reason _; do
         [[ $1 -eq 10 && $reason != [A-Z]* ]] || return 0

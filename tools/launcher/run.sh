@@ -53,7 +53,7 @@ run() { # WORD..
     if [ "$1" = record ]; then
         . "$top/tools/launcher/targets.sh"
         read_words
-        [ -n "$complaint" ] || check_targets
+        [ -n "$complaint" ] || { check_schedule && check_targets; }
     fi
     # without a reader of err no advice can be read
     [ ! /dev/fd/2 -ef /dev/null ] || exec "$program" "${words[@]}"
@@ -73,8 +73,10 @@ run() { # WORD..
     exec {err}>&2 2>/dev/null
     await_program
     [ -z "$shower" ] || wait "$shower"
-    # whatever becomes of the advice (nobody may read err any more), the status is the program's
-    [ "$status" -eq 0 ] || (. "$top/tools/launcher/advice.sh" && advise "$status")
+    # whatever becomes of the advice (nobody may read err any more), the status is the program's; with format 2 a log has
+    # the end of its run
+    [[ $status -eq 0 || ($status == 1[01] && ${values[format]-} == 2) ]] ||
+        (. "$top/tools/launcher/advice.sh" && advise "$status")
     if [ "$status" -gt 128 ]; then
         # ends as a program ends that a signal has killed
         signal=$((status - 128))

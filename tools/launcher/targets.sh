@@ -5,11 +5,8 @@
 find_place() { # NAME FILE
     place=$2
     [[ -e $2 || ! -L $2 ]] || place=$(readlink -f -- "$2") || stop 3 "$1 can't be saved: the link ${2@Q} leads nowhere"
-    case $place in
-    /*) folder=${place%/*}/ ;;
-    */*) folder=${place%/*} ;;
-    *) folder=. ;;
-    esac
+    [[ $place == */* ]] || place=./$place
+    folder=${place%/*}/
 }
 
 # Stops if a file that is there can't be written, or is one of those that would be missed.
@@ -20,6 +17,8 @@ check_old_target() { # NAME FILE
     [ ! "$2" -ef "${names[0]}" ] || stop 2 "$1 would destroy ELF: ${2@Q} and ${names[0]@Q} are one file"
     [[ -z ${values[input]-} || ! $2 -ef ${values[input]} ]] ||
         stop 2 "$1 would destroy the input: ${2@Q} and ${values[input]@Q} are one file"
+    [[ ${ZELKUMA_SCHEDULE-} != book:* || ! $2 -ef ${ZELKUMA_SCHEDULE#book:} ]] ||
+        stop 2 "$1 would destroy ${2@Q}, whose turns ZELKUMA_SCHEDULE names"
     read_head "$2" 4
     [[ $head != $'\x7fELF'* ]] || stop 2 "$1 would destroy ${2@Q}, which is an ELF file; the order is ELF LOG BOOK"
 }
@@ -36,6 +35,13 @@ check_target() { # NAME FILE
     ! is_long "$place" || stop 3 "$1 can't be saved: its name has more than 255 bytes"
 }
 
+# Stops if ZELKUMA_SCHEDULE names turns in no way that the program knows.
+check_schedule() {
+    [[ ${ZELKUMA_SCHEDULE:-book:} == book:* ]] ||
+        { [[ $ZELKUMA_SCHEDULE == @(bursts|sleeper):* ]] && is_number "${ZELKUMA_SCHEDULE#*:}" 0 18446744073709551615; } ||
+        stop 2 "ZELKUMA_SCHEDULE is bursts:NUMBER, sleeper:NUMBER or book:FILE, and not ${ZELKUMA_SCHEDULE@Q}"
+}
+
 # LOG and BOOK, but for a lean recording, which saves no BOOK. Of equal names the program says it.
 check_targets() {
     local place folder log log_folder
@@ -43,10 +49,6 @@ check_targets() {
     [[ -z ${values[lean]+given} && ${names[1]} != "${names[2]}" ]] || return 0
     log=$place log_folder=$folder
     check_target BOOK "${names[2]}"
-    if [ -e "$log" ]; then
-        [[ -f $log && $log -ef $place ]] || return 0
-    else
-        [[ ${log##*/} == "${place##*/}" && $log_folder -ef $folder ]] || return 0
-    fi
+    [[ (-f $log && $log -ef $place) || (! -e $log && ${log##*/} == "${place##*/}" && $log_folder -ef $folder) ]] || return 0
     stop 2 "BOOK would destroy LOG: ${names[2]@Q} and ${names[1]@Q} are one file"
 }

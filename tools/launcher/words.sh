@@ -4,6 +4,7 @@
 #   values     the value of each option that is given
 #   complaint  why the program refuses the words, if that can be seen here
 # What a command takes is told by tools/help/words.sh.
+declare -A values=()
 
 complain() { complaint=${complaint:-$1}; }
 
@@ -77,21 +78,18 @@ read_names() { # COMMAND
 read_words() {
     local at only_names=
     # shellcheck disable=SC2206 # it is parted at its spaces
-    names=() wanted=(${takes[${words[0]}.]-}) complaint=
-    declare -gA values=()
+    names=() wanted=(${takes[${words[0]}.]-}) complaint='' values=()
     if [ ${#wanted[@]} -eq 0 ]; then
         [[ ${words[0]} != -* ]] || complain "the command comes first, and its options behind it"
         complain "there is no command ${words[0]@Q}"
         return
     fi
     for ((at = 1; at < ${#words[@]}; at++)); do
-        if [[ -z $only_names && ${words[at]} == -- ]]; then
-            only_names=1
-        elif [[ -z $only_names && ${words[at]} == -?* ]]; then
-            read_option "${words[0]}"
-        else
-            names+=("${words[at]}")
-        fi
+        case $only_names${words[at]} in
+        --) only_names=name: ;;
+        -?*) read_option "${words[0]}" ;;
+        *) names+=("${words[at]}") ;;
+        esac
     done
     read_names "${words[0]}"
 }

@@ -1,5 +1,5 @@
 -- How often a line asks its store to save.
-use Rattle.std.proofs.Common.{◌≡◌, ℕ, Bool, true, Option, Some, None, ◌∙◌, subst, arith, inl}
+use Rattle.std.proofs.Common.{◌≡◌, ℕ, Bool, true, Option, Some, None, ◌∙◌, subst, inl}
 use Rattle.command_words.specs.Words.{Line, RecordLine, ReplayLine, JointLine, DebugLine, ListLine, CheckLine, AuditLine, RacesLine, SliceLine, ConvertLine, SalvageLine, DemoLine}
 use Rattle.log_commands.specs.SaveCounts.{SavedAll, SavesEach, AnswerSaves, IsRenewed, is_lean}
 use Rattle.bugnet.specs.Asks.{LineSaves, FitsLine}

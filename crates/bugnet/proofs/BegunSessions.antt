@@ -37,7 +37,7 @@ use Rattle.log_commands.specs.Outside.{Stream}
 use Rattle.log_commands.specs.Names.{FileNames}
 use Rattle.log_commands.proofs.Tells.{stopped-free}
 use Rattle.bugnet.specs.Sessions.{Commands, input_in, is_begun, session_status, session_told}
-use Rattle.bugnet.proofs.BegunReplays.{is_found, JoiningBegun, GoesOn, IfGoes, StopsBegun, told_begun, next_goes, joining_begins}
+use Rattle.bugnet.proofs.BegunReplays.{is_found, JoiningBegun, IfGoes, StopsBegun, told_begun, next_goes, joining_begins}
 use Rattle.bugnet.proofs.Debugs.{cut-refusal, own-refusal, by-end}
 
 -- ---- walks

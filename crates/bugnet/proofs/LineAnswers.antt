@@ -1,19 +1,19 @@
 -- What a line has to answer, by the bytes that are loaded for it.
-use Rattle.std.proofs.Common.{◌≡◌, ◌∙◌, ℕ, List, [], Option, Some, None, Bool, true, false, ap, subst, sym, refl, inl, inr}
-use Rattle.std.specs.Prelude.{Result, Ok, Err, IfOk, IfErr, is_some}
+use Rattle.std.proofs.Common.{◌≡◌, ℕ, List, [], Option, Some, None, Bool, true, false, ap, subst, sym, refl, inr}
+use Rattle.std.specs.Prelude.{Result, Ok, Err, IfOk, is_some}
 use Rattle.std.specs.Str.{bytes_eq}
 use Rattle.bn_outside.specs.Counts.{Counts}
 use Rattle.bn_outside.specs.Files.{Files}
 use Rattle.command_words.specs.Words.{Line, RecordLine, ReplayLine, JointLine, DebugLine, ListLine, CheckLine, AuditLine, RacesLine, SliceLine, ConvertLine, SalvageLine, DemoLine}
 use Rattle.log_commands.specs.Answering.{ByLoads, Answers}
 use Rattle.log_commands.specs.Commands.{IsByLog, list_of, check_of}
-use Rattle.log_commands.specs.Inputs.{Bytes, bytes_of, loaded, IsLoaded}
+use Rattle.log_commands.specs.Inputs.{bytes_of, loaded, IsLoaded}
 use Rattle.log_commands.specs.Joined.{joint_with}
 use Rattle.log_commands.specs.Names.{FileNames}
 use Rattle.log_commands.specs.NewLogs.{renewed, IsByOrigin, IsBySalvage}
 use Rattle.log_commands.specs.Outside.{WithFiles, GivesBy, CauseBy, ResultCause, IsPrinted, told_of}
 use Rattle.log_commands.specs.RaceAnswers.{races_with}
-use Rattle.log_commands.specs.Refusals.{name_refusal, status_of}
+use Rattle.log_commands.specs.Refusals.{name_refusal}
 use Rattle.log_commands.specs.SliceAnswers.{slice_with}
 use Rattle.log_commands.specs.Told.{Told, refused}
 use Rattle.log_commands.specs.declared.answer.Answer.{Answer}

@@ -1,7 +1,6 @@
 -- Which calls a line makes of its store.
-use Rattle.std.proofs.Common.{◌≡◌, ◌≢◌, ℕ, List, [], ◌∷◌, ◌++◌, Option, Some, None, ◌∙◌, ap, subst, sym, refl, arith, true, false, Bool, inl, inr, ◌⊎◌, append_assoc}
+use Rattle.std.proofs.Common.{◌≡◌, ◌≢◌, ℕ, List, [], ◌++◌, Option, Some, None, ◌∙◌, ap, subst, sym, refl, arith, true, false, Bool, inl, inr, ◌⊎◌, append_assoc}
 use Rattle.std.specs.Prelude.{Result, Ok, Err, IfOk, is_some, option_map}
-use Rattle.std.specs.Str.{bytes_eq}
 use Rattle.std.specs.Io.KnownBytes.{Appends}
 use Rattle.std.proofs.lemmas.List.{append-nil}
 use Rattle.bn_base.specs.Ranges.{first_bad}
@@ -25,12 +24,11 @@ use Rattle.bn_base.specs.Programs.{Program}
 use Rattle.bn_base.specs.declared.end_mark.EndMark.{EndMark}
 use Rattle.log_commands.specs.Names.{FileNames, no_names}
 use Rattle.bugnet.specs.Answers.{names_in, names_by, manner_of, setting_refusal, refusal_in, refusal_by}
-use Rattle.log_commands.specs.Refusals.{name_refusal, replay_status, joint_refusal}
+use Rattle.log_commands.specs.Refusals.{replay_status, joint_refusal}
 use Rattle.log_commands.specs.SaveCounts.{IsRenewed, IsRecordedRun, IsMade}
 use Rattle.bugnet.specs.Asks.{FitsLine}
-use Rattle.log_commands.specs.FileCalls.{FileCall, Saves, store_call, noted_after, loads_of, saves_of, input_roles, record_roles, elf_roles, origin_roles, saves_in, IsOfContent, StopsAt, LoadsUpTo, CallsTo, LoadsTo, CallsBy, IsOfSave, SaveRefused, SavesTold}
+use Rattle.log_commands.specs.FileCalls.{FileCall, Saves, noted_after, loads_of, saves_of, input_roles, record_roles, elf_roles, saves_in, IsOfContent, StopsAt, LoadsUpTo, CallsTo, LoadsTo, CallsBy, IsOfSave, SaveRefused, SavesTold}
 use Rattle.bugnet.specs.LineCalls.{line_roles, needed_roles, line_saves, calls_of, needed_of, is_printed, is_replayed, is_recorded, line_past, past_of, RefusedAfter, CallsSo, CallsOnly, TellsRefusal, HasShape, AnswersDemo, TellsDemo}
-use Rattle.log_commands.specs.Command.Audit.{roles_of}
 use Rattle.bugnet.specs.Command.Record.{is_clash}
 use Rattle.log_commands.specs.Commands.{replay_found, ended}
 use Rattle.log_commands.specs.Joined.{ran_told, joined, joint_with}
@@ -47,13 +45,12 @@ use Rattle.log_commands.specs.declared.answer.RunEnd.{RunEnd}
 use Rattle.log_commands.specs.declared.answer.RunEnd.TheVariants as run_end
 use Rattle.bugnet.specs.declared.manner.Manner.{Manner}
 use Rattle.log_commands.specs.declared.names.Role.{Role}
-use Rattle.log_commands.specs.declared.names.Role.TheVariants as role
 use Rattle.log_commands.specs.declared.refusal.Refusal.{Refusal}
-use Rattle.log_commands.specs.declared.refusal.Refusal.TheVariants.{OutOfMemory, ReplayStopped, StoreFailed, WordsRefused}
+use Rattle.log_commands.specs.declared.refusal.Refusal.TheVariants.{OutOfMemory, ReplayStopped, WordsRefused}
 use Rattle.bugnet.proofs.BegunReplays.{is_found, is_begun_end, StopsBegun, replays_begin, joint_replays_begin}
 use Rattle.log_commands.proofs.Prints.{part-longer, part-whole}
 use Rattle.log_commands.proofs.Tells.{from, stopped-free, memory-names, wanting, same-files}
-use Rattle.log_commands.proofs.FileCalls.{CalledSoFar, ends-behind, noted-append, one-save-stops}
+use Rattle.log_commands.proofs.FileCalls.{CalledSoFar, ends-behind, noted-append}
 
 -- ---- the last of the calls
 

@@ -1,7 +1,6 @@
 -- What a recording answers after its loads.
 use Rattle.std.proofs.Common.{◌≡◌, ℕ, List, Option, Some, None, ◌∙◌, ap, subst, sym, refl, arith, Bool, inl, inr}
 use Rattle.std.specs.Prelude.{Result, Ok, Err, is_some, option_map}
-use Rattle.std.specs.Str.{bytes_eq}
 use Rattle.bn_outside.specs.Counts.{Counts}
 use Rattle.bn_outside.specs.Files.{Files}
 use Rattle.bn_base.specs.Programs.{Program}
@@ -13,7 +12,6 @@ use Rattle.elf_loader.specs.declared.error.ElfError.{ElfError}
 use Rattle.command_words.specs.Words.{RecordLine, seen_recording}
 use Rattle.command_words.specs.declared.commands.RecordOptions.{RecordOptions}
 use Rattle.log_commands.specs.Names.{FileNames}
-use Rattle.log_commands.specs.Refusals.{name_refusal}
 use Rattle.log_commands.specs.Told.{refused}
 use Rattle.bugnet.specs.Command.Record.{is_clash, IsByProgram, IsRecord}
 use Rattle.bugnet.specs.declared.manner.Manner.{Manner}

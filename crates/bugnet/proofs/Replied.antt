@@ -1,9 +1,8 @@
 -- What a command does by its answer, or by its refusal once that is told.
-use Rattle.std.proofs.Common.{◌≡◌, ◌∙◌, ℕ, List, Option, Some, subst, sym, refl, arith, inl, inr}
+use Rattle.std.proofs.Common.{◌≡◌, ◌∙◌, ℕ, Option, Some, subst, sym, refl, arith}
 use Rattle.std.specs.Prelude.{Result, Ok, Err}
 use Rattle.bn_outside.specs.Files.{Files}
-use Rattle.command_words.specs.Words.{Line, RecordLine, ReplayLine, JointLine, DebugLine, ListLine, CheckLine, AuditLine, RacesLine, SliceLine, ConvertLine, SalvageLine, DemoLine, seen_recording}
-use Rattle.command_words.specs.declared.commands.RecordOptions.{RecordOptions}
+use Rattle.command_words.specs.Words.{Line, RecordLine, ReplayLine, JointLine, DebugLine, ListLine, CheckLine, AuditLine, RacesLine, SliceLine, ConvertLine, SalvageLine, DemoLine}
 use Rattle.log_commands.specs.Acting.{World, world, between, with_err, ActsTo}
 use Rattle.log_commands.specs.Effects.{Call, IsByWords, IsClosed}
 use Rattle.log_commands.specs.FileCalls.{Note}
@@ -20,7 +19,7 @@ use Rattle.log_commands.proofs.Tells.{tells-from}
 use Rattle.bugnet.specs.Answers.{names_in, refusal_in}
 use Rattle.bugnet.specs.Laws.{IsNoSession, IsNoRecording}
 use Rattle.bugnet.specs.LineAnswers.{AnswersLine}
-use Rattle.bugnet.specs.Replies.{Replies, RepliesTo, Reading, reading, Does}
+use Rattle.bugnet.specs.Replies.{RepliesTo}
 use Rattle.bugnet.specs.Run.{TellsAnswer}
 use Rattle.bugnet.specs.Saves.{LeavesRun}
 use Rattle.bugnet.proofs.Asks.{line-none, line-acts}
@@ -92,21 +91,3 @@ line-acted line names note old mid out err new answer result named session leave
       recorded = leaves status k refl told;
       read = a.acts.read;
     }
-
--- a recording reads no commands
-pub record-does : {I : Type 0} (r : RecordOptions) (status : ℕ) (note : Note) (left : I → Option (List ℕ)) (faults reads : I → ℕ) (input : I) (old new : World) → Replies (RecordLine (seen_recording r)) status note old new
-    → Does (RecordLine (seen_recording r)) status note (reading left faults reads input input) old new
-record-does r status note left faults reads input old new h = record {
-  obeys = h.obeys;
-  still = h.still;
-  saves = h.saves;
-  calls = h.calls;
-  demo = h.demo;
-  recorded = h.recorded;
-  session = tt;
-  first = inr refl;
-  begins = inl refl;
-  unread = λ n. refl;
-  read = λ e. absurd (h.read e);
-  read_later = omega arith;
-}

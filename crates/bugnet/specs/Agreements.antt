@@ -1,5 +1,5 @@
 -- What it means that an audit is done.
-use Rattle.std.specs.Prelude.{◌≡◌, ℕ, List, Option, Some, None}
+use Rattle.std.specs.Prelude.{◌≡◌, ℕ, List, Option, Some}
 use Rattle.bn_outside.specs.Files.{Files}
 use Rattle.command_words.specs.Words.{Line, AuditLine}
 use Rattle.log_commands.specs.Told.{Told}

@@ -1,5 +1,5 @@
 -- How often a line asks its store to save.
-use Rattle.std.specs.Prelude.{◌≡◌, ℕ, true, Option, Some, None}
+use Rattle.std.specs.Prelude.{◌≡◌, ℕ, true, Option, Some}
 use Rattle.command_words.specs.Words.{Line, RecordLine, ReplayLine, JointLine, DebugLine, ConvertLine, SalvageLine}
 use Rattle.log_commands.specs.declared.answer.Answer.{Answer}
 use Rattle.log_commands.specs.SaveCounts.{IsMade, IsRecordedRun, IsRenewed, SavesEach}

@@ -1,5 +1,7 @@
 -- What a recording has of a closed run, and of the list of its turns if that is saved.
-use Rattle.std.specs.Prelude.{◌≡◌, ◌++◌, ℕ, List, Option}
+use denote.Ref.{Bor}
+use Rattle.std.specs.Prelude.{◌≡◌, ◌++◌, ℕ, List, Option, Result, Ok}
+use Rattle.std.specs.Fn.{Once, FnOnceReturnsAt}
 use Rattle.log_file.specs.Layout.{saved_bytes}
 use Rattle.log_order.specs.Content.{content}
 use Rattle.log_record.specs.Spelling.{total}
@@ -25,3 +27,7 @@ pub record IsRecordingOf {B : _} (start : Start) (closed : Closed B) (book : Opt
 pub record IsRecordingBy (start : Start) (how : Manner) (r : RunToTell) : Type 0 where
   pub told : IsRun start.settings start.image start.digest how start.input.items (told_of_recording r)
   pub lean : is_lean r ≡ how.lean
+
+-- each recording that f makes from what a run begins with is one in this manner
+abbrev pub MakesRecordings : {F E : Type 0} → Once F (Bor Start × Unit {0}) (Result RunToTell E) → F → Manner → Type 0
+MakesRecordings make f how = (start : Start) (r : RunToTell) → FnOnceReturnsAt make f start (Ok r) → IsRecordingBy start how r

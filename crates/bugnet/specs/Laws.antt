@@ -1,5 +1,5 @@
 -- Laws of answers, by their names.
-use Rattle.std.specs.Prelude.{◌≡◌, ℕ, List, Bool, true, false, Option, Some, None, option_and_then}
+use Rattle.std.specs.Prelude.{◌≡◌, ℕ, List, Bool, true, false, Option, Some, None, IsSome, option_and_then}
 use Rattle.sha2.specs.Sha256.{sha256}
 use Rattle.bn_base.specs.Programs.{Program}
 use Rattle.bn_base.specs.Ranges.{first_bad}
@@ -58,6 +58,11 @@ IsNoSession line = Unit {0}
 abbrev pub IsNoRecording : Option Line → Type 0
 IsNoRecording (Some (RecordLine r)) = ⊥
 IsNoRecording line = Unit {0}
+
+-- words that need no threads: all but those of a recording without a seed
+abbrev pub NeedsNoThreads : Option Line → Type 0
+NeedsNoThreads (Some (RecordLine r)) = IsSome r.seed
+NeedsNoThreads line = Unit {0}
 
 -- the list of turns that a seed chooses is legal and finished, if the settings were tested
 abbrev pub SeedsAreWhole : Type 0

@@ -1,9 +1,10 @@
 //! The program: it reads its words, loads, answers, saves and prints.
-ghost use Rattle.std.specs.Prelude.{◌≡◌, ◌≤◌, ◌⊎◌, true, Some, None};
+ghost use Rattle.std.specs.Prelude.{◌≡◌, ◌≤◌, ◌⊎◌, true, Some, None, IfOk, MatchOption};
 ghost use Rattle.bn_outside.specs.Counts.{Rose, NoneFell};
-ghost use Rattle.command_words.specs.Words.{command_in, seen};
+ghost use Rattle.command_words.specs.Words.{command_in, seen, seen_recording, RecordLine};
 ghost use Rattle.std.specs.Str.{bytes_eq};
-ghost use Rattle.bugnet.specs.Answers.{names_in, refusal_in, IsOn, KindOf};
+ghost use Rattle.bugnet.specs.ClosedRuns.{IsRecordingBy, MakesRecordings};
+ghost use Rattle.bugnet.specs.Answers.{manner_of, names_in, refusal_in, IsOn, KindOf};
 ghost use Rattle.bugnet.specs.LineAnswers.{AnswersLine};
 ghost use Rattle.bugnet.specs.Replies.{RepliesTo, Does, DoesTo, world_of, reading};
 ghost use Rattle.log_commands.specs.Acting.{world};
@@ -13,7 +14,7 @@ ghost use Rattle.log_commands.specs.Names.{FileNames};
 ghost use Rattle.log_commands.specs.Refusals.{name_refusal};
 ghost use Rattle.bugnet.specs.Asks.{LineSaves};
 ghost use Rattle.bugnet.specs.LineCalls.{line_roles, CallsOnly, HasShape, AnswersDemo, TellsDemo};
-ghost use Rattle.bugnet.specs.Laws.{IsReadOnly, IsNoSession, IsNoRecording};
+ghost use Rattle.bugnet.specs.Laws.{NeedsNoThreads, IsReadOnly, IsNoSession, IsNoRecording};
 ghost use Rattle.bugnet.specs.Sessions.{is_begun};
 ghost use Rattle.bugnet.specs.DebugSessions.{CanBegin, Debugs};
 ghost use Rattle.bugnet.specs.Agreements.{AuditsRun};
@@ -31,20 +32,22 @@ use crate::laws::{
     audits_agree, converted_files_keep_to_the_limit, each_can_be_done, files_keep_to_their_size,
     headline, joint_headline, one_answer, seeds_are_whole, sessions_show_the_run,
 };
+use crate::recorder;
 use bn_outside::{Gate, Sink, Source, Store};
 use command_words::{Command, RecordOptions, WordsError, read_words};
 use file_laws::logs_are_contents;
 use log_blocks::laws::saved_files_keep_to_the_limit;
 use log_blocks::readings::{files_are_read, readings_are_unique};
 use log_commands::acting::act;
-use log_commands::answer::Answer;
+use log_commands::answer::{Answer, RunToTell};
 use log_commands::commands::{audit, check, convert, joint, list, races, replay, salvage, slice};
 use log_commands::inputs::{Inputs, load_inputs};
 use log_commands::names::{Names, Role};
 use log_commands::outside::{SinkExt, StoreExt};
 use log_commands::refusal::Refusal;
 use log_commands::send::{close, done, refuse};
-use std::alloc::Global;
+use run_model::Start;
+use std::alloc::{AllocError, Global};
 use std::sync::Wait;
 use std::thread::Threads;
 use step_debugger::laws::refusals_stay;
@@ -233,8 +236,106 @@ fn reply<S: StoreExt, O: SinkExt, X: SinkExt>(
     act(alloc, names, &answer, store, out, err)
 }
 
-/// Does what a command other than `record` asks for. It may neither wait nor
-/// start threads, and so it owes its return: each of these commands ends.
+// Does what the words of a recording ask for. Its run is what `make` gives.
+fn keep_recording<
+    S: StoreExt,
+    O: SinkExt,
+    X: SinkExt,
+    F: FnOnce(&Start) -> Result<RunToTell, AllocError>,
+>(
+    alloc: Global,
+    options: &RecordOptions,
+    names: &Names,
+    store: &mut S,
+    out: &mut O,
+    err: &mut X,
+    make: F,
+) -> Result<u8, Refusal>
+    requires named { names.now ≡ names_in (RecordLine (seen_recording options.now)) }
+    requires callable { F.IsAlwaysCallable make }
+    requires made { MakesRecordings F.FnOnce make (manner_of (seen_recording options.now)) }
+    ensures { RepliesTo (RecordLine (seen_recording options.now)) names.now S.note (world (S.stored store.old) (O.stream out.old) (X.stream err.old)) (world (S.stored store.new) (O.stream out.new) (X.stream err.new)) result }
+{
+    // Laws:
+    seeds_are_whole();
+    files_keep_to_their_size();
+    logs_are_contents();
+    let answer = record::evaluate(alloc, names, options, store, make)?;
+    act(alloc, names, &answer, store, out, err)
+}
+
+// Does what the words of a recording with a seed ask for.
+fn record_by_seed<S: StoreExt, O: SinkExt, X: SinkExt>(
+    alloc: Global,
+    options: &RecordOptions,
+    seed: u64,
+    names: &Names,
+    store: &mut S,
+    out: &mut O,
+    err: &mut X,
+) -> Result<u8, Refusal>
+    requires named { names.now ≡ names_in (RecordLine (seen_recording options.now)) }
+    requires seed { options.now.seed ≡ Some seed }
+    ensures { RepliesTo (RecordLine (seen_recording options.now)) names.now S.note (world (S.stored store.old) (O.stream out.old) (X.stream err.old)) (world (S.stored store.new) (O.stream out.new) (X.stream err.new)) result }
+{
+    let lean = options.lean;
+    keep_recording(
+        alloc,
+        options,
+        names,
+        store,
+        out,
+        err,
+        |start: &Start| -> Result<RunToTell, AllocError>
+            ensures { IfOk result (λ r. IsRecordingBy start.now (record { seed = Some seed; lean = lean }) r) }
+        { recorder::record_by_seed(alloc, start, seed, lean) },
+    )
+}
+
+// Does what the words of a recording without a seed ask for. It may wait, as its harts in threads wait for each other.
+fn record_unseeded<S: StoreExt, O: SinkExt, X: SinkExt, G: Gate, R: Threads + Wait + Sync>(
+    rt: &R,
+    alloc: Global,
+    options: &RecordOptions,
+    names: &Names,
+    store: &mut S,
+    out: &mut O,
+    err: &mut X,
+    gate: &G,
+) -> Result<u8, Refusal>
+    requires named { names.now ≡ names_in (RecordLine (seen_recording options.now)) }
+    requires seed { options.now.seed ≡ None }
+    ensures { RepliesTo (RecordLine (seen_recording options.now)) names.now S.note (world (S.stored store.old) (O.stream out.old) (X.stream err.old)) (world (S.stored store.new) (O.stream out.new) (X.stream err.new)) result }
+{
+    let lean = options.lean;
+    keep_recording(
+        alloc,
+        options,
+        names,
+        store,
+        out,
+        err,
+        |start: &Start| -> Result<RunToTell, AllocError>
+            ensures { IfOk result (λ r. IsRecordingBy start.now (record { seed = None; lean = lean }) r) }
+        { recorder::record_unseeded(rt, alloc, start, lean, gate) },
+    )
+}
+
+// The options of a recording without a seed.
+fn unseeded<'a, 'b>(command: &'b Command<'a>) -> Option<&'b RecordOptions<'a>>
+    ensures { MatchOption result (NeedsNoThreads (Some (seen command.now))) (λ options. (seen command.now ≡ RecordLine (seen_recording options.now)) × (options.now.seed ≡ None)) }
+{
+    match command {
+        Command::Record(options) => match options.seed {
+            None => Some(options),
+            Some(_) => None,
+        },
+        _ => None,
+    }
+}
+
+/// Does what a command asks for, other than a recording without a seed. It may neither wait nor start threads, and so it
+/// owes its return: each of these commands ends.
 pub fn perform<S: Store, I: Source, O: Sink, X: Sink>(
     alloc: Global,
     command: &Command,
@@ -245,7 +346,7 @@ pub fn perform<S: Store, I: Source, O: Sink, X: Sink>(
     err: &mut X,
 ) -> Result<u8, Refusal>
     requires named { names.now ≡ names_in (seen command.now) }
-    requires no_recording { IsNoRecording (Some (seen command.now)) }
+    requires no_threads { NeedsNoThreads (Some (seen command.now)) }
     ensures { DoesTo (seen command.now) names.now S.note (reading I.left I.faults I.reads input.old input.new) (world_of S.files S.saves S.counts S.noted O.written O.faults X.written X.faults store.old out.old err.old) (world_of S.files S.saves S.counts S.noted O.written O.faults X.written X.faults store.new out.new err.new) result }
 {
     // Laws:
@@ -259,11 +360,15 @@ pub fn perform<S: Store, I: Source, O: Sink, X: Sink>(
     // What `debug` prints depends on what it reads meanwhile, so it has no answer that is made first.
     match command {
         Command::Debug { .. } => done(debug_files(alloc, names, store, input, out)),
+        Command::Record(options) => match options.seed {
+            None => unreachable!(),
+            Some(seed) => record_by_seed(alloc, options, seed, names, store, out, err),
+        },
         _ => reply(alloc, command, names, store, out, err),
     }
 }
 
-// Does what a command asks for. Only a recording may wait: its harts are in threads, which wait for each other.
+// Does what a command asks for. Only a recording without a seed may wait.
 fn attempt<S: Store, I: Source, O: Sink, X: Sink, G: Gate, R: Threads + Wait + Sync>(
     rt: &R,
     alloc: Global,
@@ -278,16 +383,9 @@ fn attempt<S: Store, I: Source, O: Sink, X: Sink, G: Gate, R: Threads + Wait + S
     requires { names.now ≡ names_in (seen command.now) }
     ensures { DoesTo (seen command.now) names.now S.note (reading I.left I.faults I.reads input.old input.new) (world_of S.files S.saves S.counts S.noted O.written O.faults X.written X.faults store.old out.old err.old) (world_of S.files S.saves S.counts S.noted O.written O.faults X.written X.faults store.new out.new err.new) result }
 {
-    // Laws:
-    seeds_are_whole();
-    files_keep_to_their_size();
-    logs_are_contents();
-    match command {
-        Command::Record(options) => {
-            let answer = record::evaluate(rt, alloc, names, options, store, gate)?;
-            act(alloc, names, &answer, store, out, err)
-        }
-        _ => perform(alloc, command, names, store, input, out, err),
+    match unseeded(command) {
+        Some(options) => record_unseeded(rt, alloc, options, names, store, out, err, gate),
+        None => perform(alloc, command, names, store, input, out, err),
     }
 }
 

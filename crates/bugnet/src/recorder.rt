@@ -1,5 +1,5 @@
 //! The recording of a run: its log file, its list of turns, and what its outputs get.
-ghost use Rattle.std.specs.Prelude.{◌≡◌, ◌++◌, [], ℕ, List, IfOk, Some, None, true, false, option_map};
+ghost use Rattle.std.specs.Prelude.{◌≡◌, ◌++◌, [], ℕ, List, IfOk, Some, None, false, option_map};
 ghost use Rattle.std.specs.List.{list_any};
 ghost use Rattle.bus_core.specs.Bus.{began_of};
 ghost use Rattle.whole_runs.specs.Closed.{IsClosed};
@@ -8,7 +8,6 @@ ghost use Rattle.log_commands.specs.RunEnds.{end_word};
 ghost use Rattle.log_commands.specs.Texts.{summary_text};
 ghost use Rattle.bugnet.specs.ClosedRuns.{IsRecordingOf, IsRecordingBy};
 
-use crate::manner::Manner;
 use bn_base::EndMark;
 use bn_base::end_mark::{FAULT, LIMIT};
 use bn_outside::{Book, Gate, LeanBook};
@@ -169,36 +168,41 @@ fn run_unseeded_lean<G: Gate, R: Threads + Wait + Sync>(
     }
 }
 
-/// The recording of the run by the turns that a number chooses, or, where there is none, of a run whose
-/// harts are in threads of their own. Of a turn one byte is kept, the number of its hart, and no row; of a lean
-/// recording's turn nothing is. The only error is running out of memory.
-pub fn record_run<G: Gate, R: Threads + Wait + Sync>(
+/// The recording of the run by the turns that a number chooses. Of a turn one byte is kept, the number of its hart, and no
+/// row; of a lean recording's turn nothing is. The only error is running out of memory.
+pub fn record_by_seed(
+    alloc: Global,
+    start: &Start,
+    seed: u64,
+    lean: bool,
+) -> Result<RunToTell, AllocError>
+    ensures { IfOk result (λ r. IsRecordingBy start.now (record { seed = Some seed; lean = lean }) r) }
+{
+    if lean {
+        let closed = run_seeded(alloc, start, LeanBook, seed)?;
+        recording_of(alloc, start, closed, None)
+    } else {
+        let listed = run_listed(alloc, start, LeanBook, seed)?;
+        recording_of(alloc, start, listed.closed, Some(listed.list))
+    }
+}
+
+/// The recording of a run whose turns no number chooses: the gate has their schedule, or several harts are in threads of
+/// their own. As much of a turn is kept. The only error is running out of memory.
+pub fn record_unseeded<G: Gate, R: Threads + Wait + Sync>(
     rt: &R,
     alloc: Global,
     start: &Start,
-    how: &Manner,
+    lean: bool,
     gate: &G,
 ) -> Result<RunToTell, AllocError>
-    ensures { IfOk result (λ r. IsRecordingBy start.now how.now r) }
+    ensures { IfOk result (λ r. IsRecordingBy start.now (record { seed = None; lean = lean }) r) }
 {
-    match how.seed {
-        Some(seed) => {
-            if how.lean {
-                let closed = run_seeded(alloc, start, LeanBook, seed)?;
-                recording_of(alloc, start, closed, None)
-            } else {
-                let listed = run_listed(alloc, start, LeanBook, seed)?;
-                recording_of(alloc, start, listed.closed, Some(listed.list))
-            }
-        }
-        None => {
-            if how.lean {
-                let closed = run_unseeded_lean(rt, alloc, start, gate)?;
-                recording_of(alloc, start, closed, None)
-            } else {
-                let whole = run_unseeded(rt, alloc, start, gate)?;
-                recording_of(alloc, start, whole.closed, Some(whole.list))
-            }
-        }
+    if lean {
+        let closed = run_unseeded_lean(rt, alloc, start, gate)?;
+        recording_of(alloc, start, closed, None)
+    } else {
+        let whole = run_unseeded(rt, alloc, start, gate)?;
+        recording_of(alloc, start, whole.closed, Some(whole.list))
     }
 }

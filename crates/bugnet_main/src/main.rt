@@ -15,8 +15,11 @@ use std::process::ExitCode;
 // The statuses with which the program ends before it begins: a file that can't be loaded, isn't there or is too long, and
 // out of memory.
 const FAILED: u8 = 3;
+
 const MISSING: u8 = 4;
+
 const TOO_LONG: u8 = 5;
+
 const OUT_OF_MEMORY: u8 = 9;
 
 // The status and the line of a list of turns that isn't loaded.

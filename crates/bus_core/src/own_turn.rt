@@ -29,6 +29,7 @@ fn ask_next(plain: &Plain, code: &DecodedImage, hart: HartId, ask: &mut Ask)
 
 impl<B: Book> Bus<B> {
     // As `take_turn`, where books of this type tell no rows.
+    #[inline(always)]
     fn take_untold(&mut self, code: &DecodedImage, hart: HartId) -> Result<(), AllocError>
         requires live { is_live self.old hart ≡ true }
         requires code { code.now ≡ self.old.began.image }
@@ -53,6 +54,7 @@ impl<B: Book> Bus<B> {
     ///
     /// All memory is found first. On `Err`, for want of it, nothing has changed: taken again, the turn
     /// leaves the same.
+    #[inline(always)]
     pub fn take_turn(&mut self, code: &DecodedImage, hart: HartId) -> Result<(), AllocError>
         requires live { is_live self.old hart ≡ true }
         requires code { code.now ≡ self.old.began.image }

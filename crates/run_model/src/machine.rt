@@ -334,6 +334,7 @@ impl Machine {
         self.memory.has_page(addr / 4 * 4)
     }
 
+    #[inline(always)]
     pub(crate) fn store(&mut self, hart: HartId, addr: Addr, width: u8, value: u32) -> Reply
         requires word { IsSpanReady self.old.memory (span (aligned addr) 1 Write) }
         requires width { IsTrue (is_aligned addr width) }

@@ -11,6 +11,7 @@ use crate::log::Log;
 use crate::turn_end::TurnEnd;
 use bn_base::{EndMark, HartId, HartState, Ic};
 use first_load_bits::Warm;
+use le_numbers::laws::numbers_have_their_width;
 use log_record::Record;
 use log_ring::Ring;
 use race_log::Edges;
@@ -81,11 +82,9 @@ fn append_first_load(log: &mut Log, hart: HartId, skipped: u32, word: u32)
     ensures holds { (rs : List Record) → IsLog log.old rs → IsLog log.new (rs ++ FirstLoad hart skipped word ∷ []) }
     ensures took { Took log.old 1 log.new }
 {
-    log.append(&Record::FirstLoad {
-        hart,
-        skip: skipped,
-        value: word,
-    });
+    numbers_have_their_width();
+    log.bytes += 10;
+    log.ring.append_first_load(hart, skipped, word);
 }
 
 /// Appends a FirstLoad, where the word of a loading access wasn't warm.

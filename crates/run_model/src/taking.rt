@@ -27,6 +27,7 @@ impl Plain {
     }
 
     /// As [`Plain::turn`], and faster: by the program's code decoded ahead.
+    #[inline(always)]
     pub fn turn_ahead(&mut self, code: &DecodedImage, hart: HartId) -> Result<(), AllocError>
         requires live { is_live (parts self.old) hart ≡ true }
         requires code { code.now ≡ self.old.start.image }

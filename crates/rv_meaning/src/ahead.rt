@@ -149,8 +149,8 @@ impl<'a> DecodedImage<'a> {
         DecodedImage::with_limit(alloc, image, LIMIT)
     }
 
-    /// Decodes at most `limit` words of the segment that the program starts in. The error is as that of
-    /// `new`.
+    /// Decodes at most `limit` words, and at most 2^20, of the segment that the program starts in. The error is as that
+    /// of `new`.
     pub fn with_limit(
         alloc: Global,
         image: &'a Image,

@@ -28,7 +28,11 @@ impl Drawing {
     pub fn of_number(number: u64) -> Drawing
         ensures { result ≡ record { hart = 0; left = 0; number = number } }
     {
-        Drawing { hart: 0, left: 0, number }
+        Drawing {
+            hart: 0,
+            left: 0,
+            number,
+        }
     }
 }
 
@@ -112,7 +116,11 @@ fn other_than<B: Book>(bus: &Bus<B>, sleeper: HartId, number: u64) -> Option<Har
     if count == 0 {
         return choose(bus, count_live(bus), number);
     }
-    live_at_without(bus, Some(sleeper), ((number >> 33) % u64::from(count)) as u8)
+    live_at_without(
+        bus,
+        Some(sleeper),
+        ((number >> 33) % u64::from(count)) as u8,
+    )
 }
 
 // The hart of the next turn.

@@ -19,7 +19,9 @@ mod turn_port;
 mod turns;
 
 pub use hart_place::HartPlace;
-pub use laws::{rows_name_their_harts, seeded_lists_end, whole_lists_are_followed, whole_runs_have_no_error};
+pub use laws::{
+    rows_name_their_harts, seeded_lists_end, whole_lists_are_followed, whole_runs_have_no_error,
+};
 pub use listed::Listed;
 pub use listed_bus::{Beginning, ListedBus};
 pub use listed_threads::{run_threads_lean, run_threads_listed};

@@ -6,6 +6,7 @@ ghost use Rattle.command_words.specs.Words.{RecordLine, seen_recording};
 ghost use Rattle.elf_loader.specs.Loaded.{image_of};
 ghost use Rattle.le_numbers.specs.Numbers.{AreBytes};
 ghost use Rattle.bugnet.specs.Answers.{names_in, manner_of, setting_refusal};
+ghost use Rattle.bugnet.specs.ClosedRuns.{MakesRecordings};
 ghost use Rattle.bugnet.specs.Command.Record.{is_clash, IsByProgram, IsByNames};
 ghost use Rattle.bugnet.specs.LineAnswers.{AnswersLine};
 ghost use Rattle.bugnet.specs.Recordings.{IsRun};
@@ -16,18 +17,14 @@ ghost use Rattle.log_commands.specs.FileCalls.{elf_roles, input_roles, record_ro
 ghost use Rattle.log_commands.specs.Outside.{WithFiles};
 
 use crate::manner::Manner;
-use crate::recorder::record_run;
 use bn_base::{RawSettings, Settings};
-use bn_outside::Gate;
 use command_words::RecordOptions;
-use log_commands::answer::{Answer, digest_of, load_program};
+use log_commands::answer::{Answer, RunToTell, digest_of, load_program};
 use log_commands::names::{Names, Role};
 use log_commands::outside::StoreExt;
 use log_commands::refusal::Refusal;
 use run_model::Start;
-use std::alloc::Global;
-use std::sync::Wait;
-use std::thread::Threads;
+use std::alloc::{AllocError, Global};
 
 // How a recording is made.
 fn manner_of(options: &RecordOptions) -> Manner
@@ -122,23 +119,23 @@ fn tested(names: &Names, settings: &RawSettings, how: &Manner) -> Result<Setting
     }
 }
 
-/// Tests the settings and the names, loads the program and its input, and records the run by the
-/// turns that the seed chooses, or of harts in threads.
-pub fn evaluate<S: StoreExt, G: Gate, R: Threads + Wait + Sync>(
-    rt: &R,
+/// Tests the settings and the names, loads the program and its input, and has `make` record the run.
+pub fn evaluate<S: StoreExt, F: FnOnce(&Start) -> Result<RunToTell, AllocError>>(
     alloc: Global,
     names: &Names,
     options: &RecordOptions,
     store: &mut S,
-    gate: &G,
+    make: F,
 ) -> Result<Answer, Refusal>
-    requires { names.now ≡ names_in (RecordLine (seen_recording options.now)) }
+    requires named { names.now ≡ names_in (RecordLine (seen_recording options.now)) }
+    requires callable { F.IsAlwaysCallable make }
+    requires made { MakesRecordings F.FnOnce make (manner_of (seen_recording options.now)) }
     ensures bytes { IfOk result (λ _. WithFiles (S.stored store.old).files (λ files. HoldsBytes (files names.now.elf))) }
     ensures answers { AnswersLine (RecordLine (seen_recording options.now)) names.now S.note (S.stored store.old) (S.stored store.new) result }
 {
     let how = manner_of(options);
     let settings = tested(names, &options.settings, &how)?;
     let start = load_files(alloc, names, &settings, options.input.is_some(), store)?;
-    let run = record_run(rt, alloc, &start, &how, gate)?;
+    let run = make(&start)?;
     Ok(Answer::Recorded(run))
 }

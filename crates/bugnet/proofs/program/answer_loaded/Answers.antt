@@ -1,10 +1,9 @@
-use Rattle.std.proofs.Common.{◌≡◌, ◌∙◌, List, subst, sym, refl}
-use Rattle.std.specs.Prelude.{Option, Some, None, Ok, Err}
+use Rattle.std.proofs.Common.{◌≡◌, ◌∙◌, List, subst, sym}
+use Rattle.std.specs.Prelude.{None, Err}
 use Rattle.command_words.specs.Words.{seen}
 use Rattle.log_commands.specs.FileCalls.{LoadsUpTo, CallsTo, noted_after, loads_of}
 use Rattle.log_commands.specs.declared.answer.Answer.{Answer}
 use Rattle.log_commands.specs.declared.names.Role.{Role}
-use Rattle.log_commands.specs.declared.refusal.Refusal.{Refusal}
 use Rattle.log_commands.proofs.Answering.{passed-on}
 use Rattle.log_commands.proofs.FileCalls.{own-loads}
 use Rattle.bugnet.specs.Answers.{refusal_in}

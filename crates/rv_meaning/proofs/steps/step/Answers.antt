@@ -16,18 +16,10 @@ use Rattle.rv_meaning.specs.Words.{add, sub, mul, bits_of, flag, less, shift_lef
 use Rattle.rv_meaning.specs.declared.asks.Want.{Want}
 use Rattle.rv_meaning.specs.declared.asks.Want.TheVariants.{Load, Store, LoadReserved, StoreConditional, Amo}
 use Rattle.rv_meaning.specs.declared.amo.AmoOp.TheVariants as ops
+use Rattle.rv_meaning.proofs.QuietOps.{same_by, same_test, same_by2}
 use Rattle.rv_meaning.proofs.steps.step.Goals as goal
 
 -- ---- equal values
-
-same_by : (f : ℕ → ℕ → ℕ) {a u b v : ℕ} → a ≡ u → b ≡ v → f a b ≡ f u v
-same_by f {a} {u} {b} {v} e k = ap (λ (z : ℕ). f z b) e ∙ ap (λ (z : ℕ). f u z) k
-
-same_test : (f : ℕ → ℕ → Bool) {a u b v : ℕ} → a ≡ u → b ≡ v → f a b ≡ f u v
-same_test f {a} {u} {b} {v} e k = ap (λ (z : ℕ). f z b) e ∙ ap (λ (z : ℕ). f u z) k
-
-same_by2 : {A : Type 0} (f : ℕ → ℕ → A) {a u b v : ℕ} → a ≡ u → b ≡ v → f a b ≡ f u v
-same_by2 {A} f {a} {u} {b} {v} e k = ap (λ (z : ℕ). f z b) e ∙ ap (λ (z : ℕ). f u z) k
 
 same_by3 : {A : Type 0} (f : ℕ → ℕ → ℕ → A) {a u b v c w : ℕ} → a ≡ u → b ≡ v → c ≡ w → f a b c ≡ f u v w
 same_by3 {A} f {a} {u} {b} {v} {c} {w} e k l = ap (λ (z : ℕ). f z b c) e ∙ (ap (λ (z : ℕ). f u z c) k ∙ ap (λ (z : ℕ). f u v z) l)

@@ -26,7 +26,7 @@ drawing-init g c = record {
   began = refl;
   drawn = subst (λ (x : Drawing). IsDrawnTo c.args.manner g.B.Book.tells c.args.bus.now.began c.args.number c.args.bus.now x c.new-list.result.items) (sym c.of_number-drawing.ensures)
       (subst (λ (xs : List ℕ). IsDrawnTo c.args.manner g.B.Book.tells c.args.bus.now.began c.args.number c.args.bus.now (record { hart = 0; left = 0; number = c.args.number }) xs) (sym c.new-list.ensures.items)
-          (first_drawn c.args.manner g.B.Book.tells c.args.bus.now c.args.number c.requires.start));
+      (first_drawn c.args.manner g.B.Book.tells c.args.bus.now c.args.number c.requires.start));
 }
 
 pub drawing-preserved : goal.drawing-preserved

@@ -1,4 +1,4 @@
-use Rattle.std.proofs.Common.{ℕ, inl, refl, subst, arith}
+use Rattle.std.proofs.Common.{inl, refl, subst, arith}
 use Rattle.log_commands.specs.Outside.{Stream, ToldRefusal}
 use Rattle.log_commands.specs.declared.refusal.Refusal.{Refusal}
 use Rattle.log_commands.proofs.Acts.{closed-done}

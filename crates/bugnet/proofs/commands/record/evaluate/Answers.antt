@@ -1,4 +1,4 @@
-use Rattle.std.proofs.Common.{◌≡◌, refl, inl}
+use Rattle.std.proofs.Common.{refl, inl, subst, sym}
 use Rattle.std.specs.Prelude.{Ok, Err, is_some}
 use Rattle.bn_base.specs.Ranges.{first_bad}
 use Rattle.command_words.specs.Words.{RecordLine, seen_recording}
@@ -10,8 +10,10 @@ use Rattle.log_commands.proofs.Acts.{none-fell}
 use Rattle.log_commands.proofs.Answering.{passed-on}
 use Rattle.log_commands.proofs.Tells.{with-any}
 use Rattle.bugnet.specs.Answers.{setting_refusal}
+use Rattle.bugnet.specs.ClosedRuns.{IsRecordingBy}
 use Rattle.bugnet.specs.Command.Record.{is_clash}
 use Rattle.bugnet.specs.LineAnswers.{AnswersLine}
+use Rattle.bugnet.specs.declared.manner.Manner.{Manner}
 use Rattle.bugnet.proofs.Begins.{words-refused, words-cause, own-cause, start-refused, run-recorded}
 use Rattle.bugnet.proofs.LineCalls.{words-first, words-pass, memory-loads, record-calls}
 use Rattle.bugnet.proofs.RecordLoads.{record-answers, record-cause, record-lean}
@@ -29,12 +31,12 @@ returns-in_err-settings-clause-answers g c =
     let has = is_some r.input in
     passed-on (AnswersLine (RecordLine (seen_recording r)) names g.S.StoreExt.note old old) x c.from_residual.result c.from_residual.ensures.1
     (record {
-      told = record-answers old.files names r how has (Err x) c.requires c.manner_of-how.ensures refl (words-refused old.files names r.settings how has x h);
+      told = record-answers old.files names r how has (Err x) c.requires.named c.manner_of-how.ensures refl (words-refused old.files names r.settings how has x h);
       same = refl;
       asks = refl;
       later = none-fell old.counts;
-      cause = record-cause names r how old.counts old.counts (Err x) c.requires c.manner_of-how.ensures (words-cause (first_bad r.settings) clash old.counts old.counts x h);
-      calls = record-calls Answer g.S.StoreExt.note names r how has old.noted old.noted (Err x) c.requires c.manner_of-how.ensures refl
+      cause = record-cause names r how old.counts old.counts (Err x) c.requires.named c.manner_of-how.ensures (words-cause (first_bad r.settings) clash old.counts old.counts x h);
+      calls = record-calls Answer g.S.StoreExt.note names r how has old.noted old.noted (Err x) c.requires.named c.manner_of-how.ensures refl
           (words-first Answer g.S.StoreExt.note names (setting_refusal (first_bad r.settings) clash) x (record_roles has) elf_roles old.noted (Err x) h);
       prints = λ p. absurd p;
       records = tt;
@@ -55,12 +57,12 @@ returns-in_err-start-clause-answers g c =
     let words = setting_refusal (first_bad r.settings) (is_clash how.lean names.log names.book) in
     passed-on (AnswersLine (RecordLine (seen_recording r)) names g.S.StoreExt.note old new) x c.from_residual-in_err-start.result c.from_residual-in_err-start.ensures.1
     (record {
-      told = record-answers old.files names r how has (Err x) c.requires c.manner_of-how.ensures c.is_some.ensures (start-refused old.files names r.settings c.in_ok-settings.settings how has x ok.0 ok.1 (h.told how));
+      told = record-answers old.files names r how has (Err x) c.requires.named c.manner_of-how.ensures c.is_some.ensures (start-refused old.files names r.settings c.in_ok-settings.settings how has x ok.0 ok.1 (h.told how));
       same = h.only.same;
       asks = h.only.asks;
       later = h.only.later;
-      cause = record-cause names r how old.counts new.counts (Err x) c.requires c.manner_of-how.ensures (own-cause words old.counts new.counts (Err x) ok.1 h.only.cause);
-      calls = record-calls Answer g.S.StoreExt.note names r how has old.noted new.noted (Err x) c.requires c.manner_of-how.ensures c.is_some.ensures
+      cause = record-cause names r how old.counts new.counts (Err x) c.requires.named c.manner_of-how.ensures (own-cause words old.counts new.counts (Err x) ok.1 h.only.cause);
+      calls = record-calls Answer g.S.StoreExt.note names r how has old.noted new.noted (Err x) c.requires.named c.manner_of-how.ensures c.is_some.ensures
           (words-pass Answer g.S.StoreExt.note names words (record_roles has) elf_roles old.noted new.noted (Err x) ok.1 h.calls);
       prints = λ p. absurd p;
       records = tt;
@@ -84,8 +86,8 @@ returns-in_err-run-clause-answers g c =
       same = h.only.same;
       asks = h.only.asks;
       later = h.only.later;
-      cause = record-cause names r how old.counts new.counts (Err OutOfMemory) c.requires c.manner_of-how.ensures (own-cause words old.counts new.counts (Err OutOfMemory) ok.1 tt);
-      calls = record-calls Answer g.S.StoreExt.note names r how has old.noted new.noted (Err OutOfMemory) c.requires c.manner_of-how.ensures c.is_some.ensures
+      cause = record-cause names r how old.counts new.counts (Err OutOfMemory) c.requires.named c.manner_of-how.ensures (own-cause words old.counts new.counts (Err OutOfMemory) ok.1 tt);
+      calls = record-calls Answer g.S.StoreExt.note names r how has old.noted new.noted (Err OutOfMemory) c.requires.named c.manner_of-how.ensures c.is_some.ensures
           (words-pass Answer g.S.StoreExt.note names words (record_roles has) elf_roles old.noted new.noted (Err OutOfMemory) ok.1 (memory-loads g.S.StoreExt.note names (record_roles has) elf_roles old.noted new.noted h.calls));
       prints = λ p. absurd p;
       records = tt;
@@ -103,17 +105,18 @@ returns-clause-answers g c =
     let ok = c.in_ok-settings.ensures.ok in
     let h = c.in_ok-start.ensures.loads in
     let run = c.in_ok-run.run' in
+    let made : IsRecordingBy c.in_ok-start.start how run = subst (λ (m : Manner). IsRecordingBy c.in_ok-start.start m run) (sym c.manner_of-how.ensures) (c.requires.made c.in_ok-start.start run (_, c.in_ok-run.ensures, refl)) in
     let words = setting_refusal (first_bad r.settings) (is_clash how.lean names.log names.book) in
     record {
-      told = record-answers old.files names r how has (Ok (Recorded run)) c.requires c.manner_of-how.ensures c.is_some.ensures
-          (run-recorded old.files names r.settings c.in_ok-settings.settings how has c.in_ok-start.start run ok.0 ok.1 (h.told how) c.in_ok-run.ensures.told);
+      told = record-answers old.files names r how has (Ok (Recorded run)) c.requires.named c.manner_of-how.ensures c.is_some.ensures
+          (run-recorded old.files names r.settings c.in_ok-settings.settings how has c.in_ok-start.start run ok.0 ok.1 (h.told how) made.told);
       same = h.only.same;
       asks = h.only.asks;
       later = h.only.later;
-      cause = record-cause names r how old.counts new.counts (Ok (Recorded run)) c.requires c.manner_of-how.ensures (own-cause words old.counts new.counts (Ok (Recorded run)) ok.1 tt);
-      calls = record-calls Answer g.S.StoreExt.note names r how has old.noted new.noted (Ok (Recorded run)) c.requires c.manner_of-how.ensures c.is_some.ensures
+      cause = record-cause names r how old.counts new.counts (Ok (Recorded run)) c.requires.named c.manner_of-how.ensures (own-cause words old.counts new.counts (Ok (Recorded run)) ok.1 tt);
+      calls = record-calls Answer g.S.StoreExt.note names r how has old.noted new.noted (Ok (Recorded run)) c.requires.named c.manner_of-how.ensures c.is_some.ensures
           (words-pass Answer g.S.StoreExt.note names words (record_roles has) elf_roles old.noted new.noted (Ok (Recorded run)) ok.1 h.calls);
       prints = λ p. absurd p;
-      records = record-lean r how (Recorded run) c.manner_of-how.ensures c.in_ok-run.ensures.lean;
+      records = record-lean r how (Recorded run) c.manner_of-how.ensures made.lean;
       demo = tt;
     }

@@ -1,4 +1,4 @@
-use Rattle.std.proofs.Common.{◌≡◌, [], refl}
+use Rattle.std.proofs.Common.{[]}
 use Rattle.std.specs.Prelude.{Ok, Err}
 use Rattle.run_model.specs.declared.start.Start.{Start}
 use Rattle.log_commands.specs.Commands.{IsByInput}
