@@ -71,7 +71,7 @@ def record(options: Mapping[str, str], elf: str, book: str, folder: str) -> tupl
     try:
         status = child.process.wait()
     finally:
-        child.kill()
+        child.process.kill()
     if status not in ENDS:
         why = last_line(said).split(": ", 1)[-1] or f"the recording ended with {status}"
         raise CompanionError(why, status if status > 0 else UNREADABLE)

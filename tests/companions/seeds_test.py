@@ -25,9 +25,9 @@ HEAD = "status  count  first"
 FOUR = ["--format=2", "--harts=4", "--limit=1000000"]
 
 
-def seeds(*words):
+def seeds(*words, program=PROGRAM):
     done = subprocess.run([*SEEDS, *words], stdin=subprocess.DEVNULL, stdout=subprocess.PIPE, stderr=subprocess.PIPE,
-                          universal_newlines=True, timeout=120, check=False)
+                          universal_newlines=True, timeout=120, check=False, env=dict(os.environ, ZELKUMA_PROGRAM=program))
     assert "Traceback" not in done.stderr, done.stderr
     return done.returncode, done.stdout, done.stderr
 
@@ -218,6 +218,49 @@ def trials(folder):
     return {name for _, _, names in os.walk(folder.path) for name in names}
 
 
+def program_of(recordings, name, line, status=0):
+    """A script in place of the program: after a line of its own it saves LOG and BOOK, and ends with a status."""
+    script = recordings.write(name, f"""#!/bin/bash
+{line}
+echo log >"${{@: -2:1}}"
+echo book >"${{@: -1}}"
+exit {status}
+""".encode())
+    os.chmod(script, 0o755)
+    return script
+
+
+def case_a_refusal_after_some(recordings):
+    """What was met until then is told."""
+    folder = Folder(recordings, "some")
+    script = program_of(recordings, "some.sh", "[[ $* != *--seed=3* ]] || { echo 'bugnet: out of memory' >&2; exit 9; }")
+    status, out, err = seeds("-j1", "--only", "seeds", "1", "9", "--", HAND_OVER, folder.log, folder.book, program=script)
+    assert (status, err) == (9, "zelkuma: out of memory\n") and rows(out) == [["0", "2", "seed 1", "-"]], (status, out, err)
+    assert folder.names() == []
+
+
+def case_a_hit_ends_what_could_go_on_for_ever(recordings):
+    """The first hit in threads ends seeds below it, and one that a number draws ends those in threads."""
+    folder = Folder(recordings, "ended")
+    words = ["-j3", "--only", "seeds,threads", "--until", "11", "5", "9", "--", HAND_OVER, folder.log, folder.book]
+    for test, found in (("==", "threads 5"), ("!=", "seed 5")):
+        script = program_of(recordings, "ended.sh", f"[[ $* {test} *--seed=* ]] && exec sleep 600", 11)
+        done = seeds(*words, program=script)
+        assert first_line(done) == (0, f"{found}: status 11") and rows(done[1]) == [["11", "1", found, "-"]], done
+        assert folder.names() == ["BOOK", "LOG"] and content(folder.book) == b"book\n"
+
+
+def case_one_in_threads_at_a_time(recordings):
+    """The first lasts until the last seed has begun: the turns of those between are left out."""
+    folder = Folder(recordings, "turns")
+    started, last = recordings.path("started"), recordings.path("last")
+    script = program_of(recordings, "turns.sh", f"""if [[ $* == *--seed=9* ]]; then touch {last}
+elif [[ $* != *--seed=* ]]; then echo >>{started}; until [ -e {last} ]; do sleep 0.05; done; fi""")
+    done = seeds("-j4", "--only", "seeds,threads", "1", "9", "--", HAND_OVER, folder.log, folder.book, program=script)
+    assert done[0] == NOT_FOUND and len(content(started)) in (1, 2), done
+    assert rows(done[1]) == [["0", str(9 + len(content(started))), "seed 1", "-"]], done
+
+
 def case_interrupted(recordings):
     """Before a trial is over nothing is met, and nothing is printed; later the table is."""
     folder = Folder(recordings, "stopped")
@@ -229,12 +272,9 @@ def case_interrupted(recordings):
 
 
 def case_interrupted_when_one_is_found(recordings):
-    """What was found is kept, though a lower one may come. (In place of the program a script that ends at once by drawn
-    turns, and never by a seed.)"""
+    """What was found is kept, though a lower one may come."""
     folder = Folder(recordings, "kept")
-    script = recordings.write("program", b"#!/bin/bash\n[ -n \"${ZELKUMA_SCHEDULE-}\" ] || exec sleep 600\n"
-                              b"echo log >\"${@: -2:1}\"; echo book >\"${@: -1}\"\n")
-    os.chmod(script, 0o755)
+    script = program_of(recordings, "kept.sh", '[ -n "${ZELKUMA_SCHEDULE-}" ] || exec sleep 600')
 
     def is_found(process):
         with open(f"/proc/{process.pid}/task/{process.pid}/children", encoding="ascii") as children:
