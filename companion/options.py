@@ -59,6 +59,8 @@ def decimal(text: str) -> str:
 def whole(text: str, low: int, high: int, what: str) -> int:
     """The number that a word says, if it is one from `low` to `high`."""
     number = decimal(text)
-    if not (number.isascii() and number.isdigit() and low <= int(number) <= high):
+    digits = number.lstrip("0") or "0"
+    # (Python makes no number of thousands of digits)
+    if not (number.isascii() and number.isdigit() and len(digits) <= len(str(high)) and low <= int(digits) <= high):
         raise CompanionError(f"{what} has to be a number from {low} to {high}, not {text!r}", REFUSED)
-    return int(number)
+    return int(digits)

@@ -103,10 +103,10 @@ def case_15_interruption_and_leaving(recordings):
     assert Stop(client.receive()).signal == INTERRUPTED
     client.send("vCont;c")
     client.process.stdin.close()
-    assert client.process.wait(timeout=20) == 0
+    assert client.process.wait(timeout=600) == 0
     client = Client(log, elf)
     client.send("k")
-    assert client.process.wait(timeout=20) == 0
+    assert client.process.wait(timeout=600) == 0
     client = Client(log, elf)
     client._acknowledges = True
     client.write(b"+$?#zz$g#00")
@@ -155,7 +155,7 @@ def case_15_a_log_whose_harts_wait_for_each_other(recordings):
         assert "wait for each other" in str(error) and str(error).count("\n") == 1, str(error)
     else:
         raise AssertionError("it went on")
-    assert client.process.wait(timeout=20) == 15
+    assert client.process.wait(timeout=600) == 15
 
 
 def case_16_port_of_this_machine_alone(recordings):
@@ -170,7 +170,7 @@ def case_16_port_of_this_machine_alone(recordings):
         while len(said) < len(b"+$QC1#b4"):
             said += peer.recv(100)
         assert said.startswith(b"+$QC1#")
-    assert process.wait(timeout=20) == 0
+    assert process.wait(timeout=600) == 0
     process.stderr.close()
     with socket.create_server(("127.0.0.1", 0)) as taken:
         assert refusal(log, elf, "--port", str(taken.getsockname()[1]))[0] == 3

@@ -41,7 +41,7 @@ def talk(target, commands, names=None):
     for number, command in enumerate([f"target remote {target}"] + commands):
         lines += [f"echo \\n@@{number}\\n", command]
     done = subprocess.run([GDB, "-nx", "-q", *([names] if names else [])], input="\n".join(lines) + "\n",
-                          stdout=subprocess.PIPE, stderr=subprocess.STDOUT, universal_newlines=True, timeout=120,
+                          stdout=subprocess.PIPE, stderr=subprocess.STDOUT, universal_newlines=True, timeout=600,
                           check=False)
     text = done.stdout.replace(TOP + "/", "").replace("(gdb) ", "")
     assert "internal-error" not in text, text
@@ -125,7 +125,7 @@ def case_port(names):
     process = subprocess.Popen([sys.executable, COMPANION, "gdb", log, kept, "--port", "0"], stderr=subprocess.PIPE)
     port = int(process.stderr.readline().split()[1])
     done = compare("port", f"localhost:{port}", elf)
-    assert process.wait(timeout=20) == 0
+    assert process.wait(timeout=600) == 0
     process.stderr.close()
     return done
 

@@ -27,7 +27,7 @@ FOUR = ["--format=2", "--harts=4", "--limit=1000000"]
 
 def seeds(*words, program=PROGRAM):
     done = subprocess.run([*SEEDS, *words], stdin=subprocess.DEVNULL, stdout=subprocess.PIPE, stderr=subprocess.PIPE,
-                          universal_newlines=True, timeout=120, check=False, env=dict(os.environ, ZELKUMA_PROGRAM=program))
+                          universal_newlines=True, timeout=600, check=False, env=dict(os.environ, ZELKUMA_PROGRAM=program))
     assert "Traceback" not in done.stderr, done.stderr
     return done.returncode, done.stdout, done.stderr
 
@@ -309,7 +309,7 @@ def case_blocks_of_seeds_by_parallel(recordings):
         map(shlex.quote, (HAND_OVER, folder.log))) + ".{} " + shlex.quote(folder.book) + ".{}"
     done = subprocess.run(["parallel", "--will-cite", "--jobs", "1", "--sshloginfile",
                            recordings.write("MACHINES", b":\n"), command, ":::", "1", "4", "7"],
-                          stdout=subprocess.PIPE, stderr=subprocess.PIPE, universal_newlines=True, timeout=120,
+                          stdout=subprocess.PIPE, stderr=subprocess.PIPE, universal_newlines=True, timeout=600,
                           check=False)
     found = sorted((line for line in done.stdout.splitlines() if ": status" in line), key=lambda line: int(line.split()[1].rstrip(":")))
     assert found == ["seed 3: status 10", "seed 5: status 10"], (done.stdout, done.stderr)
