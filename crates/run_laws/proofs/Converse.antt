@@ -80,7 +80,7 @@ own_grow c i h p (x ∷ rows) r own same asks =
     let more = own_grow c i h (place_after c p x.ask x.guarded x.reply) rows r own.2 same asks in
     ((own.0, own.1, more.0), more.1)
 
--- ---- lists that go on
+-- ---- lists that continue
 
 pub run_append : (c : RawSettings) (i : Program) (run : Run) (b more : List ℕ) → run_from c i run (b ++ more) ≡ run_from c i (run_from c i run b) more
 run_append c i run [] more = refl

@@ -131,7 +131,7 @@ stops_before h k j (suc n) harts low = none_by (not (j == k) && (harts j).live) 
 abbrev stop_mark : Hart → Option EndMark
 stop_mark x = elim x.live [ true ↦ Some (mark x.state.ic 5 0) | false ↦ None ]
 
--- the hart's own End is among them, where it is live
+-- a live hart's own End is among them
 here_by : (live same : Bool) (h j ic : ℕ) (rs : List Record) → last_end h rs ≡ None → same ≡ false → (h == j) ≡ true
     → last_end h (elim (not same && live) as (λ x. List Record) [ true ↦ End j (mark ic 5 0) ∷ rs | false ↦ rs ]) ≡ elim live as (λ x. Option EndMark) [ true ↦ Some (mark ic 5 0) | false ↦ None ]
 here_by live true h j ic rs e apart own = absurd cc

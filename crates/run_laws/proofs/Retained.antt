@@ -1,4 +1,4 @@
--- A log has room for what stands behind a hart's present Header, right after each turn of the hart.
+-- A log has room for the records from a hart's present Header on, right after each turn of the hart.
 use Rattle.std.proofs.Common.{◌≡◌, ℕ, zero, suc, ◌+◌, ◌-◌, ◌*◌, ◌<◌, ◌≤◌, ◌==◌, Bool, true, false, not, ◌&&◌, nat_le, nat_lt, Option, Some, None, List, [], ◌∷◌, ◌++◌, drop, length, refl, sym, ◌∙◌, ap, subst, arith, inl, inr}
 use Rattle.std.specs.Prelude.{◌⊎◌, if◌then◌else◌}
 use Rattle.std.specs.Option.{option_or}
@@ -143,7 +143,7 @@ three false b d e f h = cc
 not_less : (a b : ℕ) → nat_lt a b ≡ false → b ≤ a
 not_less a b e = grind (arith, common_steps)
 
--- where an ask that isn't a cut is answered, half of the log has room for all from the hart's Header on
+-- if an ask that isn't a cut is answered, half of the log has room for all from the hart's Header on
 pub half_room : (g : Bool) (c : RawSettings) (run : Run) (k : ℕ) (want : Want) (s : HartState) → IsGuarding c → is_cut want ≡ false → is_guarded c run k want ≡ g → 2 * bytes_since (guarded_run g run k s) k ≤ c.log_size
 half_room true c run k want s guarding cut e =
     let headed : ((guarded_run true run k s).harts k).headed ≡ run.bytes + total (guard_records run k s) =

@@ -164,7 +164,7 @@ own_stands (NewInterval r v) stream es ls cs bytes k n skipped s t harts size st
     let whole : stream ++ rs ≡ pre ++ last ∷ [] = push_out stream _ last _ (push_out es _ last _ (push_out ls _ last _ (push_out cs ending last _ refl))) in
     subst (λ (y : List Record). StandsIn y (bytes + total rs) k u) (sym whole) (newest pre (bytes + total rs) k (t.number + 1) s u refl refl refl size)
 
--- behind it, where the run is over, are the turn's records too
+-- if the run is over, the turn's records follow it too
 pub over_back : (r v : ℕ) (stream es ls cs : List Record) (bytes k n skipped : ℕ) (s : HartState) (t : Hart) (harts : ℕ → Hart) (size : length s.x ≡ 32) (st : StandsIn stream bytes k t) (none : NoneBefore k es ls cs)
     → (own_stands (RunOver r v) stream es ls cs bytes k n skipped s t harts size st none).back ≡ st.back ++ turn_records (RunOver r v) es ls cs k t.number n s harts
 unfolding own_stands grown

@@ -94,7 +94,7 @@ guarded_at c i run k = is_guarded c run k (ask_at c i (run.harts k)).want
 abbrev pub asked_at : RawSettings → Program → Run → ℕ → Run
 asked_at c i run k = asked_run c run k (ask_at c i (run.harts k))
 
--- hart k there: it begins anew, or is as it was
+-- hart k there: it begins an interval at its ask, or is as it was
 pub hart_if : Bool → HartState → ℕ → Hart → Hart
 hart_if true s bytes h = anew s bytes h
 hart_if false s bytes h = h
@@ -108,7 +108,7 @@ pub asking_other : (g : Bool) (run : Run) (k j : ℕ) (s : HartState) → (j == 
 asking_other true run k j s e = ap (λ (b : Bool). elim b as (λ x. Hart) [ true ↦ anew s (run.bytes + total (guard_records run k s)) (run.harts k) | false ↦ run.harts j ]) e
 asking_other false run k j s e = refl
 
--- it begins its interval where its ask does, or where it did
+-- its interval begins at its ask if this is guarded, else at the count that it had
 asking_begun : (g : Bool) (run : Run) (k : ℕ) (ask : Ask) → ((guarded_run g run k ask.state).harts k).begun ≡ begun_at g (place_of (run.harts k)) ask
 asking_begun true run k ask = ap (λ (b : Bool). (elim b as (λ x. Hart) [ true ↦ anew ask.state (run.bytes + total (guard_records run k ask.state)) (run.harts k) | false ↦ run.harts k ]).begun) (eqb_same k)
 asking_begun false run k ask = refl
@@ -257,7 +257,7 @@ counted_place true full s skipped bytes h = refl
 counted_place false true s skipped bytes h = refl
 counted_place false false s skipped bytes h = refl
 
--- where a hart is after its turn, as the rules of the definition and the hart by itself have it
+-- the place of a hart after its turn is the same by the definition's rules and by the hart itself
 PlaceIs : RawSettings → Program → Machine → ℕ → Hart → Ask → (skipped bytes : ℕ) → Type 0
 PlaceIs c i m k h ask skipped bytes =
     let call = call_of i m ask.want in

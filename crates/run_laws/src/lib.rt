@@ -81,9 +81,8 @@ pub fn own_rows_go_on()
     others_stay_fit();
 }
 
-/// Rows that are lawful from the start, of which each hart's are its own, are the rows of the turns of
-/// their harts: the list of these is legal, its run is the one that the rows lead to, and no ask was out
-/// of order.
+/// Takes rows that are lawful from the start, each hart's its own. They are the rows of the turns of their
+/// harts, in a legal list whose run they lead to. No ask was out of order.
 pub fn own_rows_are_turns()
     ensures { OwnRowsAreTurns }
 {
@@ -95,14 +94,15 @@ pub fn own_rows_grow()
     ensures { OwnRowsGrow }
 {}
 
-/// The run and the rows of a list that goes on, and that it is legal where both parts are.
+/// Appending lists of turns appends their rows and continues their runs; the whole is legal if both parts
+/// are.
 #[tactic(auto, using(crate::proofs::Converse::lists_go_on))]
 pub fn lists_go_on()
     ensures { ListsGoOn }
 {}
 
-/// Rows as above, and behind them those of the turns of a list, are the rows of one legal list, lawful
-/// and each hart's own.
+/// Such rows, with those of the turns of a list after them, are the rows of one legal list, lawful and each
+/// hart's own.
 pub fn own_rows_are_joined()
     ensures { OwnRowsAreJoined }
 {
@@ -138,8 +138,8 @@ pub fn edges_are_few()
     listed_edges_are_all();
 }
 
-/// The bytes that the guard compares with half of the log are those of the records from the hart's present Header on, the
-/// Header included, to the end of the stream.
+/// The bytes that the guard compares with half of the log are those of the records from the hart's present
+/// Header on, itself included, to the end of the stream.
 pub fn guard_counts_from_headers()
     ensures { GuardCountsFromHeaders }
 {
@@ -150,8 +150,8 @@ pub fn guard_counts_from_headers()
     others_stay_fit();
 }
 
-/// With format 2 a hart's present Header is kept right after each of its turns that leaves it live: where
-/// half of the log has no room for what stands behind the Header, the hart begins anew at its ask, and what
+/// With format 2 a hart's present Header is kept right after each of its turns that leaves it live. If half
+/// of the log has no room for the records from the Header on, the hart begins an interval at its ask. What
 /// one turn adds has room in the other half.
 pub fn headers_are_kept()
     ensures { HeadersAreKept }
@@ -164,8 +164,8 @@ pub fn headers_are_kept()
     edges_are_few();
 }
 
-/// With format 2, where a hart's turn ends the run by a fault, the fault's interval is retained: its Header
-/// is kept, and behind it the End with the fault.
+/// With format 2, if a hart's turn ends the run by a fault, the fault's interval is retained: its Header is
+/// kept, and after it the End with the fault.
 pub fn faults_are_kept()
     ensures { FaultsAreKept }
 {
