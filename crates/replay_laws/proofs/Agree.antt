@@ -62,7 +62,7 @@ warm_drops g b a (suc n) es e =
 
 -- ---- the words that are written
 
--- b is none of the words of a span, where it is written
+-- b is none of the words that a span writes
 abbrev pub Unwritten : Mode → ℕ → ℕ → ℕ → Type 0
 Unwritten Read first n b = Unit {0}
 Unwritten Write first n b = Outside first n b

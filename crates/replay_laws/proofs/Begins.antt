@@ -1,4 +1,4 @@
--- Where an interval whose Header is kept begins in the run.
+-- The point of the run at which an interval begins, if its Header is kept.
 use Rattle.std.proofs.Common.{◌≡◌, ℕ, zero, suc, ◌+◌, ◌<◌, ◌≤◌, Bool, true, false, ◌&&◌, List, [], ◌∷◌, ◌++◌, take, drop, length, length-append, Option, Some, None, refl, sym, ◌∙◌, ap, arith, subst, inl, inr}
 use Rattle.std.specs.Prelude.{◌==◌, ◌≢◌, nat_lt, if◌then◌else◌}
 use Rattle.std.proofs.lemmas.Bool.{false≢true, eq-eqb}
@@ -120,7 +120,7 @@ begins_past c i guard h n k ks run v p is b = record {
   reached = b.reached;
 }
 
--- it begins after an own move of h, which goes on
+-- it begins after an own move of h without the row of a fault
 begins_after : (c : RawSettings) (i : Program) (guard : Bool) (h n : ℕ) (ks : List Move) (run : Run) (v : Interval) → Sound c i → Fit c (run.harts h) → (run.harts h).number < n
     → ((moved_run c i guard run h).harts h).state ≡ state_by c i guard run h → extra (next_by c i guard run h) ≡ 0 → Begins c i (moved_run c i guard run h) ks h n v → Begins c i run (Moves guard h ∷ ks) h n v
 begins_after c i guard h n ks run v z f q is none b =
@@ -316,7 +316,7 @@ headers_pass : (c : RawSettings) (i : Program) (h n k count : ℕ) → ((j : ℕ
 headers_pass c i h n k zero f = tt
 headers_pass c i h n k (suc count) f = (f k (omega arith), headers_pass c i h n (k + 1) count (λ j g. f j (omega arith)))
 
--- the first Header of h, where it comes next
+-- the first Header of h, if it comes next
 here : (c : RawSettings) (i : Program) (h count : ℕ) (more : List Record) (m : ℕ)
     → FoundOr h 0 (start_state c i h) (drop m (header h 0 (start_state c i h) ∷ (first_headers c i (h + 1) count ++ more))) more
 here c i h count more m =
@@ -326,7 +326,7 @@ here c i h count more m =
       | inr z ↦ (let d = pass_all h 0 rest more z.0 (headers_pass c i h 0 (h + 1) count (λ j g. false_and (j == h) true (not_equal j h (λ q. absurd (omega arith))))) in inr (d.0, z.1 ∙ d.1))
     ]
 
--- and where another hart's comes before it
+-- and if another hart's comes before it
 past : (c : RawSettings) (i : Program) (h k : ℕ) (rest more : List Record) → (k == h) ≡ false → ((z : ℕ) → FoundOr h 0 (start_state c i h) (drop z (rest ++ more)) more)
     → (m : ℕ) → FoundOr h 0 (start_state c i h) (drop m (header k 0 (start_state c i k) ∷ (rest ++ more))) more
 past c i h k rest more e again zero = elim (again 0) [

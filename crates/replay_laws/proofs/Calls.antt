@@ -31,7 +31,7 @@ use Rattle.replay_laws.proofs.Turns.{end_log, ended_at}
 
 -- ---- what a call is, by its number
 
--- a call that goes on
+-- a call that doesn't end its hart
 abbrev Goes : Plan → Type 0
 Goes (plans.EndHart v) = false ≡ true
 Goes (plans.EndRun v) = false ≡ true
@@ -102,7 +102,7 @@ gone i h q ask x =
 abbrev over : Program → ℕ → Position → Ask → Position
 over i h q ask = record { state = absorbed ask Over; loads = q.loads; conditionals = q.conditionals; rows = call_row h i q.state None ∷ q.rows; called = true }
 
--- by whether the call goes on
+-- by whether the call ends its hart
 abbrev by_reason : Program → ℕ → Interval → Position → Ask → Bool → Goal
 by_reason i h v q ask z = elim z [ true ↦ On (gone i h q ask v.mark.value) | false ↦ On (over i h q ask) ]
 
@@ -127,7 +127,7 @@ call_ends i h v q ask n a0 r m e f =
     ap (by_test i h v q ask n a0) (call_test v q.state.ic n a0 r a0 m e (or_right _ _ (eq-eqb _ _ (value ∙ sym (ap (λ (k : EndMark). k.value) m)))))
     ∙ ap (by_reason i h v q ask) no
 
--- an end for that reason is no fault, and where it is that of a call, a call was done
+-- an end for that reason is no fault; if it is that of a call, a call was done
 abbrev pub Plain : ℕ → Bool → Type 0
 Plain r called = (nat_lt 16 r ≡ false) × ((is_call r && not called) ≡ false)
 

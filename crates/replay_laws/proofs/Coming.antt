@@ -93,7 +93,7 @@ own_coming c i guard run ks h n e a b =
     ∙ ap (λ y. puts h (load_record o h t.skipped x) (puts h (sc_record r h) (end_log y (state_by c i guard run h) (log_from c i (moved_run c i guard run h) ks h)))) e in
     subst (λ (y : Logged). Coming t y) (sym whole) (first, last)
 
--- where no hart is live, h isn't
+-- if no hart is live, h isn't
 pub no_live : (n h : ℕ) (harts : ℕ → Hart) → h < n → (harts h).live ≡ true → any_live n harts ≡ false → false ≡ true
 no_live zero h harts b e f = absurd (omega arith)
 no_live (suc n) h harts b e f = elim (eqb_tells n h) [

@@ -220,7 +220,7 @@ other_harts c i guard run h k n e g = other_is c i guard run h k g ∙ ap (λ x.
 
 -- ---- fit harts
 
--- a live hart is fit after its own move that goes on, or that begins an interval
+-- a live hart is fit after its own move if its interval continues, or the next one begins
 pub own_fit : (c : RawSettings) (i : Program) (guard : Bool) (run : Run) (h : ℕ) → Sound c i → next_by c i guard run h ≡ GoesOn → Fit c (run.harts h) → Fit c ((moved_run c i guard run h).harts h)
 own_fit c i guard run h z e f = subst (λ (x : Hart). Fit c x) (sym (own_harts c i guard run h GoesOn e)) (record { live = f.live; within = (own_bounds c i guard run h z f).1 })
 

@@ -141,7 +141,7 @@ unfolding IsFairNext
 store_next i m h v p a w y true = refl
 store_next i m h v p a w y false = word_next m h p a (word_for v p a) (λ x. after_ask i h p (record { state = p.state; want = Store a w y }) Stored 1 None (Some (a, stored_word a w y x))) (λ x. refl)
 
--- the mark that a call finds, by whether it goes on
+-- the mark that a call finds, by whether it ends its hart
 call_value : Bool → ℕ → ℕ
 call_value b a = elim b [ true ↦ 0 | false ↦ a ]
 

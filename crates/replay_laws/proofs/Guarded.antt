@@ -57,7 +57,7 @@ room_by c i t a cut from within (inr p) = (omega (arith, p.1, from, within), ome
 room : (c : RawSettings) (i : Program) (run : Run) (k : ℕ) → Sound c i → Fit c (run.harts k) → is_cut (ask_at c i (run.harts k)).want ≡ false → (0 < c.interval) × ((asked_at c i run k).ic < c.limit)
 room c i run k z f cut = let r = own_came c i (run.harts k) k z f in room_by c i (run.harts k) (ask_at c i (run.harts k)) cut r.1 f.within r.0
 
--- the ask is the same once the hart has begun anew
+-- the ask is the same once the hart has begun its next interval
 pub asks_same : (c : RawSettings) (i : Program) (run : Run) (k : ℕ) → Sound c i → Fit c (run.harts k) → guarded_at c i run k ≡ true
     → (turn c i run k ≡ served_turn c i (begun_at c i run k) k) × (ask_at c i ((begun_at c i run k).harts k) ≡ ask_at c i (run.harts k))
 asks_same c i run k z f g =
@@ -75,7 +75,7 @@ no_quiet : (h : ℕ) (i : Program) (n : ℕ) (s : HartState) (w : Want) → step
 no_quiet h i zero s w e = refl
 no_quiet h i (suc n) s w e = ap (λ (x : Step). elim x as (λ y. List Row) [ Quiet t ↦ row_of h i s t None None ∷ quiet_rows h i n t | Asks v ↦ [] ]) e
 
--- the hart that has begun anew
+-- the hart that has begun its next interval
 begun_hart : (c : RawSettings) (i : Program) (run : Run) (k : ℕ) → (((begun_at c i run k).harts k).state ≡ asked_at c i run k) × (((begun_at c i run k).harts k).number ≡ (run.harts k).number + 1)
 begun_hart c i run k = let e = own_harts c i true run k by_guard refl in (ap (λ (x : Hart). x.state) e, ap (λ (x : Hart). x.number) e)
 

@@ -104,7 +104,7 @@ came_short : (c : RawSettings) (i : Program) (t : Hart) (a : Ask) → Sound c i 
 came_short c i t a z f (inl p) = inl p.0
 came_short c i t a z f (inr p) = inr (let w = f.within in let b = z.limit in omega (arith, p.1, w, b))
 
--- a turn has a row for each count, and one more where it ends by a fault
+-- a turn has a row for each count, and one more if it ends by a fault
 turn_count : (c : RawSettings) (i : Program) (run : Run) (h : ℕ) → Sound c i → Fit c (run.harts h)
     → (run.harts h).state.ic + length (turn_rows c i run h) ≡ (next_state c i run h).ic + extra (next_at c i run h)
 turn_count c i run h z f =

@@ -87,7 +87,7 @@ dead_all c i h (Moves guard k ∷ ks) run e l = elim (eqb_tells k h) [
 abbrev Goal : RawSettings → Program → ℕ → List Move → Run → Type 0
 Goal c i h ks run = Numbered (run.harts h).state.ic (served_all c i run ks h)
 
--- a move that goes on
+-- a move without the row of a fault
 goes_numbered : (c : RawSettings) (i : Program) (guard : Bool) (h : ℕ) (ks : List Move) (run : Run) → Sound c i → Fit c (run.harts h)
     → ((moved_run c i guard run h).harts h).state ≡ state_by c i guard run h → extra (next_by c i guard run h) ≡ 0 → Goal c i h ks (moved_run c i guard run h) → Goal c i h (Moves guard h ∷ ks) run
 goes_numbered c i guard h ks run z f is none rest =

@@ -157,7 +157,7 @@ TurnDone c i h ks run v lo co rows called n =
     Turned i h v (place (run.harts h) lo co rows called) (next_state c i run h) (turn_rows c i run h)
     (touched_to c i run.machine h (want_at c i run h) (asked_at c i run h)) (served_turn c i run h).machine.memory (skip_next c i run h) n (log_from c i (served_turn c i run h) ks h)
 
--- a turn that goes on
+-- a turn after which the interval continues
 own_goes : (c : RawSettings) (i : Program) (h : ℕ) (ks : List Move) (run : Run) (v : Interval) (lo co : ℕ) (rows : List Row) (called : Bool) → Sound c i
     → next_at c i run h ≡ GoesOn → Coming ((served_turn c i run h).harts h) (log_from c i (served_turn c i run h) ks h) → Inv c i run (Moves false h ∷ ks) h v lo co rows
     → TurnDone c i h ks run v lo co rows called GoesOn → AllSuffice c i (served_turn c i run h) ks h v → Suffices c i run (Moves false h ∷ ks) h v lo co rows called
@@ -274,8 +274,8 @@ own_turn c i h ks run v lo co rows called z l w o rest =
       | inr p ↦ own_fault p.0 p.1 c i h ks run v lo co rows called z p.2 l o st
     ]
 
--- a guard: where what is left of the interval's log is its End by the guard, at the count of h's next ask, the replay is done,
--- with the rows of the quiet instructions up to that ask
+-- A guard. If what is left of the interval's log is its End by the guard, at the count of h's next ask, the replay is done.
+-- It has the rows of the quiet instructions up to that ask
 own_guard : (c : RawSettings) (i : Program) (h : ℕ) (ks : List Move) (run : Run) (v : Interval) (lo co : ℕ) (rows : List Row) (called : Bool) → Sound c i
     → Inv c i run (Moves true h ∷ ks) h v lo co rows → Suffices c i run (Moves true h ∷ ks) h v lo co rows called
 own_guard c i h ks run v lo co rows called z o =

@@ -76,7 +76,7 @@ own_spared (Some plan) None g b es one own p e = (tt, e)
 own_spared None (Some s) g b es one own p e = (apart_spared s.mode s.first s.count b one.0 p, warm_touch g b s.first es (other_word s.first b one.1 own p) e)
 own_spared (Some plan) (Some s) g b es one own p e = warm_dropped g s b es e
 
--- the history of the hart whose turn it is, where it goes on
+-- the history of the hart whose turn it is, if its interval continues
 own_history : (n : TurnEnd) (k : ℕ) (call : Option Plan) (o : Option Span) (events : ℕ → List Event) → n ≡ GoesOn
     → events_after n k call o events k ≡ own_events call o (events k)
 own_history n k call o events e =
@@ -90,7 +90,7 @@ learned_at (Some a) m known b f = elim (eqb_tells b a) [
   | inr p ↦ ap (λ x. cond x (Some (m a)) (known b)) p.0 ∙ f p.1
 ]
 
--- a hart's own ask that goes on keeps the agreement, with what its row lets it know
+-- after a hart's own ask the agreement stays if its interval continues, with what its row lets it know
 pub agrees_asked : (c : RawSettings) (i : Program) (run : Run) (k : ℕ) (ask : Ask) (known : ℕ → Option ℕ) → passes i ask.want ≡ true → next_to c i run.machine k (run.harts k) ask.want ask.state ≡ GoesOn
     → Agrees c run k known → Agrees c (served_ask c i run k ask) k (learned (touched_to c i run.machine k ask.want ask.state) (served_ask c i run k ask).machine.memory known)
 agrees_asked c i run k ask known fine n a b own warm_now =

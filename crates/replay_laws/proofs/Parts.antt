@@ -175,7 +175,7 @@ middle front part back all from to e f g =
     ∙ (ap (take (length part)) (drop_front front (part ++ back))
     ∙ take_front part back))))
 
--- the rows of an interval that begins later in a run, where h has done nothing yet
+-- the rows of an interval that begins later in a run, before which h has done nothing
 pub part : (c : RawSettings) (i : Program) (h n : ℕ) (ks : List Move) (run : Run) (v : Interval) → Sound c i → h < c.harts → (run.harts h).state.ic ≡ 0
     → Begins c i run ks h n v → served_rows c i run ks h n ≡ take (end_of v - v.start.ic) (drop v.start.ic (served_all c i run ks h))
 part c i h n ks run v z g none b =

@@ -1,4 +1,4 @@
--- The rows of an interval over a list of moves whose asks are orderly: where there are none any more.
+-- The rows of an interval over a list of moves whose asks are orderly, until there are none any more.
 use Rattle.std.proofs.Common.{◌≡◌, ℕ, ◌<◌, ◌≤◌, Bool, true, false, ◌&&◌, List, [], ◌∷◌, ◌++◌, refl, sym, ◌∙◌, ap, arith, subst, inl, inr}
 use Rattle.std.specs.Prelude.{◌==◌, Some}
 use Rattle.std.proofs.lemmas.Bool.{false≢true, eq-eqb}
@@ -23,7 +23,7 @@ pub false_and : (a b : Bool) → a ≡ false → (a && b) ≡ false
 false_and true b e = absurd (false≢true (sym e))
 false_and false b e = refl
 
--- a move's rows before more, where it is one of the interval
+-- a move's rows before more, if it is one of the interval
 abbrev pub rows_if : Bool → List Row → List Row → List Row
 rows_if x now more = elim x [ true ↦ now ++ more | false ↦ more ]
 

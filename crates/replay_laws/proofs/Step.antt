@@ -415,7 +415,7 @@ sc_step false i h v q a rd w m s es c l b =
       held = k.1;
     }
 
--- ---- the wants of memory
+-- ---- asks that access memory
 
 abbrev pub of_memory : Want → Bool
 of_memory (System n args) = false

@@ -64,7 +64,7 @@ all_early c i guard run k z f a j = elim (eqb_tells k j) [
   | inr p ↦ subst (λ (w : Hart). Early c w) (sym (other_harts c i guard run j k (next_by c i guard run k) refl (equal_flip k j p.1))) (early_other (next_by c i guard run k) c (run.harts j) (a j))
 ]
 
--- the hart that has begun anew is live, as it was
+-- the hart that has begun its next interval is live, as it was
 begun_live : (c : RawSettings) (i : Program) (run : Run) (k : ℕ) → (run.harts k).live ≡ true → ((begun_at c i run k).harts k).live ≡ true
 begun_live c i run k e = ap (λ (w : Hart). w.live) (own_harts c i true run k by_guard refl) ∙ e
 
@@ -281,7 +281,7 @@ kept_begins c i input b h n rs end z g s v e =
     let k = end_is c i input b h n rs end s in
     suffix_begins c i input (moves_of c i (start c i input) b) h n z g s.legal k.0 v (ap (interval_of h n) (sym k.1) ∙ e)
 
--- the replay of an interval where it begins is done
+-- the replay of an interval, at the point where the interval begins, is done
 begun_done : (c : RawSettings) (i : Program) (h n : ℕ) (ks : List Move) (run : Run) (v : Interval) → Sound c i → h < c.harts → Begins c i run ks h n v
     → replayed_in i h n (Some v) ≡ done_with (served_rows c i run ks h n)
 begun_done c i h n ks run v z g b =

@@ -62,8 +62,8 @@ pub record IsAtGuard (c : RawSettings) (i : Program) (run : Run) (left : List �
   pub state : s ≡ (ask_at c i (run.harts h)).state
   pub quiet : before ≡ quiet_part c i run h
 
--- the point where an interval begins in a list of turns: behind some of them, which lead its hart to the Header's state, or in the next
--- one, if its ask is guarded; from there on the interval's rows are the hart's first ones
+-- The point where an interval begins in a list of turns. Some turns before it lead its hart to the Header's state; or the
+-- hart's next turn has this state at a guarded ask. From there on the interval's rows are the hart's first ones
 pub record BeginsIn (c : RawSettings) (i : Program) (input b : List ℕ) (h n : ℕ) (v : Interval) : Type 0 where
   pub past : List ℕ
   pub left : List ℕ

@@ -1,4 +1,4 @@
-// Small recordings, replayed.
+//! Small recordings, replayed.
 ghost use Rattle.std.specs.Prelude.{◌≡◌, ◌∷◌, [], map, Some, None};
 ghost use Rattle.hart_replay.specs.Replay.{Done, Refused, replayed};
 ghost use Rattle.hart_replay.specs.declared.error.ReplayError.TheVariants.{NoInterval, LoadMissing, ScMissing, RecordsLeft, EndDiffers};
@@ -17,7 +17,7 @@ pub fn a_filled_word_is_loaded_again()
     ensures { map (λ r. r.load) (replay_of a_filled_word 0 0).rows ≡ None ∷ None ∷ Some (0x20000, 0) ∷ Some (0x20000, 2054781047) ∷ None ∷ None ∷ [] }
 {}
 
-/// An interval that a system call began, where the log keeps no more than that.
+/// An interval that a system call began, in a log that keeps no more than that.
 pub fn the_last_interval_is_replayed()
     ensures last { map (λ r. r.ic) (replay_of a_short_log 0 1).rows ≡ 3 ∷ 4 ∷ [] }
     ensures first { replay_of a_short_log 0 0 ≡ record { rows = []; outcome = Refused (NoInterval 0 0) } }
@@ -31,8 +31,8 @@ pub fn a_guarded_load_is_replayed()
     ensures first { replay_of a_guarded_load 0 0 ≡ record { rows = []; outcome = Refused (NoInterval 0 0) } }
 {}
 
-/// A fault of a hart that began long ago: with format 2 its interval begins anew ahead of the fault, so
-/// the log keeps it; with format 1 it is lost.
+/// A fault of a hart that began long ago. With format 2 an interval begins right before the fault, so the
+/// log keeps it; with format 1 it is lost.
 pub fn a_late_fault_is_replayed()
     ensures rows { map (λ r. r.ic) (replay_of a_late_fault 1 1).rows ≡ 2 ∷ [] }
     ensures done { (replay_of a_late_fault 1 1).outcome ≡ Done }

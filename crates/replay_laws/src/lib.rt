@@ -18,10 +18,9 @@ use log_ring::keeping::a_suffix_is_kept;
 use rv_meaning::{each_ask_is_orderly, each_instruction_is_counted_or_asks};
 use system_calls::exits_alone_end;
 
-/// Log sufficiency: for every program, input, cache and interval length, every list of turns that
-/// is legal and finished, every end of its records, and every interval of a hart whose Header stands
-/// there, the replay of that interval from that end is done, and gives exactly that interval's rows of
-/// the recorded run (for one hart the claim of BugNet, ISCA 2005).
+/// Log sufficiency. Take any program, input, cache, interval length, legal and finished list of turns, and
+/// end of its records. Each interval whose Header stands in that end has a replay from it that is done,
+/// with exactly the interval's rows of the recorded run. (For one hart the claim of BugNet, ISCA 2005.)
 pub fn ends_suffice()
     ensures { EndsSuffice }
 {
@@ -39,7 +38,7 @@ pub fn the_log_suffices()
 }
 
 /// The rows of an interval whose Header stands in an end of the records are those of its hart from the
-/// Header's count to the End's, with the row of the fault where it ends by one.
+/// Header's count to the End's. If it ends by a fault, the fault's row is among them.
 pub fn the_rows_of_an_interval_stand_together()
     ensures { RowsStandTogether }
 {
@@ -48,9 +47,9 @@ pub fn the_rows_of_an_interval_stand_together()
     exits_alone_end();
 }
 
-/// An interval whose Header stands in an end of the records begins in the run: some of its turns lead the
-/// hart to the Header's state, or to that turn of its own in which a guarded ask has this state, and from
-/// there on the interval's rows are the hart's first ones.
+/// An interval whose Header stands in an end of the records begins in the run. Some turns lead the hart to
+/// the Header's state, or to a turn of its own in which a guarded ask has this state. From there on the
+/// interval's rows are the hart's first ones.
 pub fn intervals_begin_in_the_run()
     ensures { IntervalsBegin }
 {
@@ -69,14 +68,14 @@ pub fn the_rows_of_a_hart_are_counted()
 }
 
 /// What a hart knows of the words that are warm to it stays true, through its own turns up to the
-/// interval's end and through those of the other harts: the reason why first loads suffice.
+/// interval's end and through those of the other harts. That is why first loads suffice.
 #[tactic(auto, using(crate::proofs::Warmth::warm_words))]
 pub fn warm_words_stay_known()
     ensures { WarmWordsStayKnown }
 {}
 
-/// Where the replay of an interval ends otherwise than its End says, the outcome has the End's own mark
-/// and another that differs from it. So it is for every log and every program.
+/// If the replay of an interval ends otherwise than its End says, the outcome has the End's own mark and
+/// another that differs from it. So it is for every log and every program.
 pub fn ends_that_differ_are_told()
     ensures { EndsThatDifferAreTold }
 {
