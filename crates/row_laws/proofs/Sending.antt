@@ -1,4 +1,4 @@
--- The rows of write calls that take bytes, and where the bytes of calls lie.
+-- The rows of write calls that take bytes, and the words in which the bytes of calls lie.
 use Rattle.std.proofs.Common.{◌≡◌, ℕ, zero, suc, ◌+◌, ◌-◌, ◌<◌, ◌≤◌, ◌^◌, min, Bool, true, false, ◌&&◌, List, [], ◌∷◌, Option, Some, None, refl, sym, ◌∙◌, ap, subst, inl, inr, arith}
 use Rattle.std.specs.Prelude.{◌==◌, ◌||◌, ◌⊎◌, nat_le, nat_lt, slice_index}
 use Rattle.std.specs.List.{list_all, range_with_len}

@@ -1,4 +1,4 @@
-// A small recording, worked out by hand: hart 0 loads a word twice, and in between hart 1's read call fills it.
+//! A small recording, worked out by hand: hart 0 loads a word twice, and in between hart 1's read call fills it.
 ghost use Rattle.std.specs.Prelude.{◌≡◌, ◌∷◌, [], drop, map, take, Some, None};
 ghost use Rattle.run_model.specs.Examples.{a_filled_word, program_of, rows};
 ghost use Rattle.run_model.specs.Runs.{start_state};

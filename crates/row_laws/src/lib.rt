@@ -49,7 +49,7 @@ pub fn turn_rows_are_rows()
     turns_move_their_hart();
 }
 
-/// Where an interval begins in the run, be it at a guarded ask, the rows of its hart before it lead to the
+/// If an interval begins in the run, even at a guarded ask, the rows of its hart before it lead to the
 /// Header's state.
 pub fn beginnings_tell_states()
     ensures { BeginningsTellStates }
@@ -66,9 +66,9 @@ pub fn interval_rows_are_of_turns()
     intervals_begin_in_the_run();
 }
 
-/// Where a row of a turn loads or stores a word, memory has it after the turn, and the turn adds the point
-/// that accesses it, with the row's hart and count. A word that a system call fills is never told by
-/// the call's own row.
+/// If a row of a turn loads or stores a word, memory has it after the turn. The turn adds the point that
+/// accesses it, with the row's hart and count. A word that a system call fills is never told by the call's
+/// own row.
 pub fn rows_tell_words()
     ensures { RowsTellWords }
 {}
@@ -94,8 +94,8 @@ pub fn points_are_of_turns()
     turns_move_their_hart();
 }
 
-/// The point of a turn that writes a word has a row of its hart and count: it stores the word that memory
-/// then has, or it is that of a read call that fills bytes of the word. The program's code words have
+/// The point of a turn that writes a word has a row of its hart and count. This row stores the word that
+/// memory then has, or is that of a read call that fills bytes of the word. The program's code words have
 /// 32 bits, since a larger number could decode as an ECALL without being one.
 pub fn writers_have_rows()
     ensures { WritersHaveRows }
@@ -112,14 +112,14 @@ pub fn run_writers_have_rows()
     tests_decide();
 }
 
-/// A program's code words have 32 bits where the words of its segments have.
+/// A program's code words have 32 bits if the words of its segments have.
 #[tactic(auto, using(crate::proofs::Codes::parts_have_code_words))]
 pub fn parts_have_code_words()
     ensures { PartsHaveCodeWords }
 {}
 
-/// The row of a read call that gives bytes is a fill: its plan, memory after it, its point, and the words
-/// that this writes are those of a call that fills so many bytes from the address in a1 on.
+/// The row of a read call that gives bytes is a fill of so many bytes from the address in a1 on. Its plan,
+/// memory after it, its point and the words that this writes are those of such a call.
 pub fn fill_rows_fill()
     ensures { FillRowsFill }
 {
