@@ -51,7 +51,7 @@ module _ (by : StandByCounts) (run : List Point) (up : IsInOrder run) where
     ]
   ]
 
-  -- ---- pairs of places that stand for a pair of instructions
+  -- ---- pairs of places for a pair of instructions
 
   record Stands (At : ℕ → ℕ → Type 0) (h i g j : ℕ) : Type 0 where
     first : ℕ

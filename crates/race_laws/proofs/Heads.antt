@@ -1,4 +1,4 @@
--- The Headers of a stream: the Edges into all later points of the hart stand behind each.
+-- The Headers of a stream: the Edges into all later points of the hart come after each.
 use Rattle.std.proofs.Common.{◌≡◌, ℕ, zero, suc, ◌+◌, ◌<◌, ◌≤◌, ◌⊎◌, ◌↔◌, refl, inl, inr, arith, sym, ap, ap₂, ◌∙◌, subst, List, [], ◌∷◌, ◌++◌, length, slice_get, Option, Some, None, Contains}
 use Rattle.std.specs.Prelude.{IsTrue}
 use Rattle.std.proofs.lemmas.Option.{slice_get_within}
@@ -23,7 +23,7 @@ use Rattle.race_laws.proofs.Places.{get_old, get_new, in_after, longer, same_edg
 use Rattle.race_laws.proofs.Members.{contains_in, in_left, in_right, in_map}
 use Rattle.race_laws.proofs.Streams.{ArePlain, load_plain, sc_plain, over_plain, rest_of}
 
--- ---- what stands behind a Header
+-- ---- what comes after a Header
 
 -- a Header of the hart with this count stood before the points from place `first` on: these are all that the hart has from
 -- the count on, and the Edges into them are behind it
@@ -201,7 +201,7 @@ pub drop_heads : (points : List Point) (front rs : List Record) → Heads points
 drop_heads points [] rs h = h
 drop_heads points (r ∷ front) rs h = drop_heads points front rs h.1
 
--- what stands behind it
+-- the records after it
 pub record Found (points : List Point) (rs : List Record) (hart ic : ℕ) : Type 0 where
   pub rest : List Record
   pub head : IsHead points hart ic rest

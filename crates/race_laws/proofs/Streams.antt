@@ -96,7 +96,7 @@ next_edges (NewInterval r y) k number s ys = refl
 next_edges (HartOver r y) k number s ys = refl
 next_edges (RunOver r y) k number s ys = refl
 
--- what stands behind the Edges of a turn
+-- what comes after the Edges of a turn
 abbrev pub rest_of : Option Warm → (k skipped word : ℕ) → Reply → TurnEnd → (number : ℕ) → HartState → (count : ℕ) → (ℕ → Hart) → List Record
 rest_of o k skipped word reply next number s count harts =
     load_record o k skipped word ++ (sc_record reply k ++ (next_records next k number s ++ run_over_records next k count harts))

@@ -36,7 +36,7 @@ pub record Laws : Type 0 where
 abbrev pub counts_of : (ℕ → Hart) → ℕ → ℕ
 counts_of harts j = (harts j).state.ic
 
--- the counts are within the settings, the points are in order, and the Edges into later points stand behind each Header
+-- the counts are within the settings, the points are in order, and the Edges into later points come after each Header
 pub record Stands (c : RawSettings) (run : Run) : Type 0 where
   pub fit : (j : ℕ) → IsRested c (run.harts j)
   pub order : Ordered run.points run.turns (counts_of run.harts)

@@ -1,4 +1,4 @@
-// The races of small recordings, worked out by hand.
+//! The races of small recordings, worked out by hand.
 ghost use Rattle.std.specs.Prelude.{◌≡◌, ◌∷◌, [], true, false};
 ghost use Rattle.log_record.specs.declared.record.Record.TheVariants.{Edge};
 ghost use Rattle.race_log.specs.Tests.{conflict, edge};

@@ -21,9 +21,9 @@ use run_laws::turns_are_lawful;
 use run_model::{each_turn_fits, each_turn_moves_on, guarded_asks_fit, others_stay_fit};
 use std::marker::Brand;
 
-/// The Edge records of a stream are those of Netzer's reduction of the run's points, in the order of
-/// the points that they lead to, and of those into one point the latest source first (R. H. B.
-/// Netzer, "Optimal tracing and replay for debugging shared-memory parallel programs", 1993).
+/// The Edge records of a stream are those of Netzer's reduction of the run's points: in the order of the
+/// points that they lead to, and of those into one point the latest source first. (R. H. B. Netzer,
+/// "Optimal tracing and replay for debugging shared-memory parallel programs", 1993.)
 #[tactic(auto, using(crate::proofs::Streams::edges_are_netzers))]
 pub fn edges_are_netzers()
     ensures { EdgesAreNetzers }
@@ -43,8 +43,8 @@ pub fn points_are_in_order()
     turns_are_lawful();
 }
 
-/// So places stand for instructions by hart and count: the edges are those of Netzer's rule over all
-/// instructions, those among them that access nothing too.
+/// So places represent instructions by hart and count. The edges are those of Netzer's rule over all
+/// instructions, even those that access nothing.
 pub fn edges_are_by_count()
     ensures turns { OfLists HasEdgesByCount }
     ensures rows { OfRows HasEdgesByCount }
@@ -59,8 +59,8 @@ pub fn edges_are_by_count()
     places_stand_for_counts();
 }
 
-/// The Edges of a stream are the edges of Netzer's rule between instructions by hart and count: two
-/// that conflict, where no third one is after the earlier and before the later.
+/// The Edges of a stream are the edges of Netzer's rule between instructions by hart and count: two that
+/// conflict, without a third one after the earlier and before the later.
 pub fn edges_are_those_of_instructions()
     ensures turns { OfLists HasEdgesOfInstructions }
     ensures rows { OfRows HasEdgesOfInstructions }
@@ -105,9 +105,9 @@ impl InstructionPairs for Brand {
     ghost has = { λ of hart count hart_to count_to. ⊥ };
 }
 
-/// The Edges of a stream are the least set that orders the conflicts: chains of program order and Edges
-/// lead from each instruction to each later one that conflicts with it, and each set of such pairs of
-/// which that holds has every Edge.
+/// The Edges of a stream are the least set that orders the conflicts. Chains of program order and Edges
+/// lead from each instruction to each later one that conflicts with it. Each set of pairs that does this
+/// too has every Edge.
 pub fn edges_are_the_least<P: InstructionPairs>()
     ensures turns { OfLists (HasLeastEdges P.Name P.has) }
     ensures rows { OfRows (HasLeastEdges P.Name P.has) }
@@ -120,8 +120,8 @@ pub fn edges_are_the_least<P: InstructionPairs>()
     edges_are_needed::<Brand>();
 }
 
-/// Whatever end of the records is kept, every edge that ends after a point of a kept interval is kept:
-/// its Edge stands behind the interval's Header. What the log keeps is such an end
+/// Whatever end of the records is kept, every edge that ends after a point of a kept interval is kept: its
+/// Edge comes after the interval's Header. What the log keeps is such an end
 /// (`run_laws::kept_records_are_an_end`).
 pub fn late_edges_are_kept()
     ensures turns { OfLists KeepsLateEdges }
@@ -162,10 +162,9 @@ pub fn kept_edges_are_edges()
     listed_edges_are_all();
 }
 
-/// Whatever end of the records is kept, in every order that merges the harts' lists and respects the
-/// kept Edges, the points of kept intervals that access a common word, one of them writing it, stand in
-/// recorded order. So each word's writes stand as recorded, and each of its reads between the same
-/// writes.
+/// Whatever end of the records is kept, take any order that merges the harts' lists and respects the kept
+/// Edges. Points of kept intervals that access a common word, one of them writing it, stand in it in
+/// recorded order. So each word's writes stand as recorded, and each of its reads between the same writes.
 pub fn allowed_orders_keep_words()
     ensures turns { OfLists KeepsWords }
     ensures rows { OfRows KeepsWords }
@@ -181,8 +180,8 @@ pub fn allowed_orders_keep_words()
     some_hart_goes_on();
 }
 
-/// No such order gets stuck: wherever its beginning isn't whole, some hart's next point has the
-/// sources of all kept Edges into it before it.
+/// No such order gets stuck: as long as its beginning isn't whole, some hart's next point has the sources
+/// of all kept Edges into it before it.
 pub fn beginnings_go_on()
     ensures { BeginningsGoOn }
 {
