@@ -1,4 +1,4 @@
--- Where the registers hold words and the program does, a hart's states and asks hold words.
+-- A hart's states and asks hold words, if the registers and the program do.
 use Rattle.std.proofs.Common.{◌≡◌, ℕ, zero, suc, ◌+◌, ◌*◌, ◌/◌, ◌%◌, ◌<◌, ◌^◌, Bool, true, false, List, [], ◌∷◌, set, slice_index, length, refl, ◌∙◌, arith, mod-lt, pow_pos}
 use Rattle.std.specs.Prelude.{◌==◌, not, nat_lt, if◌then◌else◌, Option, Some, None}
 use Rattle.std.proofs.lemmas.List.{length-set}

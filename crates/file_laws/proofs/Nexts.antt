@@ -29,7 +29,7 @@ use Rattle.run_model.specs.Turn.{next_of, after_call, mark, header, next_records
 use Rattle.run_model.specs.Counts.{is_on}
 use Rattle.file_laws.proofs.Views.{OrderLaws, Views, IsOpen, IsDone, IsView, Took, took_none, took_one, took_both}
 
--- hart h's interval can end so at count ic; on tells whether the hart goes on to its next one
+-- hart h's interval can end so at count ic; on tells whether the hart continues with its next one
 pub record EndsSo (c : RawSettings) (h : Hart) (ic reason : ℕ) (on : Bool) : Type 0 where
   pub full : reason ≡ 1 → h.begun + c.interval ≤ ic
   pub limit : reason ≡ 7 → c.limit ≤ ic

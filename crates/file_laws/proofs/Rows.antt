@@ -141,7 +141,7 @@ held_rules c run ring log size rules =
     subst (λ (n : ℕ). KeepsRules c (counts_of run) n ring.records) (sym (held_dropped c run ring log size))
     (subst (λ (rs : List Record). KeepsRules c (counts_of run) (dropped_of c run) rs) (sym (held_records c run ring log size)) rules)
 
--- ---- where no hart is live
+-- ---- no hart is live
 
 either : (a b : Bool) → (a || b) ≡ false → (a ≡ false) × (b ≡ false)
 either false b x = (refl, x)

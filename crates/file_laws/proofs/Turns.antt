@@ -239,7 +239,7 @@ record Turned (c : RawSettings) (stream more : List Record) (harts : ℕ → Har
   size : length views ≡ c.harts
   view : (j : ℕ) → j < c.harts → IsView (harts j) (slice_get views j)
 
--- the other harts' views stay where the run isn't over
+-- the other harts' views stay, unless the run is over
 with_others : (c : RawSettings) (run : Run) (k : ℕ) (own : Hart) (next : TurnEnd) (known : Underway c run) (rs : List Record) → ((h : Hart) → other_after next h ≡ h)
     → Took (order_limits_of c) c.harts run.stream known.views k rs (IsView own) → Turned c run.stream rs (harts_after next k own run.harts)
 with_others c run k own next known rs stay took = record {
@@ -252,7 +252,7 @@ with_others c run k own next known rs stay took = record {
   ];
 }
 
--- where it is, the live ones are stopped
+-- if it is, the live ones are stopped
 with_stops : OrderLaws → (c : RawSettings) (run : Run) (k : ℕ) (own : Hart) (reason value : ℕ) (known : Underway c run) (rs : List Record) → Took (order_limits_of c) c.harts run.stream known.views k rs (IsView own)
     → Turned c run.stream (rs ++ stopped_records k 0 c.harts run.harts) (harts_after (RunOver reason value) k own run.harts)
 with_stops laws c run k own reason value known rs took =
@@ -380,7 +380,7 @@ counted_at c i h ask cut o =
     lt_of : (a b : ℕ) → nat_lt a b ≡ true → a < b
     lt_of a b e = grind arith
 
--- the hart that begins anew, and the others, once it has
+-- the hart that begins an interval at its ask, and the others, once it has
 pub anew_is : (run : Run) (k j : ℕ) (s : HartState) → (j == k) ≡ true → (begun_anew run k s).harts j ≡ anew s (run.bytes + total (guard_records run k s)) (run.harts k)
 anew_is run k j s e = own_is by_guard k j (anew s (run.bytes + total (guard_records run k s)) (run.harts k)) run.harts e
 

@@ -7,9 +7,8 @@ use Rattle.le_numbers.specs.Numbers.{AreBytes}
 use Rattle.elf_loader.specs.Loaded.{image_of}
 use Rattle.run_model.specs.Runs.{start, run_of, legal_from, is_over}
 
--- a recording: settings in range, the bytes of a program file, the program that is loaded from them, and a list of turns that
--- is legal and finished
--- (definitions have no type of bytes, so that items are below 256 is said here)
+-- A recording: settings in range, the bytes of a program file, the program that is loaded from them, and a list of turns
+-- that is legal and finished. (Definitions have no type of bytes, so that items are below 256 is said here.)
 pub record IsRecording (c : RawSettings) (i : Program) (elf input b : List ℕ) : Type 0 where
   pub setting : IsSetting c
   pub bytes : AreBytes elf

@@ -21,8 +21,8 @@ use Rattle.run_laws.specs.History.{after_rows, are_orderly, IsLawful}
 abbrev pub counts_of : Run → ℕ → ℕ
 counts_of run k = (run.harts k).state.ic
 
--- records keep the rules of single records, if each hart begins as it does in a log that gave up so many before; and each
--- of their Edges comes from an instruction that its source, which has done so many, has done
+-- Records keep the rules of single records, if each hart begins as it does in a log that gave up so many before. Each of
+-- their Edges comes from an instruction that its source, which has done so many, has done
 pub record KeepsRules (c : RawSettings) (counts : ℕ → ℕ) (dropped : ℕ) (records : List Record) : Type 0 where
   pub views : List HartView
   pub ran : after_all (order_limits_of c) 0 (replicate c.harts (fresh (dropped == 0))) records ≡ Ok views

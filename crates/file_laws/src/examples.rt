@@ -1,4 +1,4 @@
-// A small recording, and what a row that no hart could make does to a log.
+//! A small recording, and what a row that no hart could make does to a log.
 ghost use Rattle.std.specs.Prelude.{◌≡◌, ◌∷◌, [], true, false, Some};
 ghost use Rattle.log_order.specs.Order.{order_break, broken_by};
 ghost use Rattle.run_laws.specs.History.{are_orderly, IsLawful};

@@ -26,8 +26,8 @@ use run_model::{each_turn_fits, each_turn_moves_on, guarded_asks_fit, others_sta
 use rv_meaning::{each_ask_is_orderly, registers_stay_words};
 
 /// At all times the kept records keep the rules of single records, and each kept Edge comes from an
-/// instruction that its source has done: after any rows, each of which had a live hart and the
-/// machine's reply, also where an ask was not one that its hart could make.
+/// instruction that its source has done. This holds after any rows, each of which had a live hart and the
+/// machine's reply, even if an ask was not one that its hart could make.
 pub fn kept_records_keep_their_rules()
     ensures { KeptRecordsKeepTheRules }
 {
@@ -55,8 +55,8 @@ pub fn rings_keep_their_rules()
     kept_records_keep_their_rules();
 }
 
-/// Where each ask was one that its hart could make, and no hart is live any more, the kept records
-/// keep all rules of the order of records.
+/// If each ask was one that its hart could make, and no hart is live any more, the kept records keep all
+/// rules of the order of records.
 pub fn finished_logs_are_in_order()
     ensures { FinishedLogsAreInOrder }
 {
@@ -77,8 +77,8 @@ pub fn finished_logs_are_in_order()
     early_edges_are_not_late();
 }
 
-/// What is kept of a recording is what a log can say, whatever program was loaded: the records fit
-/// their fields and the log, they are in order, and the numbers of the head are in range.
+/// What is kept of a recording is what a log can say, whatever program was loaded. The records fit their
+/// fields and the log, they are in order, and the numbers of the head are in range.
 pub fn logs_are_contents()
     ensures { LogsAreContents }
 {
@@ -155,9 +155,9 @@ pub fn files_suffice()
     the_log_suffices();
 }
 
-/// What is salvaged of a damaged file suffices too: where the blocks that are kept are the last of a
-/// recording's, the log of these has the run's last records, and each interval of a hart whose Header it
-/// has is replayed with exactly the rows that the recorded run had in it.
+/// What is salvaged of a damaged file suffices too, if the blocks that are kept are the last of a
+/// recording's. The log of these has the run's last records. Each interval of a hart whose Header it has is
+/// replayed with exactly the rows that the recorded run had in it.
 pub fn salvaged_files_suffice()
     ensures { SalvagedFilesSuffice }
 {
@@ -168,7 +168,7 @@ pub fn salvaged_files_suffice()
 }
 
 /// What a ring holds after lawful rows of orderly asks that leave no hart live is what a log can say,
-/// whoever made the asks: nothing is asked of the harts' own lists, nor of the program.
+/// whoever made the asks. Nothing is asked of the harts' own lists, nor of the program.
 pub fn logs_of_rows_are_contents()
     ensures { LogsOfRowsAreContents }
 {
@@ -199,8 +199,8 @@ pub fn files_of_rows_are_read()
     log_blocks::readings::files_are_read();
 }
 
-/// With format 2 the guard makes it sure that a crash can be replayed: where the run ends in a fault, the
-/// log keeps the fault's interval, and its replay is done, with exactly that interval's rows of the run.
+/// With format 2 a crash can be replayed. If the run ends in a fault, the guard has made the log keep the
+/// fault's interval. Its replay is done, with exactly that interval's rows of the run.
 pub fn faults_are_replayed()
     ensures { FaultsAreReplayed }
 {
