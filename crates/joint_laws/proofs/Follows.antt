@@ -157,7 +157,7 @@ module _ (r : Recording) (records : List Record) where
 
     -- ---- a step of one hart
 
-    -- the cursors go on, its row is one of the run, and it is the first of those that were left
+    -- the cursors move on, its row is one of the run, and it is the first of those that were left
     record Goes (h : ℕ) (lane : Lane) (item : Item) (next : Lane) : Type 0 where
       cursors : AreOf h next.cursors
       item_of : IsItemOf h item

@@ -107,8 +107,8 @@ DoesRetained r records w = (x h k : ℕ) → Did w.taken x h k → IsToDo (begin
 
 -- ---- whole orders
 
--- Race order: in a whole allowed order each instruction of a retained interval was done, once; and two such points that access
--- a common word, one of them writing it, stand in it as they were recorded
+-- Race order. In a whole allowed order each instruction of a retained interval was done, once. Two such points that access a
+-- common word, one of them writing it, stand in it as they were recorded
 pub record StandsInOrder (r : Recording) (records : List Record) (w : Walk) : Type 0 where
   pub done : (h k : ℕ) → IsToDo (begin r records) h k → (x : ℕ) × Did w.taken x h k
   pub once : (x y h k : ℕ) → Did w.taken x h k → Did w.taken y h k → x ≡ y
@@ -158,8 +158,8 @@ JointFilesSayTheRun = (r : Recording) (d : Content) → IsRecorded r → IsFileO
 
 -- ---- of a joint replay at any time
 
--- the point where a joint replay of a log of the recording stands after a walk: this keeps the recorded order, and its rows are the first
--- recorded ones; the states that the joint replay shows are the run's, and its known words the recorded ones
+-- The point that a joint replay of a log of the recording reached by a walk. The walk keeps the recorded order, and its rows
+-- are the first recorded ones. The states that the joint replay shows are the run's, and its known words the recorded ones
 pub record SaysSoFar (r : Recording) (j : Joining) (w : Walk) : Type 0 where
   pub keeps : KeepsOrder r j.records w
   pub rows : HasFirstRows r j.records w

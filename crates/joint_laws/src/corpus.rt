@@ -1,4 +1,4 @@
-// Small recordings, joined by the definition.
+//! Small recordings, joined by the definition.
 ghost use Rattle.std.specs.Prelude.{◌≡◌};
 ghost use Rattle.run_model.specs.Examples.{an_exit, two_loads_of_a_word, a_skipped_load, a_byte_store, a_line_put_out, a_conditional_store, one_a_time, a_call_at_full_length, a_fault, a_limit, a_line_lost, a_reservation_lost, a_filled_word, a_relay};
 ghost use Rattle.joint_laws.specs.Corpus.{joined, text_of_an_exit, text_of_two_loads_of_a_word, text_of_a_skipped_load, text_of_a_byte_store, text_of_a_line_put_out, text_of_a_conditional_store, text_of_one_a_time, text_of_a_call_at_full_length, text_of_a_fault, text_of_a_limit, text_of_a_line_lost, text_of_a_reservation_lost, text_of_a_filled_word, text_of_a_relay};

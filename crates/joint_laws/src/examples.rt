@@ -1,4 +1,4 @@
-// All allowed orders of small recordings.
+//! All allowed orders of small recordings.
 ghost use Rattle.std.specs.Prelude.{◌≡◌, ◌∷◌, [], Some, length, replicate};
 ghost use Rattle.run_model.specs.Examples.{is_whole};
 ghost use Rattle.joint_laws.specs.Examples.{orders_from, merges, allowed_of, words_after, a_short_relay, late_relay, relay_orders, a_spoiled_store, late_store, store_orders};
@@ -15,8 +15,7 @@ pub fn a_relay_has_eighteen_orders()
 {}
 
 /// A conditional store that a store spoils. Of the twenty merges of the harts' steps those ten are allowed
-/// in which the reservation comes before the store. Where the failed conditional store comes doesn't
-/// matter.
+/// in which the reservation comes before the store. The failed conditional store may come anywhere.
 #[tactic(auto, using(crate::proofs::Worked::store_whole, crate::proofs::Worked::store_is, crate::proofs::Worked::store_others, crate::proofs::Worked::store_words))]
 pub fn a_spoiled_store_has_ten_orders()
     ensures whole { is_whole a_spoiled_store }

@@ -32,7 +32,7 @@ use row_laws::{
 use run_laws::kept_records_are_an_end;
 
 /// What its own log keeps of a recording is a log of it, so all laws here hold of it. They hold as well
-/// of a log of which the front is lost, wherever the records that are left begin.
+/// of a log whose first records are lost, wherever the records that are left begin.
 pub fn own_logs_are_logs()
     ensures { OwnLogsAreLogs }
 {
@@ -55,7 +55,7 @@ pub fn chains_lead()
     ensures { ChainsLead }
 {}
 
-/// A row fills bytes of an aligned word exactly where the joint memory forgets it.
+/// A row fills bytes of an aligned word exactly if the joint memory forgets it.
 pub fn fills_are_filled()
     ensures { FillsAreFilled }
 {}
@@ -146,9 +146,9 @@ pub fn known_words_ascend()
     ensures { OfBeginnings HasWordsOnce }
 {}
 
-/// Each word that the joint memory knows is the run's word right after the latest row that stored or
-/// loaded it, and no retained write of it that was done came later in the run than that row. Nothing
-/// is said of a word that no retained row stored or loaded.
+/// Each word that the joint memory knows is the run's word right after the latest row that stored or loaded
+/// it. No retained write of it that was done came later in the run than that row. Nothing is said of a word
+/// that no retained row stored or loaded.
 pub fn the_memory_is_recorded()
     ensures { OfBeginnings HasMemory }
 {
@@ -168,8 +168,8 @@ pub fn the_memory_is_recorded()
     the_race_order_is_kept();
 }
 
-/// All of it of one run: the joint replay of a log of a recording, the lowest ready hart first, isn't
-/// stopped, keeps the recorded order, gives the recorded rows from the recorded states, and ends with
+/// All of it of one run. The joint replay of a log of a recording, the lowest ready hart first, isn't
+/// stopped and keeps the recorded order. It gives the recorded rows from the recorded states, and ends with
 /// recorded words.
 pub fn joint_replays_say_the_run()
     ensures { JointReplaysSayTheRun }
