@@ -57,7 +57,7 @@ in_cases [] ys x i = inr i
 in_cases (z ∷ zs) ys x (inl e) = inl (inl e)
 in_cases (z ∷ zs) ys x (inr i) = elim (in_cases zs ys x i) [ inl j ↦ inl (inr j) | inr j ↦ inr j ]
 
--- the item behind a front, and that front
+-- the item after a prefix, and that prefix
 pub get_middle : {X : Type 0} (front back : List X) (x : X) (k : ℕ) → k ≡ length front → slice_get (front ++ x ∷ back) k ≡ Some x
 get_middle [] back x zero e = refl
 get_middle [] back x (suc k) e = absurd (omega (arith, e))

@@ -176,7 +176,7 @@ module _ (images : LoadedProgramsAreImages) (tell : RunRowsTellWords) (calls : R
       let f = send_row before row b e in
       of_call b Read f.0.low f.1 (calls.sends r.settings r.program r.input r.turns h before row b.count is.setting is.legal of_turn f.0)
 
-  -- what is to be shown of each touch
+  -- what is to be shown of each access
   abbrev IfSo : Option Touch → Type 0
   IfSo o = (t : Touch) → o ≡ Some t → Recorded t
 

@@ -30,8 +30,8 @@ StandAsRecorded = (r : Recording) (records : List Record) → IsLogOf r records 
 abbrev pub ConflictsStandAsRecorded : Type 0
 ConflictsStandAsRecorded = (r : Recording) (records : List Record) → IsLogOf r records → AreAlike (replayed_points r records) (recorded_points r records)
 
--- races are those of the recorded points, as they stand in the run: pairs that conflict, if no chain of program order and of
--- synchronisation leads from the one to the other; and each is there once
+-- Races are those of the recorded points, as they stand in the run, each once: pairs that conflict, if no chain of program
+-- order and of synchronisation leads from the one to the other
 pub record SayTheRun (r : Recording) (records : List Record) (races : List Race) : Type 0 where
   pub are : races ≡ races_of r.settings.harts (recorded_points r records)
   pub each : (x : Race) → In races x ↔ IsRaceOf (recorded_points r records) x

@@ -1,4 +1,4 @@
-// Small recordings and their races.
+//! Small recordings and their races.
 ghost use Rattle.std.specs.Prelude.{◌≡◌, ◌∷◌, []};
 ghost use Rattle.run_model.specs.Examples.{a_relay, a_line_lost};
 ghost use Rattle.joint_laws.specs.Examples.{a_short_relay};

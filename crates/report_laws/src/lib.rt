@@ -67,7 +67,7 @@ pub fn races_say_the_run()
     rows_tell_runs();
 }
 
-/// So are those that a report lists, where the log's bytes are those of the recording's file.
+/// So are those that a report lists, if the log's bytes are those of the recording's file.
 pub fn reports_say_the_run()
     ensures { ReportsSayTheRun }
 {
