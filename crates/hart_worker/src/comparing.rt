@@ -24,8 +24,8 @@ pub fn begins_with<B: Book>(bus: &Bus<B>, from: &Start) -> bool
     bus.start().is_same(from)
 }
 
-/// Whether the book of a bus that began with this has of each hart the rows that the hart gave; true
-/// where the book doesn't tell its rows.
+/// Whether the book of a bus that began with this has of each hart the rows that the hart gave; true if the
+/// book doesn't tell its rows.
 pub fn compares<B: Book>(bus: &Bus<B>, from: &Start, worked: &[Result<Worked, AllocError>]) -> bool
     requires began { bus.now.began ≡ began_of from.now }
     requires len { length worked.now ≡ from.now.settings.harts }
