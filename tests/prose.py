@@ -1,13 +1,15 @@
 #!/usr/bin/env python3
-"""Checks how README.md and the pages of docs/ are written.
+"""Checks how README.md, the pages of docs/ and the comments of all sources are written.
 
-tests/prose.py [PAGE..]
+tests/prose.py [PAGE, SOURCE or FOLDER..]
 
-Without pages all are checked. Checked are: no sentence of more than 35 words, no table cell of more than 60, none of
+Without words all are checked. Checked are: no sentence of more than 35 words, no table cell of more than 60, none of
 the words in WORDS, no link that leads nowhere, and no page of more words than PAGES says (as `wc -w` counts).
 Code is not prose: blocks are passed over, and a piece of inline code is one word of its sentence.
 
-The checks are first tried on sentences that have each fault and on ones that have none (SAMPLES).
+Of a source (COMMENTS has the endings), the lines of a comment are one text; so are those of a Python docstring.
+
+The checks are first tried on text that has each fault and on text that has none (SAMPLES, SOURCES).
 """
 import os
 import re
@@ -100,6 +102,39 @@ SAMPLES = [
     ("See [tests](tests/prose.py) and [a site](https://example.org/x).", []),
 ]
 
+# The comments of each kind of source: strings are matched first, so that a mark inside one begins no comment.
+STRING = r'"(?:\\.|[^"\\])*"'
+SHORT_STRING = r"\"(?:\\.|[^\"\\\n])*\"|'(?:\\.|[^'\\\n])*'"
+DOCSTRING = r'^[ \t]*[a-z]?"""(?P<text>(?:\\.|[^\\])*?)"""'
+COMMENTS = {
+    ".rt": rf'r(?P<hashes>#*)".*?"(?P=hashes)|{STRING}|\'(?:\\.|[^\'\\])\'|(?P<mark>//[/!]?)(?P<line>[^\n]*)',
+    ".antt": rf"{STRING}|(?P<mark>(?<!\S)--)(?P<line>[^\n]*)",
+    ".py": rf'{DOCSTRING}|"""(?:\\.|[^\\])*?"""|{SHORT_STRING}|(?P<mark>#)(?!!)(?P<line>[^\n]*)',
+    ".sh": r"'[^'\n]*'|\"(?:\\.|[^\"\\\n])*\"|(?P<mark>(?<!\S)#)(?!!)(?P<line>[^\n]*)",
+}
+COMMENTS = {ending: re.compile(pattern, re.S | re.M) for ending, pattern in COMMENTS.items()}
+ALIKE = {".awk": ".sh", ".bash": ".sh", "zelkuma": ".sh"}
+
+# Sources, and the faults that their comments have, each as line and words.
+LONG = "word " * 20
+SOURCES = [
+    (".rt", "//! A cost\n//! goes by steps.\nfn f() {}\n", [(2, "'goes by'")]),
+    (".rt", '/// It is "wanting".\nlet a = "// a cost goes by steps";\n', []),
+    (".rt", 'let a = r#"a " // yet"#;\nlet b = \'"\'; // not yet\nlet c = "yet";\n', [(2, "'yet'")]),
+    (".rt", "    'oldest: while true { // as before\n    'next: loop {} // `anew`\n", [(1, "'as before'")]),
+    (".rt", f"// {LONG}\n// {LONG}\n", [(1, "sentence of 40 words")]),
+    (".rt", f"//! {LONG}\n// {LONG}\n", []),
+    (".rt", f"// {LONG}\n//\n// {LONG}\n", []),
+    (".rt", f"// {LONG}\nfn f() {{ // {LONG}\n    // {LONG}\n", []),
+    (".rt", "/// One.\n///\n/// ```\n/// let yet = 1;\n/// ```\n/// Not yet.\n", [(6, "'yet'")]),
+    (".antt", "-- the cost, which\n-- goes by steps\nlent : ℕ\n", [(2, "'goes by'")]),
+    (".antt", 'a = codes "-- yet" -- yet\nx--dear = 1\n', [(1, "'yet'")]),
+    (".antt", f"-- ---- {LONG}\n-- {LONG}\n", []),
+    (".py", '"""A page.\n\nIt is dear.\n"""\na = "# dear"  # dear\n', [(3, "'dear'"), (5, "'dear'")]),
+    (".py", 'a = """\n# not yet\n"""\nb = \'#\'\n', []),
+    (".sh", "#!/bin/dear\n# It goes\n#   by steps.\na=${#dear} # yet\nb='# yet'\n", [(2, "'goes by'"), (4, "'yet'")]),
+]
+
 CODE = "ξ"
 ABBREVIATION = re.compile(r"(?:\be\.g|\bi\.e|\betc|\bcf|\bvs|\.)\.$")
 
@@ -117,7 +152,7 @@ def without_marks(text):
     """Takes away comments, the targets of links, and other marks; every offset stays as it is."""
     text = re.sub(r"!?\[|\]\([^)\s]*\)|\]", blanked, text)
     text = re.sub(r"<br>", ".   ", text)
-    return re.sub(r"\*+|<[^>]*>", blanked, text)
+    return re.sub(r"\*+|<[a-z/!][^>]*>", blanked, text)
 
 
 def prose_lines(text):
@@ -185,8 +220,8 @@ def line_of(lines, offset):
     return lines[-1][0]
 
 
-def length_faults(text):
-    for kind, lines in blocks(text):
+def length_faults(parts):
+    for kind, lines in parts:
         whole = "\n".join(line for _, line in lines)
         prose = without_marks(without_code(whole))
         if kind == "cell" and words_in(prose) > LONGEST_CELL:
@@ -198,23 +233,27 @@ def length_faults(text):
                 yield line_of(lines, first), f"sentence of {words_in(sentence)} words: {beginning} .."
 
 
-def patterns():
-    for words, instead in WORDS:
-        flags = 0 if words[0].isupper() else re.I
-        yield re.compile(rf"\b(?:{words.replace(' ', chr(92) + 's+')})\b", flags), instead
+def pattern_of(words):
+    spaced = words.replace(" ", r"\s+")
+    return spaced if words[0].isupper() else f"(?i:{spaced})"
 
 
-PATTERNS = list(patterns())
+PATTERNS = [(re.compile(rf"\b(?:{pattern_of(words)})\b"), instead) for words, instead in WORDS]
+ANY_WORD = re.compile(rf"\b(?:{'|'.join(pattern_of(words) for words, _ in WORDS)})\b")
 
 
-def word_faults(text):
-    for _, lines in blocks(text):
+def word_faults(parts):
+    """Searches all blocks at once, which is quicker, with a mark between them that no pattern passes over."""
+    texts, numbered = [], []
+    for _, lines in parts:
         prose = without_marks(without_code("\n".join(line for _, line in lines)))
-        prose = re.sub(r"\"[^\"]*\"|“[^”]*”", lambda match: blanked(match, CODE), prose)
-        for pattern, instead in PATTERNS:
-            for match in pattern.finditer(prose):
-                found = " ".join(match.group().split())
-                yield line_of(lines, match.start()), f"'{found}': write {instead}"
+        texts += [re.sub(r"\"[^\"]*\"|“[^”]*”", lambda match: blanked(match, CODE), prose), "¶"]
+        numbered += [*lines, (0, "¶")]
+    whole = "\n".join(texts)
+    for pattern, instead in PATTERNS if ANY_WORD.search(whole) else []:
+        for match in pattern.finditer(whole):
+            found = " ".join(match.group().split())
+            yield line_of(numbered, match.start()), f"'{found}': write {instead}"
 
 
 def anchors(text):
@@ -267,28 +306,90 @@ def size_faults(text, page):
         yield 1, f"has {len(text.split())} words, and may have {PAGES[page]}"
 
 
+def comments_in(kind, text):
+    """Yields line, column, mark and text of each line of a comment, and of each line of a docstring."""
+    line, at = 1, 0
+    for found in COMMENTS[kind].finditer(text):
+        line += text.count("\n", at, found.start())
+        at = found.start()
+        column = at - text.rfind("\n", 0, at) - 1
+        parts = found.groupdict()
+        if parts.get("mark"):
+            alone = not text[at - column : at].strip()
+            yield line, column if alone else None, parts["mark"], parts["line"]
+        elif parts.get("text") is not None:
+            for more, words in enumerate(parts["text"].split("\n")):
+                yield line + more, at, "docstring", words
+
+
+def comment_texts(kind, text):
+    """Yields the comments of a source, each as the number of its first line and its text."""
+    first, last, lines = 0, None, []
+    for line, column, mark, words in comments_in(kind, text):
+        title = re.match(r"\s*--+\s*", words)
+        place = (line, column, mark)
+        if lines and (title or column is None or place != last):
+            yield first, "\n".join(lines)
+            lines = []
+        first = first if lines else line
+        lines.append(words[title.end() :] if title else words.strip())
+        last = None if title or column is None else (line + 1, column, mark)
+    if lines:
+        yield first, "\n".join(lines)
+
+
+def comment_blocks(kind, text):
+    for first, comment in comment_texts(kind, text):
+        for what, lines in blocks(comment):
+            yield what, [(first + number - 1, line) for number, line in lines]
+
+
+def comment_faults(kind, text):
+    parts = list(comment_blocks(kind, text))
+    return [*length_faults(parts), *word_faults(parts)]
+
+
+def source_kind(path):
+    """Says of which kind a source is; None if it isn't one."""
+    ending = os.path.splitext(path)[1] or os.path.basename(path)
+    kind = ALIKE.get(ending, ending)
+    return kind if kind in COMMENTS else None
+
+
 def page_checks(text, page):
-    """Yields the faults of each check of a page, as a list."""
+    """Yields the faults of each check of a page or a source, as a list."""
+    kind = source_kind(page)
+    if kind:
+        yield comment_faults(kind, text)
+        return
     if PAGES.get(page, 0) is not None:
-        yield list(length_faults(text))
-        yield list(word_faults(text))
+        yield list(length_faults(blocks(text)))
+        yield list(word_faults(blocks(text)))
     yield list(link_faults(text, page))
     yield list(size_faults(text, page))
 
 
 def sample_fault(text, wanted):
     """Says how a sample's faults differ from what they should be; None if they don't."""
-    found = [*length_faults(text), *word_faults(text), *link_faults(text, "README.md")]
+    parts = list(blocks(text))
+    found = [*length_faults(parts), *word_faults(parts), *link_faults(text, "README.md")]
     told = [fault for _, fault in found]
     if len(told) == len(wanted) and all(any(part in fault for fault in told) for part in wanted):
         return None
     return f"has {told}, and should have {wanted}"
 
 
+def source_fault(kind, text, wanted):
+    """Says how the faults of a source's comments differ from what they should be; None if they don't."""
+    found = comment_faults(kind, text)
+    alike = [at == line and part in fault for (at, part), (line, fault) in zip(wanted, found)]
+    return None if len(found) == len(wanted) and all(alike) else f"has {found}, and should have {wanted}"
+
+
 def try_samples():
     passed = failed = 0
-    for number, (text, wanted) in enumerate(SAMPLES, 1):
-        fault = sample_fault(text, wanted)
+    faults = [sample_fault(*sample) for sample in SAMPLES] + [source_fault(*source) for source in SOURCES]
+    for number, fault in enumerate(faults, 1):
         passed += fault is None
         failed += fault is not None
         if fault:
@@ -300,9 +401,27 @@ def try_samples():
     return passed + 1, failed
 
 
+def sources_in(folder):
+    """The sources at or below a folder, without what a build makes."""
+    for path, folders, files in os.walk(os.path.join(TOP, folder)):
+        folders[:] = sorted(name for name in folders if name not in (".git", "out", "__pycache__"))
+        for name in sorted(files):
+            if source_kind(name):
+                yield os.path.relpath(os.path.join(path, name), TOP)
+
+
 def all_pages():
     there = [f"docs/{name}" for name in os.listdir(f"{TOP}/docs") if name.endswith(".md")]
     return sorted({"README.md", *there, *PAGES})
+
+
+def chosen(words):
+    """The pages and sources that are to be checked."""
+    if not words:
+        return [*all_pages(), *sources_in(".")]
+    paths = [os.path.relpath(os.path.realpath(word), TOP) for word in words]
+    inside = [list(sources_in(path)) if os.path.isdir(f"{TOP}/{path}") else [path] for path in paths]
+    return [path for several in inside for path in several]
 
 
 def check_page(page):
@@ -321,9 +440,8 @@ def check_page(page):
 
 
 def main():
-    pages = [os.path.relpath(os.path.realpath(page), TOP) for page in sys.argv[1:]] or all_pages()
     passed, failed = try_samples()
-    for page in pages:
+    for page in chosen(sys.argv[1:]):
         good, bad = check_page(page)
         passed += good
         failed += bad
