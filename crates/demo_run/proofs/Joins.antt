@@ -14,7 +14,7 @@ use Rattle.demo_run.specs.Demonstration.{word_bytes}
 
 -- ---- steps
 
--- the run of a joint replay goes on from where it stands, and isn't stopped
+-- the run of a joint replay continues from the point that it reached, and isn't stopped
 pub record Walks (whole now : Joining) : Type 0 where
   pub last : (run_all whole).walk.now ≡ (run_all now).walk.now
   pub stopped : (run_all now).stopped ≡ None
@@ -31,7 +31,7 @@ walks-done end whole now next waiting text a w =
     let at : run_all now ≡ ran (begun next) None = end now next None a.0 in
     w.last ∙ ap (λ (r : Ran). r.walk.now) at
 
--- it is stopped by want of memory alone
+-- running out of memory alone stops it
 pub walks-starved : RunsEnd → (whole now next : Joining) (waiting text : List ℕ) (e : JointError) → Advances now (Err e) next waiting text → Walks whole now → e ≡ joint.OutOfMemory
 walks-starved end whole now next waiting text e (same, inl f) w =
     let at : run_all now ≡ ran (begun next) (Some e) = end now next (Some e) f in

@@ -30,7 +30,7 @@ use Rattle.demo_run.proofs.Whole.{low_limit, first_format}
 pub says : DemonstrationsAreRecordings → LogsAreContents → (seed : ℕ) → IsVersion1 (demo_log seed)
 says are law seed = (law demo_settings (demo_program seed) (demo_elf seed) [] (demo_turns seed) (are seed), first_format)
 
--- what is counted, where it can't be refused
+-- what is counted of a file that is read
 pub counted-so : (a b : LogCounts) → ◌≡◌ {A = Result LogCounts FileError} (Ok a) (Ok b) → a ≡ b
 counted-so a b e = ap (λ (r : Result LogCounts FileError). elim r as (λ x. LogCounts) [ Ok n ↦ n | Err f ↦ b ]) e
 

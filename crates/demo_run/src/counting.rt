@@ -1,4 +1,4 @@
-// The rows of replays, counted.
+//! Counts the rows that replays of single intervals give: a figure of the demonstration.
 ghost use Rattle.std.specs.Prelude.{◌≡◌, ◌≢◌, ◌≤◌, ◌<◌, ◌+◌, ◌^◌, length, drop, None, IfOk};
 ghost use Rattle.hart_replay.specs.Replay.{Done, interval_of, replayed};
 ghost use Rattle.demo_run.specs.Demonstration.{rows_in};
@@ -76,8 +76,8 @@ fn count_at(alloc: Global, image: &Image, log: &KeptLog, place: usize) -> Result
     }
 }
 
-/// Replays each interval of which a log has the Header by itself, and counts the rows. The only error is
-/// want of memory.
+/// Replays by itself each interval whose Header a log has, and counts the rows. The only error is out of
+/// memory.
 pub fn count_rows(alloc: Global, image: &Image, log: &KeptLog) -> Result<u128, AllocError>
     requires { AllComeToEnd image.now log.now }
     ensures { IfOk result (λ rows. rows ≡ rows_in image.now log.now.records log.now.records) }

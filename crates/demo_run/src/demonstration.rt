@@ -1,4 +1,4 @@
-// The whole demonstration.
+//! The whole demonstration: a recording, its log read back, and both kinds of replay of it.
 ghost use Rattle.std.specs.Prelude.{◌≡◌, IfOk};
 ghost use Rattle.log_file.specs.declared.error.FileError.TheVariants.{OutOfMemory};
 ghost use Rattle.log_file.specs.Counts.{counts_of};
@@ -22,7 +22,7 @@ use rv_text::Text;
 use sha2::{Digest, Sha256};
 use std::alloc::{AllocError, Global};
 
-// The error of a file that is one is want of memory.
+// A file that is well formed has one error alone: out of memory.
 fn wanting(error: FileError) -> AllocError
     requires { error ≡ OutOfMemory }
 {
@@ -101,18 +101,19 @@ fn replay(
     })
 }
 
-/// The five lines of the demonstration of a number: the number; the turns and the instructions of the
-/// run; the records that its log of a mebibyte keeps, those that were given up, and the bytes of the
-/// kept ones; the intervals that the log keeps, and the rows that their replays give, each by itself;
-/// and the words that are known after the joint replay of all of them, with the SHA-256 digest (FIPS
-/// 180-4) of these words by ascending address, each as its address and its value, four bytes each, the
-/// least significant first.
+/// The five lines of the demonstration of a number:
+/// - the number;
+/// - the turns and the instructions of the run;
+/// - the records that its log of a mebibyte keeps, those that were given up, and the bytes of the kept ones;
+/// - the intervals that the log keeps, and the rows that their replays give, each by itself;
+/// - the words that are known after the joint replay of all of them, with their SHA-256 digest (FIPS 180-4).
+///   The digest is of the words by ascending address: address and value, four bytes each, the lowest first.
 ///
-/// The program is the loop that the number generates. Four harts do 200,000 instructions each, in
-/// intervals of 10,000, by the turns that the number chooses.
+/// The program is the loop that the number generates. Four harts do 200,000 instructions each, in intervals
+/// of 10,000, by the turns that the number chooses.
 ///
-/// The only error is want of memory: the loader takes each generated program, the log is read back,
-/// and nothing in it stops a replay.
+/// The only error is out of memory: the loader takes each generated program, the log is read back, and
+/// nothing in it stops a replay.
 pub fn demo_lines(alloc: Global, seed: u64) -> Result<Text, AllocError>
     ensures { IfOk result (λ text. text ≡ demo_text seed) }
 {

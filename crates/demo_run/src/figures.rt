@@ -1,4 +1,4 @@
-// What is counted of a demonstration, and its text.
+//! What is counted of a demonstration, and its text.
 ghost use Rattle.std.specs.Prelude.{◌≡◌, ◌++◌, OnOk, codes, length, decimal};
 ghost use Rattle.hex.specs.Hex.{encode_lower};
 ghost use Rattle.demo_run.specs.Texts.{counted, two_counts, seed_line, turns_line, records_line, intervals_line, memory_line, figures_text};

@@ -1,4 +1,4 @@
-// The joint replay of a demonstration, and the words that are known after it.
+//! The joint replay of a demonstration, and the words that are known after it.
 ghost use Rattle.std.specs.Prelude.{◌≡◌, None, IfOk, OnOk};
 ghost use Rattle.std.specs.List.{flat_map};
 ghost use Rattle.joint_replay.specs.Joining.{fresh, run_all};
@@ -32,7 +32,7 @@ fn go_through(alloc: Global, joint: &mut Joint) -> Result<(), AllocError>
     }
 }
 
-// The bytes of the known words, by ascending address, each behind its address.
+// The bytes of the known words, by ascending address, each after its address.
 fn known_bytes(alloc: Global, joint: &Joint) -> Result<Vec<u8>, AllocError>
     ensures { IfOk result (λ bytes. bytes.items ≡ flat_map word_bytes joint.now.memory) }
 {
@@ -59,8 +59,8 @@ fn known_after(alloc: Global, joint: &mut Joint) -> Result<Vec<u8>, AllocError>
     known_bytes(alloc, joint)
 }
 
-/// Replays all intervals of a log together, and gives the words that are known then by ascending
-/// address, each behind its address. The only error is want of memory.
+/// Replays all intervals of a log together, and gives the words that are known then by ascending address,
+/// each after its address. The only error is out of memory.
 pub fn join(alloc: Global, image: &Image, log: &KeptLog) -> Result<Vec<u8>, AllocError>
     requires { GoesThrough image.now log.now }
     ensures { IfOk result (λ bytes. bytes.items ≡ flat_map word_bytes (run_all (fresh image.now log.now.head.settings.harts log.now.records)).walk.now.memory) }

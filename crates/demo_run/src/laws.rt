@@ -1,4 +1,4 @@
-// What holds of demonstrations.
+//! What holds of demonstrations. These functions do nothing: their contracts are theorems.
 ghost use Rattle.demo_run.specs.Laws.{GuestsAreLoaded, DemonstrationsAreRecordings};
 
 use guest_gen::laws::files_have_one_size;

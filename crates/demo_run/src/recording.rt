@@ -1,4 +1,4 @@
-// The recording of a demonstration.
+//! The recording of a demonstration: the run by the number's turns, its log file and its counts.
 ghost use Rattle.std.specs.Prelude.{◌≡◌, IfOk};
 ghost use Rattle.demo_run.specs.Demonstration.{count_of, counts_in};
 ghost use Rattle.demo_run.specs.Starts.{IsStart, IsRecordedRun};
@@ -39,8 +39,8 @@ fn counts_in(marks: &[Option<EndMark>]) -> u128
     sum
 }
 
-/// Records the run by the turns that the number chooses. No row of it is kept. The only error is want
-/// of memory.
+/// Records the run by the turns that the number chooses. No row of it is kept. The only error is out of
+/// memory.
 pub fn record(alloc: Global, start: &Start, seed: u64) -> Result<DemoRecording, AllocError>
     requires { IsStart seed start.now }
     ensures { IfOk result (λ recorded. IsRecordedRun seed recorded) }

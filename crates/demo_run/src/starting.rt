@@ -1,4 +1,4 @@
-// What a demonstration begins with.
+//! What a demonstration begins with: its settings, and the program that the number makes.
 ghost use Rattle.std.specs.Prelude.{◌≡◌, IfOk};
 ghost use Rattle.demo_run.specs.Demonstration.{demo_settings};
 ghost use Rattle.demo_run.specs.Starts.{IsStart};
@@ -34,8 +34,8 @@ fn demo_settings() -> Settings
     }
 }
 
-/// The program that the number makes, loaded with the settings of the demonstration. The only error is
-/// want of memory.
+/// The program that the number makes, loaded with the settings of the demonstration. The only error is out
+/// of memory.
 pub fn start_of(alloc: Global, seed: u64) -> Result<Start, AllocError>
     ensures { IfOk result (λ start. IsStart seed start) }
 {
