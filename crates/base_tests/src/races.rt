@@ -1,3 +1,4 @@
+//! The race log through its public calls: which edges come of accesses, and what a hart then knows of another.
 ghost use Rattle.std.specs.Prelude.{◌≡◌, ◌+◌, ◌*◌, ◌<◌, ◌≤◌, ◌^◌, ◌%◌, ℕ, ◌==◌, if◌then◌else◌, IfOk, OnOk, IsTrue};
 ghost use Rattle.race_log.specs.Represents.{harts_of, lasting_of, lasts, next_turn, next_count};
 
@@ -61,8 +62,8 @@ fn step(
     Ok(come_from(shadow.edges(), sources))
 }
 
-// A store of hart 0 and a load of hart 1 after it: how many edges the store has, the first edge of the load, and
-// whether hart 1 then knows of the store, and hart 0 of the load. The load's count is the lower one.
+// A store of hart 0, and then a load of hart 1 whose count is lower: how many edges the store has, and the
+// first edge of the load. Then whether hart 1 knows of the store, and hart 0 of the load.
 fn lower_count(shadow: &mut Shadow) -> Result<(usize, Option<(HartId, Ic)>, bool, bool), AllocError>
     requires harts { harts_of shadow.old ≡ 3 }
     requires turn { next_turn shadow.old ≡ 0 }
@@ -157,7 +158,8 @@ fn three_harts_share_four_words(rt: HostRuntime) -> Result<(), AllocError> {
     Ok(())
 }
 
-// One access of one word; whether the edges into it come from the one source, or from none where there is none.
+// One access of one word; whether the edges into it come from the one source, or there is neither source
+// nor edge.
 fn one_step(
     shadow: &mut Shadow,
     hart: HartId,

@@ -1,3 +1,4 @@
+//! Vector clocks, merged.
 use vector_time::Times;
 
 #[test]

@@ -18,7 +18,7 @@ fn start() -> HartState {
     }
 }
 
-// A cut of a hart at its start, after which it goes on.
+// A cut of a hart at its start, which doesn't end the hart.
 fn row_of(hart: HartId) -> TurnRow {
     TurnRow {
         hart,
@@ -59,7 +59,7 @@ fn note_anew<B: Book>(book: &mut B, row: TurnRow) -> Result<(), AllocError>
     note_one(book, row)
 }
 
-// The harts of a book's rows, as the digits of a number, where it tells them.
+// The harts of a book's rows, as the digits of a number, if it tells them.
 fn harts_in<B: Book>(book: &B) -> Option<u64> {
     let rows = book.rows()?;
     let digits = rows.iter().map(|row| u64::from(row.hart));
