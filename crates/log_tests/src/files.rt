@@ -1,3 +1,4 @@
+//! A log file that was made by hand: it is read and written, and each cut or longer one is refused by name.
 use crate::first_log::first_log;
 use bn_base::{EndMark, RawSettings};
 use log_file::{FileError, count_file, read_file, write_file};
@@ -6,7 +7,7 @@ use log_record::Record;
 use std::alloc::{AllocError, Global};
 use std::test::*;
 
-// Why bytes are refused, where they are read and where they are counted alike.
+// Why bytes are refused, if reading and counting refuse them alike.
 fn refusal(alloc: Global, bytes: &[u8]) -> Option<FileError> {
     let found = read_file(alloc, bytes).err();
     if count_file(bytes).err() == found {
@@ -16,7 +17,7 @@ fn refusal(alloc: Global, bytes: &[u8]) -> Option<FileError> {
     }
 }
 
-// The last of a log's records, where it has two.
+// The last of a log's records, if it has two.
 fn second(log: &KeptLog) -> Option<Record> {
     if log.records().len() == 2 {
         Some(log.records().get(1))

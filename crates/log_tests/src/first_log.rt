@@ -1,5 +1,5 @@
-// A log that was made by hand: one hart does `addi a0,zero,5`, `addi a7,zero,93`, `ecall`.
-// Its program's ELF file and both digests were computed outside of this project.
+//! A log that was made by hand: one hart does `addi a0,zero,5`, `addi a7,zero,93`, `ecall`.
+//! Its program's ELF file and both digests were computed outside of this project.
 
 /// Its 285 bytes.
 pub fn first_log() -> [u8; 285] {

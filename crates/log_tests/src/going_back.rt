@@ -10,7 +10,7 @@ use std::test::*;
 // addi a0,zero,5; addi a7,zero,93; ecall
 const EXIT: [u32; 3] = [0x00500513, 0x05d00893, 0x00000073];
 
-// A step of hart 0, where it is ready.
+// A step of hart 0, if it is ready.
 fn step(trail: &mut Trail) {
     if trail.joint().harts() > 0 {
         if let Readiness::Ready = trail.joint().ready(0) {
@@ -22,7 +22,7 @@ fn step(trail: &mut Trail) {
     }
 }
 
-// How many steps a way back took again, where there is one.
+// How many steps a way back took again; none if there is no such way.
 fn seek(trail: &mut Trail, to: u64) -> Option<u64> {
     if to <= trail.position() {
         match trail.seek(to) {

@@ -1,5 +1,5 @@
-// Tests of logs: records, the ring, the order of records, files, and the replay of an interval.
-// They stand in a crate of their own, since a crate with tests is proved twice.
+//! Tests of logs: records, the ring, the order of records, files, and the replay of an interval.
+//! They stand in a crate of their own, since a crate with tests is proved twice.
 #![tactic(auto)]
 
 #[cfg(test)]

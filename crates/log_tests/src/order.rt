@@ -1,3 +1,4 @@
+//! Logs without records: which one is in order, and what the other one breaks.
 use bn_base::Settings;
 use log_order::{KeptLog, OrderBreak};
 use log_record::{Head, RecordList};

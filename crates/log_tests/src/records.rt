@@ -1,3 +1,4 @@
+//! The bytes of single records, worked out by hand.
 ghost use Rattle.std.specs.Prelude.{◌<◌, IsTrue, length};
 ghost use Rattle.log_record.specs.Spelling.{is_marked};
 

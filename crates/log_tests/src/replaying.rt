@@ -50,7 +50,7 @@ fn joined(alloc: Global, parts: &[&[u8]]) -> Result<Vec<u8>, AllocError> {
     Ok(bytes)
 }
 
-// The file of a log with these records; no bytes where they are many.
+// The file of a log with these records; no bytes if a log has no room for them.
 fn file_of(alloc: Global, records: &[u8]) -> Result<Vec<u8>, AllocError> {
     let head = Head {
         settings: Settings::default(),

@@ -1,3 +1,4 @@
+//! The ring of records at its size: the oldest go first, and a long record takes the room of many.
 ghost use Rattle.std.specs.Prelude.{◌≡◌, ◌≤◌, ◌<◌, ◌+◌, ◌^◌, IsTrue, length};
 ghost use Rattle.log_record.specs.Spelling.{is_marked};
 
