@@ -1,5 +1,4 @@
-// Tests of harts in threads.
-// They stand in a crate of their own, since a crate with tests is proved twice.
+//! Tests of harts in threads. They stand in a crate of their own, since a crate with tests is proved twice.
 #![tactic(auto)]
 
 #[cfg(test)]

@@ -9,7 +9,7 @@ use std::sync::Wait;
 use std::test::*;
 use whole_runs::{HartPlace, MemoryPort, drive};
 
-// The program that loads the word at 00020000 twice and stays where it is then.
+// The program that loads the word at 00020000 twice and then loops for ever.
 fn program(alloc: Global, settings: &Settings) -> Result<Image, AllocError>
     requires { 131072 ≤ settings.now.memory }
 {
