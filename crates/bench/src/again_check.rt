@@ -1,5 +1,5 @@
-// Asks that are served again where memory was wanting. Run with one growth refused after another, it has to
-// end with the same output, or to say at its start or end that memory was wanting.
+//! Asks that are served again after they ran out of memory. Run with one growth refused after another, it has
+//! to end with the same output, or to say at its start or end that it is out of memory.
 use crate::meaning_timing::program;
 use bn_base::{HartId, RawSettings, Settings};
 use bn_outside::{Book, FullBook};
@@ -8,7 +8,7 @@ use run_model::Start;
 use rv_meaning::{Ask, DecodedImage};
 use std::alloc::Global;
 
-// A loop that reads 16 bytes, writes them, loads a word and stores it, and goes on to the next page.
+// A loop that reads 16 bytes, writes them, loads a word, stores it, and moves to the next page.
 const CALLS: [u32; 16] = [
     0x0002_0437,
     0x0000_1337,
@@ -56,7 +56,7 @@ fn serve(bus: &mut Bus<FullBook>, code: &DecodedImage, hart: HartId) -> anyhow::
     }
 }
 
-// Serves so many asks, of the harts in turn, each a second time where it was refused.
+// Serves so many asks, of the harts in turn, each a second time if it was refused.
 fn serve_all(
     bus: &mut Bus<FullBook>,
     code: &DecodedImage,
@@ -131,7 +131,7 @@ fn check(rt: &HostRuntime, harts: HartId, count: u64) -> anyhow::Result<()> {
     tell(rt, harts, &closed)
 }
 
-/// Serves so many asks of one hart, and then of eight, each again where memory was wanting.
+/// Serves so many asks of one hart, and then of eight, each again if it ran out of memory.
 pub fn asks(rt: &HostRuntime, count: u64) -> anyhow::Result<()> {
     check(rt, 1, count)?;
     check(rt, 8, count)

@@ -1,4 +1,4 @@
-// The decoder: words per second.
+//! The decoder: words per second.
 use crate::rate::rate_since;
 use rv_decode::decode;
 use std::time::Instant;

@@ -1,4 +1,4 @@
-// The log file: bytes per second of a file of first loads that is written, and of one that is read.
+//! The log file: bytes per second of a file of first loads that is written, and of one that is read.
 ghost use Rattle.std.specs.Prelude.{IsTrue};
 ghost use Rattle.log_record.specs.Spelling.{is_marked};
 

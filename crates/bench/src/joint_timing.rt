@@ -1,5 +1,5 @@
-// The joint replay: rows per second of one, two, four and eight harts, beside single replays of the
-// same intervals, and beside the debugger that takes all its steps; each in processor time.
+//! The joint replay: rows per second of one, two, four and eight harts, beside single replays of the
+//! same intervals, and beside the debugger that takes all its steps; each in processor time.
 ghost use Rattle.std.specs.Prelude.{◌≡◌, ◌<◌, IfSome, length};
 ghost use Rattle.joint_replay.specs.declared.kinds.Readiness.TheVariants.{Ready};
 ghost use Rattle.joint_replay.specs.Joining.{readiness};

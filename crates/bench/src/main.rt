@@ -6,9 +6,9 @@
 //! | `meaning COUNT` | so many instructions of two loops, one with loads and stores |
 //! | `races COUNT` | the race log on so many accesses of single words |
 //! | `ring COUNT` | so many first loads that go through a full ring of records |
-//! | `cache COUNT` | so many touches of a hart's cache |
+//! | `cache COUNT` | so many accesses through a hart's cache |
 //! | `file COUNT` | a log file with so many first loads, written and read |
-//! | `again COUNT` | nothing: so many asks are served, each again where memory was wanting, and what that leaves is printed |
+//! | `again COUNT` | nothing: so many asks are served, each again if it ran out of memory, and what that leaves is printed |
 //! | `serve COUNT` | so many asks that the bus serves, of one hart and of eight that take turns |
 //! | `joint COUNT` | the joint replay of so many instructions of one to eight harts, and single replays of the same |
 //! | `replay COUNT` | an interval of so many instructions, at most 10,000,000: its run and its replay |

@@ -1,4 +1,4 @@
-// The meaning of instructions: instructions per second, quiet and mixed with loads and stores.
+//! The meaning of instructions: instructions per second, quiet and mixed with loads and stores.
 ghost use Rattle.std.specs.Prelude.{◌≡◌, ◌≤◌, ◌*◌, IfSome, IsTrue, vec_len};
 ghost use Rattle.rv_meaning.specs.Orderly.{is_reply_to};
 

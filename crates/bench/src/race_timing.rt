@@ -1,4 +1,4 @@
-// The race log: accesses per second for one hart and for eight harts, and bytes per word.
+//! The race log: accesses per second for one hart and for eight harts, and bytes per word.
 ghost use Rattle.std.specs.Prelude.{◌≡◌, ◌≤◌, ◌<◌, ◌+◌, ◌^◌, ℕ, IsTrue};
 ghost use Rattle.race_log.specs.Represents.{harts_of, lasting_of, lasts, next_turn, next_count};
 

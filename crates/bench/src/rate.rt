@@ -1,4 +1,4 @@
-// How many a second.
+//! How many a second.
 use std::fs;
 use std::time::Instant;
 

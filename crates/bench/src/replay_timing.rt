@@ -1,4 +1,4 @@
-// The replay of an interval: rows per second, beside the run of the same instructions.
+//! The replay of an interval: rows per second, beside the run of the same instructions.
 ghost use Rattle.std.specs.Prelude.{◌≤◌, IsTrue};
 ghost use Rattle.log_record.specs.Spelling.{is_marked};
 

@@ -1,4 +1,4 @@
-// The ring of records: first loads per second through a ring that is full.
+//! The ring of records: first loads per second through a ring that is full.
 ghost use Rattle.std.specs.Prelude.{◌≡◌, ◌+◌, ◌<◌, ◌^◌, IsTrue, length};
 ghost use Rattle.log_record.specs.Spelling.{is_marked};
 

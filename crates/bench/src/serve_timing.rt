@@ -1,4 +1,4 @@
-// Served asks: how many a second, of one hart and of eight that take turns.
+//! Served asks: how many a second, of one hart and of eight that take turns.
 use crate::meaning_timing::{MIXED, program};
 use crate::rate::rate_since;
 use bn_base::{HartId, Image, RawSettings, Settings};

@@ -1,4 +1,4 @@
-// A hart's cache: touches per second, to words that stay and to words that go.
+//! A hart's cache: touches per second, to words that stay and to words that go.
 ghost use Rattle.std.specs.Prelude.{◌≡◌, ◌+◌, ◌<◌, ◌≤◌, ◌^◌};
 
 use crate::rate::rate_since;
@@ -6,7 +6,7 @@ use bn_base::Settings;
 use first_load_bits::{Cache, Warm};
 use std::time::Instant;
 
-// Touches of so many words in no order; how many were warm.
+// Accesses of so many words in no order; how many were warm.
 fn many(cache: &mut Cache, touches: u64, words: u32) -> u64
     requires few { cache.old.steps + touches < 2 ^ 42 }
     requires words { words < 2 ^ 28 }
@@ -40,7 +40,7 @@ fn timed(rt: &HostRuntime, touches: u64, words: u32) -> anyhow::Result<()>
     Ok(())
 }
 
-/// Times so many touches of words that all find room in the cache, and of 256 times as many.
+/// Times so many accesses of words that all find room in the cache, and of 256 times as many.
 pub fn touches(rt: &HostRuntime, count: u64) -> anyhow::Result<()>
     requires { count < 2 ^ 40 }
 {
