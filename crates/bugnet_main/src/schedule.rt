@@ -36,7 +36,8 @@ impl Gate for Turns {
     fn served(&self, _hart: HartId) {}
 }
 
-// Turns that a number draws in this manner. Where the text is no number they are those of threads: the script has refused it.
+// Turns that a number draws in this manner. The script refuses text that is no number, so those of threads
+// are no schedule that a user asked for.
 fn drawn(manner: Manner, text: &str) -> Turns {
     match text.parse::<u64>() {
         Ok(number) => Turns::Drawn { manner, number },
