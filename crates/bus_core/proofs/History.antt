@@ -109,7 +109,7 @@ history_same p q h d rows same stays is = record {
 
 -- ---- what is seen of a bus
 
--- what is seen of it stands for the runs that its parts stand for
+-- what is seen of it represents the runs that its parts represent
 pub state_is : (p : PlainParts) (h d : Bool) (told : List TurnRow) (run : Run) → IsRun p run → IsState (seen p h d told) run
 state_is p h d told run is = record {
   machine = is.machine;

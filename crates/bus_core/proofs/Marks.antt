@@ -27,7 +27,7 @@ hart_or : Option Hart → Hart → Hart
 hart_or None d = d
 hart_or (Some h) d = h
 
--- the marks of a list of harts are those of the harts that it stands for
+-- the marks of a list of harts are those of the harts that it represents
 marks_from : (hs : List Hart) (k : ℕ) (f : ℕ → Hart) → ((j : ℕ) → j < length hs → slice_get hs j ≡ Some (f (k + j))) → map (λ (h : Hart). h.mark) hs ≡ marks k (length hs) f
 unfolding hart_or
 marks_from [] k f at = refl
@@ -54,7 +54,7 @@ any_same (suc n) f g same = ap (λ (h : Hart). h.live || any_live n f) (same n (
 pub live_is : (hs : List Hart) (f : ℕ → Hart) (n : ℕ) → AreHarts hs f → length hs ≡ n → any_live (length hs) (hart_in hs) ≡ any_live n f
 live_is hs f n are len = any_same (length hs) (hart_in hs) f (λ k below. get_or_from_slice_get hs k (f k) no_hart (are k below)) ∙ ap (λ (m : ℕ). any_live m f) len
 
--- none is live where the run is over
+-- none is live once the run is over
 pub over_is : (b : Bool) → not b ≡ elim b as (λ x. Bool) [ true ↦ false | false ↦ true ]
 over_is true = refl
 over_is false = refl

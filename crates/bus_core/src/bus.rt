@@ -1,4 +1,4 @@
-//! The bus: the machine that all harts share, with its book.
+//! The bus: the machine that all harts share, with its book. Its invariant is `IsKept`, in specs/Bus.antt.
 ghost use Rattle.std.specs.Prelude.{◌≡◌, true, false};
 
 use crate::ends::Ends;
@@ -8,9 +8,9 @@ use std::marker::Model;
 
 /// The machine that all harts share, with the book of its turns. One ask is served at a time.
 ///
-/// Its type says that rows led to it, those of its book where that tells them: each was of a live hart
-/// and had the machine's reply, and memory, reservations, caches, race log, harts and ring are those of
-/// the run after these rows.
+/// Its type says that rows led to it, those of its book if that tells them. Each was of a live hart and had
+/// the machine's reply. Memory, reservations, caches, race log, harts and ring are those of the run after
+/// these rows.
 #[derive(Drop)]
 pub struct Bus<B: Book> {
     pub(crate) plain: Plain,

@@ -1,4 +1,4 @@
-// What a closed bus hands over.
+//! What a closed bus hands over: all that a log file and the outputs are made of.
 use bn_base::EndMark;
 use log_ring::Ring;
 

@@ -1,4 +1,4 @@
-// The last marks of the harts.
+//! The last marks of the harts, which a closed bus hands over.
 ghost use Rattle.std.specs.Prelude.{◌≡◌, ◌≤◌, not, ◌&&◌, map, length, vec_len, vec_capacity, IfOk};
 ghost use Rattle.bn_base.specs.declared.settings.TheConstants.{HARTS};
 ghost use Rattle.run_model.specs.declared.hart.Hart.{Hart};
@@ -9,7 +9,7 @@ use bn_base::{EndMark, HARTS};
 use run_model::Hart;
 use std::alloc::{AllocError, Global};
 
-/// Room for the last marks of all harts, found ahead.
+/// Room for the last marks of all harts, taken when a run begins, so that its end needs no memory.
 #[derive(Drop)]
 pub struct Ends {
     marks: Vec<Option<EndMark>>,
@@ -18,7 +18,7 @@ pub struct Ends {
 }
 
 impl Ends {
-    /// Finds the room. The only error is want of memory.
+    /// Finds the room. The only error is out of memory.
     pub fn new(alloc: Global) -> Result<Ends, AllocError> {
         Ok(Ends {
             marks: Vec::with_capacity(alloc, HARTS)?,

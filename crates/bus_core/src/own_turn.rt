@@ -1,4 +1,5 @@
-// A turn of a hart in the bus's own place: its quiet instructions, and what it asks after them.
+//! A turn of a hart in the bus's own place: its quiet instructions, and what it asks after them.
+//! Each run on the caller's thread takes all its turns here.
 ghost use Rattle.std.specs.Prelude.{◌≡◌, ◌<◌, ◌+◌, ◌∷◌, ◌++◌, [], true, false, IsTrue, OnOk, OnErr};
 ghost use Rattle.run_model.specs.Turn.{Run, ask_at, is_orderly};
 ghost use Rattle.run_model.specs.Represents.Harts.{hart_in};
@@ -28,7 +29,7 @@ fn ask_next(plain: &Plain, code: &DecodedImage, hart: HartId, ask: &mut Ask)
 }
 
 impl<B: Book> Bus<B> {
-    // As `take_turn`, where books of this type tell no rows.
+    // `take_turn` for books whose type tells no rows, so none is made.
     #[inline(always)]
     fn take_untold(&mut self, code: &DecodedImage, hart: HartId) -> Result<(), AllocError>
         requires live { is_live self.old hart ≡ true }
@@ -52,7 +53,7 @@ impl<B: Book> Bus<B> {
     /// served as [`serve`](Bus::serve) does, and the book has the row. A hart's own ask is orderly, so that
     /// no test of it is made. `code` is the program that the run began with.
     ///
-    /// All memory is found first. On `Err`, for want of it, nothing has changed: taken again, the turn
+    /// All memory is found first. On `Err`, out of memory, nothing has changed: taken again, the turn
     /// leaves the same.
     #[inline(always)]
     pub fn take_turn(&mut self, code: &DecodedImage, hart: HartId) -> Result<(), AllocError>

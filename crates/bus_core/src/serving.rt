@@ -1,4 +1,4 @@
-// What a bus does.
+//! The calls of a bus: what is asked of it, served by it, seen of it, and handed over at its end.
 ghost use Rattle.std.specs.Prelude.{◌≡◌, ◌<◌, ◌+◌, ◌∷◌, ◌++◌, [], ℕ, Bool, true, false, not, ◌&&◌, ◌||◌, List, None, is_some, IfOk, OnOk, OnErr, IfSome, IsTrue};
 ghost use Rattle.std.specs.List.{AllByRecursion};
 ghost use Rattle.rv_meaning.specs.Orderly.{is_reply_to};
@@ -28,7 +28,7 @@ use rv_meaning::{Ask, Reply};
 use std::alloc::{AllocError, Global};
 
 impl<B: Book> Bus<B> {
-    /// The bus before its first turn. The book is cleared; on `Err`, for want of memory, it is given up.
+    /// The bus before its first turn. The book is cleared; on `Err`, out of memory, it is dropped.
     pub fn new(alloc: Global, from: &Start, mut book: B) -> Result<Bus<B>, AllocError>
         ensures began { IfOk result (λ b. b.began ≡ began_of from.now) }
         ensures state { IfOk result (λ b. IsState b (first_run (began_of from.now))) }
@@ -54,8 +54,8 @@ impl<B: Book> Bus<B> {
         self.plain.start()
     }
 
-    /// The rows of its book, where that tells them. They are lawful, and the machine and the harts are
-    /// those of the run after them; where the book tells nothing, some rows led to it.
+    /// The rows of its book, if that tells them. They are lawful, and the machine and the harts are those
+    /// of the run after them. If the book tells none, there are rows of which the same holds.
     pub fn rows(&self) -> Option<&[TurnRow]>
         ensures tells { is_some result ≡ B.tells }
         ensures rows { IfSome result (λ rows. rows.now ≡ self.now.rows) }
@@ -97,7 +97,7 @@ impl<B: Book> Bus<B> {
     /// is asked. An ask that isn't orderly, which no hart makes by itself, ends all and is answered with
     /// `Over`.
     ///
-    /// All memory is found first. On `Err`, for want of it, nothing has changed: served again, the ask has
+    /// All memory is found first. On `Err`, out of memory, nothing has changed: served again, the ask has
     /// the same reply and leaves the same.
     pub fn serve(&mut self, hart: HartId, ask: &Ask) -> Result<(Reply, bool), AllocError>
         requires { is_live self.old hart ≡ true }
@@ -134,10 +134,10 @@ impl<B: Book> Bus<B> {
         self.halted = true;
     }
 
-    /// Hands over the ring, the streams, the book, each hart's last mark and the number of turns. The ring
-    /// holds the log of the run, whatever the book tells: its records keep the rules of single records, and
-    /// all rules of their order once the run is finished; a hart that has an End among them has the mark of
-    /// its last one. It takes no memory.
+    /// Hands over the ring, the streams, the book, each hart's last mark and the number of turns. It takes
+    /// no memory. The ring holds the log of the run, whatever the book tells. Its records keep the rules of
+    /// single records, and all rules of their order once the run is finished. A hart that has an End among
+    /// them has the mark of its last one.
     pub fn close(self) -> Closed<B>
         ensures told { B.tells ≡ true → IsLogged self result.ring self.rows }
         ensures some { (rows : List TurnRow) × IsLogged self result.ring rows }

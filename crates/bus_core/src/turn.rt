@@ -1,4 +1,4 @@
-// One served ask: the machine's turn and the book's row.
+//! One served ask: the machine's turn, then the book's row. All memory is found before either changes.
 ghost use Rattle.std.specs.Prelude.{◌≡◌, ◌<◌, ◌∷◌, ◌++◌, [], Bool, true, false, not, IsTrue, IfOk, OnOk, OnErr};
 ghost use Rattle.run_model.specs.Turn.{Run, serve, is_orderly};
 ghost use Rattle.run_model.specs.Represents.Harts.{hart_in};
@@ -95,8 +95,8 @@ fn take_disorderly<B: Book>(
     Ok((reply, false))
 }
 
-/// Serves an ask, orderly or not: the machine's turn, and the book's row. On `Err`, for want of memory,
-/// the machine and the rows are as before.
+/// Serves an ask, orderly or not: the machine's turn, and the book's row. On `Err`, out of memory, the
+/// machine and the rows haven't changed.
 pub fn take<B: Book>(
     plain: &mut Plain,
     book: &mut B,
