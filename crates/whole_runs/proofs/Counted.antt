@@ -49,7 +49,7 @@ own_or : (b : Bool) (own x : Hart) → (b ≡ true → own.live ≡ x.live) → 
 own_or true own x h = h refl
 own_or false own x h = refl
 
--- a hart that goes on stays live, and so do all others
+-- a hart that isn't over stays live, and so do all others
 on_same : (own : Hart) (k j : ℕ) (f : ℕ → Hart) → own.live ≡ (f k).live → (elim (j == k) as (λ z. Hart) [ true ↦ own | false ↦ f j ]).live ≡ (f j).live
 on_same own k j f e = own_or (j == k) own (f j) (λ q. e ∙ ap (λ (n : ℕ). (f n).live) (sym (is j k q)))
   where

@@ -114,7 +114,7 @@ drawn_next tells b list seed old new now k rest h eb few any is taken =
           ∙ ap (λ (xs : List ℕ). (rest ++ k ∷ []) ++ seeded_after b xs (draw now)) joined;
     }
 
--- where no hart is live, all turns were taken
+-- if no hart is live, all turns were taken
 pub drawn_all : (tells : Bool) (b : Began) (list : List ℕ) (seed : ℕ) (new : Seen) (now : ℕ) (rest : List ℕ) → IsDrawn tells b list seed new now rest → any_live b.settings.harts (list_run b (list ++ rest)).harts ≡ false → rest ≡ seeded_after b list seed
 drawn_all tells b list seed new now rest h none =
     sym (h.left

@@ -28,8 +28,8 @@ pub record IsClosed {B : _} (tells : Bool) (b : Began) (list : List ℕ) (closed
   pub log : HoldsLog closed.ring (list_run b list).stream
   pub told : tells ≡ true → rows ≡ list_rows b list
 
--- a closed bus after lawful rows, all of orderly asks, that leave no hart live: the streams, the last marks, the number of
--- turns, and in the ring the log, whose records fit their fields; the last kept End of a hart has its last mark
+-- A closed bus after lawful rows, all of orderly asks, that leave no hart live. It has the streams, the last marks, the
+-- number of turns, and in the ring the log, whose records fit their fields. The last kept End of a hart has its last mark
 pub record IsOfRows {B : _} (b : Began) (closed : Closed B) (rows : List TurnRow) : Type 0 where
   pub lawful : IsLawful b.settings b.image (first_run b) rows
   pub orderly : are_orderly b.settings b.image (first_run b) rows ≡ true

@@ -21,7 +21,7 @@ powers Sleeper = 10
 abbrev pub length_of : Manner → (second third : ℕ) → ℕ
 length_of m second third = 1 + third / 2 ^ 33 % 2 ^ (second / 2 ^ 33 % powers m)
 
--- another hart of those that are live, and for how many turns, by three numbers
+-- a live hart, perhaps the last one again, and for how many turns, by three numbers
 abbrev pub drawn : Manner → List ℕ → Drawing → Drawing
 drawn m live d =
     let first = draw d.number in
@@ -29,7 +29,7 @@ drawn m live d =
     let third = draw second in
     record { hart = chosen first live; left = length_of m second third; number = third }
 
--- whose burst it is, or who sleeps, at the next turn: the same hart, if it has turns left and is live, else another
+-- whose burst it is, or who sleeps, at the next turn: the same hart, if it has turns left and is live, else one that is drawn
 abbrev pub current : Manner → RawSettings → Run → Drawing → Drawing
 current m c run d = elim (nat_lt 0 d.left && is_live c run d.hart) [ true ↦ d | false ↦ drawn m (live_harts 0 c.harts run.harts) d ]
 
@@ -73,7 +73,7 @@ drawn_after m b list d = drawn_from m b.settings b.image (list_run b list) d (mo
 
 -- ---- one turn of a bus
 
--- another hart, and for how many turns; none if no hart is live
+-- a hart that is drawn, and for how many turns; none if no hart is live
 abbrev pub IsDrawing : Began → Run → Drawing → Option Drawing → Type 0
 IsDrawing b run wanted o = MatchOption o (any_live b.settings.harts run.harts ≡ false) (λ d. (any_live b.settings.harts run.harts ≡ true) × (d ≡ wanted))
 

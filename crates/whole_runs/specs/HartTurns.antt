@@ -50,8 +50,7 @@ pub record AnswersAsk (h : ℕ) (ask : Ask) (answered : Reply × Bool) : Type 0 
   pub rows : List TurnRow
   pub lawful : IsLawful began.settings began.image (first_run began) (rows ++ row_of h ask answered ∷ [])
 
--- turns led hart h from its first place to where it is now: their rows are its own, and each answer is one that may be
--- given
+-- turns led hart h from its first place to its present one: their rows are its own, and each answer is one that may be given
 pub record IsLed (answers : ℕ → Ask → Reply × Bool → Type 0) (c : RawSettings) (i : Program) (h : ℕ) (first now : Place) : Type 0 where
   pub rows : List TurnRow
   pub own : IsOwn c i h first rows

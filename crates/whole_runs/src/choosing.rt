@@ -1,4 +1,4 @@
-// Which hart takes the next turn.
+//! Which hart takes the next turn of a run by seed: the generator's draws, over the live harts.
 ghost use Rattle.std.specs.Prelude.{◌≡◌, ◌<◌, ◌≤◌, ℕ, true, false, length, slice_get, MatchOption, IfSome, OnSome};
 ghost use Rattle.run_model.specs.Turn.{Run};
 ghost use Rattle.run_model.specs.Runs.{draw, chosen, any_live, most_turns};
@@ -84,7 +84,7 @@ pub fn live_at<B: Book>(bus: &Bus<B>, number: u8) -> Option<HartId>
     live_at_without(bus, None, number)
 }
 
-// The hart that is chosen where there is one alone, whatever is drawn: it, if it is live.
+// The hart that is chosen if there is only one, whatever is drawn: it, if it is live.
 #[inline(always)]
 fn choose_alone<B: Book>(bus: &Bus<B>) -> Option<HartId>
     requires alone { bus.now.began.settings.harts ≡ 1 }
@@ -96,8 +96,8 @@ fn choose_alone<B: Book>(bus: &Bus<B>) -> Option<HartId>
     if bus.live(0) { Some(0) } else { None }
 }
 
-/// How many harts are live after a turn of a hart, before which so many were: as many, if that hart still is, since
-/// only its own end ends others. So they are counted anew after few turns. One hart alone needs no count.
+/// How many harts are live after a turn of a hart, before which so many were: as many, if that hart still
+/// is, since only its own end ends others. So few turns need a new count, and one hart alone needs none.
 #[inline(always)]
 pub fn count_after<B: Book>(bus: &Bus<B>, hart: HartId, count: u8) -> u8
     ensures { (run : Run) → IsState bus.now run → (runs.is_live bus.now.began.settings run hart ≡ true → IsLiveCount bus.now.began run count) → IsLiveCount bus.now.began run result }
@@ -112,7 +112,7 @@ pub fn count_after<B: Book>(bus: &Bus<B>, hart: HartId, count: u8) -> u8
     }
 }
 
-// The live hart of this number, where so many are live. Where all are, it has that number itself.
+// The live hart of this number, if so many are live. If all are, the hart has that number itself.
 #[inline(always)]
 fn live_among<B: Book>(bus: &Bus<B>, count: u8, number: u8) -> Option<HartId>
     requires { number < count }
@@ -127,8 +127,8 @@ fn live_among<B: Book>(bus: &Bus<B>, count: u8, number: u8) -> Option<HartId>
     live_at(bus, number)
 }
 
-/// The live hart that a draw chooses, where this many are live: its lowest 33 bits are left out, and the rest, modulo
-/// that number, counts them in ascending order from 0. None where no hart is live.
+/// The live hart that a draw chooses, if this many are live: its lowest 33 bits are left out, and the rest,
+/// modulo that number, counts them in ascending order from 0. None if no hart is live.
 #[inline(always)]
 pub fn choose<B: Book>(bus: &Bus<B>, count: u8, drawn: u64) -> Option<HartId>
     ensures value { (run : Run) → IsState bus.now run → IsLiveCount bus.now.began run count → IsChosen bus.now.began run drawn result }

@@ -1,4 +1,4 @@
-//! Which hart takes the next turn of a schedule that a number draws.
+//! Which hart takes the next turn of a schedule that a number draws: in bursts, or with a sleeper.
 ghost use Rattle.std.specs.Prelude.{◌≡◌, ◌<◌, ◌^◌, ◌&&◌, nat_lt, true, Some, IfSome, OnSome};
 ghost use Rattle.run_model.specs.Turn.{Run};
 ghost use Rattle.run_model.specs.Runs.{chosen, most_turns};
@@ -63,7 +63,7 @@ fn length_of(manner: Manner, second: u64, third: u64) -> u64
     1 + (third >> 33) % most
 }
 
-// Another hart of those that are live, and for how many turns.
+// A live hart, perhaps the last one again, and for how many turns.
 fn drawn<B: Book>(bus: &Bus<B>, manner: Manner, drawing: Drawing) -> Option<Drawing>
     ensures value { (run : Run) → IsState bus.now run → IsDrawing bus.now.began run (drawn manner (live_harts_of bus.now.began run) drawing) result }
     ensures live { IfSome result (λ d. is_live bus.now d.hart ≡ true) }
@@ -83,7 +83,7 @@ fn drawn<B: Book>(bus: &Bus<B>, manner: Manner, drawing: Drawing) -> Option<Draw
     }
 }
 
-// Whether a burst or a sleep goes on: it has turns left, and its hart is live.
+// Whether a burst or a sleep continues: it has turns left, and its hart is live.
 fn goes_on<B: Book>(bus: &Bus<B>, drawing: Drawing) -> bool
     ensures run { (run : Run) → IsState bus.now run → result ≡ (nat_lt 0 drawing.left && runs.is_live bus.now.began.settings run drawing.hart) }
     ensures live { result ≡ true → is_live bus.now drawing.hart ≡ true }
@@ -106,7 +106,7 @@ fn current<B: Book>(bus: &Bus<B>, manner: Manner, drawing: Drawing) -> Option<Dr
     drawn(bus, manner, drawing)
 }
 
-// The live hart that a number draws without the one that sleeps; it, if there is no other.
+// The live hart that a number draws without the sleeper; the sleeper, if no other hart is live.
 fn other_than<B: Book>(bus: &Bus<B>, sleeper: HartId, number: u64) -> Option<HartId>
     ensures value { (run : Run) → IsState bus.now run → IsTaker bus.now.began run (chosen number (or_else (live_without bus.now.began run (Some sleeper)) (live_harts_of bus.now.began run))) result }
     ensures live { IfSome result (λ hart. is_live bus.now hart ≡ true) }
@@ -161,7 +161,7 @@ pub struct DrawnTurn {
     pub after: Drawing,
 }
 
-/// The next turn; none where no hart is live.
+/// The next turn; none if no hart is live.
 pub fn next_turn<B: Book>(bus: &Bus<B>, manner: Manner, drawing: Drawing) -> Option<DrawnTurn>
     ensures value { (run : Run) → IsState bus.now run → IsNext manner bus.now.began run drawing result }
     ensures live { IfSome result (λ turn. is_live bus.now turn.hart ≡ true) }

@@ -81,8 +81,9 @@ fn following<B: Book>(
     }
 }
 
-/// The run that follows a list of turns up to the first whose hart isn't live then, and goes on by seed 0; with the list of
-/// its turns. So a legal and finished list is the run's own. The only error is running out of memory.
+/// The run that follows a list of turns up to the first whose hart isn't live then, and continues by seed
+/// 0; with the list of its turns. So a legal and finished list is the run's own. The only error is running
+/// out of memory.
 pub fn run_followed<B: Book>(
     alloc: Global,
     from: &Start,

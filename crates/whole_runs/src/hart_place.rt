@@ -1,4 +1,4 @@
-// Where a hart is, as it knows by itself.
+//! The place of a hart between two turns, as the hart knows it by itself.
 ghost use Rattle.std.specs.Prelude.{◌≡◌, ◌-◌, min, IsTrue};
 ghost use Rattle.rv_meaning.specs.Orderly.{is_reply_to};
 ghost use Rattle.run_laws.specs.History.{ask_from, begins, begun_at, place_after};
@@ -8,7 +8,7 @@ use bn_base::{HartId, HartState, Ic, Image, Settings};
 use run_model::start_state;
 use rv_meaning::{Ask, DecodedImage, Reply, Want, absorb};
 
-/// Where a hart is, as it knows by itself: its state, and its count when its present interval began.
+/// The place of a hart, as it knows it by itself: its state, and its count when its present interval began.
 #[derive(Clone, Copy, Drop)]
 pub struct HartPlace {
     pub state: HartState,
@@ -16,7 +16,7 @@ pub struct HartPlace {
 }
 
 impl HartPlace {
-    /// Where a hart is before its first turn.
+    /// The place of a hart before its first turn.
     pub fn first(settings: &Settings, image: &Image, hart: HartId) -> HartPlace
         ensures { place_at result ≡ first_place settings.now image.now hart }
     {
@@ -45,7 +45,7 @@ impl HartPlace {
         Ask { state, want }
     }
 
-    /// Where it is after a reply to an ask, which was guarded or not.
+    /// Its place after a reply to an ask, which was guarded or not.
     pub fn after(&self, settings: &Settings, ask: &Ask, guarded: bool, reply: Reply) -> HartPlace
         requires { IsTrue (is_reply_to ask.now.want reply) }
         ensures { place_at result ≡ place_after settings.now (place_at self.now) ask.now guarded reply }

@@ -4,8 +4,8 @@ ghost use Rattle.whole_runs.specs.Followed.{WholeListsAreFollowed};
 
 use run_laws::runs_end;
 
-/// The list that a number gives names a live hart at each turn, and leaves no hart live: the draws go
-/// on for as long as a run can.
+/// The list that a number gives names a live hart at each turn, and leaves no hart live: it has a draw for
+/// each turn that a run can take.
 pub fn seeded_lists_end()
     ensures { SeededListsEnd }
 {
@@ -18,8 +18,8 @@ pub fn rows_name_their_harts()
     ensures { RowsNameTheirHarts }
 {}
 
-/// Nothing is wrong with a list of turns exactly where each of its harts is live at its turn and none is
-/// after the last.
+/// A list of turns has no error exactly if each of its harts is live at its turn and none is after the
+/// last.
 #[tactic(auto, using(crate::proofs::Errors::no_error))]
 pub fn whole_runs_have_no_error()
     ensures { WholeRunsHaveNoError }

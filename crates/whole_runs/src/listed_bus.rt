@@ -40,8 +40,8 @@ impl Beginning for Brand {
 
 /// A bus whose turns each hart takes by itself.
 ///
-/// Its type says what it began with and that, until it was halted, the turns of a legal list led to it and
-/// no other ask: that list is kept, or it is known that there is one.
+/// Its type says what it began with. Until it was halted, the turns of a legal list led to it and no other
+/// ask. That list is kept, or it is known that there is one.
 #[derive(Drop)]
 pub struct ListedBus<J: Beginning, B: Book> {
     pub(crate) bus: Bus<B>,
@@ -90,7 +90,7 @@ fn serve_own<B: Book>(
     bus.serve(hart, ask)
 }
 
-// Keeps the hart of a turn, where the list is kept.
+// Keeps the hart of a turn, if the list is kept.
 fn keep(list: &mut Vec<u8>, keeps: bool, hart: HartId) -> Result<(), AllocError>
     ensures { OnOk result (list.new.items ≡ kept_after keeps list.old.items hart) }
 {
@@ -183,10 +183,10 @@ impl<J: Beginning, B: Book> ListedBus<J, B> {
     }
 
     /// One turn of a hart at its own ask, made from a place where it was: the reply, and whether the ask
-    /// was guarded. None where the hart isn't live, and then nothing changes; None too where the hart isn't
-    /// at that place in the bus, and then no hart is live any more.
+    /// was guarded. None if the hart isn't live, and then nothing changes. None too if the hart isn't at
+    /// that place in the bus, and then no hart is live any more.
     ///
-    /// The only error is want of memory; then no hart is live any more.
+    /// The only error is out of memory; then no hart is live any more.
     pub fn take_own(
         &mut self,
         hart: HartId,

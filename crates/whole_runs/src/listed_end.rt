@@ -29,7 +29,7 @@ fn joined(list: Vec<u8>, keeps: bool, more: &[u8]) -> Result<Vec<u8>, AllocError
     Ok(list)
 }
 
-// Finishes the run of a bus by the turns of seed 0, and keeps them behind a list.
+// Finishes the run of a bus by the turns of seed 0, and adds them to a list.
 fn finish_kept<B: Book>(
     alloc: Global,
     code: &DecodedImage,
@@ -46,18 +46,17 @@ fn finish_kept<B: Book>(
     joined(list, keeps, &more)
 }
 
-// Whether some hart found no memory.
+// Whether some hart ran out of memory.
 fn any_failed(worked: &[Result<(), AllocError>]) -> bool
     ensures { result ≡ list_any is_err worked.now }
 {
     worked.iter().any(|one| one.is_err())
 }
 
-/// Finishes the run of a bus by the turns of seed 0, where harts are still live; where it was halted, the
-/// run is made again by the turns of seed 0. Nothing is compared: the type of the bus says that a list led
-/// to it.
+/// Finishes the run of a bus by the turns of seed 0, if harts are still live. If it was halted, the run is
+/// made again by the turns of seed 0. Nothing is compared: the type of the bus says that a list led to it.
 ///
-/// The only error is want of memory, also that of a hart: no run is made again in its place.
+/// The only error is out of memory, of a hart too: no run is made again in its place.
 pub fn finish_listed<J: Beginning, B: Book>(
     alloc: Global,
     code: &DecodedImage,

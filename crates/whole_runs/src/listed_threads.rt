@@ -79,10 +79,10 @@ fn run_named<J: Beginning + Send, B: Book + Send, G: Gate, R: Threads + Wait + S
     finish_listed(alloc, &code, from, own.into_inner(), &worked)
 }
 
-/// Runs each hart in a thread of its own, on one bus under its lock, and gives the list of the turns. What is
-/// given is a whole run, the one of that list. Which list comes isn't told. The list takes one byte a turn.
+/// Runs each hart in a thread of its own, on one bus under its lock, and gives the list of the turns. The
+/// run is whole, the one of that list. Which list it is isn't determined. The list takes one byte a turn.
 ///
-/// The only error is want of memory, also that of a hart.
+/// The only error is out of memory, of a hart too.
 pub fn run_threads_listed<B: Book + Send, G: Gate, R: Threads + Wait + Sync>(
     rt: &R,
     alloc: Global,
@@ -96,11 +96,11 @@ pub fn run_threads_listed<B: Book + Send, G: Gate, R: Threads + Wait + Sync>(
     run_named::<Brand, B, G, R>(rt, alloc, from, book, gate, true)
 }
 
-/// Runs each hart in a thread of its own, on one bus under its lock, and keeps nothing of a turn but what the
-/// book keeps. What is given is a whole run, that of some legal and finished list of turns. Which list that
-/// is isn't told.
+/// Runs each hart in a thread of its own, on one bus under its lock, and keeps nothing of a turn but what
+/// the book keeps. The run is whole, that of some legal and finished list of turns. Which list it is isn't
+/// determined.
 ///
-/// The only error is want of memory, also that of a hart.
+/// The only error is out of memory, of a hart too.
 pub fn run_threads_lean<B: Book + Send, G: Gate, R: Threads + Wait + Sync>(
     rt: &R,
     alloc: Global,

@@ -56,11 +56,12 @@ impl<J: Beginning, B: Book, R: Wait> TurnPort for ListedPort<'_, J, B, R> {
     }
 }
 
-/// Runs one hart of a bus under its lock, from its first place until it is over: quiet instructions outside
-/// of the lock, the gate's `pass`, one served ask under the lock, and the gate's `served` after it. What it
-/// asks is what it asks next from where it is: the lock takes no other ask.
+/// Runs one hart of a bus under its lock, from its first place until it is over. Its quiet instructions run
+/// outside of the lock. Then come the gate's `pass`, one served ask under the lock, and the gate's
+/// `served`. The lock takes no ask but the one that the hart makes next.
 ///
-/// The only error is want of memory. The bus is halted then, which no clause can say of what is under a lock.
+/// The only error is out of memory. The bus is halted then, which no clause can say of what is under a
+/// lock.
 pub fn work_listed<J: Beginning, B: Book, G: Gate, R: Wait>(
     rt: &R,
     bus: &Mutex<ListedBus<J, B>>,

@@ -1,4 +1,4 @@
-//! Whole runs.
+//! Whole runs on the caller's thread: by the turns that a number chooses, or by a list.
 ghost use Rattle.std.specs.Prelude.{◌≡◌, ◌⊎◌, [], true, Some, List, OnOk, IfOk, IfErr};
 ghost use Rattle.run_model.specs.Runs.{seeded};
 ghost use Rattle.bus_core.specs.Bus.{began_of};
@@ -16,10 +16,10 @@ use run_model::{Start, TurnError};
 use rv_meaning::DecodedImage;
 use std::alloc::{AllocError, Global};
 
-/// The run by the turns that a number chooses, with their list. The ring has its log; where its book
-/// tells, the book has its rows. The list takes one byte a turn.
+/// The run by the turns that a number chooses, with their list. The ring has its log, and the book its
+/// rows, if it tells any. The list takes one byte a turn.
 ///
-/// The only error is want of memory.
+/// The only error is out of memory.
 pub fn run_listed<B: Book>(
     alloc: Global,
     from: &Start,
@@ -58,9 +58,9 @@ fn listed<B: Book>(
 }
 
 /// The run by the turns that a number chooses, of which nothing is kept but what the book keeps. The ring
-/// has its log; where its book tells, the book has its rows.
+/// has its log, and the book its rows, if it tells any.
 ///
-/// The only error is want of memory.
+/// The only error is out of memory.
 pub fn run_seeded<B: Book>(
     alloc: Global,
     from: &Start,
@@ -92,12 +92,12 @@ fn unlisted<B: Book>(
     }
 }
 
-/// The run by the turns of a list: one byte for each turn, the number of its hart. The ring has its log;
-/// where its book tells, the book has its rows.
+/// The run by the turns of a list: one byte for each turn, the number of its hart. The ring has its log,
+/// and the book its rows, if it tells any.
 ///
-/// The list is refused exactly where one of its harts isn't live at its turn, or some hart is live after
-/// the last; the error names the first such turn, or the lowest such hart. Want of memory may come in
-/// place of any answer.
+/// The list is refused exactly if one of its harts isn't live at its turn, or some hart is live after the
+/// last. The error names the first such turn, or the lowest such hart. Out of memory may come in place of
+/// any answer.
 pub fn run_turns<B: Book>(
     alloc: Global,
     from: &Start,

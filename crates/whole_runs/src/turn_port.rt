@@ -1,4 +1,4 @@
-//! Where a hart that runs by itself takes its turns.
+//! The port at which a hart that runs by itself takes its turns, and the loop that drives it there.
 ghost use Rattle.std.specs.Prelude.{◌≡◌, true, false, [], length, slice_get, is_none, IfOk, IfSome, OnOk, IsTrue};
 ghost use Rattle.rv_meaning.specs.Orderly.{is_reply_to};
 ghost use Rattle.run_laws.specs.History.{IsOwn, Place, ask_from};
@@ -13,7 +13,7 @@ use rv_meaning::{Ask, DecodedImage, Reply, Want};
 use std::alloc::{AllocError, Global};
 use std::sync::Wait;
 
-/// Where a hart takes its turns.
+/// The port at which one hart takes its turns.
 // A worker is generic over it, so that its contract names the turns that were taken: of a bus nothing can be said
 // once its lock is given back.
 pub trait TurnPort {
@@ -32,14 +32,14 @@ pub trait TurnPort {
     /// Whether ports of this type tell the turns that were taken.
     ghost tells: { Bool };
 
-    /// The turns that were taken, the oldest first, where it tells them.
+    /// The turns that were taken, the oldest first, if it tells them.
     ghost taken: { Self → List TurnRow };
 
     /// Whether its last turn found the hart over.
     ghost over: { Self → Bool };
 
-    /// A turn of a hart that asks this at a place: the reply, and whether the ask was guarded. None where
-    /// the hart is over. The only error is want of memory.
+    /// A turn of a hart that asks this at a place: the reply, and whether the ask was guarded. None if the
+    /// hart is over. The only error is out of memory.
     fn turn(
         &mut self,
         hart: HartId,
@@ -53,9 +53,9 @@ pub trait TurnPort {
         ensures over { IfOk result (λ o. over self.new ≡ is_none o) };
 }
 
-/// Runs one hart from a place until it is over, and gives where it is then. Each turn is one call of the
-/// port, between the gate's `pass` and `served`; what is asked is what the hart asks next, and what is answered
-/// is what the port answers, also by a port that tells nothing.
+/// Runs one hart from a place until it is over, and gives its place then. Each turn is one call of the
+/// port, between the gate's `pass` and `served`. What is asked is what the hart asks next. What is answered
+/// is what the port answers, even if the port tells nothing.
 pub fn drive<D: TurnPort, G: Gate, R: Wait>(
     rt: &R,
     port: &mut D,
@@ -87,8 +87,8 @@ pub fn drive<D: TurnPort, G: Gate, R: Wait>(
     Ok(place)
 }
 
-/// A port in memory, for one hart: each turn takes the next word of a list, and the hart is over where
-/// the list ends. It keeps the turns.
+/// A port in memory, for one hart: each turn takes the next word of a list, and the hart is over when the
+/// list ends. It keeps the turns.
 #[derive(Drop)]
 pub struct MemoryPort {
     words: Vec<u32>,

@@ -35,7 +35,7 @@ returns-then-not-is_at-clause-over g c over =
 pub returns-then-not-is_at-clause-none : goal.returns-then-not-is_at-clause-none
 returns-then-not-is_at-clause-none g c = inr c.halt.ensures.halted
 
--- ---- a turn, or want of memory
+-- ---- a turn, or out of memory
 
 pub serve_kept-requires-clause-own : goal.serve_kept-requires-clause-own
 serve_kept-requires-clause-own g c run is = c.requires ∙ c.is_at.ensures.asks c.if-not-is_at.false run is
