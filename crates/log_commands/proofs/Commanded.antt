@@ -89,7 +89,7 @@ file-there {A} Is show files names r roles had what Go go rest = by (files (name
 
 -- ---- a log and its program
 
--- a log that was read goes on
+-- a log that was read leads to the pair
 pub paired : (log elf : List ℕ) (d : Content) (result : Result JointReading Refusal) → LogTells log (Ok d) → Makes (λ x. x ≡ where_same (bytes_eq (sha256 elf) d.head.digest) elf d) result → Makes (IsPairOfBytes log elf) result
 paired log elf d (Ok r) reads e = record { says = Ok d; reads = reads; is = e }
 paired log elf d (Err x) reads (inl memory) = inl memory

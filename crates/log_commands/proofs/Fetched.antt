@@ -31,7 +31,7 @@ too-long r (Some bytes) long = ap (λ (b : Bool). unless_long b r bytes) (passes
 
 -- ---- as far as the loads have come
 
--- these roles are left, and these bytes are there; so too in files that lack a name, where they have come so far
+-- These roles are left, and these bytes are there. So too in files that lack a name, if its load didn't end them before
 pub record Reached (files : Files) (names : FileNames) (roles rest : List Role) (had : Bytes) : Type 0 where
   pub is : loaded files names roles ≡ loaded_with files names rest had
   pub lacking : (name : List ℕ) → Misses names name (loaded (without name files) names roles) ⊎ (loaded (without name files) names roles ≡ loaded_with (without name files) names rest had)
@@ -75,7 +75,7 @@ reached-stopped files names roles r rest had refusal so_far (inr (inl h)) =
 reached-stopped files names roles r rest had refusal so_far (inr (inr h)) =
     inr (so_far.is ∙ step files names r rest had (Err (TooLong r)) (too-long r (files (name_of names r)) h.0) ∙ ap (λ (x : Refusal). Err x) (sym h.1))
 
--- ---- where the store tells its files
+-- ---- if the store's files can be named
 
 pub so_far-first : (known : Option Files) (names : FileNames) (roles : List Role) (had : Bytes) → had ≡ no_bytes → WithFiles known (λ files. Reached files names roles roles had)
 so_far-first None names roles had e = tt

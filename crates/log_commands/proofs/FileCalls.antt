@@ -26,7 +26,7 @@ noted-append note names n (made ∷ first) last = noted-append note names (note 
 pub ends-behind : (first made : List FileCall) (last : FileCall) → EndsWith made last → EndsWith (first ++ made) last
 ends-behind first made last (earlier, e) = (first ++ earlier, ap (λ (calls : List FileCall). first ++ calls) e ∙ sym (append_assoc first earlier (last ∷ [])))
 
--- where it stopped, behind one more load
+-- calls that stopped, after one more load
 pub stops-behind : (c : FileCall) (needed : List FileCall) (r : Refusal) (made : List FileCall) → StopsAt needed r made → StopsAt (c ∷ needed) r (c ∷ made)
 stops-behind c needed r made (inl memory) = inl memory
 stops-behind c needed r made (inr (inl (role, last, is))) = inr (inl (role, ends-behind (c ∷ []) made (Loads role) last, is))

@@ -92,7 +92,7 @@ pub made-stopped : (A : Type 0) (tells : A → Told) (known : Option Files) (nam
 made-stopped A tells None names role limit r Go h = tt
 made-stopped A tells (Some files) names role limit r Go h = stopped A tells files names role limit r Go h
 
--- a load that gave bytes goes on with them
+-- a load that gave bytes leads on by them
 apart : (b : Bool) (names : FileNames) (here role : Role) (there : Option (List ℕ)) (bytes : List ℕ) (limit : ℕ) (Go : List ℕ → Told → Type 0)
     → (b ≡ true → name_of names here ≡ name_of names role) → there ≡ Some bytes → length bytes ≤ limit → Go bytes (refused names (Missing role))
     → IsByFile (unless b there) names here limit Go (refused names (Missing role))
@@ -163,7 +163,7 @@ own-refusal before now (File file.OutOfMemory) = tt
 pub own-log : (e : Damage) (r : Refusal) (before now : Counts) → r ≡ log_refusal e → RefusalCause before now r
 own-log e r before now is = subst (λ (x : Refusal). RefusalCause before now x) (sym is) (own-refusal before now e)
 
--- what a log says goes on
+-- what a log says leads to the answer
 pub made-read : (A : Type 0) (tells : A → Told) (names : FileNames) (bytes : List ℕ) (d : Content) (go : Content → Told) (result : Result A Refusal)
     → LogTells bytes (Ok d) → GivesTo tells names (λ what. what ≡ go d) result → GivesTo tells names (IsByLog names bytes go) result
 made-read A tells names bytes d go (Ok answer) h e = record { says = Ok d; reads = h; is = e }

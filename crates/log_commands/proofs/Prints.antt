@@ -30,7 +30,7 @@ part-longer a b s t h =
     let f = front-longer h.0 s t (cases_lt (length s) h.0) in
     (f.0, subst (λ (u : List ℕ). Appends a b u) (sym f.1) h.1)
 
--- a whole text and then a front of another
+-- a whole text and then a prefix of another
 take-behind : (s t : List ℕ) (n : ℕ) → take (length s + n) (s ++ t) ≡ s ++ take n t
 take-behind [] t n = ap (λ (k : ℕ). take k t) (omega arith)
 take-behind (x ∷ s) t n =
@@ -114,7 +114,7 @@ pub so_far-done : (whole rest : List ℕ) (old now : Option (List ℕ)) (before 
 so_far-done whole rest old now before after s e =
     subst (λ (t : List ℕ). Appends old now t) (sym (s.parts ∙ ap (λ (t : List ℕ). s.sent ++ t) e ∙ append-nil s.sent)) s.appended
 
--- what waits is less than a piece more, since memory was wanting
+-- memory ran out, so what waits lacks the last piece
 pub gathered-short : {A : Type 0} (old new : Option (List ℕ)) (before now : ℕ) (text piece waiting : List ℕ) (result : Result A Refusal)
     → Sent old new before now text (λ x. ⊥) result → Gathered old new before now (text ++ piece) waiting result
 gathered-short old new before now text piece waiting (Ok value) h = absurd h.1
@@ -135,7 +135,7 @@ so_far-last whole text rest old now next before after last (Ok value) s e h =
     (subst (λ (t : List ℕ). Appends old next t) (sym (s.parts ∙ ap (λ (t : List ℕ). s.sent ++ (text ++ t)) e ∙ ap (λ (t : List ℕ). s.sent ++ t) (append-nil text))) (appends-both old now next s.sent text s.appended h.0), tt)
 so_far-last whole text rest old now next before after last (Err r) s e h = so_far-stopped whole text rest old now next before after last r s h
 
--- want of memory ends it
+-- out of memory ends it
 pub so_far-ends : (whole rest : List ℕ) (old now : Option (List ℕ)) (before after : ℕ) → SoFar whole rest old now before after → AppendsPart old now whole
 so_far-ends whole rest old now before after s =
     subst (λ (t : List ℕ). AppendsPart old now t) (sym s.parts) (part-longer old now s.sent rest (part-whole old now s.sent s.appended))

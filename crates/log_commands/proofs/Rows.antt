@@ -82,7 +82,7 @@ stopped-so : (whole rest : Replayed) (old now : Option (List ℕ)) (before after
 stopped-so whole rest old now before after e is s =
     (so_far-done (rows_text whole.rows) (rows_text rest.rows) old now before after s.sent (no-rows rest (Refused e) is), ap (λ (r : Replayed). r.outcome) (sym is) ∙ s.outcome)
 
--- no row is left, and the replay was refused, or memory was wanting
+-- no row is left, and the replay was refused or ran out of memory
 pub stands-refused : (whole rest : Replayed) (old now : Option (List ℕ)) (before after : ℕ) (e : ReplayError) → (rest ≡ over (Refused e)) ⊎ (e ≡ replay.OutOfMemory) → RowsSoFar whole rest [] old now before after
     → Sent old now before after (rows_text whole.rows) (λ x. outcome_of x ≡ whole.outcome) (ending_of e)
 stands-refused whole rest old now before after replay.OutOfMemory h s = (so_far-ends (rows_text whole.rows) (rows_text rest.rows) old now before after s.sent, tt)

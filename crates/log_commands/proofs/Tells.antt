@@ -20,7 +20,7 @@ use Rattle.log_commands.proofs.Prints.{part-whole, rose-later}
 
 -- ---- a refusal
 
--- want of memory after all of a text for out
+-- out of memory after all of a text for out
 pub wanting : (names : FileNames) (what : Told) (status : ℕ) (k : Call) → AppendsPart k.old.out k.new.out what.out → AreKept names what k
     → ToldRefusal names OutOfMemory status k.old.err k.new.err k.old.err_faults k.new.err_faults → Stopped names what status k
 wanting names what status k out files told = record {
@@ -172,7 +172,7 @@ stopped-free names what status k s = by s.place
     by (inl (waits, inr x)) = free-status names s.refusal status s.mid k.new.err s.faults k.new.err_faults (sends-free s.refusal k.old.out_faults k.new.out_faults x.cause) s.line
     by (inr x) = free-status names s.refusal status s.mid k.new.err s.faults k.new.err_faults (subst (λ (r : Refusal). FreeRefusal r) (sym x.refusal_is) tt) s.line
 
--- it keeps what was to be saved, but where a save was refused
+-- it keeps what was to be saved, unless a save was refused
 pub tells-keeps : (names : FileNames) (what : Told) (status : ℕ) (k : Call) → Tells names what status k → IsUnsaved status ⊎ AreKept names what k
 tells-keeps names what status k (inl done) = inr done.files
 tells-keeps names what status k (inr s) = by s.place
@@ -290,7 +290,7 @@ log-saved first last saved list log book e h = subst (λ (o : Option (List ℕ))
 
 -- ---- before there is an answer
 
--- the line for want of memory names no file
+-- the line for out of memory names no file
 pub memory-names : (a b : FileNames) (status : ℕ) (err_old err_new : Option (List ℕ)) (before now : ℕ) → ToldRefusal a OutOfMemory status err_old err_new before now → ToldRefusal b OutOfMemory status err_old err_new before now
 unfolding line_of said_of
 memory-names a b status err_old err_new before now h = h

@@ -12,8 +12,8 @@ use Rattle.log_commands.specs.declared.inputs.Inputs.{Inputs}
 use Rattle.log_commands.specs.declared.names.Role.{Role}
 use Rattle.log_commands.specs.declared.refusal.Refusal.{Refusal}
 
--- whatever the files are named, it is what the command has to answer, or memory ran out; no refusal is by a store, of words, of a
--- write or of the commands of a session; and what is answered is of this kind
+-- Whatever the files are named, it is what the command has to answer, or memory ran out. No refusal is by a store, of words,
+-- of a write or of the commands of a session. What is answered is of this kind
 pub record Answers (Kind : Answer → Type 0) (Is : FileNames → Told → Type 0) (result : Result Answer Refusal) : Type 0 where
   pub gives : (names : FileNames) → Gives names (Is names) result
   pub own : IsOwn result

@@ -53,7 +53,7 @@ IsUnsaved status = (status ≡ 3) ⊎ (status ≡ 9)
 
 -- ---- a command that has its answer
 
--- err has all that a recording writes. Of the line of a refusal a front may be written, if a write failed
+-- err has all that a recording writes. Of the line of a refusal a prefix may be written, if a write failed
 abbrev pub ErrHas : Option Saved → Option (List ℕ) → Option (List ℕ) → (before now : ℕ) → List ℕ → Type 0
 ErrHas (Some saved) old new before now text = Appends old new text
 ErrHas None old new before now text = Wrote old new before now text
@@ -164,7 +164,7 @@ pub record Acts (names : FileNames) (what : Told) (status : ℕ) (k : Call) : Ty
   pub later : NoWriteFell k
   pub counts : NoneFell k.old.counts k.new.counts
 
--- a call that leaves a store alone, by what the outputs tell
+-- a call that leaves a store alone, by what its outputs were given
 abbrev pub printing_to : Option Files → Counts → (out_old out_new : Option (List ℕ)) → (before now : ℕ)
     → (err_old err_new : Option (List ℕ)) → (err_before err_now : ℕ) → Call
 printing_to files counts out_old out_new before now err_old err_new err_before err_now = record {

@@ -69,7 +69,7 @@ saves_in (Recorded r) = saves_of (is_lean r)
 saves_in (Renewed n) = saves_of true
 saves_in answer = []
 
--- ---- where it stops
+-- ---- the call at which a command stops
 
 -- the last of the calls that were made
 abbrev pub EndsWith : (made : List FileCall) → FileCall → Type 0
@@ -98,7 +98,7 @@ StopsAt needed refusal made =
 
 -- ---- a part of a command
 
--- its calls were made up to where it stopped
+-- its calls were made up to the one that stopped it
 pub record LoadsUpTo (names : FileNames) (roles needed : List Role) (note : Note) (before after : ℕ) (refusal : Refusal)
     : Type 0 where
   pub made : List FileCall
@@ -134,7 +134,7 @@ IsOfLoad r refusal =
 abbrev pub IsOfSave : Refusal → (made : List FileCall) → Type 0
 IsOfSave refusal made = (refusal ≡ why.OutOfMemory) ⊎ StopsSave refusal made
 
--- saves were made up to where it stopped
+-- saves were made up to the one that stopped it
 pub record SavesUpTo (names : FileNames) (saves : List FileCall) (note : Note) (before after : ℕ) (refusal : Refusal)
     : Type 0 where
   pub made : List FileCall

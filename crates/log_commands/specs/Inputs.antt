@@ -80,7 +80,7 @@ IsLoaded names roles files (Err refusal) = StopsLoading names roles files refusa
 
 -- ---- the store
 
--- what a store tells: its files, how often it was asked to save, its failed calls, and what it noted of all
+-- a store by what is known of it: its files, how often it was asked to save, its failed calls, and what it noted of all
 pub record Stored : Type 0 where
   pub files : Option Files
   pub saves : ℕ

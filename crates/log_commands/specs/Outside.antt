@@ -33,7 +33,7 @@ use Rattle.log_commands.specs.declared.answer.Answer.TheVariants.{Recorded, Inte
 
 -- ---- what is loaded
 
--- if a store tells its files
+-- if the files of a store can be named
 abbrev pub WithFiles : Option Files → (Files → Type 0) → Type 0
 WithFiles None P = Unit {0}
 WithFiles (Some files) P = P files
@@ -116,8 +116,8 @@ unless false there = there
 abbrev pub without : List ℕ → Files → Files
 without name files other = unless (bytes_eq other name) (files other)
 
--- Memory was wanting; or the store failed at a file that the command comes to: if that one weren't there, the answer would
--- be that it is missing
+-- Out of memory; or the store failed at a file that the command comes to: if that one weren't there, the answer would be
+-- that it is missing
 abbrev pub IsEarly : FileNames → (Files → Told → Type 0) → Files → Refusal → Type 0
 IsEarly names Is files refusal =
     (refusal ≡ why.OutOfMemory) ⊎ ((role : Role) × (refusal ≡ why.StoreFailed role) × Is (without (name_of names role) files) (refused names (why.Missing role)))
@@ -175,7 +175,7 @@ abbrev pub Sent : {A : Type 0} → Option (List ℕ) → Option (List ℕ) → �
 Sent old new before now text P (Ok value) = Appends old new text × P value
 Sent old new before now text P (Err refusal) = AppendsPart old new text × SendStops before now refusal
 
--- a text was sent, and then all went on, or was refused as it had to be; or a prefix of it was sent, and sending stopped
+-- a text was sent, and then all was done, or was refused as it had to be; or a prefix of it was sent, and sending stopped
 abbrev pub SentUntil : {A : Type 0} → Option (List ℕ) → Option (List ℕ) → ℕ → ℕ → List ℕ → Option Refusal → Result A Refusal → Type 0
 SentUntil old new before now text stop (Ok value) = Appends old new text × (stop ≡ None)
 SentUntil old new before now text stop (Err refusal) =
@@ -236,7 +236,7 @@ SaveBroke role.Book saved log book old new = IsSomeAnd saved.book (λ list. LogA
 SaveBroke role.Input saved log book old new = ⊥
 SaveBroke role.Origin saved log book old new = ⊥
 
--- what a command may have done to the files, whatever happened: nothing if nothing was to be saved; else the save of the
+-- What a command may have done to the files, whatever happened. Nothing, if nothing was to be saved; else the save of the
 -- log may have been refused, or that of the book, if there is one, or none
 abbrev pub MayChange : Option Saved → (log book : List ℕ) → Files → Files → Type 0
 MayChange None log book old new = SameFiles old new
@@ -270,7 +270,7 @@ pub record Sends {A : Type 0} (text : List ℕ) (P : A → Type 0) (old new : St
   pub sent : Sent old.text new.text old.faults new.faults text P result
   pub later : old.faults ≤ new.faults
 
--- a text was sent, and then all went on, or was refused so; or a prefix of it was sent
+-- a text was sent, and then all was done, or was refused so; or a prefix of it was sent
 pub record SendsUntil {A : Type 0} (text : List ℕ) (stop : Option Refusal) (old new : Stream) (result : Result A Refusal) : Type 0 where
   pub sent : SentUntil old.text new.text old.faults new.faults text stop result
   pub later : old.faults ≤ new.faults

@@ -20,7 +20,7 @@ outcome_of (ending.Stopped error) = Refused error
 abbrev pub EndsAs : Outcome → ReplayEnd → Type 0
 EndsAs outcome ending = outcome_of ending ≡ outcome
 
--- the end that an error of a replay makes; want of memory is none
+-- the end that an error of a replay makes; out of memory is none
 abbrev pub ending_of : ReplayError → Result ReplayEnd Refusal
 ending_of replay.OutOfMemory = Err why.OutOfMemory
 ending_of error = Ok (ending.Stopped error)

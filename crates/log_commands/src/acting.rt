@@ -14,7 +14,7 @@ use crate::refusal::Refusal;
 use crate::send::{done, send};
 use std::alloc::Global;
 
-// Saves the log of a recording, and then the list of its turns, where there is one.
+// Saves the log of a recording, and then the list of its turns, if there is one.
 fn save_run<S: StoreExt>(names: &Names, run: &RunToTell, store: &mut S) -> Result<(), Refusal>
     ensures { SavesAll names.now (saved_of run.now) (is_lean run.now) S.note (S.stored store.old) (S.stored store.new) result }
 {
@@ -55,7 +55,7 @@ fn keep_new<S: StoreExt, O: SinkExt>(
     check::send_check(alloc, &new.counts, out)
 }
 
-/// Saves and prints an answer. A refusal is given up, and not told yet.
+/// Saves and prints an answer. On a refusal nothing is told on err: the caller does that.
 pub fn act<S: StoreExt, O: SinkExt, X: SinkExt>(
     alloc: Global,
     names: &Names,

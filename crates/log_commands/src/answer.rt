@@ -59,7 +59,7 @@ pub struct RunToTell {
     pub out: Vec<u8>,
     pub err: Vec<u8>,
     pub log: Vec<u8>,
-    /// The list of turns, where it is saved.
+    /// The list of turns, if it is saved.
     pub book: Option<Vec<u8>>,
 }
 

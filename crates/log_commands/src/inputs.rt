@@ -51,7 +51,7 @@ pub fn fetch<S: Store>(
     }
 }
 
-/// The bytes of a command's files, by their roles; empty where it has none.
+/// The bytes of a command's files, by their roles; empty if it has no such file.
 #[derive(Drop)]
 pub struct Inputs {
     pub elf: Vec<u8>,

@@ -145,7 +145,7 @@ fn push_ends(text: &mut Text, hart: u8, said: &EndMark, found: &EndMark) -> Resu
     push_marks(text, hart, said, found)
 }
 
-// Appends where a word is missing.
+// Appends the place at which a replay misses a word.
 fn push_missing(text: &mut Text, hart: u8, ic: u64, addr: u32) -> Result<(), AllocError>
     ensures { OnOk result (text.new ≡ text.old ++ (pair_text (codes "replay: LoadMissing ") hart ic ++ (codes " " ++ hex8 addr))) }
 {

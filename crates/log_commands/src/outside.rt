@@ -1,5 +1,5 @@
-//! The store and the outputs as the commands use them: every `Store` and `Sink` has these methods. Contracts see
-//! what a store or an output tells as one value each.
+//! The store and the outputs as the commands use them: every `Store` and `Sink` has these methods.
+//! Contracts see each store and each output as one value.
 
 use crate::inputs::{fetch, limit_of};
 use crate::names::{Names, Role};
@@ -16,7 +16,7 @@ pub trait StoreExt {
     ghost use Rattle.log_commands.specs.Answering.{Fetches};
     ghost use Rattle.log_commands.specs.Inputs.{Stored};
 
-    /// What the store tells.
+    /// What is known of the store.
     ghost stored: { Self → Stored };
 
     /// How it notes a call.
@@ -60,7 +60,7 @@ pub trait SinkExt {
     fn send_bytes(&mut self, bytes: &[u8]) -> Result<(), Refusal>
         ensures { SendsBytes bytes.now (stream self.old) (stream self.new) result };
 
-    /// Tells a refusal, and answers its status; 9 where its line finds no memory.
+    /// Tells a refusal, and answers its status; 9 if its line finds no memory.
     fn refuse(&mut self, alloc: Global, names: &Names, refusal: &Refusal) -> u8
         ensures { Refuses names.now refusal.now result (stream self.old) (stream self.new) };
 }

@@ -35,11 +35,11 @@ pub enum Refusal {
     LogRefused(Damage),
     /// The log was recorded of a program file with another digest.
     ProgramDiffers { kept: [u8; 32], found: [u8; 32] },
-    /// There was no memory.
+    /// Out of memory.
     OutOfMemory,
     /// Writing to out or err failed.
     WriteFailed,
-    /// The log keeps no such interval, or its replay can't go on.
+    /// The log keeps no such interval, or its replay stopped.
     ReplayStopped(ReplayError),
     /// No hart of a joint replay is ready, and not all are done. Each that isn't, with its next count.
     JointStuck { positions: List<(HartId, Ic)> },

@@ -19,7 +19,7 @@ use std::alloc::Global;
 pub enum ReplayEnd {
     /// As its log says.
     Done,
-    /// It can't go on, or ends otherwise.
+    /// It stopped, or ends otherwise.
     Stopped(ReplayError),
 }
 
@@ -38,7 +38,7 @@ fn gather_row<O: SinkExt>(
     }
 }
 
-// The end that an error of a replay makes; want of memory is none.
+// The end that an error of a replay makes; out of memory is none.
 fn ending_of(error: ReplayError) -> Result<ReplayEnd, Refusal>
     ensures { result ≡ ending_of error }
 {
@@ -52,7 +52,7 @@ fn ending_of(error: ReplayError) -> Result<ReplayEnd, Refusal>
     }
 }
 
-// Sends the rows that are left of a replay, in blocks, of which none waits yet.
+// Sends the rows that are left of a replay, in blocks; at first none waits.
 fn send_left<O: SinkExt>(
     replayer: &mut Replayer,
     lines: &mut RowLines,
@@ -105,7 +105,7 @@ fn send_begin<O: SinkExt>(
     send(out, &text)
 }
 
-// Sends the line after the rows, where the end was reached.
+// Sends the line after the rows, if the end was reached.
 fn send_end<O: SinkExt>(
     alloc: Global,
     hart: u64,

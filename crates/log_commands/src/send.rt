@@ -37,7 +37,7 @@ pub fn send<K: SinkExt>(sink: &mut K, text: &Text) -> Result<(), Refusal>
     sink.send_bytes(text.as_bytes())
 }
 
-/// Tells a refusal on err, and answers its status; 9 where its line finds no memory.
+/// Tells a refusal on err, and answers its status; 9 if its line finds no memory.
 pub fn refuse<X: Sink>(alloc: Global, names: &Names, refusal: &Refusal, err: &mut X) -> u8
     ensures told { ToldRefusal names.now refusal.now result (X.written err.old) (X.written err.new) (X.faults err.old) (X.faults err.new) }
     ensures later { X.faults err.old ≤ X.faults err.new }
@@ -78,7 +78,7 @@ pub fn close<X: SinkExt>(
     }
 }
 
-/// Sends what waits, where it is a block or more.
+/// Sends what waits, if it is a block or more.
 pub fn send_block<O: SinkExt>(text: &mut Text, out: &mut O) -> Result<(), Refusal>
     ensures { Gathers text.old text.new (O.stream out.old) (O.stream out.new) result }
 {
@@ -90,7 +90,7 @@ pub fn send_block<O: SinkExt>(text: &mut Text, out: &mut O) -> Result<(), Refusa
     Ok(())
 }
 
-/// Sends what waits, where memory ran out for more of it.
+/// Sends what waits, if memory ran out for more of it.
 pub fn send_short<O: SinkExt>(text: &Text, out: &mut O) -> Result<(), Refusal>
     ensures { Sends text.now (λ _. ⊥) (O.stream out.old) (O.stream out.new) result }
 {

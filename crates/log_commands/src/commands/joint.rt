@@ -20,7 +20,7 @@ use joint_replay::{Joint, write_known};
 use rv_text::{RowLines, Text};
 use std::alloc::Global;
 
-/// The joint replay of a log file with its program file, not begun yet.
+/// The joint replay of a log file with its program file, before its first step.
 pub fn evaluate(alloc: Global, log: &[u8], elf: &[u8]) -> Result<Answer, Refusal>
     ensures { Answers IsPrinted (λ names. IsByLog names log.now (pair_of (joint_with names) names elf.now)) result }
 {
@@ -28,7 +28,7 @@ pub fn evaluate(alloc: Global, log: &[u8], elf: &[u8]) -> Result<Answer, Refusal
     Ok(Answer::Joined(pair))
 }
 
-// Sends the lines of all steps, in blocks, of which none waits yet. It is refused where the run stopped.
+// Sends the lines of all steps, in blocks; at first none waits. It is refused if the run stopped.
 fn send_run<O: SinkExt>(
     joint: &mut Joint,
     lines: &mut RowLines,
@@ -102,7 +102,7 @@ fn send_joint<O: SinkExt>(alloc: Global, joint: &mut Joint, out: &mut O) -> Resu
     send_words(alloc, joint, out)
 }
 
-/// Prints the joint replay of a log. It is refused where it stopped.
+/// Prints the joint replay of a log. It is refused if the replay stopped.
 pub fn print_joint<O: SinkExt>(
     alloc: Global,
     reading: &JointReading,

@@ -41,7 +41,7 @@ fn gather_interval<O: SinkExt>(
     send_block(text, out)
 }
 
-// Puts the line of a record before those from a place on, where it has one, behind what waits.
+// Adds the line of a record before those from a place on, if it has one, to what waits.
 fn gather_record<O: SinkExt>(
     text: &mut Text,
     entry: &Record,

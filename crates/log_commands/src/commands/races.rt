@@ -24,7 +24,7 @@ fn races_of(alloc: Global, reading: &JointReading, most: u64) -> Result<Answer, 
     }
 }
 
-/// The races of what a log file with its program file keeps, where there are at most so many.
+/// The races of what a log file with its program file keeps, if there are at most so many.
 pub fn evaluate(alloc: Global, log: &[u8], elf: &[u8], most: u64) -> Result<Answer, Refusal>
     ensures { Answers IsMade (λ names. IsByLog names log.now (pair_of (races_with names most) names elf.now)) result }
 {
