@@ -41,7 +41,7 @@ pub begins-stopped : (known : Option Files) (names : FileNames) (how : Manner) (
     → WithFiles known (λ files. BeginsBy names how (λ f. WithFile f names role limit (Go f)) files (Err r))
 begins-stopped known names how role limit r Go h = made-stopped Start (λ (s : Start). refused names r) known names role limit r Go h
 
--- one that gave bytes goes on with them
+-- a load that gave bytes leads on by them
 with-bytes : (files : Files) (names : FileNames) (how : Manner) (here : Role) (limit : ℕ) (bytes : Vec ℕ Global) (result : Result Start Refusal) (Go : Files → List ℕ → Told → Type 0)
     → FetchTells here limit (files (name_of names here)) (Ok bytes) → BeginsBy names how (λ f. Go f bytes.items) files result → BeginsBy names how (λ f. WithFile f names here limit (Go f)) files result
 unfolding WithFile

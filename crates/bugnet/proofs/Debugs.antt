@@ -266,7 +266,7 @@ memory-status names status old new before now (inr h) = h.0
 pub memory-begun : (status : ℕ) → status ≡ 9 → is_begun status ≡ true
 memory-begun status e = subst (λ (m : ℕ). is_begun m ≡ true) (sym e) refl
 
--- a write is refused only where a count rose
+-- a write is refused only if a count rose
 pub stop-writes : (j : Trace) (names : FileNames) (e : DebugError) (status : ℕ) (gone : List ℕ) (left now_left : Option (List ℕ)) (before now : ℕ) (written now_written : Option (List ℕ)) (b n : ℕ) (old new : Option (List ℕ)) (eb en : ℕ)
     → Debugs j gone left now_left before now written now_written b n (Err e) → ToldStop names e status old new eb en → status ≡ 13 → Rose b n
 stop-writes j names e status gone left now_left before now written now_written b n old new eb en d told is = by e d (status-of names e status old new eb en told)

@@ -219,7 +219,7 @@ not_live : (there live : Bool) → live ≡ false → (there && live) ≡ true �
 not_live true live dead e = not_both (sym e ∙ dead)
 not_live false live dead e = absurd cc
 
--- nothing is legal where no hart is live
+-- nothing is legal once no hart is live
 last_turn : (c : RawSettings) (i : Program) (run : Run) (ks : List ℕ) → AreDead run.harts → legal_from c i run ks ≡ true → ks ≡ []
 last_turn c i run [] dead legal = refl
 last_turn c i run (j ∷ ks) dead legal = absurd (not_live (nat_lt j c.harts) (run.harts j).live (dead j) (later_legal (is_live c run j) (legal_from c i (turn c i run j) ks) legal).0)

@@ -490,7 +490,7 @@ in_order : (c : RawSettings) (dropped : ℕ) (rs : List Record) → broken_by c 
 unfolding broken
 in_order c dropped rs e = whole (dropped == 0) rs (after_all (order_limits_of c) 0 (replicate c.harts (fresh (dropped == 0))) rs) e
 
--- a hart's last End, where a Header of the hart is ahead of it, is that of an interval
+-- a hart's last End is that of an interval, if a Header of the hart is ahead of it
 pub record Closes (k : ℕ) (m : EndMark) (rs : List Record) : Type 0 where
   pub number : ℕ
   pub ic : ℕ

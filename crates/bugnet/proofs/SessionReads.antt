@@ -14,7 +14,7 @@ use Rattle.step_debugger.specs.declared.session.Ending.TheVariants as ending
 use Rattle.bugnet.specs.Sessions.{NoQuit, EndsWithQuit, EndsWithLine, NoneEnds, ReadsAll, EndsBy, ReadsUpTo, ReadsOnce, SessionReads, SessionOver}
 use Rattle.bugnet.proofs.Sessions.{no-quit, last-quit}
 
--- ---- where it stops
+-- ---- how a session stops
 
 -- an end that the input alone brought: no line ended the session
 by-input : (x : Ending) (o : Option DebugError) (e : DebugError) → ((f : JointError) → e ≢ stop.Joint f) → result_by x o ≡ Err e → (x ≡ ending.GoesOn) × (o ≡ Some e)

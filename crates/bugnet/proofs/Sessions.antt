@@ -1,4 +1,4 @@
--- Where sessions of the debugger come, and which of their lines are `quit`.
+-- The places that sessions of the debugger reach, and which of their lines are `quit`.
 use Rattle.std.proofs.Common.{◌≡◌, ◌≢◌, ℕ, zero, suc, ◌+◌, ◌-◌, ◌==◌, nat_lt, Bool, true, false, not, codes, refl, sym, ap, ◌∙◌, subst, arith, List, [], ◌∷◌, ◌++◌, length, take, drop, slice_get, map, Option, Some, None}
 use Rattle.std.specs.Prelude.{Result, Ok, Err}
 use Rattle.std.specs.List.{filter}
@@ -71,7 +71,7 @@ record Lasts (P : Trace → Type 0) : Type 0 where
   -- and it holds further back
   pub backs : (j : Trace) → P j → (n : ℕ) → P (cut j n)
 
--- it holds after moves, and they go on
+-- it holds after moves, and they don't end the session
 abbrev MovesOn : (Trace → Type 0) → Moves → Type 0
 MovesOn P m = P m.now × (m.ends ≡ ending.GoesOn)
 
@@ -252,7 +252,7 @@ walk-same w v (h ∷ order) e = by (ready_step w.now h) refl (λ x f. walk-same 
         let more = rest x e in
         (more.0 ∙ here.0, more.1 ∙ here.1)
 
--- an allowed order, that of its entries, led to where a trace stands
+-- an allowed order, that of its entries, led to a trace's present place
 record Led (r : Recording) (records : List Record) (t : Trace) : Type 0 where
   pub start : t.start ≡ begin r records
   pub walk : Walk
@@ -403,7 +403,7 @@ no-quit-by ending.GoesOn a line lines go f here rest e = (here f, rest e)
 no-quit-by ending.Quits a line lines go f here rest e = absurd (two-ends a.ends e f)
 no-quit-by (ending.Refused x) a line lines go f here rest e = absurd (not-refused a.ends x e f)
 
--- where a session goes on after lines, none of them is `quit`
+-- if a session isn't over after lines, none of them is `quit`
 pub no-quit : (lines : List (List ℕ)) (s : Session) → (answers lines s).ends ≡ ending.GoesOn → NoQuit lines
 no-quit [] s e = tt
 no-quit (line ∷ lines) s e =

@@ -116,7 +116,7 @@ replay-stops t gone rest e there =
     let ends : (answers (lines_in i) (begin_at t)).ends ≡ ending.Refused e = ap (λ (ls : List (List ℕ)). (answers ls (begin_at t)).ends) all ∙ still-refused lines (first.0 ++ tail.0) (begin_at t) e here in
     ap (λ (x : Ending). result_by x i.refused) ends
 
--- so where all that the source had left isn't stopped, the session is done, unless a read failed
+-- so if all that the source had left isn't stopped, the session is done, unless a read failed
 abbrev IsWhole : ℕ → Type 0
 IsWhole status = IsFree status ⊎ ((status ≡ 12) ⊎ (status ≡ 0))
 

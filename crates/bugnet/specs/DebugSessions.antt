@@ -65,8 +65,8 @@ abbrev pub ShowsSession : Commands → (log elf : List ℕ) → Files → ℕ �
 ShowsSession c log elf files status out_old out_new = (r : Recording) (h : HasRun log elf files r)
     → IsFree status ⊎ Either (nat_lt 67108864 (length r.elf)) (status ≡ 5) (DoneSession r h.says.log.records c status out_old out_new)
 
--- If a log file that says an end of a recording is there and its program file, which isn't too long, and the commands are read
--- whole and keep to their limits, there is all that a session needs
+-- A session has all that it needs, if the log file that is there says an end of a recording, and the recording's program
+-- file is there and isn't too long. Its commands have to be read whole, and to keep to their limits
 abbrev pub RecordingsCanBeDebugged : Type 0
 RecordingsCanBeDebugged = (c : Commands) (log elf : List ℕ) (files : Files) (r : Recording) → HasRun log elf files r → length r.elf ≤ 67108864
     → c.failed ≡ false → (input_of c.bytes).refused ≡ None → CanDebug c log elf files
@@ -95,8 +95,8 @@ abbrev pub SessionIs : Commands → (log elf : List ℕ) → Files → (status :
 SessionIs c log elf files status left now_left before now reads now_reads k =
     IsUnread c reads now_reads ⊎ BegunSession c log elf files status left now_left before now reads now_reads k
 
--- by the files that are there and these commands it tells what it has to answer, or it was stopped before there was an answer;
--- if they have all that it needs it is done; and it shows a recording's run
+-- By the files that are there and these commands it tells what it has to answer, or it was stopped before there was an
+-- answer. If they have all that it needs, it is done. It shows a recording's run
 pub record DebugsFiles (c : Commands) (log elf : List ℕ) (files : Files) (status : ℕ) (left now_left : Option (List ℕ)) (before now reads now_reads : ℕ) (k : Call) : Type 0 where
   pub tells : SomeTold (IsSession c files (names_in (DebugLine log elf))) (λ what. Tells (names_in (DebugLine log elf)) what status k)
       ⊎ StoppedEarly (Some (DebugLine log elf)) files status k

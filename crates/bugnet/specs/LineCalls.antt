@@ -109,7 +109,7 @@ CallsOnly line status note before after k =
     CallsSo (names_by line) (calls_of line) (needed_of line) (refusal_by line) (past_of line)
     status note before after k
 
--- ---- what it tells, whatever the store tells
+-- ---- what it tells, by any store
 
 -- a refusal with this status is told, and nothing is printed
 pub record TellsRefusal (names : FileNames) (status : ℕ) (k : Call) : Type 0 where

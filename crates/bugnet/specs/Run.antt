@@ -31,7 +31,7 @@ abbrev pub ChangesFew : Option Line → (old new : Option Files) → Type 0
 ChangesFew line old new =
     WithFiles old (λ files. SomeTold (IsAnswer line files) (λ what. WhereTold old new (MayChange what.saved (names_by line).log (names_by line).book)) ⊎ WhereTold old new SameFiles)
 
--- what a command does: it tells what it has to answer, a refusal by the outside comes only where its count rose, and no count
+-- What a command does: it tells what it has to answer. A refusal by the outside comes only if its count rose, and no count
 -- falls
 pub record Obeys (line : Option Line) (status : ℕ) (k : Call) : Type 0 where
   pub told : TellsAnswer line status k

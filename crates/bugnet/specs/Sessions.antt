@@ -100,9 +100,10 @@ EndsBy (Err e) status = (status ≡ stop_status e) ⊎ (status ≡ 9)
 
 -- ---- how far a session reads
 
--- how far one reads that ends so: to its first `quit` or to the end of the source; to the read that failed; to the
--- first byte that is too many; to the end of a line, if the replay was refused or an answer could not be written; to
--- the end of a line or to a byte that isn't too many, if memory ran out. No `quit` is passed
+-- How far a session reads that ends so. If it is done: to its first `quit`, or to the end of the source. At a read that
+-- failed: to that read. At too many bytes: to the first one of them. At a refused replay, or an answer that could not be
+-- written: to the end of a line or of the source. Out of memory: to the end of a line, or to a byte that isn't too many. No
+-- `quit` is passed
 abbrev pub ReadsUpTo : (bytes : List ℕ) → (left now_left : Option (List ℕ)) → Result (Unit {0}) DebugError → Type 0
 ReadsUpTo bytes left now_left (Ok u) = EndsWithQuit bytes ⊎ ReadsAll left now_left bytes
 ReadsUpTo bytes left now_left (Err ReadFault) = NoneEnds (input_of bytes)

@@ -29,7 +29,7 @@ DebugsPair names j status left now_left before now reads now_reads out printed e
     × ((files : Option Files) (had : Counts) → Tells names (session_told names (transcript j (input_in c))) status (printing_on files had out printed err end))
     × (IsUnread c reads now_reads ⊎ SessionOver j c.bytes status left now_left before now reads now_reads out.text printed.text out.faults printed.faults)
 
--- so it is once the refusal, if there is one, is told; a write is refused only where a count rose
+-- so it is once the refusal, if there is one, is told; a write is refused only if a count rose
 pub record SessionEnds {I : Type 0} (names : FileNames) (j : Joining) (status : ℕ) (i : Reading I) (out printed err end : Stream) : Type 0 where
   pub told : DebugsPair names j status i.left_old i.left_new i.faults_old i.faults_new i.reads_old i.reads_new out printed err end
   pub begun : (is_begun status ≡ true) ⊎ (status ≡ 14)

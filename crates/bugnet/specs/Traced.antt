@@ -39,9 +39,9 @@ RacesAreTold = (log elf : List ℕ) (most : ℕ) (files : Files) (r : Recording)
     → (what : Told) → IsAnswer (Some (RacesLine log elf most)) files what
     → UnlessLong (names_in (RacesLine log elf most)) r what (what ≡ races_kept (names_in (RacesLine log elf most)) r h.says.log.records most)
 
--- a text of races is printed. They are exactly the races of the run's own points of which these records retain the rows, each
--- once: two that access a word, one of them writing it, where no chain of program order and of synchronisation leads from the one
--- to the other
+-- A text of races is printed: exactly the races of the run's own points of which these records retain the rows, each once. A
+-- race is two points that access a word, one of them writing it, if no chain of program order and of synchronisation leads
+-- from the one to the other
 pub record ListsRaces (r : Recording) (records : List Record) (what : Told) : Type 0 where
   pub races : List Race
   pub text : what ≡ printed (races_text races)

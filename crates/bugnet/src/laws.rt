@@ -26,8 +26,8 @@ use run_laws::{faults_are_kept, kept_records_are_an_end, own_asks_are_orderly};
 use step_debugger::laws::refusals_stay;
 use whole_runs::{seeded_lists_end, whole_runs_have_no_error};
 
-/// No words have two answers, whatever the files are; but a recording without a seed has one for each
-/// list of turns, and of a lean one without a seed, which saves no list, nothing is said.
+/// No words have two answers, whatever the files are. But a recording without a seed has one for each list
+/// of turns. Of a lean one without a seed, which saves no list, nothing is said.
 pub fn one_answer()
     ensures { OneAnswer }
 {
@@ -51,9 +51,9 @@ pub fn converted_files_keep_to_the_limit()
     blocks_are_few();
 }
 
-/// Wherever a session over a log of a recording comes by its commands, its replay isn't refused, and what it
-/// shows is the run's: the order of the steps, the rows, the states of the harts, and the words. Such a log
-/// may be converted or salvaged: its file is one that a session loads.
+/// Wherever its commands take a session over a log of a recording, the replay isn't refused, and what it
+/// shows is the run's. That is the order of the steps, the rows, the states of the harts, and the words.
+/// Such a log may be converted or salvaged: its file is one that a session loads.
 pub fn sessions_show_the_run()
     ensures { SessionsShowTheRun }
 {
@@ -62,17 +62,17 @@ pub fn sessions_show_the_run()
     reached_joint_replays_say_the_run();
 }
 
-/// Where a log file that says an end of a recording's records and the recording's program file are there,
-/// the program file within its limit, and the commands are read whole and keep to their limits, there is
-/// all that a session of the debugger needs: it isn't stopped.
+/// A session of the debugger isn't stopped, if the log file says an end of a recording's records, and the
+/// recording's program file is there and within its limit. Its commands have to be read whole, and to keep
+/// to their limits.
 pub fn recordings_can_be_debugged()
     ensures { RecordingsCanBeDebugged }
 {
     sessions_show_the_run();
 }
 
-/// Where all commands of an input keep to their limits, there is all that a session needs with each prefix of
-/// them: a session isn't stopped in the middle of an input that isn't refused.
+/// If all commands of an input keep to their limits, there is all that a session needs with each prefix of
+/// them. So a session isn't stopped in the middle of an input that isn't refused.
 pub fn prefixes_can_be_debugged()
     ensures { PrefixesCanBeDebugged }
 {
@@ -80,10 +80,10 @@ pub fn prefixes_can_be_debugged()
     refusals_stay();
 }
 
-/// The answer to the replay of an interval from a log that says an end of a recording's records is the text
-/// of the run's own rows, from the count of the interval's Header to that of its End, whatever the program,
-/// its input, the list of turns, the settings, and how much of the records is left. A program file that is
-/// longer than a command may load is refused, when it is recorded too.
+/// Take a log that says an end of a recording's records. The answer to the replay of an interval is the
+/// text of the run's own rows, from the count of the interval's Header to that of its End. It is so
+/// whatever the program, its input, the list of turns, the settings, and how much of the records is left. A
+/// program file that is longer than a command may load is refused, when it is recorded too.
 pub fn headline()
     ensures { Headline }
 {
@@ -95,8 +95,8 @@ pub fn headline()
     blocks_are_few();
 }
 
-/// The answer to the joint replay of such a log is the text of one that says the run: it isn't stopped,
-/// keeps the recorded order of conflicting accesses, gives the run's own rows of each hart's retained
+/// The answer to the joint replay of such a log is the text of one that says the run. It isn't stopped, and
+/// keeps the recorded order of conflicting accesses. It gives the run's own rows of each hart's retained
 /// intervals from the run's own states, and ends with recorded words. It is so whatever the program, its
 /// input, the list of turns, the settings, and how much of the records is left. A program file that is
 /// longer than a command may load is refused, when it is recorded too.
@@ -121,7 +121,7 @@ pub fn recordings_say_ends()
     kept_records_are_an_end();
 }
 
-/// What `salvage` saves of a recording's damaged file says an end of its records, where the blocks that it
+/// What `salvage` saves of a recording's damaged file says an end of its records, if the blocks that it
 /// keeps are the recording's last ones.
 pub fn salvaged_logs_say_ends()
     ensures { SalvagedSayEnds }
@@ -139,9 +139,9 @@ pub fn each_has_an_answer()
     files_are_salvaged_or_refused();
 }
 
-/// Where the settings are in range, LOG and BOOK are two names, the files are there, within their
-/// limits, and are what the command needs, there is an answer, and each answer is that of a command that
-/// is done.
+/// A command has an answer, and each of its answers is that of a command that is done, under these
+/// conditions. The settings are in range, and LOG and BOOK are two names. The files are there, within their
+/// limits, and are what the command needs.
 pub fn each_can_be_done()
     ensures { EachCanBeDone }
 {
@@ -161,9 +161,9 @@ pub fn each_can_be_done()
     whole_files_are_salvaged();
 }
 
-/// Where an audit is done, the log is the file of the run of the book's turns, in its own version or in
-/// version 2, with settings in range, the
-/// program and the input, and these turns are legal and finished.
+/// If an audit is done, the log is the file of the run of the book's turns, in its own version or in
+/// version 2. The settings are in range, the program and the input are the given ones, and the turns are
+/// legal and finished.
 pub fn audits_agree()
     ensures { AuditsAgree }
 {
@@ -183,9 +183,9 @@ pub fn recordings_are_replayed()
     kept_records_are_an_end();
 }
 
-/// With format 2 a crash is shown: where a recording's run ended in a fault, status 10, its last turn is
-/// that fault, and of the files that it leaves the log has an interval of the fault's hart that ends with
-/// it: `list` prints that interval's line, and its replay the recorded run's rows up to the fault's.
+/// With format 2 a crash is shown. If a recording's run ended in a fault, status 10, its last turn is that
+/// fault. The log that it leaves has an interval of the fault's hart that ends with it: `list` prints that
+/// interval's line, and its replay the recorded run's rows up to the fault's.
 pub fn crashes_are_shown()
     ensures { CrashesAreShown }
 {
@@ -198,7 +198,7 @@ pub fn crashes_are_shown()
     files_are_read();
 }
 
-/// Where a log is salvaged of a recording's damaged file, the replay of each interval whose Header it has
+/// If a log is salvaged of a recording's damaged file, the replay of each interval whose Header it has
 /// prints the recorded run's rows.
 pub fn salvaged_logs_are_replayed()
     ensures { SalvagedAreReplayed }
@@ -208,8 +208,8 @@ pub fn salvaged_logs_are_replayed()
     headline();
 }
 
-/// Where a log file that says an end of a recording's records and the recording's program file are there,
-/// the program file within its limit, there is all that their joint replay needs: it isn't stopped.
+/// The joint replay of a log file that says an end of a recording's records isn't stopped, if the
+/// recording's program file is there and within its limit.
 pub fn recordings_can_be_joined()
     ensures { RecordingsCanBeJoined }
 {
@@ -228,9 +228,9 @@ pub fn recordings_are_joined()
     kept_records_are_an_end();
 }
 
-/// Of a log file that says an end of a recording's records, with the recording's program file, `races` tells
-/// the races of the joint replay that says the run, or that there are more than asked for: never that a
-/// replay stopped.
+/// Take a log file that says an end of a recording's records, with the recording's program file. Of it
+/// `races` tells the races of the joint replay that says the run, or that there are more than asked for:
+/// never that a replay stopped.
 pub fn races_are_told()
     ensures { RacesAreTold }
 {
@@ -249,9 +249,9 @@ pub fn printed_races_say_the_run()
     races_say_the_run();
 }
 
-/// Of a log file that says an end of a recording's records, with the recording's program file, `slice` tells
-/// the slice of a row of the run's own, that the interval has no row of that count, or that the log doesn't
-/// keep the interval: never that a replay stopped.
+/// Take a log file that says an end of a recording's records, with the recording's program file. Of it
+/// `slice` tells the slice of a row of the run's own, that the interval has no row of that count, or that
+/// the log doesn't keep the interval: never that a replay stopped.
 pub fn slices_are_told()
     ensures { SlicesAreTold }
 {
@@ -261,15 +261,15 @@ pub fn slices_are_told()
     converted_files_keep_to_the_limit();
 }
 
-/// The list of turns that a seed chooses is legal and finished, where the settings were tested.
+/// The list of turns that a seed chooses is legal and finished, if the settings were tested.
 pub fn seeds_are_whole()
     ensures { SeedsAreWhole }
 {
     seeded_lists_end();
 }
 
-/// The records that the log of a recording keeps have at most the bytes that the settings give, and its
-/// file has 124 bytes more than they in version 1, in version 2 136 and 48 a block.
+/// The records that the log of a recording keeps have at most the bytes that the settings give. Its file
+/// has 124 bytes more than they in version 1; in version 2 it has 136 more, and 48 for each block.
 pub fn files_keep_to_their_size()
     ensures { FilesKeepToTheirSize }
 {

@@ -150,7 +150,7 @@ fn roles_of(command: &Command) -> &'static [Role]
     }
 }
 
-// What a command answers by the bytes that were loaded for it, where it records nothing and reads no commands.
+// What a command answers by the bytes that were loaded for it, if it records nothing and reads no commands.
 fn evaluate(alloc: Global, command: &Command, inputs: Inputs) -> Result<Answer, Refusal>
     requires no_session { IsNoSession (Some (seen command.now)) }
     requires no_recording { IsNoRecording (Some (seen command.now)) }
@@ -183,7 +183,7 @@ fn evaluate(alloc: Global, command: &Command, inputs: Inputs) -> Result<Answer, 
     }
 }
 
-// What a command answers by the files that it loads, where its words are tested.
+// What a command answers by the files that it loads, once its words are tested.
 fn answer_loaded<S: StoreExt>(
     alloc: Global,
     command: &Command,
@@ -200,7 +200,8 @@ fn answer_loaded<S: StoreExt>(
     evaluate(alloc, command, inputs)
 }
 
-// What a command answers, where it records nothing and reads no commands. Nothing is saved or printed yet.
+// What a command answers, if it records nothing and reads no commands. Nothing is saved or printed before
+// that.
 fn answer_to<S: StoreExt>(
     alloc: Global,
     command: &Command,
@@ -218,7 +219,7 @@ fn answer_to<S: StoreExt>(
     }
 }
 
-// Does what a command asks for, where it records nothing and reads no commands.
+// Does what a command asks for, if it records nothing and reads no commands.
 fn reply<S: StoreExt, O: SinkExt, X: SinkExt>(
     alloc: Global,
     command: &Command,
@@ -421,18 +422,22 @@ fn obey<S: Store, I: Source, O: Sink, X: Sink, G: Gate, R: Threads + Wait + Sync
 /// | `audit LOG ELF BOOK [--input FILE]` | runs the program again by the turns of BOOK, with the settings of the log, and says whether LOG is the file of that run |
 /// | `convert LOG NEW` | saves what LOG says as a file of version 2, and prints what it has |
 /// | `salvage LOG NEW` | saves the undamaged end of LOG, of version 2, and prints what it has |
-/// | `races LOG ELF MAX` | lists the pairs of conflicting accesses that no synchronisation orders in what the log keeps, each with both instructions, where there are at most MAX |
+/// | `races LOG ELF MAX` | lists the pairs of conflicting accesses that no synchronisation orders in what the log keeps, each with both instructions, if there are at most MAX |
 /// | `slice LOG ELF HART INTERVAL IC` | prints the instructions of one interval that the one of this count stands on, and what these take from before |
 /// | `demo SEED` | records a generated program, reads its log back, replays all that it keeps, and prints what was counted |
 ///
-/// A recording does this, in order: it tests the settings, and that LOG and BOOK are two names, loads
-/// ELF, loads FILE, which else is empty, runs the program, saves the log under LOG and the list of turns
-/// under BOOK, writes the program's stream 1 to out, and its stream 2 and one line to err.
+/// A recording takes these steps, in order:
+/// - it tests the settings, and that LOG and BOOK are two names;
+/// - it loads ELF, and FILE, which is empty if there is none;
+/// - it runs the program;
+/// - it saves the log under LOG, and the list of turns under BOOK;
+/// - it writes the program's stream 1 to out, and its stream 2 and one line to err.
 ///
-/// With a seed its number chooses the turns, on the caller's thread, and so are the turns of one hart alone
-/// taken, which have one order. Without a seed each of several harts runs in a thread of its own, and the
-/// gate is called around its turns. Which turns come then isn't told; they are legal and finished, and the
-/// list under BOOK is theirs. A lean recording keeps no list and saves nothing under BOOK, which then may be
+/// With a seed its number chooses the turns, on the caller's thread. One hart alone needs no seed, since
+/// its turns have one order. Without a seed several harts take the turns of the gate's schedule, on the
+/// caller's thread too. If the gate has none, each hart runs in a thread of its own, and the gate is called
+/// around its turns. Which turns come then isn't determined. They are legal and finished, and the list
+/// under BOOK is theirs. A lean recording keeps no list and saves nothing under BOOK, which then may be
 /// LOG's name.
 ///
 /// | status | comes |
@@ -444,7 +449,7 @@ fn obey<S: Store, I: Source, O: Sink, X: Sink, G: Gate, R: Threads + Wait + Sync
 /// | 6 | the loader refuses ELF |
 /// | 7 | LOG is no log file |
 /// | 8 | the SHA-256 of ELF isn't the one in the log |
-/// | 9 | memory was wanting |
+/// | 9 | out of memory |
 /// | 12 | reading commands failed |
 /// | 13 | writing to out or err failed |
 /// | 14 | the log keeps no such interval |
@@ -467,59 +472,60 @@ pub fn run<S: Store, I: Source, O: Sink, X: Sink, G: Gate, R: Threads + Wait + S
     err: &mut X,
     gate: &G,
 ) -> u8
-    // Where the store tells its files, they and the words say the status, the texts and what the files
-    // are after it; of a recording without a seed they and its list of turns do. Whatever the store
-    // tells, the words alone say where the status is 2.
+    // If the store's files can be named, they and the words determine the status, the texts and the files
+    // that are left. A recording without a seed has one more input: its list of turns. By any store the
+    // words alone say whether the status is 2.
     ensures told { TellsAnswer (command_in words.now) result (call S.files S.counts O.written O.faults X.written X.faults store.old out.old err.old store.new out.new err.new) }
     ensures words { ByWords (command_in words.now) result (call S.files S.counts O.written O.faults X.written X.faults store.old out.old err.old store.new out.new err.new) }
 
-    // The log of a recording gives the recorded run: the replay of an interval from it prints that
-    // run's own rows. A program file of more than 2 ^ 26 bytes is too long, also for a recording.
+    // The log of a recording gives the recorded run: the replay of an interval from it prints that run's
+    // own rows. A program file of more than 2 ^ 26 bytes is too long, also for a recording.
     ensures headline { WithFiles (S.files store.old) (λ files. PrintsRun (command_in words.now) files result (O.written out.old) (O.written out.new)) }
 
     // Its joint replay says the run: it keeps the recorded order of conflicting accesses, and prints each
     // hart's own rows, and words that the run had in memory.
     ensures jointly { WithFiles (S.files store.old) (λ files. PrintsJointly (command_in words.now) files result (O.written out.old) (O.written out.new)) }
 
-    // Where the words and the files are as the command needs them, it is done, unless memory was
-    // wanting, or the store or a write failed.
+    // If the words and the files are as the command needs them, it is done, unless it runs out of memory,
+    // or the store or a write fails.
     ensures done { WithFiles (S.files store.old) (λ files. IsDone (command_in words.now) files result) }
 
     // What was to be saved is saved, LOG before BOOK. Whatever happens, only a recording, `convert` and
-    // `salvage` change files, and of these only LOG and BOOK, or NEW: where nothing was to be saved, as
-    // at a replay, all stay as they were, and until LOG is saved BOOK does.
+    // `salvage` change files, and of these only LOG and BOOK, or NEW. If nothing was to be saved, as at a
+    // replay, all stay as they were. Until LOG is saved BOOK does.
     ensures kept { Keeps (command_in words.now) result (S.files store.old) (S.files store.new) }
     ensures others { ChangesFew (command_in words.now) (S.files store.old) (S.files store.new) }
     ensures still { IsReadOnly (command_in words.now) → S.files store.new ≡ S.files store.old }
 
-    // A recording that is done has saved twice, and so each of its two files once, a lean one once, as
-    // have `convert` and `salvage`; a refused one at most so often, and no other command saves.
+    // A recording that is done has saved each of its two files once, a lean one its log once, as have
+    // `convert` and `salvage` NEW. A refused one has saved at most so often, and no other command saves.
     ensures saves { LineSaves (command_in words.now) result (S.saves store.old) (S.saves store.new) }
 
-    // It makes the calls of its words, in their order, and no other. Where the store refuses one, that call is
-    // the last, nothing is printed, and err has the line of that call's file. A recording that is done has made
-    // them all; words that are refused make none.
+    // It makes the calls of its words, in their order, and no other. If the store refuses one, that call is
+    // the last, nothing is printed, and err has the line of that call's file. A recording that is done has
+    // made them all; words that are refused make none.
     ensures calls { CallsOnly (command_in words.now) result S.note (S.noted store.old) (S.noted store.new) (call S.files S.counts O.written O.faults X.written X.faults store.old out.old err.old store.new out.new err.new) }
 
-    // Whatever the store tells: a command that isn't done is refused, unless memory ran out or a write failed.
-    // Then nothing is printed, and err has the line of a refusal of this status. But what `replay`, `joint`
-    // and `debug` tell may end where a replay stops that was begun, with 15, and that of `debug` where the
-    // reading of commands stops. `demo` tells its text.
+    // By any store a command that isn't done is refused, unless memory ran out or a write failed. Then
+    // nothing is printed, and err has the line of a refusal of this status. But what `replay`, `joint` and
+    // `debug` print may end with 15, if a replay that was begun stops. That of `debug` may end too when it
+    // can read no more commands. `demo` tells its text.
     ensures shape { HasShape (command_in words.now) result (call S.files S.counts O.written O.faults X.written X.faults store.old out.old err.old store.new out.new err.new) }
     ensures demo { TellsDemo (command_in words.now) result (call S.files S.counts O.written O.faults X.written X.faults store.old out.old err.old store.new out.new err.new) }
 
-    // A recording leaves under LOG the file of the run of a legal and finished list of turns, with a seed of
-    // the list that it chooses, in the version of its format: its records have at most log-size bytes, and
-    // the file has 124 more in version 1, in version 2 136 and 48 a block. The status says how that run
-    // ended. BOOK has the list; only a lean recording leaves BOOK as it was.
+    // A recording leaves under LOG the file of the run of a legal and finished list of turns: with a seed
+    // of the list that it chooses. The file has the version of the settings' format. Its records have at
+    // most log-size bytes. The file has 124 bytes more in version 1; in version 2 it has 136 more, and 48
+    // for each block. The status says how that run ended. BOOK has the list; only a lean recording leaves
+    // BOOK as it was.
     ensures recorded { LeavesRun (command_in words.now) result (S.files store.old) (S.files store.new) }
 
-    // Only `debug` reads commands, and only once its files are loaded and tested. What they make it tell
-    // is told: the text of its session, up to a read that failed, a line or commands that are too long, or
-    // a refusal of the replay. However it ends, each byte was read once, and none after the first `quit`, at
-    // 18 none after the first byte too many, at 15 none after the line that was refused. One more
+    // Only `debug` reads commands, and only once its files are loaded and tested. What they make it tell is
+    // told: the text of its session, up to a read that failed, a line or commands that are too long, or a
+    // refusal of the replay. However it ends, each byte was read once, and none after the first `quit`. At
+    // 18 none was read after the first byte too many, at 15 none after the line that was refused. One more
     // read finds the end of the input, or fails. A session that isn't stopped by its whole input is stopped
-    // at no prefix of it. Where the log is a recording's, all that it shows is the run's, and no replay is
+    // at no prefix of it. If the log is a recording's, all that it shows is the run's, and no replay is
     // refused.
     ensures session { Debugs (command_in words.now) result (I.left input.old) (I.left input.new) (I.faults input.old) (I.faults input.new) (I.reads input.old) (I.reads input.new)
         (call S.files S.counts O.written O.faults X.written X.faults store.old out.old err.old store.new out.new err.new) }
@@ -527,11 +533,11 @@ pub fn run<S: Store, I: Source, O: Sink, X: Sink, G: Gate, R: Threads + Wait + S
     ensures begins { (input.new ≡ input.old) ⊎ WithFiles (S.files store.old) (λ files. CanBegin (command_in words.now) files) }
     ensures unread { IsNoSession (command_in words.now) → input.new ≡ input.old }
 
-    // Where an audit is done, LOG is the file of the run of BOOK's turns, or that file in version 2; they are
+    // If an audit is done, LOG is the file of the run of BOOK's turns, or that file in version 2. They are
     // legal and finished, with settings in range, the program and the input.
     ensures audited { WithFiles (S.files store.old) (λ files. AuditsRun (command_in words.now) files result) }
 
-    // A refusal by the outside comes only where its count rose, and no count falls.
+    // A refusal by the outside comes only if its count rose, and no count falls.
     ensures failed { result ≡ 3 → Rose (S.counts store.old).faults (S.counts store.new).faults }
     ensures missing { result ≡ 4 → Rose (S.counts store.old).misses (S.counts store.new).misses }
     ensures long { result ≡ 5 → Rose (S.counts store.old).longs (S.counts store.new).longs }

@@ -103,7 +103,7 @@ fn err_of(
     Ok(err)
 }
 
-// The recording of a closed run, and of the list of its turns where that is saved.
+// The recording of a closed run, and of the list of its turns if that is saved.
 fn recording_of<B: Book>(
     alloc: Global,
     start: &Start,

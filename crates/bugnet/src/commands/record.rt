@@ -36,7 +36,7 @@ fn manner_of(options: &RecordOptions) -> Manner
     }
 }
 
-// Loads the input, where there is one, for a start whose own input is empty.
+// Loads the input, if there is one, for a start whose own input is empty.
 fn load_input<S: StoreExt>(
     alloc: Global,
     names: &Names,
@@ -95,14 +95,14 @@ fn load_files<S: StoreExt>(
     load_start(alloc, names, &elf, settings, has_input, store)
 }
 
-// Whether LOG and BOOK are one name, where both are saved.
+// Whether LOG and BOOK are one name, if both are saved.
 fn clashes(lean: bool, log: &str, book: &str) -> bool
     ensures { result ≡ is_clash lean log.now book.now }
 {
     if lean { false } else { log == book }
 }
 
-// The settings, where they are in range, and LOG and BOOK are two names, if both are saved.
+// The settings, if they are in range, and LOG and BOOK are two names, or BOOK isn't saved.
 fn tested(names: &Names, settings: &RawSettings, how: &Manner) -> Result<Settings, Refusal>
     ensures ok { IfOk result (λ s. (s ≡ settings.now) × (setting_refusal (first_bad settings.now) (is_clash how.now.lean names.now.log names.now.book) ≡ None)) }
     ensures refused { IfErr result (λ r. setting_refusal (first_bad settings.now) (is_clash how.now.lean names.now.log names.now.book) ≡ Some r) }
