@@ -1,4 +1,4 @@
-// Caches, and what touches find.
+//! Caches, and what accesses find in them.
 ghost use Rattle.std.specs.Prelude.{◌≡◌, ◌<◌, ◌≤◌, ◌+◌, ◌^◌, IfOk};
 
 use crate::words::low;
@@ -36,7 +36,7 @@ fn cache(alloc: Global, words: &[&str]) -> anyhow::Result<Cache>
     Ok(Cache::new(alloc, &settings)?)
 }
 
-// What comes of an event, which is told of a touch alone.
+// What comes of an event; only an access has an answer.
 fn answer(cache: &mut Cache, event: Option<&Event>) -> Option<(u32, Warm)>
     requires { cache.old.steps < 2 ^ 42 }
     ensures { cache.new.steps ≤ cache.old.steps + 1 }
@@ -55,7 +55,7 @@ fn answer(cache: &mut Cache, event: Option<&Event>) -> Option<(u32, Warm)>
     }
 }
 
-// Prints what a touch found.
+// Prints what an access found.
 fn print_answer<R: Print>(rt: &R, answer: Option<(u32, Warm)>) -> anyhow::Result<()> {
     if let Some((addr, found)) = answer {
         println!(rt; "{addr:08x} {found:?}")?;
@@ -63,7 +63,7 @@ fn print_answer<R: Print>(rt: &R, answer: Option<(u32, Warm)>) -> anyhow::Result
     Ok(())
 }
 
-/// Prints what each touch finds in the cache of a line, of the first 1,000 events.
+/// Prints what each access finds in the cache of a line, of the first 1,000 events.
 pub fn print_answers<R: Print>(
     rt: &R,
     alloc: Global,

@@ -1,4 +1,4 @@
-// The words of a command line.
+//! The words of a command line.
 use command_words::read_words;
 use std::alloc::{AllocError, Global};
 

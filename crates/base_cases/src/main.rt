@@ -17,14 +17,14 @@
 //! | `list BYTE ..` | the items of the list of these bytes, and how many it gives back |
 //! | `file HEX`, `more HEX` | the bytes of a program file, and those behind them |
 //! | `load SETTING VALUE ..` | the program of the file, with these settings |
-//! | `bounds` | where it begins, where its heap begins and ends, the memory's size, the harts and the segments |
+//! | `bounds` | its first address, the bounds of its heap, the memory's size, the harts and the segments |
 //! | `mapped ADDRESS` | whether an address is mapped |
-//! | `at ADDRESS` | what stands there: the word, whether it is code, and whether it may be stored to |
+//! | `at ADDRESS` | the word there, whether it is code, and whether it may be stored to |
 //! | `call NUMBER A0 A1 A2 BREAK INPUT OUT ERR` | what a system call does, with so many bytes of the input left and in the streams |
 //! | `room ADDRESS COUNT`, `put ADDRESS WORD` | one more step of memory |
 //! | `word ADDRESS`, `page ADDRESS` | the word there after these steps, and whether its page is made |
 //! | `touch ADDRESS`, `drop ADDRESS`, `clear` | one more event of caches |
-//! | `cache SETS WAYS LINE` | what each touch among the first 1,000 of these events finds |
+//! | `cache SETS WAYS LINE` | what each access among the first 1,000 of these events finds |
 //! | `read PLACE HEX` | the numbers of 2, 4 and 8 bytes there |
 //! | `write4 PLACE NUMBER HEX`, `write8 ..` | the bytes with a number there |
 //! | `push NUMBER NUMBER` | the bytes of a number of 32 bits and one of 64 |

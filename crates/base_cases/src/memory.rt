@@ -1,4 +1,4 @@
-// Memory after some steps.
+//! Memory after some steps.
 ghost use Rattle.std.specs.Prelude.{◌≡◌, ◌*◌, length, IfOk};
 
 use crate::words::low;
@@ -24,7 +24,7 @@ pub fn step_of(verb: &str, words: &[&str]) -> Step {
     }
 }
 
-// Takes a step, where it can be taken.
+// Takes a step, if it is within the memory.
 fn take(memory: &mut Memory, size: u32, step: Step) -> Result<(), AllocError>
     requires { 4 * length memory.old.words ≡ size }
     ensures { length memory.new.words ≡ length memory.old.words }

@@ -1,9 +1,9 @@
-// Numbers in bytes.
+//! Numbers in bytes.
 use crate::words::{low, wide, word};
 use le_numbers::{push_u32, push_u64, read_u16, read_u32, read_u64, write_u32, write_u64};
 use std::alloc::{AllocError, Global};
 
-// Prints the numbers at a place, where they are there.
+// Prints the numbers at a place, if the bytes are there.
 fn print_read<R: Print>(rt: &R, bytes: &[u8], at: usize) -> anyhow::Result<()> {
     if at < bytes.len() && bytes.len() - at >= 8 {
         let (narrow, middle) = (read_u16(bytes, at), read_u32(bytes, at));
@@ -12,7 +12,7 @@ fn print_read<R: Print>(rt: &R, bytes: &[u8], at: usize) -> anyhow::Result<()> {
     Ok(())
 }
 
-// Writes a number of four bytes, where there is room.
+// Writes a number of four bytes, if there is room.
 fn written4(mut bytes: Vec<u8>, at: usize, number: u32) -> Vec<u8> {
     let len = bytes.len();
     if at < len && len - at >= 4 {
@@ -21,7 +21,7 @@ fn written4(mut bytes: Vec<u8>, at: usize, number: u32) -> Vec<u8> {
     bytes
 }
 
-// Writes a number of eight bytes, where there is room.
+// Writes a number of eight bytes, if there is room.
 fn written8(mut bytes: Vec<u8>, at: usize, number: u64) -> Vec<u8> {
     let len = bytes.len();
     if at < len && len - at >= 8 {

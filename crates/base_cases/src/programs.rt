@@ -1,4 +1,4 @@
-// Programs and system calls.
+//! Programs and system calls.
 use crate::settings::checked;
 use crate::words::{low, wide, word};
 use bn_base::Image;

@@ -1,4 +1,4 @@
-// Settings, marks and lists.
+//! Settings, marks and lists.
 use crate::words::{decimal, low};
 use bn_base::{BadSetting, EndMark, Fault, List, RawSettings, Settings};
 use std::alloc::{AllocError, Global};
@@ -31,7 +31,7 @@ fn raw_of(words: &[&str]) -> RawSettings {
     raw
 }
 
-/// The settings that a line says, where they are in range.
+/// The settings that a line says, if they are in range.
 pub fn checked(words: &[&str]) -> Result<Settings, BadSetting> {
     Settings::checked(&raw_of(words))
 }

@@ -1,4 +1,4 @@
-// Stores and streams in memory, of which calls fail where a line says so.
+//! Stores and streams in memory, whose calls fail as a line says.
 use crate::words::{wide, word};
 use bn_outside::{
     MemorySink, MemorySource, MemoryStore, Sink, Source, Store, read_to_end, send_all,
