@@ -1,4 +1,4 @@
-// Program files.
+//! Program files.
 use crate::words::{low, number_or, word};
 use bn_base::{Image, Settings};
 use elf_loader::{ElfError, load};
@@ -6,7 +6,7 @@ use guest_gen::{Kind, guest};
 use le_numbers::write_u32;
 use std::alloc::{AllocError, Global};
 
-// Puts a word at a place of a file, where it has room there.
+// Puts a word at a place of a file, if there is room.
 fn bend(bytes: &mut [u8], at: usize, word: u32) {
     let len = bytes.len();
     if at < len && len - at >= 4 {

@@ -1,4 +1,4 @@
-// Harts that run, and what they ask.
+//! Harts that run, and what they ask.
 ghost use Rattle.std.specs.Prelude.{◌<◌, ◌^◌};
 
 use crate::words::{low, low_or, number_or, word};

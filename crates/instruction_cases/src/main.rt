@@ -2,7 +2,7 @@
 //! texts, of what instructions do and ask, of rows, and of program files. Each line calls public
 //! functions of the layers below, so that a case costs no proof.
 //!
-//! Numbers are hexadecimal. One that is left out is 0, but where the table says something else.
+//! Numbers are hexadecimal. One that is left out is 0, unless the table says something else.
 //!
 //! | line | what it does |
 //! |---|---|
@@ -14,7 +14,7 @@
 //! | `push-bytes TEXT`, `push-name REGISTER`, `push-decimal N`, `push-signed N`, `push-hex8 N`, `push-hex N`, `truncate LENGTH` | the length of the case's text, which is changed so, and the text |
 //! | `code WORD ..` | the program: at most 64 code words at 0x10000, which stores may not change |
 //! | `second WORD ..` | a second segment of it, at 0x11000 |
-//! | `run BUDGET A1 A2 A7 PC COUNT` | what a hart asks then, and its state: the pc, the count and the registers that aren't 0; the pc is 10000, and the count 5, where they are left out |
+//! | `run BUDGET A1 A2 A7 PC COUNT` | what a hart asks then, and its state: the pc, the count and the registers that aren't 0; the pc is 10000, and the count 5, if they are left out |
 //! | `ahead LIMIT BUDGET A1 A2 A7 PC COUNT` | the same by code that is decoded ahead, at most so many words of it; a limit `-` is the greatest |
 //! | `word WORD`, `answer VALUE`, `sc-ok`, `sc-failed`, `over` | the state after that reply to the last ask |
 //! | `leaves WORD` | what the last ask makes of that word in memory |

@@ -1,4 +1,4 @@
-// Programs, and what stands in them.
+//! Programs, and what stands in them.
 use crate::rows;
 use crate::words::{low, number_or, word};
 use bn_base::{Fault, HartState, Image, Registers, Segment, Settings};
@@ -43,7 +43,7 @@ fn print_at<R: Print>(rt: &R, image: &Image, addr: u32) -> anyhow::Result<()> {
     Ok(())
 }
 
-// Prints where a program and its heap begin.
+// Prints the first addresses of a program and of its heap.
 fn print_begins<R: Print>(rt: &R, image: &Image) -> anyhow::Result<()> {
     let (entry, heap) = (image.entry(), image.heap_start());
     println!(rt; "entry {entry:08x} heap {heap:08x}")?;

@@ -1,10 +1,10 @@
-// What comes of replies to an ask.
+//! What comes of replies to an ask.
 use crate::harts::print_state;
 use crate::words::low;
 use bn_base::HartState;
 use rv_meaning::{Ask, Reply, Want, absorb, absorb_in_place, is_aligned, stored_word};
 
-// The state after a word, where the ask is one that loads.
+// The state after a word, if the ask is one that loads.
 fn loaded(ask: &Ask, word: u32) -> Option<HartState> {
     match ask.want {
         Want::Load { .. } | Want::LoadReserved { .. } | Want::Amo { .. } => {
@@ -27,7 +27,7 @@ fn concluded(ask: &Ask, stored: bool) -> Option<HartState> {
     }
 }
 
-// The state after a system call that goes on.
+// The state after a system call that doesn't end the hart.
 fn answered(ask: &Ask, value: u32) -> Option<HartState> {
     let mut state = ask.state;
     if let Want::System { .. } = ask.want {
@@ -50,7 +50,7 @@ fn after(ask: &Ask, verb: &str, value: u32) -> Option<HartState> {
     }
 }
 
-// The word that an ask leaves in place of one, where it is one that stores.
+// The word that an ask leaves in place of one, if it is one that stores.
 fn left(ask: &Ask, word: u32) -> Option<u32> {
     match ask.want {
         Want::Store { addr, width, value } if is_aligned(addr, width) => {

@@ -1,4 +1,4 @@
-// Rows of instructions.
+//! Rows of instructions.
 use crate::texts::print_text;
 use crate::words::{low, number_or, word};
 use bn_base::{Fault, HartState, Image, Register, Registers, Row};
@@ -39,7 +39,7 @@ fn plain(hart: u8, ic: u64, pc: u32, word: Option<u32>) -> Row {
     }
 }
 
-// A code word, where there is one.
+// A code word, if there is one.
 fn word_of(words: &[&str], place: usize) -> Option<u32> {
     u32::from_str_radix(word(words, place), 16).ok()
 }

@@ -1,4 +1,4 @@
-// Instructions and their texts.
+//! Instructions and their texts.
 use crate::words::{low, number_or, word};
 use rv_decode::{decode, encode};
 use rv_text::{Text, register_name, write_instr};
