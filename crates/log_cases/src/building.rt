@@ -1,10 +1,10 @@
-// Bytes that are put behind those of a file.
+//! Bytes that are put behind those of a file.
 use crate::files::Files;
 use crate::words::{number, numbers, rest, word};
 use log_file::head::digest_of;
 use std::alloc::{AllocError, Global};
 
-/// The bytes from a place up to another; none where they aren't all there.
+/// The bytes from a place up to another; none if some of them aren't there.
 pub fn part(bytes: &[u8], from: usize, end: usize) -> &[u8] {
     bytes.get(from..end).unwrap_or(&[])
 }
@@ -73,7 +73,7 @@ fn spelled(alloc: Global, words: &[&str]) -> anyhow::Result<Vec<u8>> {
     Ok(hex::decode(alloc, word(words, 2))?)
 }
 
-// Appends what stands behind the records of a block: its first two numbers, and the records' length.
+// Appends what follows the records of a block: its first two numbers, and the records' length.
 fn push_counts(bytes: &mut Vec<u8>, before: u64, left: u64, length: u64) -> Result<(), AllocError> {
     push_number(bytes, 8, before)?;
     push_number(bytes, 4, left)?;
@@ -145,7 +145,7 @@ fn digest(alloc: Global, files: &Files, words: &[&str]) -> anyhow::Result<Vec<u8
     Ok(digest_of(files.bytes(word(words, 2))).to_vec(alloc)?)
 }
 
-/// The bytes that a line puts behind those of a file; none where it puts none.
+/// The bytes that a line adds to those of a file; none if it adds none.
 pub fn built(
     alloc: Global,
     files: &Files,

@@ -1,4 +1,4 @@
-// Files that stand in place of others.
+//! Files that stand in place of others.
 use crate::building::push_number;
 use crate::files::Files;
 use crate::words::{number, numbers, word};

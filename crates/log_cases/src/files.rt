@@ -1,4 +1,4 @@
-// Files by their names.
+//! Files by their names.
 use bn_outside::MemoryStore;
 use std::alloc::{AllocError, Global};
 

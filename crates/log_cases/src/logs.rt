@@ -1,4 +1,4 @@
-// What is read, salvaged and counted of a file, and files that are written.
+//! What is read, salvaged and counted of a file, and files that are written.
 use crate::files::Files;
 use crate::words::word;
 use log_blocks::{Damage, SalvageError, read_file, salvage, write_file2, write_log2};
@@ -69,7 +69,7 @@ fn print_bytes<R: Print>(rt: &R, bytes: &[u8]) -> anyhow::Result<()> {
     Ok(())
 }
 
-/// Prints what a line wants to know of a file; none where it wants nothing.
+/// Prints what a line wants to know of a file; none if it wants nothing.
 pub fn told<R: Print>(
     rt: &R,
     alloc: Global,
@@ -153,7 +153,7 @@ fn rewritten(alloc: Global, files: &Files, words: &[&str]) -> anyhow::Result<Vec
     }
 }
 
-/// The file that a line writes of another log; none where it writes none.
+/// The file that a line writes of another log; none if it writes none.
 pub fn written(
     alloc: Global,
     files: &Files,

@@ -1,4 +1,4 @@
-// What replays of a log print.
+//! What replays of a log print.
 use crate::words::number;
 use bn_base::{Image, Row, Segment, Settings};
 use hart_replay::{ReplayError, Replayer};

@@ -1,4 +1,4 @@
-// Replays, slices and race reports of logs.
+//! Replays, slices and race reports of logs.
 use crate::files::Files;
 use crate::replays::{print_interval, print_text, program};
 use crate::words::{number, numbers, word};
