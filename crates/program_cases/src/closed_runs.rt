@@ -1,4 +1,4 @@
-// Whole runs, by a list of turns or by a number that chooses them.
+//! Whole runs, by a list of turns or by a number that chooses them.
 use crate::telling::{print_closed, print_numbers};
 use bn_base::HartId;
 use bn_outside::{Book, FullBook, LeanBook};
@@ -6,8 +6,7 @@ use run_model::Start;
 use std::alloc::Global;
 use whole_runs::{run_listed, run_seeded, run_turns};
 
-/// Prints what a run by a list of turns hands over, and gives its records; none where the list is
-/// refused.
+/// Prints what a run by a list of turns hands over, and gives its records; none if the list is refused.
 pub fn by_turns<R: Print, B: Book>(
     rt: &R,
     alloc: Global,

@@ -1,4 +1,4 @@
-// Program files.
+//! Program files.
 use std::alloc::{AllocError, Global};
 
 // What stands in a program file before the words of its one segment: the ELF header and the program

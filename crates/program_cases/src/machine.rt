@@ -1,4 +1,4 @@
-// The program on a store whose files stay.
+//! The program on a store whose files stay.
 use bn_outside::{Gate, MemorySink, MemorySource, MemoryStore};
 use bugnet::run;
 use std::alloc::{AllocError, Global};
@@ -36,7 +36,7 @@ pub struct Surroundings {
     pub keys: Vec<u8>,
     /// The reads of the next call that fail.
     pub failing_keys: Vec<u64>,
-    /// What the last call left unread, where it had anything to read.
+    /// What the last call left unread, if it had anything to read.
     pub left: Option<usize>,
     pub out: MemorySink,
     pub err: MemorySink,
@@ -58,7 +58,7 @@ impl Surroundings {
         }
     }
 
-    /// The bytes of a file; none where it isn't there.
+    /// The bytes of a file; none if it isn't there.
     pub fn bytes(&self, name: &str) -> &[u8] {
         self.store.bytes(name).unwrap_or(&[])
     }

@@ -17,12 +17,12 @@
 //! | `type TEXT` | the next call can read this line, behind what it could before |
 //! | `keys HEX`, `keys HEX COUNT` | the same of these bytes, or of a byte so many times |
 //! | `failing-keys CALL ..` | the next call's reads of these numbers fail |
-//! | `run WORD ..` | the program with these words; where it could read, how much it left |
-//! | `run-meet HARTS WORD ..` | the same, where the harts meet before their first turns |
+//! | `run WORD ..` | the program with these words; if it could read, how much it left |
+//! | `run-meet HARTS WORD ..` | the same, but the harts meet before their first turns |
 //! | `run-meet-status HARTS WORD ..` | the same, but only the status and whether they met are printed: the rest may depend on the order of their turns |
-//! | `run-listed HEX WORD ..` | the same, where the harts take their turns in this order, a byte for each |
+//! | `run-listed HEX WORD ..` | the same, but the harts take their turns in this order, a byte for each |
 //! | `run-last COUNT WORD ..` | the program with these words, of whose out so many of the last lines alone are printed |
-//! | `run-prefixes NAME FIRST LAST WORD ..` | the program with these words on each prefix of the file from FIRST to LAST bytes: a line for each, with its length, the status, how many bytes out and err have, and err's text; then the file is whole again. FIRST is at most LAST, and LAST at most the file's length |
+//! | `run-prefixes NAME FIRST LAST WORD ..` | the program with these words on each prefix of the file from FIRST to LAST bytes. A line for each has its length, the status, how many bytes out and err have, and err's text. Then the file is whole again. FIRST is at most LAST, and LAST at most the file's length |
 //! | `size NAME`, `show NAME` | how long a file is, and its bytes |
 //! | `alike NAME NAME` | whether two files have the same bytes |
 //! | `code WORD ..` | at most 64 code words at 0x10054, in hexadecimal, which runs have in place of a file |
@@ -35,9 +35,9 @@
 //! | `records FIRST END` | the bytes of the last run's records from a place up to another |
 //! | `same` | whether the last two runs have the same records |
 //!
-//! A step is a hart's number, for a turn; `ahead-HART`, where the hart does its quiet instructions but
-//! isn't served; `stray-HART`, where it asks to store into its code, which no hart can; or `halt`. Behind
-//! each stand the harts that are live.
+//! A step is a hart's number, for a turn; `ahead-HART`, for its quiet instructions without a turn;
+//! `stray-HART`, for an ask to store into its code, which no hart can make; or `halt`. After each come the
+//! harts that are live.
 #![tactic(auto)]
 
 mod closed_runs;

@@ -1,4 +1,4 @@
-// The lines of a script that are about runs below the top call.
+//! The lines of a script that are about runs below the top call.
 ghost use Rattle.std.specs.Prelude.{◌≤◌};
 
 use crate::closed_runs::{by_number, by_turns, with_list};

@@ -220,7 +220,7 @@ fn repeated(alloc: Global, byte: u8, count: usize) -> Result<Vec<u8>, AllocError
     Ok(keys)
 }
 
-// The bytes of a line, or where it says how often, the first of them so many times.
+// The bytes of a line; if it says how often, the first of them so many times.
 fn keys_of(alloc: Global, words: &[&str]) -> anyhow::Result<Vec<u8>> {
     let keys = hex::decode(alloc, word(words, 1))?;
     if words.len() <= 2 {

@@ -1,4 +1,4 @@
-// Turns of harts one ask at a time, on a bus and on a plain machine.
+//! Turns of harts one ask at a time, on a bus and on a plain machine.
 use crate::telling::{print_closed, print_end, print_records, print_rows};
 use bn_base::{HARTS, HartId, Image};
 use bn_outside::Book;

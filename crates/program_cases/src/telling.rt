@@ -1,4 +1,4 @@
-// What runs hand over, as lines.
+//! What runs hand over, as lines.
 use bn_base::{EndMark, HartId};
 use bn_outside::{Book, TurnRow};
 use bus_core::Closed;
@@ -60,7 +60,7 @@ pub fn print_end<R: Print>(rt: &R, hart: HartId, mark: Option<EndMark>) -> anyho
     Ok(())
 }
 
-/// Prints the harts of rows, where a book tells them.
+/// Prints the harts of rows, if a book tells them.
 pub fn print_rows<R: Print>(rt: &R, rows: Option<&[TurnRow]>) -> anyhow::Result<()> {
     let Some(rows) = rows else {
         println!(rt; "book of no rows")?;
