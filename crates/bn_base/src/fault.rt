@@ -1,4 +1,4 @@
-// What can be wrong with an instruction.
+//! What can be wrong with an instruction.
 ghost use Rattle.std.specs.Prelude.{◌≡◌, ◌<◌, ◌⊎◌, ◌↔◌, ℕ, IsNone, IfSome};
 ghost use Rattle.bn_base.specs.Faults.{fault_number, fault_name};
 

@@ -1,5 +1,5 @@
-// The vocabulary of the recorder: what a hart is, what a recording is set to,
-// and what a loaded program is. Every other crate speaks in these types.
+//! The vocabulary of the recorder: what a hart is, what a recording is set to,
+//! and what a loaded program is. Every other crate speaks in these types.
 #![tactic(auto)]
 
 pub mod end_mark;

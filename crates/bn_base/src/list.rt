@@ -1,4 +1,4 @@
-// A list that is stored as a Vec.
+//! A list that is stored as a Vec.
 ghost use Rattle.std.specs.Prelude.{◌≡◌, ◌+◌, ◌++◌, ◌∷◌, [], ◌<◌, ◌^◌, List as ListOf, length, slice_get, OnOk, OnErr, IfOk};
 
 use std::alloc::{AllocError, Global};

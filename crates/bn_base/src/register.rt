@@ -1,4 +1,4 @@
-// The numbers of registers.
+//! The numbers of registers.
 ghost use Rattle.std.specs.Prelude.{◌≡◌, ◌<◌, ℕ};
 
 use std::marker::Model;

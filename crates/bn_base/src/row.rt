@@ -1,4 +1,4 @@
-// What one instruction did.
+//! What one instruction did.
 use crate::fault::Fault;
 use crate::register::Register;
 use crate::{Addr, HartId, Ic};

@@ -1,4 +1,4 @@
-// The state of a hart.
+//! The state of a hart.
 use crate::Ic;
 use crate::registers::Registers;
 

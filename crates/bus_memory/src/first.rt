@@ -1,4 +1,4 @@
-// Pages as they stand before the run.
+//! Pages as they stand before the run.
 ghost use Rattle.std.specs.Prelude.{◌≡◌, ◌≤◌, ◌<◌, ◌+◌, ◌*◌, ◌^◌, ℕ, slice_index, vec_len, IfOk};
 ghost use Rattle.bn_base.specs.Programs.{first_at};
 ghost use Rattle.bus_memory.specs.Contents.{is_touched};

@@ -1,5 +1,5 @@
-// The memory that all harts share: a map from addresses to words that begins as the program's
-// first memory, kept in pages.
+//! The memory that all harts share: a map from addresses to words that begins as the program's
+//! first memory, kept in pages.
 #![tactic(auto)]
 
 mod first;

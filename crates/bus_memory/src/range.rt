@@ -1,4 +1,4 @@
-// Pages in a row.
+//! Pages in a row.
 ghost use Rattle.std.specs.Prelude.{◌≡◌, ◌≤◌, ◌<◌, ◌+◌, ◌*◌, ◌||◌, ◌&&◌, ℕ, true, false, nat_le, nat_lt, length, slice_index_or, IsOk, OnOk};
 ghost use Rattle.bus_memory.specs.Frames.{contents_of, HaveWords, AreMade};
 

@@ -1,4 +1,4 @@
-// What a command line asks for.
+//! What a command line asks for.
 use bn_base::RawSettings;
 
 /// What a recording is to be.

@@ -1,4 +1,4 @@
-// Lines whose meaning is worked out, so that the definition is seen at work.
+//! Lines whose meaning is worked out, so that the definition is seen at work.
 ghost use Rattle.std.specs.Prelude.{◌≡◌, ◌∷◌, [], Some, None, true, codes};
 ghost use Rattle.bn_base.specs.Ranges.{default_settings};
 ghost use Rattle.command_words.specs.Words.{RecordLine, ReplayLine, JointLine, DebugLine, ListLine, CheckLine, AuditLine, RacesLine, SliceLine, ConvertLine, SalvageLine, DemoLine, line_of};

@@ -1,4 +1,4 @@
-// What clap found for the arguments of a subcommand.
+//! What clap found for the arguments of a subcommand.
 ghost use Rattle.std.specs.Prelude.{◌≡◌, option_map, codes};
 ghost use Rattle.clap.specs.Words.{first_of, found_of, rows_of};
 ghost use Rattle.bn_base.specs.Ranges.{default_settings};

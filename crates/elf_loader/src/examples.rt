@@ -1,4 +1,4 @@
-// Heads of files that are refused, each with the first reason.
+//! Heads of files that are refused, each with the first reason.
 ghost use Rattle.std.specs.Prelude.{◌≡◌, ◌∷◌, ◌++◌, [], Some};
 ghost use Rattle.bn_base.specs.Ranges.{default_settings};
 ghost use Rattle.elf_loader.specs.declared.error.ElfError.TheVariants.{NotElf, Truncated, NotRv32, NotStatic, NeedsCompressed, NeedsE, TooMany, Outside, SegmentsTouch, NoSegment, EntryOutside};

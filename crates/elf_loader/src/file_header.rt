@@ -1,4 +1,4 @@
-// The ELF header.
+//! The ELF header.
 ghost use Rattle.std.specs.Prelude.{◌≡◌, ◌≤◌, length};
 ghost use Rattle.elf_loader.specs.Headers.{file_header, table_end};
 ghost use Rattle.elf_loader.specs.Loaded.{is_rv32};

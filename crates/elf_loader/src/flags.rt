@@ -1,4 +1,4 @@
-// Flags of the ELF header and of segments.
+//! Flags of the ELF header and of segments.
 ghost use Rattle.std.specs.Prelude.{⊤, ◌≡◌, [], ◌∷◌, codes};
 ghost use Rattle.elf_loader.specs.Segments.{has_flag};
 

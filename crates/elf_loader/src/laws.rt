@@ -1,4 +1,4 @@
-// What the definitions mean, address by address.
+//! What the definitions mean, address by address.
 ghost use Rattle.elf_loader.specs.Laws.{SegmentsTouchTheirWords, SegmentsShareWords, MemoryHoldsSegments, MemoryHoldsNothingElse, HeapIsAfterSegments, LoadedProgramsAreImages};
 
 use le_numbers::laws::read_numbers_are_written;

@@ -1,5 +1,5 @@
-// Loads programs out of ELF files: static 32-bit RISC-V executables (ELF, and the RISC-V ELF psABI).
-// `load` gives the image of the file's bytes, or the first of the reasons to refuse it.
+//! Loads programs out of ELF files: static 32-bit RISC-V executables (ELF, and the RISC-V ELF psABI).
+//! `load` gives the image of the file's bytes, or the first of the reasons to refuse it.
 #![tactic(auto)]
 
 mod checks;

@@ -1,4 +1,4 @@
-// From the bytes of a file to a program.
+//! From the bytes of a file to a program.
 ghost use Rattle.std.specs.Prelude.{◌≡◌, ◌≤◌, ◌%◌, ◌^◌, ◌⊎◌, true, length, map, filter, find, All, None, Ok, Err, IfOk, IfErr};
 ghost use Rattle.std.specs.List.{list_any};
 ghost use Rattle.elf_loader.specs.declared.error.ElfError.TheVariants.{OutOfMemory};

@@ -1,4 +1,4 @@
-// The files of generated programs.
+//! The files of generated programs.
 ghost use Rattle.std.specs.Prelude.{◌≡◌, ◌++◌, IfOk, OnOk, length, map};
 ghost use Rattle.le_numbers.specs.Numbers.{number_bytes};
 ghost use Rattle.rv_decode.specs.Encode.{encoded};

@@ -1,4 +1,4 @@
-// How a generated program ends.
+//! How a generated program ends.
 
 /// What stands behind the drawn instructions of a generated program.
 #[derive(Clone, Copy, Drop)]

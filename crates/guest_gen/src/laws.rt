@@ -1,4 +1,4 @@
-// What holds of every generated program, and words that were worked out by hand.
+//! What holds of every generated program, and words that were worked out by hand.
 ghost use Rattle.std.specs.Prelude.{◌≡◌, ℕ, List, [], ◌∷◌, length, map};
 ghost use Rattle.std.specs.List.{AllByRecursion};
 ghost use Rattle.rv_decode.specs.Encode.{encoded};

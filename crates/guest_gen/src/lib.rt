@@ -1,5 +1,5 @@
-// Programs that a number gives: files for tests and demonstrations, each with 256 instructions chosen
-// by the draws of a generator, which the harts run through in a loop or up to a crash.
+//! Programs that a number gives: files for tests and demonstrations, each with 256 instructions chosen
+//! by the draws of a generator, which the harts run through in a loop or up to a crash.
 #![tactic(auto)]
 
 mod building;

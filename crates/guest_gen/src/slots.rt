@@ -1,4 +1,4 @@
-// The instructions of generated programs.
+//! The instructions of generated programs.
 ghost use Rattle.std.specs.Prelude.{◌≡◌, ◌<◌, ◌^◌};
 ghost use Rattle.rv_decode.specs.Seen.{seen};
 ghost use Rattle.guest_gen.specs.Code.{with_immediate, storing, of_registers, next, chosen, slot, closing, IsCode};

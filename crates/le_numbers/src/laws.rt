@@ -1,4 +1,4 @@
-// What reading and writing numbers have to do with each other.
+//! What reading and writing numbers have to do with each other.
 ghost use Rattle.std.specs.Prelude.{◌≡◌, ◌<◌, ◌^◌, ◌++◌, ℕ, List, [], ◌∷◌, length};
 ghost use Rattle.le_numbers.specs.Numbers.{number_at, number_bytes};
 ghost use Rattle.le_numbers.specs.Laws.{HaveTheirWidth, AreRead, AreWritten, Fit};

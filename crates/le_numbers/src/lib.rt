@@ -1,4 +1,4 @@
-// Numbers in bytes, the least significant byte first, as files of this project and of ELF have them.
+//! Numbers in bytes, the least significant byte first, as files of this project and of ELF have them.
 #![tactic(auto)]
 
 pub mod laws;

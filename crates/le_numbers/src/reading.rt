@@ -1,4 +1,4 @@
-// Reading a number at a place.
+//! Reading a number at a place.
 ghost use Rattle.std.specs.Prelude.{◌≡◌, ◌≤◌, ◌+◌, length};
 ghost use Rattle.le_numbers.specs.Numbers.{number_at};
 

@@ -1,4 +1,4 @@
-// Writing a number at a place, or behind other bytes.
+//! Writing a number at a place, or behind other bytes.
 ghost use Rattle.std.specs.Prelude.{◌≡◌, ◌≤◌, ◌<◌, ◌+◌, ◌++◌, length, take, drop, vec_len, vec_capacity, OnOk, OnErr};
 ghost use Rattle.le_numbers.specs.Numbers.{number_bytes};
 

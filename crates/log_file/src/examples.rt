@@ -1,4 +1,4 @@
-// Bytes that are no log file, each with the first thing that is wrong with them.
+//! Bytes that are no log file, each with the first thing that is wrong with them.
 ghost use Rattle.std.specs.Prelude.{◌≡◌, ◌∷◌, ◌++◌, [], false, replicate, List, ℕ, Some};
 ghost use Rattle.std.specs.Str.{bytes_eq};
 ghost use Rattle.sha2.specs.Sha256.{sha256};

@@ -1,4 +1,4 @@
-// What files and logs have to do with each other.
+//! What files and logs have to do with each other.
 ghost use Rattle.std.specs.Prelude.{◌≡◌, ◌≢◌, List, ℕ};
 ghost use Rattle.log_file.specs.declared.error.FileError.{FileError};
 ghost use Rattle.log_file.specs.declared.error.FileError.TheVariants.{OutOfMemory};

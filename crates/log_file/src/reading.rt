@@ -1,4 +1,4 @@
-// Reading a file.
+//! Reading a file.
 ghost use Rattle.std.specs.Prelude.{◌≡◌, ◌≤◌, ◌++◌, length, drop, None, MatchResult, IfOk, IfErr};
 ghost use Rattle.log_order.specs.Content.{Content};
 ghost use Rattle.log_file.specs.declared.error.FileError.TheVariants.{OutOfMemory};

@@ -1,4 +1,4 @@
-// What bytes are to the reader of logs.
+//! What bytes are to the reader of logs.
 ghost use Rattle.log_file.specs.Readings.{AreReadOrRefused};
 
 use le_numbers::laws::read_numbers_are_written;

@@ -1,4 +1,4 @@
-// Writing a file.
+//! Writing a file.
 ghost use Rattle.std.specs.Prelude.{◌≡◌, ◌<◌, ◌≤◌, ◌++◌, ◌^◌, length, IfOk, OnOk};
 ghost use Rattle.le_numbers.specs.Numbers.{number_bytes};
 ghost use Rattle.log_file.specs.Layout.{magic, settings_bytes, signed_bytes, spelling};

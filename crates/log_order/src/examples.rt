@@ -1,4 +1,4 @@
-// Records that are in order, and records that break a rule of it.
+//! Records that are in order, and records that break a rule of it.
 ghost use Rattle.std.specs.Prelude.{◌≡◌, ◌∷◌, ◌++◌, [], Some, None};
 ghost use Rattle.log_record.specs.declared.record.Record.TheVariants.{FirstLoad, ScOk, Edge};
 ghost use Rattle.log_order.specs.Order.{order_break, broken_by};

@@ -1,4 +1,4 @@
-// What a log says.
+//! What a log says.
 ghost use Rattle.std.specs.Prelude.{◌≡◌, ◌≤◌, Some, IfOk, IfErr};
 ghost use Rattle.std.specs.List.{AllByRecursion};
 ghost use Rattle.log_record.specs.Spelling.{Fits, total};

@@ -1,4 +1,4 @@
-// Laws of the order of records.
+//! Laws of the order of records.
 ghost use Rattle.std.specs.Prelude.{◌≡◌, ◌+◌, ◌++◌, ◌∷◌, [], ℕ, true, List, length, replicate, Some, None, Ok, Err};
 ghost use Rattle.std.specs.List.{AllByRecursion};
 ghost use Rattle.bn_base.specs.declared.settings.RawSettings.{RawSettings};

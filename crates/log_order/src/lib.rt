@@ -1,4 +1,4 @@
-// In which order the records of a log come, and what a log says whose records keep it.
+//! In which order the records of a log come, and what a log says whose records keep it.
 #![tactic(auto)]
 
 mod examples;

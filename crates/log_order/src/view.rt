@@ -1,4 +1,4 @@
-// What the records so far say of a hart.
+//! What the records so far say of a hart.
 ghost use Rattle.std.specs.Prelude.{◌≡◌};
 ghost use Rattle.log_order.specs.Rules.{takes_header, takes_other, is_awaited, has_edge, has_end, next_number, phase_after, after_header, after_edge, after_end, after_other, after_one, fresh, is_over, is_unfinished};
 

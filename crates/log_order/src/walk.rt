@@ -1,4 +1,4 @@
-// The first break of the order of records.
+//! The first break of the order of records.
 ghost use Rattle.std.specs.Prelude.{◌≡◌, ◌<◌, ◌≤◌, ◌^◌, ◌==◌};
 ghost use Rattle.std.specs.List.{list_any};
 ghost use Rattle.bn_base.specs.declared.settings.TheConstants.{HARTS};

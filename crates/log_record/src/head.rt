@@ -1,4 +1,4 @@
-// What stands before the records of a log.
+//! What stands before the records of a log.
 use bn_base::Settings;
 
 /// The settings of the recording, and the SHA-256 digest (FIPS 180-4) of the recorded program's

@@ -1,4 +1,4 @@
-// What the bytes of records have to do with each other.
+//! What the bytes of records have to do with each other.
 ghost use Rattle.std.specs.Prelude.{◌≡◌, Some, length};
 ghost use Rattle.log_record.specs.declared.record.Record.{Record};
 ghost use Rattle.log_record.specs.Spelling.{size_of, tag_of, bytes_of, FitsFields};

@@ -1,4 +1,4 @@
-// A list of records.
+//! A list of records.
 ghost use Rattle.std.specs.Prelude.{◌≡◌, ◌<◌, ◌^◌, ◌++◌, ◌∷◌, [], length, slice_index_or, is_ok, if◌then◌else◌, IfOk, IsTrue, ◌↔◌};
 ghost use Rattle.log_record.specs.Entries.{record_of};
 

@@ -1,4 +1,4 @@
-// Reading a record.
+//! Reading a record.
 ghost use Rattle.std.specs.Prelude.{◌≡◌, ◌≤◌, ◌++◌, ◌∷◌, List, ℕ, Some, length, slice_index, IfSome};
 ghost use Rattle.log_record.specs.declared.record.Record.{Record};
 ghost use Rattle.log_record.specs.Spelling.{size_of, bytes_of, has_value, has_no_value, is_mark, is_marked, Fits, BeginsWith};

@@ -1,4 +1,4 @@
-// The records of a log.
+//! The records of a log.
 ghost use Rattle.std.specs.Prelude.{◌≡◌, ◌≤◌, length};
 ghost use Rattle.log_record.specs.Spelling.{bytes_of, hart_of};
 

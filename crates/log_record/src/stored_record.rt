@@ -1,4 +1,4 @@
-// What a list keeps of a record.
+//! What a list keeps of a record.
 ghost use Rattle.std.specs.Prelude.{◌≡◌, ◌++◌, OnOk, OnErr};
 ghost use Rattle.log_record.specs.Entries.{entry_of, states_of};
 

@@ -1,4 +1,4 @@
-// The ring.
+//! The ring.
 ghost use Rattle.std.specs.Prelude.{◌≡◌, ◌++◌, ◌∷◌, [], ◌+◌, ◌-◌, ◌<◌, ◌≤◌, ◌^◌, length, List, ◌↔◌, IfOk, Some, slice_get, IsTrue};
 ghost use Rattle.std.specs.List.{flat_map, AllByRecursion};
 ghost use Rattle.log_record.specs.declared.record.Record.{Record};

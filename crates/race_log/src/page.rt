@@ -1,4 +1,4 @@
-// The slots of a page: for each of its words one for a write, and after it one for a read of each hart.
+//! The slots of a page: for each of its words one for a write, and after it one for a read of each hart.
 ghost use Rattle.std.specs.Prelude.{◌≡◌, ◌+◌, ◌<◌, ◌≤◌, ℕ, Some, IsOk, OnOk, IsTrue, length, slice_get, vec_len};
 ghost use Rattle.race_log.specs.Slots.{word_in, is_marked, marks_in, KeepsIn, StaysSettled};
 ghost use Rattle.race_log.specs.Words.{epoch_counts};

@@ -1,4 +1,4 @@
-// Sweeps of all that is kept.
+//! Sweeps of all that is kept.
 ghost use Rattle.std.specs.Prelude.{◌≡◌, ◌≢◌, ◌+◌, ◌*◌, ◌/◌, ◌<◌, ◌≤◌, ℕ, length, vec_len};
 ghost use Rattle.bn_base.specs.declared.settings.TheConstants.{HARTS};
 ghost use Rattle.race_log.specs.Words.{kept_in, has_room, IsAsLarge};

@@ -1,4 +1,4 @@
-// What a system call does.
+//! What a system call does.
 use bn_base::Addr;
 
 /// What a system call does. All but the ends of a hart and of the run go on with an answer in a0.

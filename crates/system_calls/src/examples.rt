@@ -1,4 +1,4 @@
-// System calls of a small program that are answered with an error, or do less than they are asked for.
+//! System calls of a small program that are answered with an error, or do less than they are asked for.
 ghost use Rattle.std.specs.Prelude.{◌≡◌, ◌-◌, ◌^◌};
 ghost use Rattle.system_calls.specs.declared.effect.Plan.TheVariants.{Fill, Send, Break, Answer};
 ghost use Rattle.system_calls.specs.Calls.{plan_of};

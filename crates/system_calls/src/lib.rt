@@ -1,5 +1,5 @@
-// System calls of a guest program, by the conventions of Linux on RISC-V: the number stands in a7,
-// the arguments in a0, a1 and a2, and the answer comes in a0.
+//! System calls of a guest program, by the conventions of Linux on RISC-V: the number stands in a7,
+//! the arguments in a0, a1 and a2, and the answer comes in a0.
 #![tactic(auto)]
 
 pub mod effect;
