@@ -1,4 +1,4 @@
--- Where an address is, among parts that stand apart.
+-- The part that an address is in, among parts without a common word.
 use Rattle.std.proofs.Common.{arith, ◌≡◌, ◌≤◌, ◌<◌, ◌+◌, ◌-◌, ◌*◌, ◌/◌, ◌%◌, ℕ, zero, suc, Bool, true, false, List, [], ◌∷◌, length, slice_index_or, refl, sym, ap, subst, inl, inr, ◌∙◌, ◌⊎◌, max, leb, leb-true, leb-false}
 use Rattle.std.specs.List.Sorted.{IsNonDecreasingBy, IsPartitionPoint}
 use Rattle.std.proofs.lemmas.Bool.{cases_lt}
@@ -48,7 +48,7 @@ part_at-found low high (p ∷ ps) (suc k) a d h below has =
     let out = out_high p a (omega (arith, far, in_low (slice_index_or ps k d) a has)) in
     part_at-out p ps a out ∙ part_at-found (end_of p) high ps k a d h.1 b has
 
--- where no part has it, none is found
+-- no part is found at an address that is in none
 pub part_at-missing : (ps : List Part) (a : ℕ) (d : Part) → ((k : ℕ) → k < length ps → is_in (slice_index_or ps k d) a ≡ false) → part_at ps a ≡ None
 part_at-missing [] a d out = refl
 part_at-missing (p ∷ ps) a d out =

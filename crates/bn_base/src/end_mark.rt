@@ -1,4 +1,4 @@
-//! How an interval ends.
+//! How an interval ends: the reason's codes are stored in logs, so the law at the end pins each.
 ghost use Rattle.std.specs.Prelude.{◌≡◌, ◌+◌, ℕ};
 ghost use Rattle.bn_base.specs.EndMarks.{reason_word};
 ghost use Rattle.bn_base.specs.Faults.{fault_number};
@@ -16,10 +16,10 @@ pub struct EndMark {
     pub value: u32,
 }
 
-/// The interval has its full length. The value is 0, and the hart goes on.
+/// The interval has its full length. The value is 0, and the hart continues.
 pub const LENGTH: u8 = 1;
 
-/// A system call that goes on. The value is its result.
+/// A system call after which the hart continues. The value is its result.
 pub const CALL: u8 = 2;
 
 /// The hart's exit. The value is its a0.
@@ -32,7 +32,7 @@ pub const GROUP: u8 = 4;
 pub const STOPPED: u8 = 5;
 
 /// The guard: ahead of an ask, the records since the interval's Header have more than half of the
-/// log size. The value is 0, and the hart goes on. Logs of version 1 have no such mark.
+/// log size. The value is 0, and the hart continues. Logs of version 1 have no such mark.
 pub const GUARD: u8 = 6;
 
 /// The hart has done as many instructions as it may. The value is 0.

@@ -1,4 +1,4 @@
-//! What can be wrong with an instruction.
+//! Why an instruction can't be done. Logs store the numbers, and texts have the names.
 ghost use Rattle.std.specs.Prelude.{◌≡◌, ◌<◌, ◌⊎◌, ◌↔◌, ℕ, IsNone, IfSome};
 ghost use Rattle.bn_base.specs.Faults.{fault_number, fault_name};
 
@@ -43,7 +43,7 @@ impl Fault {
         }
     }
 
-    /// The fault of that number; `None` where it isn't 1 to 9.
+    /// The fault of that number; `None` if it isn't 1 to 9.
     pub fn from_number(number: u8) -> Option<Fault>
         ensures same { IfSome result (λ f. fault_number f ≡ number) }
         ensures none { IsNone result ↔ ((number ≡ 0) ⊎ (9 < number)) }

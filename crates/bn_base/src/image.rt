@@ -1,4 +1,4 @@
-//! A program as loaded.
+//! A program as loaded: its segments and its entry. Recorders and replays read code and first values from it.
 ghost use Rattle.std.specs.Prelude.{◌≡◌, ◌≤◌, ◌%◌, ◌^◌, ℕ, true, Some, None, IfOk, IfSome, MatchOption};
 ghost use Rattle.std.specs.Bool.{Decides};
 ghost use Rattle.std.specs.Cmp.{and_per, on_per};
@@ -116,7 +116,7 @@ impl Image {
         }
     }
 
-    /// The code word at an address; `None` exactly where there is none.
+    /// The code word at an address; `None` outside executable segments and at unaligned addresses.
     pub fn code(&self, addr: Addr) -> Option<u32>
         ensures { result ≡ code_at self.now addr }
     {
@@ -170,7 +170,7 @@ impl Image {
         }
     }
 
-    /// Where every hart starts.
+    /// The pc at which every hart starts.
     pub fn entry(&self) -> Addr
         ensures { result ≡ self.now.entry }
     {
@@ -205,7 +205,7 @@ impl Image {
         }
     }
 
-    /// Where the heap begins: the end of the highest segment, rounded up to 4,096.
+    /// The address at which the heap begins: the end of the highest segment, rounded up to 4,096.
     pub fn heap_start(&self) -> Addr
         ensures value { result ≡ heap_start self.now }
         ensures bound { result ≤ self.now.memory }
@@ -214,8 +214,8 @@ impl Image {
         ((self.highest_end() + 4095) / 4096 * 4096) as u32
     }
 
-    /// How far the heap may grow: memory less 65,536 for each hart, or the heap's start where
-    /// that is greater.
+    /// How far the heap may grow: memory less 65,536 for each hart, or the heap's start if that is
+    /// greater.
     pub fn heap_limit(&self) -> Addr
         ensures value { result ≡ heap_limit self.now }
         ensures bound { result ≤ self.now.memory }

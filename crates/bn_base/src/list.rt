@@ -1,4 +1,4 @@
-//! A list that is stored as a Vec.
+//! A Vec of which contracts see the items alone, so that fields of this type need no capacity in any statement.
 ghost use Rattle.std.specs.Prelude.{◌≡◌, ◌+◌, ◌++◌, ◌∷◌, [], ◌<◌, ◌^◌, List as ListOf, length, slice_get, OnOk, OnErr, IfOk};
 
 use std::alloc::{AllocError, Global};

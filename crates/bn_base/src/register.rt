@@ -1,4 +1,4 @@
-//! The numbers of registers.
+//! The number of a register. Its type has the range, so that no caller tests it.
 ghost use Rattle.std.specs.Prelude.{◌≡◌, ◌<◌, ℕ};
 
 use std::marker::Model;

@@ -1,4 +1,4 @@
-//! The contents of the registers.
+//! The contents of the registers, as harts run on them and as Headers store them.
 ghost use Rattle.std.specs.Prelude.{◌≡◌, ◌<◌, ℕ, List, length, slice_index, drop};
 ghost use Rattle.bn_base.specs.Registers.{put_reg};
 

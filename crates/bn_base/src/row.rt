@@ -1,4 +1,4 @@
-//! What one instruction did.
+//! What one instruction did: the unit of which replays, their texts, slices and race reports are made.
 use crate::fault::Fault;
 use crate::register::Register;
 use crate::{Addr, HartId, Ic};
@@ -13,12 +13,12 @@ pub struct Row {
     /// The number of instructions that the hart had done before it.
     pub ic: Ic,
     pub pc: u32,
-    /// The instruction word; `None` where the pc is at no code word.
+    /// The instruction word; `None` if the pc is at no code word.
     pub word: Option<u32>,
     /// The register that it wrote, other than x0, with its new contents.
     pub reg: Option<(Register, u32)>,
     pub load: Option<(Addr, u32)>,
     pub store: Option<(Addr, u32)>,
-    /// The fault and its value, where it wasn't done.
+    /// The fault and its value, if it wasn't done.
     pub fault: Option<(Fault, u32)>,
 }

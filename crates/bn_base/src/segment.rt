@@ -1,4 +1,4 @@
-//! A stretch of a program's memory.
+//! A segment of a program: words that the file gives, zeros after them, and permissions.
 ghost use Rattle.std.specs.Prelude.{◌≡◌, ◌≤◌, ◌+◌, ◌*◌, ◌%◌, ◌^◌, ℕ, true, vec_len, IfOk};
 ghost use Rattle.std.specs.Bool.{Decides};
 ghost use Rattle.std.specs.Cmp.Rules.{comparing};

@@ -1,4 +1,4 @@
-//! What a recording is set to.
+//! The settings of a recording, and the first that is out of range. A log's head stores them.
 ghost use Rattle.std.specs.Prelude.{◌≡◌, ◌<◌, ◌≤◌, ◌*◌, ◌^◌, ◌%◌, ℕ, IsTrue, IfSome};
 ghost use Rattle.std.specs.Int.{is_power_of_two};
 ghost use Rattle.bn_base.specs.Ranges.{is_between, is_small_power, is_memory_size, is_second_sets, is_second_ways, most_harts, checked, first_bad, setting_name, IsSetting};
@@ -30,9 +30,9 @@ pub struct RawSettings {
     pub line: u64,
     /// The version of the log file.
     pub format: u64,
-    /// The number of sets of the second level of each hart's cache; 0 where it has none.
+    /// The number of sets of the second level of each hart's cache; 0 if there is none.
     pub sets2: u64,
-    /// The number of lines in a set of the second level; 0 where there is none.
+    /// The number of lines in a set of the second level; 0 if there is none.
     pub ways2: u64,
 }
 
@@ -60,7 +60,7 @@ pub struct BadSetting {
 /// | line | a power of two, 1 to 16 |
 /// | format | 1 to 2 |
 /// | sets2 | 0; with format 2 also a power of two, 1 to 4,096 |
-/// | ways2 | 0 where sets2 is 0, else 1 to 16 |
+/// | ways2 | 0 if sets2 is 0, else 1 to 16 |
 #[derive(Clone, Copy, PartialEq, Eq, Drop)]
 pub struct Settings {
     raw: RawSettings,
@@ -86,8 +86,8 @@ impl Default for RawSettings {
     ghost is_default = { λ s. s ≡ default_settings };
 
     /// One hart, intervals of 100,000 instructions, a limit of 10^9 instructions, 1 MiB of log,
-    /// 1 MiB of memory, a cache of 64 sets of 4 lines of 8 words with no second level, and log
-    /// files of version 1.
+    /// 1 MiB of memory, and log files of version 1. The cache has 64 sets of 4 lines of 8 words and
+    /// no second level.
     fn default() -> RawSettings {
         RawSettings {
             harts: 1,
@@ -142,21 +142,18 @@ impl BadSetting {
     }
 }
 
-// Whether a value is from low to high.
 fn is_between(low: u64, high: u64, value: u64) -> bool
     ensures { result ≡ is_between low high value }
 {
     low <= value && value <= high
 }
 
-// Whether a value is a power of two from 1 to high.
 fn is_small_power(high: u64, value: u64) -> bool
     ensures { result ≡ is_small_power high value }
 {
     is_between(1, high, value) && value.is_power_of_two()
 }
 
-// Whether a value is a size of memory.
 fn is_memory_size(value: u64) -> bool
     ensures { result ≡ is_memory_size value }
 {
@@ -179,7 +176,7 @@ fn is_second_sets(raw: &RawSettings) -> bool
     raw.sets2 == 0 || raw.format == 2 && is_small_power(4096, raw.sets2)
 }
 
-// Whether it has so many ways: none exactly where it has no sets.
+// Whether a second level has so many ways: none if and only if it has no sets.
 // Sets are tested first, so ways without sets are refused as ways.
 fn is_second_ways(raw: &RawSettings) -> bool
     ensures { result ≡ is_second_ways raw.now }
@@ -197,7 +194,6 @@ fn bad(field: u8, value: u64) -> Option<BadSetting>
     Some(BadSetting { field, value })
 }
 
-// The first setting that is out of range.
 fn first_bad(raw: &RawSettings) -> Option<BadSetting>
     ensures { result ≡ first_bad raw.now }
 {
@@ -340,7 +336,7 @@ impl Settings {
         self.raw.format as u8
     }
 
-    /// The number of sets of the second level of each hart's cache, a power of two; 0 where it has none.
+    /// The number of sets of the second level of each hart's cache, a power of two; 0 if there is none.
     pub fn second_sets(&self) -> u32
         ensures value { result ≡ self.now.sets2 }
         ensures high { result ≤ 4096 }
@@ -348,7 +344,7 @@ impl Settings {
         self.raw.sets2 as u32
     }
 
-    /// The number of lines in a set of the second level; 0 where there is none.
+    /// The number of lines in a set of the second level; 0 if there is none.
     pub fn second_ways(&self) -> u32
         ensures value { result ≡ self.now.ways2 }
         ensures high { result ≤ 16 }

@@ -1,4 +1,4 @@
-//! The state of a hart.
+//! The state of a hart. A Header has one for its interval's start, and a replay begins with it.
 use crate::Ic;
 use crate::registers::Registers;
 

@@ -118,7 +118,7 @@ put_in fs n j a v f g page place below at len is =
         ap (λ k. (get_or (set fs n g) k no_frame).made) e ∙ ap (λ (h : Frame). h.made) (get_or-set_same fs n g no_frame below) ∙ ap (λ (h : Frame). h.made) (is ∙ ap (λ (h : Frame). let x : Frame = record h { words = set f.words j v } in x) here) ∙ ap (λ k. (get_or fs k no_frame).made) (sym e)
     by_page m here (inr e) = ap (λ (h : Frame). h.made) (get_or-set_other fs n m g no_frame e)
 
--- a list in which an address's word is written stands for the map that is updated there
+-- a list in which an address's word is written represents the map that is updated there
 pub holds_put : (ws : List ℕ) (a v : ℕ) (m : ℕ → ℕ) → a % 4 ≡ 0 → a < 4 * length ws → HoldsMap ws m → HoldsMap (set ws (a / 4) v) (updated a v m)
 holds_put ws a v m aligned mapped h = record { at = at }
   where

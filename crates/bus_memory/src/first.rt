@@ -1,4 +1,4 @@
-//! Pages as they stand before the run.
+//! Pages as they are before the run: what the program's file gives of each.
 ghost use Rattle.std.specs.Prelude.{◌≡◌, ◌≤◌, ◌<◌, ◌+◌, ◌*◌, ◌^◌, ℕ, slice_index, vec_len, IfOk};
 ghost use Rattle.bn_base.specs.Programs.{first_at};
 ghost use Rattle.bus_memory.specs.Contents.{is_touched};
@@ -8,7 +8,7 @@ use crate::page::{PAGE_BYTES, PAGE_WORDS, Page};
 use bn_base::Image;
 use std::alloc::{AllocError, Global};
 
-/// The page of a number before the run. It is made where a segment touches it.
+/// The page of a number before the run. It gets memory only if a segment touches it.
 pub(crate) fn first_page(alloc: Global, image: &Image, number: u32) -> Result<Page, AllocError>
     requires { number < 2 ^ 20 }
     ensures { IfOk result (λ p. IsFirstFrame image.now number p) }

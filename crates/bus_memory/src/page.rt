@@ -10,8 +10,8 @@ pub(crate) const PAGE_WORDS: u32 = 1024;
 /// How many bytes a page has.
 pub(crate) const PAGE_BYTES: u32 = 4096;
 
-/// A page of 1,024 words. It holds them, or none, which stand for zeros. One that is made holds
-/// them, and may be written.
+/// A page of 1,024 words. It holds them all, or none if all are zeros. One that is made holds them,
+/// and may be written.
 #[derive(Drop)]
 pub(crate) struct Page {
     words: Vec<u32>,
@@ -73,7 +73,7 @@ impl Page {
         self.words[place] = value;
     }
 
-    /// Finds memory for its words, where it has none yet. It says the same afterwards.
+    /// Finds memory for its words, unless it has some. Its words stay the same.
     pub(crate) fn find_memory(&mut self) -> Result<(), AllocError>
         ensures words { (k : ℕ) → slice_index self.new.words k ≡ slice_index self.old.words k }
         ensures made { self.new.made ≡ self.old.made }

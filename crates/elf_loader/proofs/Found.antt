@@ -44,7 +44,7 @@ found low high (q ∷ ps) p a apart has is = choice (λ there. found (end_of q) 
     choice later (inr there) =
         let out : is_in q a ≡ false = out_high q a (omega (arith, low_first (end_of q) high ps p apart.1 there, in_low p a is)) in ap (λ t. part_or t q (part_at ps a)) out ∙ later there
 
--- where no part has the address, none is found
+-- no part is found at an address that is in none
 pub missing : (ps : List Part) (a : ℕ) → All (λ p. is_in p a ≡ false) ps → part_at ps a ≡ None
 missing [] a out = refl
 missing (p ∷ ps) a out =

@@ -47,7 +47,7 @@ touches-bytes h addr is = (to, from)
     from (byte, low, high, e) = let ends = byte_to h.vaddr h.memsz addr byte (size_positive h is) low high e in
         between (first_word h) (word_after h) (addr / 4) ends.0 (omega (arith, ends.1, word_after-some h is))
 
--- two stretches that are not empty have a common number exactly where each begins before the other ends
+-- two ranges that are not empty have a common number if and only if each begins before the other ends
 meet_from : (a b c d : ℕ) → a < b → c < d → (ltb a d && ltb c b) ≡ true → (n : ℕ) × (a ≤ n) × (n < b) × (c ≤ n) × (n < d)
 meet_from a b c d ab cd e = let ad : a < d = grind arith in let cb : c < b = grind arith in (max a c, omega arith, omega arith, omega arith, omega arith)
 
@@ -186,7 +186,7 @@ never : (b : Bool) → true ≡ not (b && false)
 never true = refl
 never false = refl
 
--- an address has a code word exactly where a segment has one there
+-- an address has a code word if and only if a segment has one there
 code_there : (bytes : List ℕ) (p : Program) (addr : ℕ) → Laid bytes p → is_none (code_at p addr) ≡ not (is_code (segments bytes) addr)
 code_there bytes p addr l = by_code (find (has_code addr) (segments bytes)) refl
   where

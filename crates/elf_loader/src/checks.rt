@@ -1,4 +1,4 @@
-//! What is refused of a file, in order.
+//! What is refused of a file. `refusal` in `specs/` pins the order of the tests, and so each error.
 ghost use Rattle.std.specs.Prelude.{◌≡◌, ◌≤◌, length, IfOk, find};
 ghost use Rattle.std.specs.Result.{result_err};
 ghost use Rattle.elf_loader.specs.Headers.{file_header, table_end};

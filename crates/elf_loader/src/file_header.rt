@@ -1,4 +1,4 @@
-//! The ELF header.
+//! The ELF header: the fields that the loader reads, at the places that ELF gives them.
 ghost use Rattle.std.specs.Prelude.{◌≡◌, ◌≤◌, length};
 ghost use Rattle.elf_loader.specs.Headers.{file_header, table_end};
 ghost use Rattle.elf_loader.specs.Loaded.{is_rv32};
@@ -37,9 +37,9 @@ pub struct FileHeader {
     pub machine: u16,
     /// The version of the file.
     pub version: u32,
-    /// Where the program starts.
+    /// The address at which the program starts.
     pub entry: Addr,
-    /// Where the program header table begins in the file.
+    /// The offset of the program header table in the file.
     pub phoff: u32,
     /// What the program asks of the processor.
     pub flags: u32,
@@ -83,7 +83,7 @@ impl FileHeader {
             && (self.phnum == 0 || self.phentsize as usize == HEADER_SIZE)
     }
 
-    /// Where the program header table ends in the file.
+    /// The offset after the program header table in the file.
     pub fn table_end(&self) -> u64
         ensures { result ≡ table_end self.now }
     {

@@ -1,4 +1,4 @@
-//! What the definitions mean, address by address.
+//! What the definitions mean, address by address: these laws are what the rest of the project takes of a loaded file.
 ghost use Rattle.elf_loader.specs.Laws.{SegmentsTouchTheirWords, SegmentsShareWords, MemoryHoldsSegments, MemoryHoldsNothingElse, HeapIsAfterSegments, LoadedProgramsAreImages};
 
 use le_numbers::laws::read_numbers_are_written;
@@ -8,7 +8,7 @@ pub fn segments_touch_the_words_of_their_bytes()
     ensures { SegmentsTouchTheirWords }
 {}
 
-/// Two segments share a word exactly where both touch it.
+/// Two segments share a word if and only if there is one that both touch.
 pub fn segments_share_words_that_both_touch()
     ensures { SegmentsShareWords }
 {}
@@ -28,8 +28,8 @@ pub fn heap_begins_after_the_highest_segment()
     ensures { HeapIsAfterSegments }
 {}
 
-/// The program of a file's bytes is one as its type has it, for settings in range: its segments are
-/// whole aligned words that stand apart in the mapped addresses, its words have 32 bits, and its
+/// For settings in range, the program of a file's bytes is one as its type has it: its segments are
+/// whole aligned words, which lie apart in the mapped addresses. Its words have 32 bits, and its
 /// entry is the address of a code word.
 pub fn loaded_programs_are_images()
     ensures { LoadedProgramsAreImages }

@@ -1,4 +1,4 @@
-//! From the bytes of a file to a program.
+//! `load`: from the bytes of a file to a program, for recorders and replays alike.
 ghost use Rattle.std.specs.Prelude.{◌≡◌, ◌≤◌, ◌%◌, ◌^◌, ◌⊎◌, true, length, map, filter, find, All, None, Ok, Err, IfOk, IfErr};
 ghost use Rattle.std.specs.List.{list_any};
 ghost use Rattle.elf_loader.specs.declared.error.ElfError.TheVariants.{OutOfMemory};
@@ -117,14 +117,14 @@ fn program(
 /// Loads the program of an ELF file (ELF, "Program Loading").
 ///
 /// A segment is a program header of type PT_LOAD with a size in memory above 0. Every aligned word
-/// that it touches holds its bytes, and 0 where the file has none; the word is code with PF_X and
-/// read-only without PF_W. Other types of headers and other flags mean nothing, nor do sections. All
-/// other mapped words are 0 and writable. Sums are taken in 64 bits.
+/// that it touches holds its bytes, and 0 for those that the file doesn't give. The word is code with
+/// PF_X, and read-only without PF_W. Other types of headers and other flags mean nothing, nor do
+/// sections. All other mapped words are 0 and writable. Sums are taken in 64 bits.
 ///
-/// The first of these that applies is the refusal. Where it comes for several segments, the first
-/// of them in the table is named.
+/// The first of these that applies is the refusal. If it applies to several segments, the first of
+/// them in the table is named.
 ///
-/// | refusal | comes where |
+/// | refusal | comes if |
 /// |---|---|
 /// | `NotElf` | the first four bytes aren't 7f 45 4c 46 |
 /// | `Truncated` at 52 | the file has fewer than 52 bytes |

@@ -26,9 +26,9 @@ pub struct ProgramHeader {
     pub place: u64,
     /// What it describes.
     pub kind: u32,
-    /// Where the segment begins in the file.
+    /// The offset of the segment in the file.
     pub offset: u32,
-    /// Where the segment begins in memory.
+    /// The address of the segment in memory.
     pub vaddr: Addr,
     /// How many bytes the file has of it.
     pub filesz: u32,
@@ -80,7 +80,7 @@ impl ProgramHeader {
         self.kind == PT_INTERP
     }
 
-    /// Where the segment ends in the file.
+    /// The offset after the segment in the file.
     pub fn file_end(&self) -> u64
         ensures { result ≡ file_end self.now }
     {

@@ -85,7 +85,7 @@ bits_there_are g n l d ws i h o p =
     sym (bits_only g n l w ws i p.0 t.1 t.0 (All-get_or (λ w. w.age ≤ n) ws i d p.0 o) (none_other d ws i l p.0 h (p.1 d)))
     ∙ ap (λ xs. bits_of l (latest_first g n xs)) (set-get_or ws i d)
 
--- the line is listed exactly where its place has it
+-- the line is listed if and only if its place has it
 pub listed_there : (g n l : ℕ) (d : Way) (ws : List Way) (i : ℕ) → AllPairs AreApart ws → All (λ w. w.age ≤ n) ws → IsPlaceFor l i ws
     → is_some (in_front l (latest_first g n ws)) ≡ has_line l (get_or ws i d)
 listed_there g n l d ws i h o (inl p) =
@@ -109,7 +109,7 @@ known_there g n l others d ws i h o at =
         ap (λ b. elim b as (λ x. ℕ) [ true ↦ (line_in g (get_or ws i d)).bits | false ↦ others ]) f
         ∙ sym (ap (λ b. elim b as (λ x. ℕ) [ true ↦ bits_of l (latest_first g n ws) | false ↦ others ]) (listed_there g n l d ws i h o (inr p) ∙ f))
 
--- ---- the lines after a touch and after a drop
+-- ---- the lines after an access and after a drop
 
 -- the others fill all places but one
 full_room : (g n : ℕ) (ws : List Way) (i : ℕ) (x : Line) → i < length ws → take (length ws) (x ∷ latest_first g n (others_of ws i)) ≡ x ∷ latest_first g n (others_of ws i)

@@ -138,7 +138,7 @@ lost_one g a x es = let xs = (levels g es).first (set_of g (line_of g a)) in one
 pub listed_among : (g : Geometry) (k : ℕ) (es : List Event) → 0 < g.ways → listed g k es ≡ among k (numbers ((levels g es).first (set_of g k)))
 listed_among g k es w = ap is_some (sym (first_agrees g es w k)) ∙ front_among k ((levels g es).first (set_of g k))
 
--- the lines that a touch leaves in its set
+-- the lines that an access leaves in its set
 set_after : (g : Geometry) (a : ℕ) (es : List Event) → let x = touched_line g a (levels g es) in let s = set_of g (line_of g a) in
     numbers ((levels g (Touch a ∷ es)).first s) ≡ take g.ways (x.number ∷ except x.number (numbers ((levels g es).first s)))
 set_after g a es = let x = touched_line g a (levels g es) in let s = set_of g (line_of g a) in

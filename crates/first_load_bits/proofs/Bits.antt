@@ -151,7 +151,7 @@ in_second g l es w = elim (eqb_tells g.ways2 0) [
       ap is_some (second_agrees g es w (omega (arith, d)) l) ∙ sym is
 ]
 
--- a line that is listed after a touch of another was listed before
+-- a line that is listed after an access of another was listed before
 listed_before : (g : Geometry) (l b : ℕ) (es : List Event) → line_of g b ≢ l → listed g l (Touch b ∷ es) ≡ true → listed g l es ≡ true
 listed_before g l b es d h = elim (tells g l (line_of g b)) [
   | own e ↦ absurd (d e)
@@ -165,7 +165,7 @@ listed_before g l b es d h = elim (tells g l (line_of g b)) [
 
 -- ---- the law, event by event
 
--- a touch of the line
+-- an access of the line
 touched_own : (g : Geometry) (a b : ℕ) (es : List Event) → 0 < g.ways → line_of g b ≡ line_of g a
     → bits_known g (line_of g a) (levels g (Touch b ∷ es)) ≡ bit_or (bits_known g (line_of g a) (levels g es)) (2 ^ place_of g b)
 touched_own g a b es w e = let l = line_of g a in
@@ -237,7 +237,7 @@ touched_below g a b es w d n h = let l = line_of g a in let s = set_of (second_o
       ap (λ gone. bits_of l (put_lost (second_of g) gone out s)) e.1 ∙ (put_bits (second_of g) l s y out other there ∙ out_bits (second_of g) l (line_of g b) s (levels g es).second d)
 ]
 
--- the bits of a line that is still held after a touch of another line, and of one that isn't
+-- the bits of a line that is still held after an access of another line, and of one that isn't
 touched_other : (g : Geometry) (a b : ℕ) (es : List Event) → 0 < g.ways → line_of g b ≢ line_of g a → held g (line_of g a) (Touch b ∷ es) ≡ true
     → bits_known g (line_of g a) (levels g (Touch b ∷ es)) ≡ bits_known g (line_of g a) (levels g es)
 touched_other g a b es w d h = let l = line_of g a in elim (cases_Bool (listed g l (Touch b ∷ es))) [

@@ -1,4 +1,4 @@
--- What a cache of two levels stands for after an event.
+-- Which history a cache of two levels represents after an event.
 use Rattle.std.proofs.Common.{◌≡◌, ◌≢◌, ℕ, ◌%◌, ◌+◌, ◌*◌, ◌^◌, ◌<◌, ◌≤◌, Bool, true, false, List, [], ◌∷◌, length, length-take, All, ◌-◌, get_or, set, take, drop, map, bit_or, is_some, ◌==◌, ◌↔◌, if◌then◌else◌, refl, sym, ◌∙◌, ap, ap₂, arith, subst, inl, inr}
 use Rattle.std.proofs.lemmas.Bool.{eq-eqb}
 use Rattle.std.proofs.lemmas.Bool.Decides.{eqb_tells}
@@ -48,7 +48,7 @@ bits_below c l es w h = let s = set_of (second_of c.geometry) l in elim (eqb_tel
   | inr e ↦ let some : 0 < c.geometry.ways2 = let d : c.geometry.ways2 ≢ 0 = e.1 in omega (arith, d) in ap (bits_of l) (h.sets_below s (mod_below l c.geometry.sets2 (w some)))
 ]
 
--- what the code reads and finds at a touch of line l, with these bits from below
+-- what the code reads and finds at an access of line l, with these bits from below
 pub record IsFound (c : Contents) (a l first i place below : ℕ) (ws : List Way) (w : Way) : Type 0 where
   pub sets : HasSets c
   pub kept : AreKept (first_level c)
@@ -72,14 +72,14 @@ touch_answers : (c : Contents) (a l first i place below : ℕ) (ws : List Way) (
 touch_answers c a l first i place below ws w es some f h =
     ap₂ (λ m p. bit_at m p == 1) (known_now c a l first i place below ws w es f h) f.place_is ∙ bits_law c.geometry a es some
 
--- an answer by a test says Warm exactly where the test holds
+-- an answer by a test says Warm if and only if the test holds
 answer_says : (b : Bool) (r : Warm) → r ≡ (if b then Warm.Warm else Warm.Cold) → ((r ≡ Warm.Warm) ↔ (b ≡ true))
 answer_says true r e = (λ h. refl, λ h. e)
 answer_says false r e = (λ h. cc, λ h. cc)
 
--- ---- a touch
+-- ---- an access
 
--- the way that a touch writes
+-- the way that an access writes
 abbrev pub touched_way : Contents → (l place below : ℕ) → Way → Way
 touched_way c l place below w = record { line = l; mask = bit_or (known_bits c.generation l below w) (2 ^ place); age = c.steps + 1; generation = c.generation }
 
@@ -220,7 +220,7 @@ read_second c now l first ways seen some f n w = record {
 pub mask_is : (known given place : ℕ) → place < 16 → known ≡ given → bit_or known (1 * 2 ^ place % 2 ^ 16) ≡ bit_or given (2 ^ place)
 mask_is known given place h e = ap₂ bit_or e (one_shl place 16 h)
 
--- a touch of a line that a way has, without a second level
+-- an access of a line that a way has, without a second level
 pub listed_is : (x : Contents) (a l first i place : ℕ) (w : Way) (told : Warm) → 0 < x.geometry.ways → 0 < x.geometry.sets → x.geometry.sets2 ≡ 0 → AreKept (first_level x) → AreKept (second_level x)
     → IsListed x a first i → l ≡ line_of x.geometry a → place ≡ place_of x.geometry a → w ≡ get_or x.ways (first + i) w
     → told ≡ (if bit_at (line_in x.generation w).bits place == 1 then Warm.Warm else Warm.Cold)

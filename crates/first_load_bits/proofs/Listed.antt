@@ -133,7 +133,7 @@ is_listed g l es w (Some ls) e h = let i = gathered g l w es ls e in record {
 fewer_fits : (n : ℕ) (ls : List ℕ) → length ls < n → fewer n (Some ls) ≡ Some ls
 fewer_fits n ls h = rw (lt-ltb (length ls) n h, fewer) refl
 
--- after a touch of l, and events since that neither touch nor drop it and leave it room
+-- after an access of l, and events since that neither touch nor drop it and leave it room
 later_lines_since : (g : Geometry) (l a : ℕ) (before since : List Event) → line_of g a ≡ l
     → All (λ e. ¬ IsTouchOf g l e) since → All (λ e. ¬ IsDropOf g l e) since
     → ((n : ℕ) → n ≤ length since → length (others g l (drop n since)) < g.ways)

@@ -134,7 +134,7 @@ IsDistinct-others g l (Clear ∷ es) = IsDistinct-others g l es
 
 -- ---- `undropped` says what it is called
 
--- a list of events that goes on with one that isn't a touch, or isn't a drop, of the line
+-- a list of events, and one more that isn't an access, or isn't a drop, of the line
 pub touch_more : (g : Geometry) (k : ℕ) (e : Event) (since es : List Event) → ¬ IsTouchOf g k e → IsSinceTouch g k since es → IsSinceTouch g k (e ∷ since) (e ∷ es)
 touch_more g k e since es n t = record {
   addr = t.addr;
@@ -180,7 +180,7 @@ pub is_undropped : (g : Geometry) (k : ℕ) (es : List Event) → IsUndropped g 
 is_undropped g k es u = let t = u.touched in
     subst (λ (x : List Event). undropped g k x ≡ true) (sym t.parts) (from_since g k t.addr t.before u.since t.touch t.last u.undropped)
 
--- ---- there are n others exactly where the list has n or more
+-- ---- there are n others if and only if the list has n or more
 
 others_each : (g : Geometry) (l k : ℕ) (es : List Event) → among k (others g l es) ≡ true → (k ≢ l) × (set_of g k ≡ set_of g l) × IsUndropped g k es
 others_each g l k es m =

@@ -89,7 +89,7 @@ same_place l k (x ∷ xs) ls ks p q e = elim (eqb_tells x.number l) [
   ]
 ]
 
--- at most one line falls at a touch
+-- an access evicts at most one line
 pub one_falls : (g : Geometry) (l k a : ℕ) (es : List Event) → 0 < g.ways → falls g l a es ≡ true → falls g k a es ≡ true → l ≡ k
 one_falls g l k a es w p q =
     let i = is_last g l a es w p in

@@ -20,7 +20,7 @@ line_of_word g a b e = sym (div-div-eq-div-mul a 4 g.line) ∙ (ap (λ w. w / g.
 pub warm_touch_own : (g : Geometry) (a b : ℕ) (es : List Event) → (word_of b == word_of a) ≡ true → warm g a (Touch b ∷ es) ≡ true
 warm_touch_own g a b es e = rw (e, warm) refl
 
--- a touch of another word, by whether the line is held then
+-- an access of another word, by whether the line is held then
 pub warm_touch_held : (g : Geometry) (a b : ℕ) (es : List Event) → (word_of b == word_of a) ≡ false → held g (line_of g a) (Touch b ∷ es) ≡ true → warm g a (Touch b ∷ es) ≡ warm g a es
 warm_touch_held g a b es e f = rw (e, f, warm) refl
 
@@ -158,7 +158,7 @@ from_warm g a es w h =
 pub warm_is : (g : Geometry) (a : ℕ) (es : List Event) → 0 < g.ways → (IsTrue (warm g a es) ↔ IsWarm g a es)
 warm_is g a es w = (is_warm g a es w, from_warm g a es w)
 
--- ---- only a touch of a word warms it
+-- ---- only an access of a word warms it
 
 pub warm_before_touch : (g : Geometry) (a b : ℕ) (es : List Event) → word_of b ≢ word_of a → warm g a (Touch b ∷ es) ≡ true → warm g a es ≡ true
 warm_before_touch g a b es n h = let other = ne_eqb (word_of b) (word_of a) n in elim (cases_Bool (held g (line_of g a) (Touch b ∷ es))) [

@@ -1,8 +1,8 @@
 -- What happens to a hart's cache, and how addresses fall into words, lines and sets.
 use Rattle.std.specs.Prelude.{ℕ, ◌*◌, ◌/◌, ◌%◌, ◌≡◌}
 
--- the shape of a cache: how many sets it has, how many lines a set lists, how many words a line has; and the sets and lines
--- of its second level, both 0 if it has none
+-- the shape of a cache: how many sets it has, how many lines a set lists, and how many words a line has. So for the sets
+-- and lines of its second level, both 0 if it has none
 pub record Geometry : Type 0 where
   pub sets : ℕ
   pub ways : ℕ
@@ -10,7 +10,7 @@ pub record Geometry : Type 0 where
   pub sets2 : ℕ
   pub ways2 : ℕ
 
--- a touch of the word at an address, a drop of the line at an address, or a clear
+-- an access of the word at an address, a drop of the line at an address (an invalidation), or a clear
 pub data Event : Type 0 where
   Touch : (addr : ℕ) → Event
   Drop : (addr : ℕ) → Event
@@ -36,7 +36,7 @@ second_of g = record { sets = g.sets2; ways = g.ways2; line = g.line; sets2 = 0;
 abbrev pub line_start : Geometry → ℕ → ℕ
 line_start g l = l * (4 * g.line)
 
--- the event is a touch of the line
+-- the event is an access of the line
 abbrev pub IsTouchOf : Geometry → ℕ → Event → Type 0
 IsTouchOf g l (Touch a) = line_of g a ≡ l
 IsTouchOf g l (Drop a) = ⊥

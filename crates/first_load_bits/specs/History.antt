@@ -33,13 +33,13 @@ pub record IsListed (g : Geometry) (l : ℕ) (es : List Event) : Type 0 where
   pub undropped : All (λ e. ¬ IsDropOf g l e) since
   pub room : (n : ℕ) → n ≤ length since → ¬ HasOthers g l g.ways (drop n since)
 
--- Line l falls at a touch: it stops being listed there, without a drop.
+-- An access evicts line l from the first level: it was listed, and isn't any more.
 pub record Falls (g : Geometry) (l addr : ℕ) (es : List Event) : Type 0 where
   pub listed : IsListed g l es
   pub lost : ¬ IsListed g l (Touch addr ∷ es)
 
--- What happened to the second level. A line that is touched or dropped leaves it, as by a drop of its own there; and then the
--- line that falls at the touch comes to it, as by a touch of its own.
+-- What happened to the second level. A line that is touched or dropped leaves it, as by a drop of its own there. Then the
+-- line that the access evicts comes to it, as by an access of its own.
 -- (The second level has a history of its own, so what is proved of one level serves twice.)
 pub data IsSecond (g : Geometry) : List Event → List Event → Type 0 where
   Nothing : IsSecond g [] []

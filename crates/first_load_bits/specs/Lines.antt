@@ -67,12 +67,12 @@ pub record Levels : Type 0 where
 abbrev pub bits_known : Geometry → ℕ → Levels → ℕ
 bits_known g l ls = let xs = ls.first (set_of g l) in elim (is_some (in_front l xs)) [ true ↦ bits_of l xs | false ↦ bits_of l (ls.second (set_of (second_of g) l)) ]
 
--- the line of a touch: with the bits that were known, and the bit of the word
+-- the line of an access, with the bits that were known, and the bit of the word
 abbrev pub touched_line : Geometry → ℕ → Levels → Line
 touched_line g a ls = let l = line_of g a in record { number = l; bits = bit_or (bits_known g l ls) (2 ^ place_of g a) }
 
--- A touch takes its line out of the second level and puts it in front of its set; the line that has no room there any more is
--- put in front of its second set.
+-- An access takes its line out of the second level and puts it first in its set. The line that has no room there any more
+-- is put first in its second set.
 abbrev pub touched : Geometry → ℕ → Levels → Levels
 touched g a ls =
     let l = line_of g a in

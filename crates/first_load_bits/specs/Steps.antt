@@ -1,4 +1,4 @@
--- The steps by which a cache takes in a touch or a drop.
+-- The steps by which a cache takes in an access or a drop.
 use Rattle.std.specs.Prelude.{ℕ, ◌+◌, ◌-◌, ◌*◌, ◌<◌, ◌≤◌, ◌≡◌, ◌↔◌, ◌∷◌, List, length, take, drop, if◌then◌else◌}
 use Rattle.first_load_bits.specs.declared.way.Way.{Way}
 use Rattle.first_load_bits.specs.declared.warm.Warm.{Warm}

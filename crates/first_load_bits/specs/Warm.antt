@@ -45,23 +45,23 @@ later_lines g l (Clear ∷ es) = later_lines g l es
 abbrev pub listed : Geometry → ℕ → List Event → Bool
 listed g l es = is_some (later_lines g l es)
 
--- whether line l falls at a touch: it stops being listed there
+-- whether an access evicts line l from the first level
 abbrev pub falls : Geometry → ℕ → (addr : ℕ) → List Event → Bool
 falls g l a es = listed g l es && not (listed g l (Touch a ∷ es))
 
--- the line among those touched in some events that falls at a touch, if one does
+-- the line among those touched in some events that an access evicts, if it evicts one
 abbrev pub fallen_among : Geometry → List Event → (addr : ℕ) → List Event → Option ℕ
 fallen_among g [] a es = None
 fallen_among g (Touch b ∷ bs) a es = elim (falls g (line_of g b) a es) [ true ↦ Some (line_of g b) | false ↦ fallen_among g bs a es ]
 fallen_among g (Drop b ∷ bs) a es = fallen_among g bs a es
 fallen_among g (Clear ∷ bs) a es = fallen_among g bs a es
 
--- a line that falls comes to the second level
+-- an evicted line comes to the second level
 abbrev pub with_fall : Geometry → Option ℕ → List Event → List Event
 with_fall g None below = below
 with_fall g (Some l) below = Touch (line_start g l) ∷ below
 
--- the history of the second level: a line that is touched or dropped leaves it, and then the line that falls at the touch
+-- the history of the second level: a line that is touched or dropped leaves it, and then the line that the access evicts
 -- comes to it
 abbrev pub second_history : Geometry → List Event → List Event
 second_history g [] = []

@@ -1,4 +1,5 @@
-//! A hart's cache.
+//! A hart's cache, as a recorder runs it: `touch` decides whether a load is logged. The definitions of `specs/History.antt`
+//! pin its answers, so how it keeps its lines may change.
 ghost use Rattle.std.specs.Prelude.{◌≡◌, ◌<◌, ◌≤◌, ◌+◌, ◌*◌, ◌^◌, ◌↔◌, ◌∷◌, [], List, IfOk, IsTrue, All, length, replicate, vec_len, if◌then◌else◌};
 ghost use Rattle.std.specs.Int.{is_power_of_two};
 ghost use Rattle.first_load_bits.specs.Events.{Event, Touch, Drop, Clear, line_of, set_of, second_of};
@@ -18,8 +19,8 @@ use std::marker::Model;
 /// A hart's cache: so many ways for each of its sets, and a second level of such sets, if the settings give one. It keeps
 /// the lines' numbers and bits alone, and counts its touches and clears.
 ///
-/// Contracts see a cache as its geometry, that count, the latest clear and its ways, and say by `RepresentsEvents` which histories
-/// of touches, drops and clears it stands for. Only `new` takes memory.
+/// Contracts see a cache as its geometry, that count, the latest clear and its ways. `RepresentsEvents` says which histories
+/// of touches, drops and clears a cache represents. Only `new` takes memory.
 #[derive(Drop)]
 pub struct Cache {
     // The ways of all sets, those of a set side by side; and so those of the second level.
@@ -27,7 +28,7 @@ pub struct Cache {
     // four, and an access reads one place of memory.
     ways: Vec<Way>,
     ways_below: Vec<Way>,
-    // How many ways a set has, 1 to 16; on the second level none where there is no such level.
+    // How many ways a set has, 1 to 16; on the second level 0 if there is no such level.
     width: usize,
     width_below: usize,
     // The numbers of sets are these powers of two, and so is the number of words in a line.
@@ -69,7 +70,7 @@ fn empty_ways(alloc: Global, set_bits: u32, width: usize) -> Result<Vec<Way>, Al
     vec![in alloc; empty; (1 << set_bits) * width]
 }
 
-// Which power of two a number of sets is; 0 where there are none.
+// Which power of two a number of sets is; 0 if there are none.
 fn power_of(sets: u64) -> u32
     requires { sets ≤ 4096 }
     ensures few { result ≤ 12 }
@@ -140,7 +141,7 @@ impl Cache {
         (line % (1 << self.set_bits_below)) as usize * self.width_below
     }
 
-    // Takes a line out of the second level, and gives its bits, none set where it isn't there.
+    // Takes a line out of the second level, and gives its bits, none set if it isn't there.
     #[inline(never)]
     fn take_below(&mut self, line: u32) -> u16
         ensures bits { IsBitsBelow self.old line result }
@@ -172,9 +173,9 @@ impl Cache {
         }
     }
 
-    /// Touches the word that has the byte at an address, and tells whether it was warm just before: whether, since some
-    /// touch of it after the last clear, the cache held its line at every moment. Its line takes the way that it has, or
-    /// else an empty one of its set, or the one that was touched longest ago, whose line falls to the second level.
+    /// Touches the word that has the byte at an address, and tells whether it was warm just before. It was if, since some
+    /// access of it after the last clear, the cache held its line at every moment. Its line takes the way that it has, else
+    /// an empty one of its set, else the one touched longest ago, whose line is evicted to the second level.
     #[inline(always)]
     pub fn touch(&mut self, addr: Addr) -> Warm
         requires { self.old.steps < 2 ^ 42 }

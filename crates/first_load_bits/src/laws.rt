@@ -14,10 +14,10 @@ pub fn tests_say_the_history()
     ensures warm { (g : Geometry) (a : ℕ) (es : List Event) → 0 < g.ways → (IsTrue (warm g a es) ↔ IsWarm g a es) }
 {}
 
-/// The lists that the rules of a cache give say the same. A line is listed exactly where it stands in its set's list of the
-/// first level, behind the lines that were touched later; and it is below exactly where it stands in its set's list of the
-/// second, behind the lines that fell later. No list is longer than its level's ways; and a word is warm exactly where its
-/// bit is set.
+/// The lists that the rules of a cache give say the same. A line is listed if and only if it is in its set's list of the
+/// first level, after the lines that were touched later. It is below if and only if it is in its set's list of the second,
+/// after the lines that were evicted later. No list is longer than its level's ways. A word is warm if and only if its bit
+/// is set.
 pub fn lists_say_the_history()
     ensures order { (g : Geometry) (l : ℕ) (es : List Event) → 0 < g.ways → in_front l (lines g (set_of g l) es) ≡ later_lines g l es }
     ensures few { (g : Geometry) (k : ℕ) (es : List Event) → length (lines g k es) ≤ g.ways }
@@ -27,7 +27,7 @@ pub fn lists_say_the_history()
     ensures warm { (g : Geometry) (a : ℕ) (es : List Event) → 0 < g.ways → is_set g a (levels g es) ≡ warm g a es }
 {}
 
-/// No event warms a word but a touch of that word, and no word of a dropped line is warm, nor any word after a clear.
+/// No event warms a word but an access of that word. No word of a dropped line is warm, nor any word after a clear.
 pub fn only_a_touch_warms()
     ensures touch { (g : Geometry) (a b : ℕ) (es : List Event) → word_of b ≢ word_of a → IsTrue (warm g a (Touch b ∷ es)) → IsTrue (warm g a es) }
     ensures drop { (g : Geometry) (a b : ℕ) (es : List Event) → IsTrue (warm g a (Drop b ∷ es)) → (line_of g b ≢ line_of g a) × IsTrue (warm g a es) }
@@ -74,7 +74,7 @@ pub fn worked_examples()
     ensures cleared_below { answers (with_second 1) [] (Touch 0 ∷ Touch 4 ∷ Clear ∷ Touch 0 ∷ []) ≡ false ∷ false ∷ false ∷ [] }
     ensures kept_below { lines_below (with_second 1) 0 (Clear ∷ Touch 4 ∷ Touch 0 ∷ []) ≡ record { number = 0; bits = 0 } ∷ [] }
 
-    // A touch puts its line in front, and a clear keeps the lines in their order.
+    // An access puts its line first, and a clear keeps the lines in their order.
     ensures front { lines small 0 (Touch 4 ∷ Touch 0x28 ∷ Touch 0 ∷ []) ≡ record { number = 0; bits = 3 } ∷ record { number = 2; bits = 4 } ∷ [] }
     ensures order { lines small 0 (Clear ∷ Touch 0x28 ∷ Touch 0 ∷ []) ≡ record { number = 2; bits = 0 } ∷ record { number = 0; bits = 0 } ∷ [] }
 {}

@@ -1,8 +1,8 @@
-//! What a touch answers.
+//! What a cache answers to an access: a warm word's value is not logged.
 ghost use Rattle.std.specs.Prelude.{◌≡◌, ◌<◌, ◌==◌, if◌then◌else◌};
 ghost use Rattle.std.specs.Int.{bit_at};
 
-/// What a cache knew of a word just before a touch of it.
+/// What a cache knew of a word just before an access of it.
 #[derive(Clone, Copy, Debug, Drop)]
 pub enum Warm {
     /// The word was touched since the last clear, and from some such touch on the cache has held its line.
@@ -11,7 +11,7 @@ pub enum Warm {
     Cold,
 }
 
-// The answer where the bits of the touched word's line were so, and the word has this place.
+// The answer if the bits of the touched word's line were so, and the word has this place.
 pub(crate) fn answer(bits: u16, place: u32) -> Warm
     requires { place < 16 }
     ensures { result ≡ (if bit_at bits place == 1 then Warm.Warm else Warm.Cold) }

@@ -80,7 +80,7 @@ fn oldest(set: &[Way]) -> usize
     oldest
 }
 
-// Where a line is to be put: into the way that has it, or else into an empty one or the one that was touched longest ago.
+// The way that a line is put into: the one that has it, else an empty one, else the one that was touched longest ago.
 pub(crate) fn place_for(set: &[Way], line: u32) -> usize
     requires { 0 < length set.now }
     ensures { IsPlaceFor line result set.now }

@@ -18,8 +18,8 @@ halves = flat_map (number_bytes 2)
 unfoldable pub identification : List ℕ
 identification = 127 ∷ 69 ∷ 76 ∷ 70 ∷ 1 ∷ 1 ∷ 1 ∷ 0 ∷ 0 ∷ 0 ∷ 0 ∷ 0 ∷ 0 ∷ 0 ∷ 0 ∷ 0 ∷ []
 
--- the ELF header: an executable (2) for RISC-V (243), version 1, that starts at 00010000; the two program headers stand
--- behind it, at 52, and there are no section headers
+-- the ELF header: an executable (2) for RISC-V (243), version 1, that starts at 00010000; the two program headers follow
+-- at 52, and there are no section headers
 unfoldable pub file_header : List ℕ
 file_header = identification ++ halves (2 ∷ 243 ∷ []) ++ words (1 ∷ 65536 ∷ 52 ∷ 0 ∷ 0 ∷ []) ++ halves (52 ∷ 32 ∷ 2 ∷ 0 ∷ 0 ∷ 0 ∷ [])
 

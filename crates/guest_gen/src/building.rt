@@ -1,4 +1,4 @@
-//! The files of generated programs.
+//! The files of generated programs, which tests and `demo` record. `specs/File.antt` pins each byte.
 ghost use Rattle.std.specs.Prelude.{◌≡◌, ◌++◌, IfOk, OnOk, length, map};
 ghost use Rattle.le_numbers.specs.Numbers.{number_bytes};
 ghost use Rattle.rv_decode.specs.Encode.{encoded};
@@ -27,7 +27,7 @@ const HEADERS: [u8; 116] = [
 // How many instructions are drawn.
 const SLOTS: usize = 256;
 
-// The headers, and nothing yet behind them.
+// The headers alone.
 fn begun(alloc: Global) -> Result<Vec<u8>, AllocError>
     ensures { IfOk result (λ bytes. bytes.items ≡ headers) }
 {
@@ -65,10 +65,9 @@ fn push_slots(out: &mut Vec<u8>, seed: u64) -> Result<(), AllocError>
     Ok(())
 }
 
-/// The program file that a number gives: an executable for RV32IMA of 1,156 bytes, with a segment of
-/// 260 code words at 0x10000, where it begins, and a page of zeroes at 0x20000 for data (ELF, "ELF
-/// Header" and "Program Header"). It takes the number of the hart that runs it from a0. The error is
-/// that memory is wanting.
+/// The program file that a number gives: an executable for RV32IMA of 1,156 bytes (ELF, "ELF Header"
+/// and "Program Header"). It has a segment of 260 code words at 0x10000, which is its entry, and a
+/// page of zeroes at 0x20000 for data. It takes the number of the hart that runs it from a0.
 pub fn guest(alloc: Global, seed: u64, kind: Kind) -> Result<Vec<u8>, AllocError>
     ensures { IfOk result (λ bytes. bytes.items ≡ guest_bytes seed kind) }
 {

@@ -1,6 +1,6 @@
 //! How a generated program ends.
 
-/// What stands behind the drawn instructions of a generated program.
+/// What follows the drawn instructions of a generated program.
 #[derive(Clone, Copy, Drop)]
 pub enum Kind {
     /// A jump back to the first of them: the program never ends by itself.

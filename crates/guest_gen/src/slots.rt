@@ -1,4 +1,4 @@
-//! The instructions of generated programs.
+//! The instructions of generated programs: each slot's is determined by one drawn number.
 ghost use Rattle.std.specs.Prelude.{◌≡◌, ◌<◌, ◌^◌};
 ghost use Rattle.rv_decode.specs.Seen.{seen};
 ghost use Rattle.guest_gen.specs.Code.{with_immediate, storing, of_registers, next, chosen, slot, closing, IsCode};
@@ -103,7 +103,7 @@ pub fn slot(drawn: u64) -> Instr
     chosen(drawn % 8, (drawn / 8 % 64) as u32)
 }
 
-/// What stands behind the slots.
+/// The instruction after the slots.
 pub fn closing(kind: Kind) -> Instr
     ensures { seen result ≡ closing kind }
 {

@@ -46,7 +46,7 @@ pub number_at-small : (width at : ℕ) (bytes : List ℕ) → AreBytes bytes →
 unfolding number_at
 number_at-small width at bytes are = little_from-lt 0 width (drop at bytes) (AreBytes-drop at bytes are)
 
--- where a field lies within the bytes, they go on there with the bytes of its number
+-- from the place of a field within the bytes, these are the bytes of its number and the rest
 pub drop-number_at : (width at : ℕ) (bytes : List ℕ) → AreBytes bytes → at + width ≤ length bytes
     → drop at bytes ≡ number_bytes width (number_at width at bytes) ++ drop (at + width) bytes
 unfolding number_at number_bytes
@@ -55,7 +55,7 @@ drop-number_at width at bytes are within =
     sym (take-append-drop width (drop at bytes))
     ∙ ap₂ (λ (xs ys : List ℕ). xs ++ ys) (sym (spelled width (drop at bytes) (AreBytes-drop at bytes are) long)) (drop-drop width at bytes)
 
--- a number is read where its bytes stand, and what follows stands behind them
+-- a number is read at the place of its bytes, and what follows comes after them
 pub reads_back : (width at n : ℕ) (bytes rest : List ℕ) → n < 256 ^ width → drop at bytes ≡ number_bytes width n ++ rest → (number_at width at bytes ≡ n) × (drop (at + width) bytes ≡ rest)
 unfolding number_at number_bytes
 reads_back width at n bytes rest small there = (

@@ -1,4 +1,5 @@
 //! Numbers in bytes, the least significant byte first, as files of this project and of ELF have them.
+//! The formats' definitions use `number_bytes` and `number_at`: these fix each file's bytes.
 #![tactic(auto)]
 
 pub mod laws;

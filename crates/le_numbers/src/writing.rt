@@ -1,4 +1,4 @@
-//! Writing a number at a place, or behind other bytes.
+//! Writing a number at a place, or after other bytes.
 ghost use Rattle.std.specs.Prelude.{◌≡◌, ◌≤◌, ◌<◌, ◌+◌, ◌++◌, length, take, drop, vec_len, vec_capacity, OnOk, OnErr};
 ghost use Rattle.le_numbers.specs.Numbers.{number_bytes};
 
@@ -23,8 +23,8 @@ pub fn write_u64(bytes: &mut [u8], at: usize, number: u64)
     LittleEndian::write_u64(&mut bytes[at..], number);
 }
 
-/// Appends a number's four bytes, the least significant byte first. It needs no memory
-/// where there is room for them.
+/// Appends a number's four bytes, the least significant byte first. It needs no memory if there is
+/// room for them.
 #[tactic(auto, unfolding(crate::specs::Numbers::number_bytes))]
 pub fn push_u32(out: &mut Vec<u8>, number: u32) -> Result<(), AllocError>
     ensures ok { OnOk result (out.new.items ≡ out.old.items ++ number_bytes 4 number) }
@@ -36,8 +36,8 @@ pub fn push_u32(out: &mut Vec<u8>, number: u32) -> Result<(), AllocError>
     out.extend_from_slice(&bytes)
 }
 
-/// Appends a number's eight bytes, the least significant byte first. It needs no memory
-/// where there is room for them.
+/// Appends a number's eight bytes, the least significant byte first. It needs no memory if there is
+/// room for them.
 #[tactic(auto, unfolding(crate::specs::Numbers::number_bytes))]
 pub fn push_u64(out: &mut Vec<u8>, number: u64) -> Result<(), AllocError>
     ensures ok { OnOk result (out.new.items ≡ out.old.items ++ number_bytes 8 number) }

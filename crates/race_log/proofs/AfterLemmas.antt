@@ -26,7 +26,7 @@ own_in run hart q h = go (slice_get run q) refl h
 counts_up : (run : List Point) → IsInOrder run → (m n : ℕ) (p q : Point) → m < n → slice_get run m ≡ Some p → slice_get run n ≡ Some q → p.hart ≡ q.hart → p.count < q.count
 counts_up run up m n p q low e f same = pair_at (λ p q. p.hart ≡ q.hart → p.count < q.count) run m n p q up.counts low e f same
 
--- the same counts stand for a set that keeps its old points and lacks the new one
+-- the same counts represent a set that keeps its old points and lacks the new one
 pub holds_old : (run : List Point) (b : Point) (S R : ℕ → Type 0) (counts : ℕ → ℕ) → IsInOrder (after run b)
     → ((m : ℕ) → S m → R m) → ((m : ℕ) → m < length run → R m → S m) → (R (length run) → ⊥) → CountsOf run S counts → CountsOf (after run b) R counts
 holds_old run b S R counts up f g none h = record {

@@ -13,7 +13,7 @@ use Rattle.race_log.proofs.BoolFacts.{and_left, or_split, or_first, or_second, b
 pub marked_at : (table : List Epoch) (place : ℕ) (s : Epoch) → place < length table → s ≡ slice_index_or table place s → is_marked (slice_get table place) ≡ s.used
 marked_at table place s low e = ap is_marked (slice_get-get_or table place s low ∙ ap Some (sym e))
 
--- past a epoch that is used all that were settled are
+-- past an epoch that is used, all that were pinned still are
 pub settled_on : (table : List Epoch) (next i : ℕ) → IsTrue (is_settled table next i) → IsTrue (is_settled table (next + 1) i)
 settled_on table next i t = elim (or_split (nat_lt i next) (is_marked (slice_get table i)) t) [
   | inl below ↦
@@ -22,7 +22,7 @@ settled_on table next i t = elim (or_split (nat_lt i next) (is_marked (slice_get
   | inr used ↦ (or_second (nat_lt i (next + 1)) (is_marked (slice_get table i)) used)
 ]
 
--- a epoch that isn't used can begin
+-- an epoch that isn't used can begin
 pub can_begin : (table : List Epoch) (next : ℕ) → next < length table → is_marked (slice_get table next) ≡ false
     → IsTrue (nat_lt next (length table) && not (is_marked (slice_get table next)))
 can_begin table next low free = (both (nat_lt next (length table)) (not (is_marked (slice_get table next))) (lt-ltb next (length table) low) (ap not free))
@@ -35,7 +35,7 @@ is_free table next t = go (nat_lt next (length table)) (is_marked (slice_get tab
     go true true h = cc
     go false true h = cc
 
--- ---- a epoch that begins
+-- ---- an epoch that begins
 
 pub settled_apart : (table : List Epoch) (next i : ℕ) → IsTrue (is_settled table next i) → is_marked (slice_get table next) ≡ false → i ≢ next
 settled_apart table next i t free e = elim (or_split (nat_lt i next) (is_marked (slice_get table i)) t) [
@@ -85,7 +85,7 @@ settled_low table next i within t = elim (or_split (nat_lt i next) (is_marked (s
   | inr used ↦ marked_low table i used
 ]
 
--- where all epochs stand before the next, all are settled
+-- if all epochs come before the next, all are pinned
 pub settled_full : (table news : List Epoch) (next i : ℕ) → next ≡ length table → IsTrue (is_settled table next i) → IsTrue (is_settled news next i)
 settled_full table news next i full t =
     or_first (nat_lt i next) (is_marked (slice_get news i)) (let low = settled_low table next i (omega (arith, full)) t in lt-ltb i next (omega (arith, low, full)))
@@ -118,7 +118,7 @@ mark_stays table place i s low e t = elim (cases_eq i place) [
 pub settled_grown : (table news : List Epoch) (next later i : ℕ) → next ≡ length table → later ≡ next → IsTrue (is_settled table next i) → IsTrue (is_settled news later i)
 settled_grown table news next later i full same t = subst (λ n. IsTrue (is_settled news n i)) (sym same) (settled_full table news next i full t)
 
--- ---- a epoch at the end of the table
+-- ---- an epoch at the end of the table
 
 -- one that knows of no point changes no counts
 pub push_counts : (b : Bool) (table news : List Epoch) (s : Epoch) → ((h : ℕ) → count_of s.times h ≡ 0) → news ≡ cond b (table ++ s ∷ []) table

@@ -1,4 +1,4 @@
--- Counts that stand for a set of points.
+-- Counts that represent a set of points.
 use Rattle.std.proofs.Common.{◌≡◌, ℕ, ◌<◌, ◌⊎◌, inl, inr, arith, ◌∙◌, List, max}
 use Rattle.race_log.specs.Points.{Point}
 use Rattle.race_log.specs.Search.{merged}
@@ -20,7 +20,7 @@ below_max c a b h = grind arith
 one_of_max : (a b : ℕ) → (max a b ≡ a) ⊎ (max a b ≡ b)
 one_of_max a b = grind arith
 
--- the greater counts stand for the union
+-- the greater counts represent the union
 pub holds_merge : (run : List Point) (S R : ℕ → Type 0) (f g : ℕ → ℕ)
     → CountsOf run S f → CountsOf run R g → CountsOf run (λ m. S m ⊎ R m) (merged f g)
 holds_merge run S R f g h k = record {

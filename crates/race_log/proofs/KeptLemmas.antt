@@ -156,7 +156,7 @@ module _ (run : List Point) (live : ℕ → Bool) (b : Point) (writes : Bool) (k
         times = times;
       }
 
--- where one hart has all points and alone is live, it knows of all, and what is kept suffices whatever it is
+-- if one hart has all points and alone is live, it knows of all, and what is kept suffices whatever it is
 pub alone_suffices : (run : List Point) (live : ℕ → Bool) (b : Point) → IsInOrder (after run b)
     → ((m : ℕ) (p : Point) → slice_get (after run b) m ≡ Some p → p.hart ≡ 0) → ((g : ℕ) → live g ≡ true → g ≡ 0)
     → (w : ℕ) (ks : List Kept) → Suffices run live w ks → Suffices (after run b) live w ks

@@ -76,7 +76,7 @@ to_filter test m n tm tn (x ∷ xs) h = elim (known (test x)) [
       rw (filter_out test x xs t) (to_filter test m n tm tn xs low)
 ]
 
--- a number that passes stands in the filtered list exactly where it stands in the list
+-- a number that passes is in the filtered list if and only if it is in the list
 pub stands_from_filter : (test : ℕ → Bool) (m : ℕ) → test m ≡ true → (xs : List ℕ) → StandsIn (filter test xs) m → StandsIn xs m
 stands_from_filter test m t [] h = h
 stands_from_filter test m t (x ∷ xs) h = elim (known (x == m)) [

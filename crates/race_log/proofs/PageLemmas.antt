@@ -233,7 +233,7 @@ replaces_read counts harts old new at slot more low own others = record { last =
         one x (inl e) = inr e
         one x (inr i) = absurd i
 
--- ---- epochs that are settled
+-- ---- epochs that are pinned
 
 pub settled_set : (table : List Epoch) (next : ℕ) (page : List Slot) (i : ℕ) (slot : Slot) → IsTrue (is_settled table next slot.epoch)
     → IsSettledPage table next page → IsSettledPage table next (slice_set page i slot)
@@ -246,7 +246,7 @@ settled_set table next (x ∷ xs) zero slot own all (suc at) s e = all (suc at) 
 settled_set table next (x ∷ xs) (suc i) slot own all zero s e = all zero s e
 settled_set table next (x ∷ xs) (suc i) slot own all (suc at) s e = settled_set table next xs i slot own (λ a. all (suc a)) at s e
 
--- ---- epochs that go on
+-- ---- epochs that continue
 
 here_counts : (counts news : ℕ → ℕ → ℕ) (mode : Mode) (hart : ℕ) (s : Slot) → news s.epoch ≡ counts s.epoch → kept_here news mode hart s ≡ kept_here counts mode hart s
 here_counts counts news mode hart s e =

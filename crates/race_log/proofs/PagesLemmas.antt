@@ -41,7 +41,7 @@ settled_page_set table next pages n v low own all m = elim (cases_eq m n) [
   | inr apart ↦ subst (IsSettledPage table next) (sym (page_there pages n m v apart)) (all m)
 ]
 
--- ---- a page that isn't made yet, at the end
+-- ---- a page without slots, at the end
 
 pub push_same : (pages : List (Vec Slot Global)) (v : Vec Slot Global) → v.items ≡ [] → (n : ℕ) → slots_of (slice_get (pages ++ v ∷ []) n) ≡ slots_of (slice_get pages n)
 push_same [] v e zero = e
@@ -94,7 +94,7 @@ room_at words first count number w aligned some all low high is = elim (cases_eq
     at : (k : ℕ) → k < count → (first + 4 * k) / 256 ≡ number → IsTrue (has_room words w)
     at k below e = subst (λ n. IsTrue (length (slots_of (slice_get words.pages.items n)) == 64 * (words.harts + 1))) (e ∙ sym is) (all k below)
 
--- where there is no page nothing is kept
+-- without pages nothing is kept
 pub empty_word : (counts : ℕ → ℕ → ℕ) (harts : ℕ) (pages : List (Vec Slot Global)) (w : ℕ) → pages ≡ []
     → cond (w % 4 == 0) (word_in counts harts (slots_of (slice_get pages (w / 256))) (place_of harts w)) [] ≡ []
 empty_word counts harts pages w e =

@@ -15,7 +15,7 @@ use Rattle.race_log.proofs.EpochLemmas.{is_free, begin_low}
 use Rattle.race_log.proofs.PagesLemmas.{page_here, page_there}
 use Rattle.race_log.proofs.SweepLemmas.{sum_same, sum_parts}
 
--- ---- as many as before
+-- ---- equal sizes
 
 pub same_size : (s : KeptWords) → IsAsLarge s s
 same_size s = record { pages = refl; slots = λ page. refl; epochs = refl }
@@ -23,7 +23,7 @@ same_size s = record { pages = refl; slots = λ page. refl; epochs = refl }
 pub more_size : (s t u : KeptWords) → IsAsLarge s t → IsAsLarge t u → IsAsLarge s u
 more_size s t u a b = record { pages = b.pages ∙ a.pages; slots = λ page. b.slots page ∙ a.slots page; epochs = b.epochs ∙ a.epochs }
 
--- a page that is written has as many slots as before
+-- a write to a page keeps the number of its slots
 pub sizes_set : (pages : List (Vec Slot Global)) (n : ℕ) (v : Vec Slot Global) → n < length pages → length v.items ≡ length (slots_of (slice_get pages n))
     → (page : ℕ) → length (slots_of (slice_get (slice_set pages n v) page)) ≡ length (slots_of (slice_get pages page))
 sizes_set pages n v low same page = elim (cases_eq page n) [
@@ -45,7 +45,7 @@ unfolding sum_below
 sum_more f g zero more = omega arith
 sum_more f g (suc n) more = omega (arith, sum_more f g n more, more n)
 
--- and where no page has fewer, and there are no fewer pages, there are no fewer together
+-- if no page has fewer, and there are no fewer pages, there are no fewer slots together
 pub slots_more : (old new : List (Vec Slot Global)) → length old ≤ length new
     → ((page : ℕ) → length (slots_of (slice_get old page)) ≤ length (slots_of (slice_get new page))) → slots_in old ≤ slots_in new
 slots_more old new pages more =
@@ -66,7 +66,7 @@ small harts n full = elim (cases_lt 0 n) [
   | inr none ↦ omega (arith, none)
 ]
 
--- ---- where an epoch can begin not all are used
+-- ---- if an epoch can begin, not all are used
 
 pub not_all_used : (s : Epochs) → IsTrue (has_epoch s) → AreAllUsed s → ⊥
 not_all_used s room all =

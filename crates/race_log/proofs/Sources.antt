@@ -88,7 +88,7 @@ module _ (run : List Point) (b : Point) (writes : Bool) (kind : IsOfOneKind b wr
         )
       ]
 
-  -- the set that the counts stand for, after the sources from the bound on
+  -- the set that the counts represent, after the sources from the bound on
   pub record Told (S : ℕ → Type 0) (bound : ℕ) : Type 0 where
     pub down : (m k : ℕ) → S k → Before run m k → S m
     pub own : (m : ℕ) → OwnUpTo run b.hart m → S m
@@ -98,7 +98,7 @@ module _ (run : List Point) (b : Point) (writes : Bool) (kind : IsOfOneKind b wr
   own_down : (m k : ℕ) → Before run m k → OwnUpTo run b.hart k → OwnUpTo run b.hart m
   own_down m k c o = (o.0, o.1, inr (before_up c o.2))
 
-  -- where each candidate that conflicts is in the set or no later, one that isn't in the set is an edge's source
+  -- if each candidate that conflicts is in the set or no later, one that isn't in the set is an edge's source
   pub edge_from : (S : ℕ → Type 0) (bound j : ℕ) → Told S bound → ((k : ℕ) → Candidate run b writes ks k → Clashes k → S k ⊎ (k ≤ j))
       → Clashes j → (S j → ⊥) → NewEdge j
   edge_from S bound j told no_later c fresh = record {
@@ -163,7 +163,7 @@ module _ (run : List Point) (b : Point) (writes : Bool) (kind : IsOfOneKind b wr
       to m k s (inl e) = rw e s
       to m k s (inr u) = told.down m k s u
 
-  -- a kept access that is a source conflicts, and isn't in the set that the counts stand for
+  -- a kept access that is a source conflicts, and isn't in the set that the counts represent
   pub taken : (S : ℕ → Type 0) (counts : ℕ → ℕ) (w j : ℕ) (k : Kept) → CountsOf run S counts → KeptAt run w j k → touches w b ≡ true
       → is_source b.hart writes counts k ≡ true → Clashes j × (S j → ⊥)
   taken S counts w j k holds at in_b h =

@@ -87,7 +87,7 @@ counts_there (x ∷ ts) zero (suc other) t apart g = refl
 counts_there (x ∷ ts) (suc h) zero t apart g = refl
 counts_there (x ∷ ts) (suc h) (suc other) t apart g = counts_there ts h other t (λ e. apart (ap suc e)) g
 
--- a shadow that knows and keeps the same stands for the same runs
+-- a shadow that knows and keeps the same represents the same runs
 pub stands_same : (old new : Shadow) → KnowsSame old new → (run : List Point) (live : ℕ → Bool) → RepresentsAccesses run live old → RepresentsAccesses run live new
 stands_same old new same run live s = record {
   in_order = s.in_order;

@@ -69,7 +69,7 @@ gives_word times counts harts old mid new at a b write others reads below =
     (subst (λ o. GivesUp times a (write_in counts (slice_get old at)) (write_in counts o)) (sym (below at (omega arith))) write)
     (subst (λ ks. GivesUp times b ks (reads_in counts new (at + 1) 0 harts)) (reads_same counts old mid (at + 1) 0 harts (λ j low high. others j (λ e. omega (arith, e, low)))) reads)
 
--- nothing is kept where there is no word, and so nothing is left there
+-- outside words nothing is kept, and so nothing is left
 pub uncovered_where : (times : Option Times) (b : Bool) (new old : List Kept) → new ≡ uncovered times old → cond b new [] ≡ uncovered times (cond b old [])
 uncovered_where times true new old e = e
 uncovered_where times false new old e = refl

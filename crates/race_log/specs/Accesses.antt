@@ -11,8 +11,8 @@ use Rattle.race_log.specs.Sweep.{one_more}
 use Rattle.race_log.specs.Represents.{RepresentsAccesses, harts_of, lasting_of, lasts, next_turn, next_count}
 use Rattle.race_log.specs.Represents.{times_of, reserved_range, edges_of, unswept_of, HasSameSize}
 
--- the shadow may take in the hart's access of n words from the first, at this count and in this turn: the words are
--- reserved, turn and count are past those so far, and the hart's bit was clear at no sweep
+-- the shadow may take in the hart's access of n words from the first, at this count and in this turn. The words are
+-- reserved, turn and count are past those so far, and the hart's bit was set at each sweep
 pub record MayAccess (hart ic turn first n : ℕ) (s : Shadow) : Type 0 where
   pub there : hart < harts_of s
   pub small : ic < 2 ^ 41
@@ -31,7 +31,7 @@ pub record HasEdges (hart : ℕ) (b : Point) (old new : Shadow) : Type 0 where
       → AreSources run b (edges_of new)
   pub few : length (edges_of new) < harts_of old
 
--- the shadow then stands for the run with the hart's point b, the hart's times are those of b, and the others' stay
+-- the shadow then represents the run with the hart's point b, the hart's times are those of b, and the others' stay
 pub record TakesPoint (hart : ℕ) (b : Point) (old new : Shadow) : Type 0 where
   pub stands : (run : List Point) (live : ℕ → Bool) → IsTrue (live hart) → RepresentsAccesses run live old
       → RepresentsAccesses (after run b) live new

@@ -8,8 +8,8 @@ use Rattle.race_log.specs.declared.epochs.Epoch.{Epoch}
 use Rattle.race_log.specs.Points.{Point}
 use Rattle.race_log.specs.Represents.{RepresentsAccesses, harts_of, lasting_of, next_turn}
 
--- what a shadow notes: how many harts there are, which of them last, the lowest turn that the next access may have, the times of each hart, the
--- slots of each page, and the epochs that they name
+-- what a shadow notes: how many harts there are, which were live at each sweep, and the lowest turn of the next access.
+-- Then the times of each hart, the slots of each page, and the epochs that they name
 pub record Noted : Type 0 where
   pub harts : ℕ
   pub lasting : ℕ

@@ -11,7 +11,7 @@ use Rattle.race_log.specs.declared.epochs.Epoch.{Epoch}
 use Rattle.race_log.specs.Kept.{Kept, Replaces}
 use Rattle.race_log.specs.Sweep.{sum_below}
 
--- the counts of a epoch's other harts, 0 where there is no epoch
+-- the counts of an epoch's other harts, 0 if there is no epoch
 abbrev pub counts_of : Option Epoch → ℕ → ℕ
 counts_of None hart = 0
 counts_of (Some s) hart = count_of s.times hart
@@ -20,11 +20,11 @@ counts_of (Some s) hart = count_of s.times hart
 abbrev pub counts_in : List Epoch → ℕ → ℕ → ℕ
 counts_in table epoch = counts_of (slice_get table epoch)
 
--- the counts after a point of the hart in a epoch: its own, and those of the epoch
+-- the counts after a point of the hart in an epoch: its own, and those of the epoch
 abbrev pub counts_past : (ℕ → ℕ) → (hart after : ℕ) → ℕ → ℕ
 counts_past counts hart after h = if h == hart then after else counts h
 
--- what is kept by a turn, a count and a epoch, which are those of a point of the hart
+-- what is kept by a turn, a count and an epoch, which are those of a point of the hart
 abbrev pub kept_by : (ℕ → ℕ → ℕ) → Mode → (hart turn after epoch : ℕ) → Kept
 kept_by counts mode hart turn after epoch =
     record { turn = turn; hart = hart; ic = after - 1; mode = mode; times = counts_past (counts epoch) hart after }
@@ -57,7 +57,7 @@ abbrev pub found_as : (ℕ → ℕ → ℕ) → Option FoundAccess → Option Ke
 found_as counts None = None
 found_as counts (Some f) = Some (kept_by counts f.mode f.hart f.turn f.after f.epoch)
 
--- whether a epoch's number is marked as used
+-- whether an epoch's number is marked as used
 abbrev pub is_marked : Option Epoch → Bool
 is_marked None = false
 is_marked (Some s) = s.used
@@ -66,15 +66,15 @@ is_marked (Some s) = s.used
 abbrev pub marks_in : List Epoch → ℕ
 marks_in table = length (filter (λ (e : Epoch). e.used) table)
 
--- whether the next epoch that begins can't take this one's place
+-- whether an epoch is pinned: the next one that begins can't take its place
 abbrev pub is_settled : List Epoch → (next epoch : ℕ) → Bool
 is_settled table next epoch = nat_lt epoch next || is_marked (slice_get table epoch)
 
--- a page's slots all name settled epochs
+-- a page's slots all name pinned epochs
 abbrev pub IsSettledPage : List Epoch → ℕ → List Slot → Type 0
 IsSettledPage table next page = (at : ℕ) (s : Slot) → slice_get page at ≡ Some s → IsTrue (is_settled table next s.epoch)
 
--- where a page's slots name settled epochs, so do its slots when one more names the epoch
+-- if a page's slots name pinned epochs, so do its slots when one more names the epoch
 abbrev pub StaysSettled : (old new : List Slot) → ℕ → Type 0
 StaysSettled old new epoch = (table : List Epoch) (next : ℕ) → IsTrue (is_settled table next 0) → IsTrue (is_settled table next epoch)
     → IsSettledPage table next old → IsSettledPage table next new
@@ -93,11 +93,11 @@ slots_of (Some v) = v.items
 abbrev pub slots_in : List (Vec Slot Global) → ℕ
 slots_in pages = sum_below (λ n. length (slots_of (slice_get pages n))) (length pages)
 
--- all pages' slots name settled epochs
+-- all pages' slots name pinned epochs
 abbrev pub AreSettled : List Epoch → ℕ → List (Vec Slot Global) → Type 0
 AreSettled table next pages = (n : ℕ) → IsSettledPage table next (slots_of (slice_get pages n))
 
--- the harts' present epochs are settled
+-- the harts' present epochs are pinned
 abbrev pub AreSettledNow : List Epoch → ℕ → List ℕ → Type 0
 AreSettledNow table next present = (hart : ℕ) → IsTrue (is_settled table next (slice_index present hart))
 

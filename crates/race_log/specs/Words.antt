@@ -31,7 +31,7 @@ present_counts s hart = epoch_counts s (epoch_of s hart)
 abbrev pub ArePresent : Epochs → (harts : ℕ) → List Times → Type 0
 ArePresent s harts times = (g h : ℕ) → g < harts → h ≢ g → present_counts s g h ≡ counts_at (slice_get times g) h
 
--- whether a epoch can begin without memory
+-- whether an epoch can begin without memory
 abbrev pub has_epoch : Epochs → Bool
 has_epoch s = nat_lt s.next (length s.table.items) && not (is_marked (slice_get s.table.items s.next))
 

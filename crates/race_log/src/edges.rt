@@ -1,3 +1,4 @@
+//! The sources of the edges into one point, which a recorder appends as Edge records.
 ghost use Rattle.std.specs.Prelude.{◌≡◌, ◌<◌, ◌++◌, ◌∷◌, [], length, slice_get};
 
 use bn_base::{HARTS, HartId, Ic};
@@ -55,7 +56,7 @@ impl Edges {
         self.count
     }
 
-    /// The source of the edge at `i`, counted from 0; `None` exactly where `i` isn't below the count.
+    /// The source of the edge at `i`, counted from 0; `None` if and only if `i` isn't below the count.
     pub fn get(&self, i: usize) -> Option<(HartId, Ic)>
         ensures { result ≡ slice_get self.now i }
     {

@@ -1,3 +1,4 @@
+//! The vector times that kept accesses share: one for each epoch of a hart, so that no access keeps times of its own.
 ghost use Rattle.std.specs.Prelude.{◌≡◌, ◌≢◌, ◌+◌, ◌⊎◌, ◌<◌, ◌≤◌, ◌^◌, ℕ, max, length, IfOk, OnOk, IsOk, IsTrue, slice_get, true, false};
 ghost use Rattle.bn_base.specs.declared.settings.TheConstants.{HARTS};
 ghost use Rattle.race_log.specs.Slots.{is_settled, AreSettledNow};
@@ -6,7 +7,7 @@ use bn_base::{HARTS, HartId, Ic};
 use std::alloc::{AllocError, Global};
 use vector_time::Times;
 
-/// A epoch of a hart: its points from one edge into the hart up to the next, in which it learns of no
+/// An epoch of a hart: its points from one edge into the hart up to the next, in which it learns of no
 /// point of another hart.
 #[derive(Clone, Copy)]
 pub struct Epoch {
@@ -81,7 +82,7 @@ impl Epochs {
         }
     }
 
-    // Goes on to the first epoch that isn't used.
+    // Moves to the first epoch that isn't used.
     fn pass_used(&mut self)
         ensures table { self.new.table ≡ self.old.table }
         ensures present { self.new.present ≡ self.old.present }
@@ -98,7 +99,7 @@ impl Epochs {
         }
     }
 
-    // Adds a epoch to the table that isn't used yet.
+    // Adds an epoch to the table that nothing uses.
     fn grow(&mut self) -> Result<(), AllocError>
         requires { self.old.next ≡ length self.old.table.items }
         ensures counts { (epoch h : ℕ) → epoch_counts self.new epoch h ≡ epoch_counts self.old epoch h }
@@ -146,7 +147,7 @@ impl Epochs {
         self.next as usize == self.table.len()
     }
 
-    // Marks no epoch as used. All are settled meanwhile.
+    // Takes the marks off all epochs. All stay pinned, since the next one stands at the table's end.
     fn unmark(&mut self)
         requires full { self.old.next ≡ length self.old.table.items }
         ensures counts { (epoch h : ℕ) → epoch_counts self.new epoch h ≡ epoch_counts self.old epoch h }
@@ -159,7 +160,7 @@ impl Epochs {
         }
     }
 
-    /// Marks a epoch of the table as used.
+    /// Marks an epoch of the table as used.
     pub fn mark(&mut self, epoch: u32)
         requires full { self.old.next ≡ length self.old.table.items }
         ensures counts { (i h : ℕ) → epoch_counts self.new i h ≡ epoch_counts self.old i h }
@@ -204,7 +205,7 @@ impl Epochs {
         self.next = 0;
     }
 
-    /// Begins a epoch of the hart with these times.
+    /// Begins an epoch of the hart with these times.
     pub fn begin(&mut self, hart: HartId, times: &Times)
         requires hart { hart < HARTS }
         requires room { IsTrue (has_epoch self.old) }
@@ -219,8 +220,8 @@ impl Epochs {
         self.next += 1;
     }
 
-    /// Takes those times into others that stand after a point of the hart in an epoch, where `after` is the count after
-    /// the point. They are read where they stand: the processor would wait for a copy in which one count was just written.
+    /// Takes into other times those after a point of the hart in an epoch; `after` is the count after the point. They are
+    /// read in place: the processor would wait for a copy in which one count was just written.
     #[inline(always)]
     pub fn merge_after(&self, times: &mut Times, epoch: u32, hart: HartId, after: Ic)
         requires { hart < HARTS }

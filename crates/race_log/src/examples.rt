@@ -1,3 +1,4 @@
+//! Small runs, each with its edges worked out by hand.
 ghost use Rattle.std.specs.Prelude.{◌≡◌, ◌∷◌, []};
 ghost use Rattle.race_log.specs.Tests.{all_edges};
 ghost use Rattle.race_log.specs.Examples.{neighbours, failed_conditional, filled_word, relay, two_loads, two_readers, two_words};

@@ -1,3 +1,4 @@
+//! What the recorded edges suffice for: the laws by which a joint replay keeps the recording's order of conflicts.
 ghost use Rattle.std.specs.Prelude.{◌<◌, ◌↔◌, ℕ, List, IsTrue, Contains, AllPairs};
 ghost use Rattle.race_log.specs.Points.{Point, Writes, IsConflict};
 ghost use Rattle.race_log.specs.Netzer.{ProgramOrder, Conflict, Before, IsEdge};
@@ -73,8 +74,8 @@ pub fn merges_keep_conflicts()
     ensures words { MergesKeepWords }
 {}
 
-/// In every merge of the harts' lists of kept points that respects recorded edges between kept points, those with all
-/// edges that end after some place among them, conflicting kept points from that place on stand in recorded order.
+/// The recorded edges include all that end after some place. In every merge of the harts' lists of kept points that
+/// respects recorded edges between them, conflicting kept points from that place on are in recorded order.
 ///
 /// Here the recorded edges are those of a log's suffix, and the kept points are those of the suffix and the edges'
 /// sources. A chain that orders two kept points may lead through points that aren't kept.
@@ -83,9 +84,9 @@ pub fn late_edges_suffice()
     ensures words { LateEdgesKeepWords }
 {}
 
-/// Wherever a merge of beginnings of the harts' lists of kept points isn't whole, some hart can go on: its next point
-/// has all sources of recorded edges into it in the merge already. A merge that respects the edges still does with such
-/// a point at its end.
+/// If a merge of prefixes of the harts' lists of kept points isn't whole, some hart can continue: the merge has all
+/// sources of recorded edges into its next point. A merge that respects the edges still does with such a point at its
+/// end.
 pub fn some_hart_goes_on()
     ensures some { SomeHartGoesOn }
     ensures next { NextPointsRespect }
@@ -118,8 +119,8 @@ pub fn notes_decide()
     ensures { NotesDecide }
 {}
 
-/// How much a shadow holds at any time: of epochs, each with a vector clock, at most 1024, 2 for each slot and 8 for each
-/// page; and of slots at most those of 64 words in a page. [`Shadow::reserve`] says which pages are made.
+/// How much a shadow holds at any time. It has at most 1024 epochs, each with a vector clock, and 2 more for each slot and
+/// 8 for each page. A page has at most the slots of 64 words. [`Shadow::reserve`] says which pages are made.
 pub fn memory_stays_small()
     ensures epochs { EpochsStayFew }
     ensures pages { PagesStaySmall }

@@ -2,9 +2,9 @@
 //! (R. H. B. Netzer, "Optimal tracing and replay for debugging shared-memory parallel programs", 1993).
 //!
 //! A point is an instruction that a hart has done, named by its hart and by how many instructions that hart had done
-//! before it. Two points of different harts conflict where they access a common word and one of them writes it. A point
-//! is before another where a chain of program order and conflicts leads from the one to the other. An edge is recorded
-//! for two conflicting points exactly where no third point is after the one and before the other.
+//! before it. Two points of different harts conflict if they access a common word and one of them writes it. A point is
+//! before another if a chain of program order and conflicts leads from the one to the other. An edge is recorded for two
+//! conflicting points if and only if no third point is after the one and before the other.
 //!
 //! `Times` are vector times: for each hart, how many of its points come before a point of the run.
 //! `Shadow` takes in the accesses of a run one by one and answers the edges into each. The laws say what the edges are

@@ -1,3 +1,4 @@
+//! Whether an access reads its words or writes them.
 ghost use Rattle.std.specs.Prelude.{◌≡◌};
 ghost use Rattle.race_log.specs.Kept.{is_write};
 

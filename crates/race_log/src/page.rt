@@ -10,7 +10,7 @@ use crate::slot::Slot;
 use bn_base::HartId;
 use std::alloc::AllocError;
 
-/// Gives a page its slots, which keep nothing, where it has none.
+/// Gives a page its slots, which keep nothing, if it has none.
 pub fn make_slots(page: &mut Vec<Slot>, count: usize) -> Result<(), AllocError>
     ensures stays { 0 < vec_len page.old → page.new.items ≡ page.old.items }
     ensures none { vec_len page.old ≡ 0 → (at : ℕ) (s : Slot) → slice_get page.new.items at ≡ Some s → (s.after ≡ 0) × (s.epoch ≡ 0) }

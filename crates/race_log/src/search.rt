@@ -1,3 +1,4 @@
+//! The search for an access's edges among the accesses that are kept of its words.
 ghost use Rattle.std.specs.Prelude.{◌≡◌, ◌+◌, ◌*◌, ◌<◌, ◌≤◌, ◌^◌, ◌%◌, ℕ, true, None, length, slice_get};
 ghost use Rattle.vector_time.specs.Times.{count_of};
 ghost use Rattle.bn_base.specs.declared.settings.TheConstants.{HARTS};
@@ -160,9 +161,9 @@ fn latest_in(
     best
 }
 
-/// Puts into `edges`, in the place of what it had, the sources of the edges into an access of `count` words from
-/// `first`, the latest first, at most `most` of them: each time the latest that the times don't cover, after they
-/// took in the times after the one before.
+/// Puts into `edges`, in place of what it had, the sources of the edges into an access of `count` words from `first`, the
+/// latest first, at most `most` of them. Each is the latest that the times don't cover; then they take in the times after
+/// it.
 pub fn find_sources(
     words: &KeptWords,
     times: &mut Times,

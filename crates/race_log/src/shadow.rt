@@ -1,3 +1,5 @@
+//! The shadow memory of a recording: it takes in each access and gives the edges into it. `specs/Represents.antt` says
+//! which runs it represents; how it keeps them may change.
 ghost use Rattle.std.specs.Prelude.{◌≡◌, ◌≢◌, ◌+◌, ◌*◌, ◌<◌, ◌≤◌, ◌^◌, ◌%◌, ◌==◌, ℕ, Bool, IsTrue, if◌then◌else◌};
 ghost use Rattle.std.specs.Prelude.{List, [], filter, not, nat_le, ◌&&◌, All, length, vec_len, Some, None, IfOk, IsOk, OnOk, OnErr};
 ghost use Rattle.std.specs.Option.{ForSome};
@@ -23,7 +25,7 @@ pub struct Shadow {
     words: KeptWords,
     // The edges into the last access.
     edges: Edges,
-    // One bit for each hart, set where it was at each sweep so far.
+    // One bit for each hart, set if the hart was live at each sweep so far.
     lasting: u16,
     // How many accesses were taken in since the last sweep.
     since: u64,
@@ -75,8 +77,7 @@ impl Shadow {
 
     /// Makes room for the next access, if it is of `count` words from `first`.
     ///
-    /// Want of memory is the only error, and comes only where that room isn't made yet. After it
-    /// all is as before.
+    /// The only error is out of memory. It comes only if that room isn't there, and changes nothing.
     #[inline(always)]
     pub fn reserve(&mut self, first: Addr, count: u32) -> Result<(), AllocError>
         requires aligned { first % 4 ≡ 0 }
@@ -197,7 +198,7 @@ impl Shadow {
     }
 
     /// Gives up the kept accesses whose points the times of every hart of `live` cover, and answers how many; `live` has one
-    /// bit for each hart, the lowest for hart 0. Where it has none set all are given up. It takes no memory.
+    /// bit for each hart, the lowest for hart 0. If none is set, all are given up. It takes no memory.
     ///
     /// What is kept then suffices for the harts whose bits were set at each sweep so far, and the others can access nothing
     /// any more.
@@ -240,8 +241,8 @@ impl Shadow {
         self.words.held()
     }
 
-    // The points that the times of every hart of `live` cover: for each hart the least of their counts, and nothing where
-    // there is no hart in `live`.
+    // The points that the times of every hart of `live` cover: for each hart the least of their counts. `None`, which
+    // covers all, if `live` has no hart.
     fn known_to_all(&self, live: u16) -> Option<Times>
         ensures { (hart count : ℕ) → is_covered result hart count ≡ is_known self.now live hart count }
     {

@@ -1,10 +1,11 @@
+//! What is kept of one access. Pages are made of these.
 ghost use Rattle.std.specs.Prelude.{◌≡◌, ◌<◌};
 ghost use Rattle.bn_base.specs.declared.settings.TheConstants.{HARTS};
 
 use crate::mode::Mode;
 use bn_base::{HartId, Ic};
 
-/// What is kept of one access of a word, or nothing where `after` is 0.
+/// What is kept of one access of a word, or nothing if `after` is 0.
 #[derive(Clone, Copy)]
 pub struct Slot {
     pub turn: u64,

@@ -9,8 +9,8 @@ use crate::words::KeptWords;
 use vector_time::Times;
 
 impl KeptWords {
-    /// Gives up the accesses that the times cover, all of them where there are no times, and answers how many. It takes
-    /// no memory, and room stays.
+    /// Gives up the accesses that the times cover, all of them if there are no times, and answers how many. It takes no
+    /// memory, and room stays.
     pub fn sweep(&mut self, known: &Option<Times>) -> u64
         ensures harts { self.new.harts ≡ self.old.harts }
         ensures epochs { self.new.epochs ≡ self.old.epochs }

@@ -1,3 +1,4 @@
+//! The kept accesses of all words, in pages, and the epochs that they name.
 ghost use Rattle.std.specs.Prelude.{◌≡◌, ◌+◌, ◌*◌, ◌/◌, ◌%◌, ◌<◌, ◌≤◌, ◌^◌, ℕ, [], IsTrue, IsOk, OnOk, OnErr, IfOk, ◌≢◌, max, true, false, length, slice_get, vec_len};
 ghost use Rattle.bn_base.specs.declared.settings.TheConstants.{HARTS};
 ghost use Rattle.race_log.specs.Slots.{AreFull, AreSettled, slots_in};
@@ -18,7 +19,7 @@ const PAGE_BYTES: u32 = 256;
 const FIRST_LIMIT: usize = 1024;
 
 /// The accesses that are kept, by word: of each word its last write, and of each hart its last read
-/// after that. Where there is one hart none is kept, since no edge can come from it.
+/// after that. With one hart none is kept, since no edge can come from it.
 ///
 /// The slots of 64 words are a page, which is made with the first access of one of them.
 // A page is found by its number in a list: no key that a program chooses is hashed, and no word has a list on
@@ -60,7 +61,7 @@ impl KeptWords {
         })
     }
 
-    /// The slots of the page of an address, none where it isn't made.
+    /// The slots of the page of an address, none if it isn't made.
     pub fn page(&self, word: Addr) -> &[Slot]
         ensures { result.now ≡ page_of self.now word }
     {
@@ -70,7 +71,7 @@ impl KeptWords {
         }
     }
 
-    /// Where the slots of an address's word begin in their page.
+    /// The index in their page at which the slots of an address's word begin.
     pub fn place(&self, word: Addr) -> usize
         ensures { result ≡ place_of self.now.harts word }
     {
@@ -126,14 +127,14 @@ impl KeptWords {
         self.epochs.make_room()
     }
 
-    // Frees epochs where none can begin but by growth, and the table has grown to its limit.
+    // Frees epochs if none can begin but by growth, and the table has grown to its limit.
     fn look_through(&mut self)
         ensures harts { self.new.harts ≡ self.old.harts }
         ensures pages { self.new.pages ≡ self.old.pages }
         ensures counts { (epoch h : ℕ) → epoch_counts self.new.epochs epoch h ≡ epoch_counts self.old.epochs epoch h }
         ensures present { self.new.epochs.present ≡ self.old.epochs.present }
         ensures room { IsTrue (has_epoch self.old.epochs) → IsTrue (has_epoch self.new.epochs) }
-        // Where an epoch can begin only by growth, the table is below its limit.
+        // If an epoch can begin only by growth, the table is below its limit.
         ensures growth { AreAllUsed self.new.epochs → length self.new.epochs.table.items < self.new.limit }
     {
         if self.epochs.is_full() && self.epochs.len() >= self.limit {
@@ -220,7 +221,7 @@ impl KeptWords {
         make_slots(&mut self.pages[number], slots)
     }
 
-    /// The hart's present epoch goes on, or where `learns` holds ends and another begins with these
+    /// The hart's present epoch continues. If `learns` holds, it ends, and another begins with these
     /// times. What is kept stays, and so do pages.
     pub fn go_on(&mut self, hart: HartId, learns: bool, times: &Times)
         requires hart { hart < HARTS }

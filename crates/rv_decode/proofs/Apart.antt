@@ -69,7 +69,7 @@ only_row (r ∷ rs) w (suc k) d a h f =
 pub table_row : (w k : ℕ) (d : Row) → k < length table → fits (slice_index_or table k d) w ≡ true → row_in table w ≡ Some (slice_index_or table k d)
 table_row w k d h f = only_row table w k d table_apart h f
 
--- no row is found exactly where none fits
+-- no row is found if and only if none fits
 first_none : (b : Bool) (r : Row) (rs : List Row) (w : ℕ) → fits r w ≡ b → row_in (r ∷ rs) w ≡ None → (fits r w ≡ false) × (row_in rs w ≡ None)
 first_none true r rs w e n = let p : Some r ≡ None = sym (first_at true r rs w e) ∙ n in cc
 first_none false r rs w e n = (e, sym (first_at false r rs w e) ∙ n)

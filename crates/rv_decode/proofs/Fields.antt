@@ -1,4 +1,4 @@
--- A word fits a row exactly where its fields do.
+-- A word fits a row if and only if its fields do.
 use Rattle.std.proofs.Common.{◌≡◌, ℕ, ◌+◌, ◌-◌, ◌*◌, ◌/◌, ◌%◌, ◌^◌, ◌<◌, Bool, true, false, ◌&&◌, eqb, List, [], ◌∷◌, Option, Some, None, refl, sym, ◌∙◌, ap, arith}
 use Rattle.std.specs.Bool.{Decides, one_answer}
 use Rattle.std.specs.Prelude.{bit_and, ◌==◌}
@@ -12,7 +12,7 @@ use Rattle.rv_decode.specs.declared.format.Format.{Format}
 use Rattle.rv_decode.specs.Table.{Row, fits, field, table, row_in, spelled, spelled_by, decoded}
 use Rattle.rv_decode.specs.Fields.{passes, fits_fields, row_by, kind_by}
 
--- two numbers of two places are equal exactly where both places are
+-- two numbers of two places are equal if and only if both places are
 eqb_places : (k x y u v : ℕ) → y < 2 ^ k → v < 2 ^ k → eqb (x * 2 ^ k + y) (u * 2 ^ k + v) ≡ (eqb y v && eqb x u)
 eqb_places k x y u v h g =
     let to : x * 2 ^ k + y ≡ u * 2 ^ k + v → (y ≡ v) × (x ≡ u) = λ e. (let p : (x ≡ u) × (y ≡ v) = same_from_place x y u v (2 ^ k) h g e in (p.1, p.0)) in
@@ -29,7 +29,7 @@ split_test k w m v =
     ap (λ n. bit_and n m) (sym (shr_split w k)) ∙ (ap (λ n. bit_and (w / 2 ^ k * 2 ^ k + w % 2 ^ k) n) (sym (shr_split m k)) ∙ and_block k (w / 2 ^ k) (m / 2 ^ k) (w % 2 ^ k) (m % 2 ^ k) (below w) (below m)) in
     ap (λ n. eqb n v) whole ∙ (ap (λ n. eqb (bit_and (w / 2 ^ k) (m / 2 ^ k) * 2 ^ k + bit_and (w % 2 ^ k) (m % 2 ^ k)) n) (sym (shr_split v k)) ∙ eqb_places k _ _ _ _ small (below v))
 
--- a mask of a field is 0, where no bit of it is fixed, or all ones
+-- a mask of a field is 0, which fixes no bit of it, or all ones
 abbrev pub plain : ℕ → ℕ → ℕ → Bool
 plain j m v = elim (m == 0) [ true ↦ v == 0 | false ↦ m == 2 ^ j - 1 ]
 

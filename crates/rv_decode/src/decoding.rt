@@ -1,4 +1,4 @@
-//! What a word decodes to.
+//! What a word decodes to: `decode`, by which recorders and replays read code.
 ghost use Rattle.std.specs.Prelude.{◌≡◌, ◌<◌, ◌^◌, ◌+◌, ◌*◌, option_map};
 ghost use Rattle.rv_decode.specs.Table.{field, rd_of, rs1_of, rs2_of, spelled, signed, decoded};
 ghost use Rattle.rv_decode.specs.declared.format.Format.TheVariants.{U, J, I, B, S, Shift, R, Bare, Atomic};
@@ -233,8 +233,8 @@ fn placed(name: Name, format: Format, word: u32) -> Instr
     }
 }
 
-/// The instruction that a word spells: `None` exactly where the word fits no row of the table, else
-/// the instruction of its row with the fields of the word.
+/// The instruction that a word spells: that of the row which it fits, with the word's fields. `None`
+/// if and only if it fits no row of the table.
 // It has one clause, and that it is exactly the table is a law over `decoded`: so no caller's proof carries the
 // table's 59 rows.
 pub fn decode(word: u32) -> Option<Instr>

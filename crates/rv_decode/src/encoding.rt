@@ -1,4 +1,4 @@
-//! The word of an instruction.
+//! The word of an instruction: `encode`, by which generated programs are written.
 ghost use Rattle.std.specs.Prelude.{◌≡◌, ◌≢◌, Some, ◌<◌, ◌^◌, ℕ};
 ghost use Rattle.rv_decode.specs.Table.{decoded, IsSpelled};
 ghost use Rattle.rv_decode.specs.Encode.{fixed_of, laid, laid_s, laid_b, laid_j};

@@ -7,7 +7,7 @@ pub fn no_two_rows_fit_one_word()
     ensures { AllPairs NoWordFitsBoth table }
 {}
 
-/// A word decodes to the row that it fits, whichever that is, and to nothing exactly where it fits
+/// A word decodes to the row that it fits, whichever that is, and to nothing if and only if it fits
 /// none.
 pub fn each_word_decodes_by_its_row()
     ensures row { (w : ℕ) →

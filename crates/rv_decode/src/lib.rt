@@ -1,7 +1,7 @@
 //! The instruction words of RV32IMA.
 //!
 //! [`decode`] gives the instruction that a word spells, by the 59 rows of the RISC-V unprivileged
-//! specification's listing of RV32I, M and A (version 20191213, chapters 2, 7, 8 and 24), and
+//! specification's listing of RV32I, M and A (version 20191213, chapters 2, 7, 8 and 24).
 //! [`encode`] gives the word back. Neither allocates, and neither searches a list.
 #![tactic(auto)]
 

@@ -1,4 +1,4 @@
-//! The text of the code at a pc.
+//! The text of a pc and its code word, kept for rows of instructions that are done again.
 ghost use Rattle.std.specs.Prelude.{◌≡◌, ◌++◌, OnOk, codes, option_map};
 ghost use Rattle.rv_decode.specs.Seen.{seen};
 ghost use Rattle.rv_decode.specs.Table.{decoded};
@@ -12,7 +12,7 @@ use rv_decode::{Instr, decode};
 use std::alloc::{AllocError, Global};
 use std::marker::Model;
 
-/// The text of a pc and of the code word there, or none yet.
+/// The text of a pc and of the code word there. It is empty until one is kept.
 #[derive(Drop)]
 pub struct CodeText {
     pc: Addr,
@@ -28,7 +28,7 @@ impl Model for CodeText {
     ghost invariant = { λ k. NoneOrText k.pc k.word k.text };
 }
 
-// The text of an instruction, where there is one. It may stop in the middle.
+// The text of an instruction, if there is one. After an error it may be incomplete.
 fn write_text(pc: Addr, instr: Option<Instr>, text: &mut Text) -> Result<(), AllocError>
     ensures ok { OnOk result (text.new ≡ text.old ++ text_or_illegal pc (option_map seen instr)) }
     ensures begins { BeginsWith text.old text.new }
@@ -80,7 +80,7 @@ impl CodeText {
         }
     }
 
-    // The text of this pc and word, or no byte where it isn't kept here.
+    // The text of this pc and word, or no byte if it isn't kept here.
     fn bytes_of(&self, pc: Addr, word: u32) -> &[u8]
         ensures { NoneOrText pc word result.now }
     {
@@ -91,7 +91,7 @@ impl CodeText {
         }
     }
 
-    // Keeps the text of this pc and word in place of the other, or none where memory is wanting.
+    // Keeps the text of this pc and word in place of the other, or none when out of memory.
     fn renew(&mut self, pc: Addr, word: u32) {
         self.text.clear();
         self.pc = pc;

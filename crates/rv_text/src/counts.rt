@@ -1,4 +1,4 @@
-//! The text of a hart and its count.
+//! The text of a hart and its count, kept but for its last digit: ten rows in a row share it.
 ghost use Rattle.std.specs.Prelude.{◌≡◌, ◌+◌, ◌<◌, ◌≤◌, ◌^◌, ◌++◌, ◌∷◌, [], OnOk, codes, decimal};
 ghost use Rattle.rv_text.specs.Texts.{BeginsWith};
 ghost use Rattle.rv_text.specs.Lines.{count_text, NoneOrCount};
@@ -8,7 +8,7 @@ use bn_base::{HartId, Ic};
 use std::alloc::{AllocError, Global};
 use std::marker::Model;
 
-/// The text of a hart and of a count without its last digit, or none yet.
+/// The text of a hart and of a count without its last digit. It is empty until one is kept.
 #[derive(Drop)]
 pub struct CountText {
     hart: HartId,
@@ -55,7 +55,7 @@ impl CountText {
         }
     }
 
-    // The text of this hart and count, or no byte where it isn't kept here.
+    // The text of this hart and count, or no byte if it isn't kept here.
     fn bytes_of(&self, hart: HartId, tens: Ic) -> &[u8]
         ensures { NoneOrCount hart tens result.now }
     {
@@ -66,7 +66,7 @@ impl CountText {
         }
     }
 
-    // Keeps the text of this hart and count in place of the other, or none where memory is wanting.
+    // Keeps the text of this hart and count in place of the other, or none when out of memory.
     fn renew(&mut self, hart: HartId, tens: Ic) {
         self.text.clear();
         self.hart = hart;

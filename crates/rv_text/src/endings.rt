@@ -1,4 +1,4 @@
-//! What a line ends with: a number behind its label.
+//! What a line ends with: a number after its label.
 ghost use Rattle.std.specs.Prelude.{◌≡◌, ◌++◌, OnOk, codes, decimal};
 ghost use Rattle.rv_text.specs.Instructions.{hex8};
 ghost use Rattle.rv_text.specs.Texts.{BeginsWith};

@@ -1,4 +1,4 @@
-//! The text of an instruction.
+//! The text of an instruction, as an assembler takes it. `specs/` pins each byte.
 ghost use Rattle.std.specs.Prelude.{◌≡◌, ◌++◌, ◌<◌, OnOk, OnErr};
 ghost use Rattle.rv_decode.specs.Seen.{seen};
 ghost use Rattle.rv_text.specs.Instructions.{is_relative, is_load_reserved, first_operand, register_operand, immediate_operands, atomic_operands, leading_operands, last_operands, operands, instruction_text};
@@ -121,7 +121,7 @@ pub fn write_instr_parts(instr: &Instr, pc: u32, text: &mut Text) -> Result<(), 
 
 /// Appends the text of an instruction at `pc`, as an assembler takes it: registers by name,
 /// immediates and shift amounts in decimal, the targets of branches and `jal` as eight hexadecimal
-/// digits. No pseudo-instruction is written. Where memory is wanting the text is as before.
+/// digits. No pseudo-instruction is written. When out of memory, the text is unchanged.
 pub fn write_instr(instr: &Instr, pc: u32, text: &mut Text) -> Result<(), AllocError>
     ensures ok { OnOk result (text.new ≡ text.old ++ instruction_text pc (seen instr.now)) }
     ensures err { OnErr result (text.new ≡ text.old) }

@@ -1,12 +1,12 @@
 //! The texts of instructions, rows and ends of intervals.
 //!
-//! [`write_instr`] appends an instruction as an assembler would take it, with the registers by
-//! their names in the calling convention and no pseudo-instruction; [`write_row`] appends one line
-//! for what an instruction did. [`write_mark`] and [`write_end`] tell how an interval ended. All
-//! append to a [`Text`]. [`end_with_decimal`] and [`end_with_hex8`] end a line.
+//! [`write_instr`] appends an instruction as an assembler would take it: registers by their names in
+//! the calling convention, and no pseudo-instruction. [`write_row`] appends one line for what an
+//! instruction did. [`write_mark`] and [`write_end`] say how an interval ended. All append to a
+//! [`Text`]. [`end_with_decimal`] and [`end_with_hex8`] end a line.
 //!
-//! [`RowLines`] writes the lines of many rows fast: the same line for a row, from kept texts of the code that
-//! it wrote last, so that an instruction which is done again is not spelled again.
+//! [`RowLines`] writes the same lines faster: it keeps the texts of the code that it wrote last, so that an
+//! instruction which is done again is not spelled again.
 #![tactic(auto)]
 
 mod code;

@@ -1,4 +1,4 @@
-//! Lines of rows, one after another.
+//! Lines of many rows, as `write_row` writes them. A replay prints its rows by it.
 ghost use Rattle.std.specs.Prelude.{◌≡◌, ◌++◌, ◌/◌, ◌%◌, Some, None, OnOk, OnErr, codes};
 ghost use Rattle.rv_text.specs.Rows.{row_text};
 ghost use Rattle.rv_text.specs.Texts.{BeginsWith};
@@ -17,8 +17,8 @@ const KEPT: usize = 1024;
 /// Writes lines of rows, and keeps the texts of their code: of the pcs that have the same place in a
 /// table of 1,024, the latest with its word. Of the last hart and count it keeps all but a digit.
 ///
-/// The table takes some 40 KiB, and some 50 bytes more for each text in it. Where memory is wanting
-/// for it, less is kept or nothing.
+/// The table takes some 40 KiB, and some 50 bytes more for each text in it. When out of memory, it
+/// keeps less or nothing.
 #[derive(Drop)]
 pub struct RowLines {
     count: CountText,
@@ -44,7 +44,7 @@ fn empty_table(alloc: Global) -> Vec<CodeText> {
 }
 
 impl RowLines {
-    /// A writer that keeps no text yet.
+    /// A writer that keeps no text at first.
     pub fn new(alloc: Global) -> RowLines {
         RowLines {
             count: CountText::none(alloc),
@@ -85,7 +85,7 @@ impl RowLines {
         self.write_parts(row, word, text)
     }
 
-    // The same; where memory is wanting the text is as before.
+    // The same; when out of memory, the text is unchanged.
     fn write_whole(&mut self, row: &Row, word: u32, text: &mut Text) -> Result<(), AllocError>
         requires { (row.now.fault ≡ None) × (row.now.word ≡ Some word) }
         ensures ok { OnOk result (text.new ≡ text.old ++ row_text row.now) }
@@ -99,8 +99,8 @@ impl RowLines {
         written
     }
 
-    /// Appends the line of a row, the same as `rv_text`'s `write_row` does. Where memory is wanting
-    /// the text is as before.
+    /// Appends the line of a row, the same as `rv_text`'s `write_row` does. When out of memory, the
+    /// text is unchanged.
     pub fn write_row(&mut self, row: &Row, text: &mut Text) -> Result<(), AllocError>
         ensures ok { OnOk result (text.new ≡ text.old ++ row_text row.now) }
         ensures err { OnErr result (text.new ≡ text.old) }

@@ -1,4 +1,4 @@
-//! The texts of marks and of the ends of intervals.
+//! The texts of marks and of the ends of intervals, as replays print them.
 ghost use Rattle.std.specs.Prelude.{◌≡◌, ◌++◌, OnOk, OnErr, codes, decimal};
 ghost use Rattle.rv_text.specs.Marks.{mark_text, end_text};
 ghost use Rattle.rv_text.specs.Texts.{BeginsWith};
@@ -57,7 +57,7 @@ fn write_end_parts(
 }
 
 /// Appends a mark: its count in decimal, the word for its reason, and its value as eight
-/// hexadecimal digits. Where memory is wanting the text is as before.
+/// hexadecimal digits. When out of memory, the text is unchanged.
 pub fn write_mark(mark: &EndMark, text: &mut Text) -> Result<(), AllocError>
     ensures ok { OnOk result (text.new ≡ text.old ++ mark_text mark.now) }
     ensures err { OnErr result (text.new ≡ text.old) }
@@ -71,7 +71,7 @@ pub fn write_mark(mark: &EndMark, text: &mut Text) -> Result<(), AllocError>
 }
 
 /// Appends the line of an interval's end: the word `end`, the hart and the number of the interval in
-/// decimal, and the mark. Where memory is wanting the text is as before.
+/// decimal, and the mark. When out of memory, the text is unchanged.
 pub fn write_end(
     hart: u64,
     interval: u64,

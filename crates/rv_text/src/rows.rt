@@ -1,4 +1,4 @@
-//! The line of a row.
+//! The line of a row: what a replay prints of an instruction. `specs/Rows.antt` pins each byte.
 ghost use Rattle.std.specs.Prelude.{◌≡◌, ◌++◌, ◌<◌, OnOk, OnErr, codes, option_map};
 ghost use Rattle.rv_decode.specs.Seen.{seen};
 ghost use Rattle.rv_text.specs.Instructions.{hex8};
@@ -53,7 +53,7 @@ fn shown_instruction(fault: Option<(Fault, u32)>, word: u32) -> Option<Instr>
     }
 }
 
-/// The text of an instruction, where there is one.
+/// The text of an instruction, if there is one.
 fn write_text(pc: Addr, instr: Option<Instr>, text: &mut Text) -> Result<(), AllocError>
     ensures ok { OnOk result (text.new ≡ text.old ++ text_or_illegal pc (option_map seen instr)) }
     ensures begins { BeginsWith text.old text.new }
@@ -176,10 +176,10 @@ fn write_row_parts(row: &Row, text: &mut Text) -> Result<(), AllocError>
 }
 
 /// Appends the line of a row: the hart and its count in decimal, the pc and the word as eight
-/// hexadecimal digits, the instruction's text, then ` | ` before each of the written register, the
-/// load, the store and the fault that is there. Where the fetch faulted the word is `--------` and
-/// the text `-`; where the word is illegal the text is `illegal`. Where memory is wanting the text is
-/// as before.
+/// hexadecimal digits, and the instruction's text. Then ` | ` comes before each of the written
+/// register, the load, the store and the fault that is there. If the fetch faulted, the word is
+/// `--------` and the text `-`. If the word is illegal, the text is `illegal`. When out of memory,
+/// the text is unchanged.
 pub fn write_row(row: &Row, text: &mut Text) -> Result<(), AllocError>
     ensures ok { OnOk result (text.new ≡ text.old ++ row_text row.now) }
     ensures err { OnErr result (text.new ≡ text.old) }

@@ -8,7 +8,7 @@ use Rattle.system_calls.specs.declared.effect.Plan.{Plan}
 use Rattle.system_calls.specs.Calls.{read_plan, write_plan, break_plan, all_bytes, stream_size, stream_len}
 use Rattle.system_calls.specs.Laws.{is_end, ExitsAloneEnd}
 
--- a choice of two plans that go on goes on
+-- a choice between two plans that end nothing ends nothing
 goes_if : (x : Bool) (p q : Plan) → is_end p ≡ false → is_end q ≡ false → is_end (if x then p else q) ≡ false
 goes_if true p q e f = e
 goes_if false p q e f = f

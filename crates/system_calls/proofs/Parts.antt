@@ -62,7 +62,7 @@ part_at-found low high (p ∷ ps) (suc k) a d h below has =
     let out = out_high p a (omega (arith, far, in_low (slice_index_or ps k d) a has)) in
     ap (λ t. part_or t p (part_at ps a)) out ∙ part_at-found (end_of p) high ps k a d h.1 b has
 
--- where each part that has the address is writable, so is the address
+-- if each part that has the address is writable, so is the address
 pub writable_at : (ps : List Part) (a : ℕ) → ((k : ℕ) (d : Part) → k < length ps → is_in (slice_index_or ps k d) a ≡ true → (slice_index_or ps k d).writable ≡ true) → is_writable (part_at ps a) ≡ true
 writable_at [] a h = refl
 writable_at (p ∷ ps) a h =
@@ -78,7 +78,7 @@ none_before ps n from to within point k d b below low high has =
     let ended = leb-true _ _ (point.0 k d (omega arith) below) in
     absurd (omega (arith, ended, low, in_high (slice_index_or ps k d) b has))
 
--- where a part begins at the range's end or later, no later one has a byte of it
+-- if a part begins at the range's end or later, no later one has a byte of it
 pub none_after : (low high : ℕ) (ps : List Part) (n from to : ℕ) (p : Part) → AreApart low high ps → n < length ps → p ≡ slice_index_or ps n p → to ≤ p.first → WritableBelow ps n from to → WritableBelow ps (length ps) from to
 none_after low high ps n from to p h below is past before k d b under from_b to_b has = by_place (cases_lt k n)
   where
@@ -93,7 +93,7 @@ none_after low high ps n from to p h below is past before k d b under from_b to_
         rise (inl same) = subst (λ (j : ℕ). (slice_index_or ps n d).first ≤ (slice_index_or ps j d).first) same (omega arith)
         rise (inr less) = let f = ends_before low high ps n k d h less under in omega (arith, f)
 
--- where no read-only part has a byte of the range, all of it is writable
+-- if no read-only part has a byte of the range, all of it is writable
 pub range_writable : (ps : List Part) (a n to : ℕ) → to ≡ a + n → WritableBelow ps (length ps) a to → all_bytes (λ b. is_writable (part_at ps b)) a n ≡ true
 range_writable ps a n to is all =
     all_true (λ b. is_writable (part_at ps b)) a n (λ b low high. writable_at ps b (λ k d below has. all k d b below low (omega (arith, high, is)) has))

@@ -1,7 +1,8 @@
-//! What a system call does.
+//! What a system call does: its plan, which a recorder carries out.
 use bn_base::Addr;
 
-/// What a system call does. All but the ends of a hart and of the run go on with an answer in a0.
+/// What a system call does. After all but the ends of a hart and of the run, the hart continues with
+/// an answer in a0.
 #[derive(Clone, Copy, Debug, Drop)]
 pub enum Plan {
     /// The next `len` bytes of the input go to the bytes from `addr` on. The answer is `len`.

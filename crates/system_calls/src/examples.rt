@@ -24,13 +24,13 @@ pub fn a_bad_address_is_refused()
     ensures sent { plan_of 64 1 65618 4 (kernel 9 0) a_program ≡ Send 1 65618 4 }
 {}
 
-/// A write to a full stream is answered with -28, also where its bytes aren't mapped; one of no byte with 0.
+/// A write to a full stream is answered with -28, even if its bytes aren't mapped; one of no byte with 0.
 pub fn a_full_stream_is_refused()
     ensures full { plan_of 64 2 0 4 (kernel 0 16777216) a_program ≡ Answer (2 ^ 32 - 28) }
     ensures nothing { plan_of 64 2 0 0 (kernel 0 16777216) a_program ≡ Answer 0 }
 {}
 
-/// A read is short where the input is, and at its end it is answered with 0; a write is short where the stream's room is.
+/// A read is short if the input is, and at its end it is answered with 0; a write is short if the stream's room is.
 pub fn a_call_is_short()
     ensures read { plan_of 63 0 131072 8 (kernel 3 0) a_program ≡ Fill 131072 3 }
     ensures over { plan_of 63 0 131072 8 (kernel 0 0) a_program ≡ Answer 0 }

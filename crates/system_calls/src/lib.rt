@@ -124,11 +124,11 @@ fn set_break(value: Addr, kernel: &Kernel, image: &Image) -> Plan
 /// | exit_group | 94 | ends the run |
 /// | brk | 214 | sets the break, from the heap's start to its limit, and answers it |
 ///
-/// A read or write is short where its count passes 4,096, the input that is left, or the room of
-/// the stream, which may hold 2^24 bytes. The answers for errors, in the order in which they are
-/// tested: -9 for another file, -28 for a stream with no room, and -14 for bytes that aren't all
-/// mapped (of a read: and writable). A count of 0 is answered with 0 before the last two. Any
-/// other number is answered with -38. It takes no memory.
+/// A read or write is short if its count passes 4,096, the input that is left, or the room of
+/// the stream, which may hold 2^24 bytes. Errors are tested in this order: -9 for another file, -28
+/// for a stream with no room, and -14 for bytes that aren't all mapped (of a read: and writable). A
+/// count of 0 is answered with 0 before the last two. Any other number is answered with -38. It
+/// takes no memory.
 pub fn plan(number: u32, args: [u32; 3], kernel: &Kernel, image: &Image) -> Plan
     ensures value { result ≡ plan_of number (slice_index args 0) (slice_index args 1) (slice_index args 2) kernel.now image.now }
     ensures within { IsWithin result kernel.now image.now }

@@ -1,3 +1,4 @@
+//! A vector time in an array, with no heap: recorders copy and merge one at each conflict.
 ghost use Rattle.std.specs.Prelude.{◌≡◌, ◌<◌, ◌↔◌, ◌==◌, ℕ, IsTrue, length, max, min, if◌then◌else◌};
 ghost use Rattle.bn_base.specs.declared.settings.TheConstants.{HARTS};
 
@@ -5,7 +6,7 @@ use bn_base::{HARTS, HartId, Ic};
 
 /// For each hart, how many of its points are known to be before.
 ///
-/// A hart's points are counted from 0, so a count `n` stands for the points 0 to `n - 1` of that hart.
+/// A hart's points are counted from 0, so a count `n` represents the points 0 to `n - 1` of that hart.
 #[derive(Clone, Copy)]
 pub struct Times {
     counts: [Ic; HARTS],
@@ -39,7 +40,7 @@ impl Times {
         }
     }
 
-    /// Takes each hart's greater count; of one hart `count` stands in the place of the other's.
+    /// Takes each hart's greater count; of one hart, `count` is taken in place of the other's.
     pub fn merge_but(&mut self, other: &Times, hart: HartId, count: Ic)
         requires { hart < HARTS }
         ensures { (h : ℕ) → count_of self.new h ≡ max (count_of self.old h) (if h == hart then count else count_of other.now h) }

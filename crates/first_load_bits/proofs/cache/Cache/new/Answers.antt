@@ -59,7 +59,7 @@ small_power high value h = grind arith
 some_ways : (width : ℕ) → is_between 1 16 width ≡ true → (width == 0) ≡ false
 some_ways width h = grind arith
 
--- the second level has the sets of the settings, and none where it has no ways
+-- the second level has the sets of the settings, and none if it has no ways
 sets_below : (width bits sets : ℕ) (none second : Bool) → (sets == 0) ≡ none → IsTrue (none || second && is_small_power 4096 sets) → IsTrue (if none then width == 0 else is_between 1 16 width)
     → (0 < sets → IsTrue (is_power_of_two sets) → 2 ^ bits ≡ sets) → elim (width == 0) as (λ x. ℕ) [ true ↦ 0 | false ↦ 2 ^ bits ] ≡ sets
 sets_below width bits sets true second e s w exact = ap (λ n. elim (n == 0) as (λ x. ℕ) [ true ↦ 0 | false ↦ 2 ^ bits ]) (eqb-true width 0 w) ∙ sym (eqb-true sets 0 e)
