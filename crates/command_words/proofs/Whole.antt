@@ -28,7 +28,7 @@ none_by [] sub k other (inl e) = absurd (other e)
 none_by [] sub k other (inr e) = absurd e
 none_by (x ∷ xs) sub k other h = refl
 
--- an error that is not for want of memory: the words are refused
+-- an error other than out of memory: the words are refused
 refuses : (a : App) (words : List Text) (k : ErrorKind) → a ≡ bugnet_app → (k ≡ kind.OutOfMemory → ⊥)
     → (is_simple_and_free a ≡ true → (k ≡ kind.OutOfMemory) ⊎ IsAmong k (fault_of a words)) → line_of words ≡ None
 refuses a words k is other h =

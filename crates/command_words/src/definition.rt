@@ -51,14 +51,14 @@ fn most_word<'a>(alloc: Global, id: &'a str) -> Arg<'a>
     word(alloc, id).value_parser(ValueParser::Unsigned(1, 1_000_000))
 }
 
-// a command of this name, to which nothing is added yet
+// a command of this name, without arguments and subcommands
 fn named_command<'a>(alloc: Global, name: &'a str) -> Result<Command<'a>, AllocError>
     ensures { IfOk result (IsSeenAs (new_app name.entry.now)) }
 {
     Ok(Command::new(alloc, name))
 }
 
-// The command with one more argument, where there is a command.
+// The command with one more argument, if there is a command.
 fn add_argument<'a>(
     command: Result<Command<'a>, AllocError>,
     argument: Arg<'a>,
@@ -68,7 +68,7 @@ fn add_argument<'a>(
     command?.arg(argument)
 }
 
-// The command with one more subcommand, where there are both.
+// The command with one more subcommand, if there are both.
 fn add_subcommand<'a>(
     command: Result<Command<'a>, AllocError>,
     subcommand: Result<Command<'a>, AllocError>,

@@ -269,7 +269,7 @@ at_content c e a x =
     (subst (λ (n : ℕ). IsRecordsFault (head_in (signed_for c)) n (flat_map bytes_of c.records) e) a.dropped_is
     (subst (λ (t : List ℕ). IsRecordsFault (head_in (signed_for c)) (dropped_in (signed_for c)) t e) a.rest_is x))
 
--- a file that is written is refused only for want of memory
+-- a file that is written is refused only when out of memory
 pub refused_again : HaveTheirWidth → AreRead → BeginNoOther → (c : Content) → IsVersion1 c → (e : FileError) → IsRefusal (file_bytes c) e → e ≡ OutOfMemory
 refused_again long read alone c is e x =
     let a = content_again read c is in

@@ -129,7 +129,7 @@ same-fault x e s = grind arith
 no-fault-there : (e : FileError) → ◌≡◌ {A = Option FileError} None (Some e) → e ≢ OutOfMemory
 no-fault-there e s = grind arith
 
--- the first of some causes isn't want of memory, if none is
+-- the first of some causes isn't `OutOfMemory`, if none is
 chosen : (b : Bool) (x e : FileError) (later : Option FileError) → x ≢ OutOfMemory → (later ≡ Some e → e ≢ OutOfMemory) → cond b (Some x) later ≡ Some e → e ≢ OutOfMemory
 chosen true x e later other after h = λ is. other (same-fault x e h ∙ is)
 chosen false x e later other after h = after h

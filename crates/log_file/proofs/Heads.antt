@@ -76,7 +76,7 @@ settings_passed None r h = (refl, h)
 same_bytes : (xs ys : List ℕ) → bytes_eq xs ys ≡ true → xs ≡ ys
 same_bytes xs ys h = (bytes_eq-Decides xs ys).0 h
 
--- what stands where there is no fault
+-- what the bytes have if there is no fault
 pub record Passed (signed kept : List ℕ) : Type 0 where
   pub begins : take 8 signed ≡ magic
   pub version : number_at 4 8 signed ≡ 1

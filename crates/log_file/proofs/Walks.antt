@@ -163,7 +163,7 @@ module _ (tell : TellTheirSize) where
             same = ap (λ (p : ℕ). late_edge harts p others) (on ∙ ap (λ (n : ℕ). place + n) whole) ∙ sym (rw here refl) ∙ same;
           }
 
-  -- where no record's first byte stands, or too few bytes, no record is left
+  -- if the rest begins with no record's first byte, or has too few bytes, no record is left
   pub left_stops : (format : ℕ) (harts : Harts) (rs : List Record) (place : ℕ) (rest : List ℕ) → 0 < length rest
       → ((n : ℕ) → Some n ≡ size_of (slice_index rest 0) → length rest < n) → Left format harts rs place rest → None ≡ late_edge harts 0 rs
   left_stops format harts rs place rest more short l = by_left l.left l.fit l.parts

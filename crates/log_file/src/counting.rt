@@ -1,4 +1,4 @@
-//! Counting what a file has, with no list of its records.
+//! Counting what a file has, with no list of its records: `check` tests a log so, in no memory.
 ghost use Rattle.std.specs.Prelude.{◌≡◌, ◌≢◌, ◌≤◌, ◌<◌, ◌++◌, ◌∷◌, [], List, ℕ, length, drop, Result, Ok, IfOk, IfErr};
 ghost use Rattle.std.specs.List.{flat_map, AllByRecursion};
 ghost use Rattle.log_record.specs.declared.record.Record.{Record};
@@ -45,12 +45,12 @@ pub struct Walked {
     broken: Option<OrderBreak>,
 }
 
-/// What is counted of records, and where they break the order first.
+/// What is counted of records, and the first break of their order.
 #[derive(Clone, Copy, Drop)]
 pub struct Tally {
     /// What is counted of them.
     pub counts: LogCounts,
-    /// The first break of their order; `None` where they are in order.
+    /// The first break of their order; `None` if they are in order.
     pub broken: Option<OrderBreak>,
 }
 
@@ -69,7 +69,7 @@ pub fn headers_of(entry: &Record) -> u64
     }
 }
 
-// The first break once a record has come, which begins at a place; the harts go on only where there was none.
+// The first break after one more record, which begins at a place. The harts' views change only if there was none.
 fn advance(
     terms: &OrderLimits,
     harts: &mut [HartView],
@@ -182,8 +182,8 @@ fn ended(format: u8, all: bool, harts: &[HartView], bytes: &[u8]) -> Option<Orde
     }
 }
 
-// The first break of the order of the records of a log of this version whose bytes these are, where a
-// walk along them found this break of a rule, or none and left the harts so.
+// The first break of the order of records, from what a walk along them found: a break of a rule, or
+// none and the harts' views at its end.
 fn first_break(
     format: u8,
     all: bool,
@@ -199,10 +199,10 @@ fn first_break(
     }
 }
 
-/// What is counted of the records of a log of this version with these settings whose bytes these are,
-/// and where they break the order first, so many having been given up before them. No list of them
-/// is made, and no memory is taken. The error is the first place, in bytes from the first record's,
-/// where a record should begin and none does.
+/// What is counted of the records with these bytes, of a log of this version with these settings,
+/// and the first break of their order. So many records were given up before them. No list of them is
+/// made, and no memory is taken. The error is the first place, in bytes from the first record's, at
+/// which a record should begin and none does.
 pub fn tally_of(format: u8, settings: &Settings, dropped: u64, bytes: &[u8]) -> Result<Tally, u64>
     ensures tallied { IfOk result (IsTallied format settings.now dropped bytes.now) }
     ensures refused { IfErr result (λ at. NoRecord format bytes.now at) }
@@ -278,7 +278,7 @@ fn count(bytes: &[u8]) -> Result<LogCounts, FileError>
 }
 
 /// What is counted of the log that a file says, without a list of its records: it takes no memory.
-/// A file is refused as `read_file` refuses it, but for want of memory.
+/// A file is refused as `read_file` refuses it, but never as out of memory.
 pub fn count_file(bytes: &[u8]) -> Result<LogCounts, FileError>
     // The counts are those of a log, and the bytes are its spelling.
     ensures counted { IfOk result (CountsFile bytes.now) }

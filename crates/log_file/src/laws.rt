@@ -1,4 +1,4 @@
-//! What files and logs have to do with each other.
+//! Laws between files and logs: a written log is read back, and a file that is read is the spelling of what it says.
 ghost use Rattle.std.specs.Prelude.{◌≡◌, ◌≢◌, List, ℕ};
 ghost use Rattle.log_file.specs.declared.error.FileError.{FileError};
 ghost use Rattle.log_file.specs.declared.error.FileError.TheVariants.{OutOfMemory};

@@ -1,4 +1,4 @@
-//! The log file, version 1: written, read back, and each damage named.
+//! The log file, version 1: written, read back, and each damage named. `specs/Layout.antt` pins its bytes.
 #![tactic(auto)]
 
 pub mod counting;

@@ -1,4 +1,4 @@
-//! Reading a file.
+//! Reading a file of version 1: the log that it says, or the first cause to refuse it.
 ghost use Rattle.std.specs.Prelude.{◌≡◌, ◌≤◌, ◌++◌, length, drop, None, MatchResult, IfOk, IfErr};
 ghost use Rattle.log_order.specs.Content.{Content};
 ghost use Rattle.log_file.specs.declared.error.FileError.TheVariants.{OutOfMemory};

@@ -1,4 +1,4 @@
-//! What bytes are to the reader of logs.
+//! The law that readers of files rest on: bytes are a log's, or there is a cause to refuse them.
 ghost use Rattle.log_file.specs.Readings.{AreReadOrRefused};
 
 use le_numbers::laws::read_numbers_are_written;

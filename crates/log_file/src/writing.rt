@@ -1,4 +1,4 @@
-//! Writing a file.
+//! Writing a file of version 1, and what both versions have in common.
 ghost use Rattle.std.specs.Prelude.{◌≡◌, ◌<◌, ◌≤◌, ◌++◌, ◌^◌, length, IfOk, OnOk};
 ghost use Rattle.le_numbers.specs.Numbers.{number_bytes};
 ghost use Rattle.log_file.specs.Layout.{magic, settings_bytes, signed_bytes, spelling};
@@ -35,7 +35,7 @@ fn push_sizes(out: &mut Vec<u8>, settings: &Settings) -> Result<(), AllocError>
 }
 
 /// Appends what a file of either version begins with: the magic, the version, and the settings that both
-/// versions have. Where memory is wanting it may stop in the middle.
+/// versions have. When out of memory, part of it may be there.
 #[tactic(auto, unfolding(crate::specs::Layout::settings_bytes))]
 pub fn push_settings(out: &mut Vec<u8>, version: u32, settings: &Settings) -> Result<(), AllocError>
     ensures { OnOk result (out.new.items ≡ out.old.items ++ settings_bytes version settings.now) }
@@ -45,7 +45,7 @@ pub fn push_settings(out: &mut Vec<u8>, version: u32, settings: &Settings) -> Re
 }
 
 /// Appends what follows the settings: the program's digest, how many records were given up, and how many
-/// bytes the kept ones have. Where memory is wanting it may stop in the middle.
+/// bytes the kept ones have. When out of memory, part of it may be there.
 pub fn push_counts(
     out: &mut Vec<u8>,
     digest: &[u8; 32],

@@ -4,7 +4,7 @@ ghost use Rattle.log_record.specs.declared.record.Record.TheVariants.{FirstLoad,
 ghost use Rattle.log_order.specs.Order.{order_break, broken_by};
 ghost use Rattle.log_order.specs.Examples.{settings, header, end, an_exit};
 
-/// The Header and the End of a hart are in order, and alone the End is where a record was given up.
+/// The Header and the End of a hart are in order. The End alone is in order if a record was given up.
 #[tactic(auto, using(crate::proofs::Worked::exit_is, crate::proofs::Worked::kept_end_is))]
 pub fn an_exit_is_in_order()
     ensures whole { broken_by (settings 1) 0 (an_exit 0) ≡ None }

@@ -1,4 +1,4 @@
-//! What a log says.
+//! What a log says, as readers of files and replays pass it on: its type has the order of the records.
 ghost use Rattle.std.specs.Prelude.{◌≡◌, ◌≤◌, Some, IfOk, IfErr};
 ghost use Rattle.std.specs.List.{AllByRecursion};
 ghost use Rattle.log_record.specs.Spelling.{Fits, total};
@@ -9,8 +9,8 @@ use crate::walk::{OrderBreak, broken_by};
 use log_record::{Head, RecordList};
 use std::marker::Model;
 
-/// What a log says: its head, how many records were given up before those that it keeps, and these
-/// records, which logs of its version have, and which have at most log-size bytes and are in order.
+/// What a log says: its head, how many records were given up before those that it keeps, and these.
+/// The kept records are ones that its version has. They are in order, and have at most log-size bytes.
 #[derive(Drop)]
 pub struct KeptLog {
     head: Head,
@@ -29,8 +29,8 @@ impl Model for KeptLog {
 }
 
 impl KeptLog {
-    /// The log with this head, so many dropped records and these kept ones, which logs of its
-    /// version have, and which have at most log-size bytes. The error tells where they break the order first.
+    /// The log with this head, so many dropped records and these kept ones. The error is the first
+    /// break of their order.
     pub fn checked(head: Head, dropped: u64, records: RecordList) -> Result<KeptLog, OrderBreak>
         requires fit { AllByRecursion (Fits head.settings.format) records }
         requires bound { total records ≤ head.settings.log_size }

@@ -1,4 +1,4 @@
-//! Laws of the order of records.
+//! Laws by which a recorder's kept records are in order, whatever the ring has dropped.
 ghost use Rattle.std.specs.Prelude.{◌≡◌, ◌+◌, ◌++◌, ◌∷◌, [], ℕ, true, List, length, replicate, Some, None, Ok, Err};
 ghost use Rattle.std.specs.List.{AllByRecursion};
 ghost use Rattle.bn_base.specs.declared.settings.RawSettings.{RawSettings};
@@ -42,13 +42,13 @@ pub fn the_first_are_given_up()
     ensures { (t : OrderLimits) (count dropped : ℕ) (front back : List Record) (harts : List HartView) → Keeps t count dropped (front ++ back) harts → Keeps t count (dropped + length front) back harts }
 {}
 
-/// At all times the kept records keep the rules of single records, where each hart begins as it
-/// does in a log with so many dropped, and say no more of a hart than is known.
+/// At all times the kept records keep the rules of single records, if each hart begins as it does in
+/// a log with so many dropped. They say no more of a hart than is known.
 pub fn kept_records_keep_the_rules()
     ensures { SuffixesKeepTheRules }
 {}
 
-/// In the end, where each hart is done and no Edge is late, they are in order.
+/// In the end they are in order, if each hart is done and no Edge is late.
 pub fn kept_records_are_in_order()
     ensures { SuffixesAreInOrder }
 {}

@@ -1,4 +1,4 @@
-//! What the records so far say of a hart.
+//! What the records so far say of a hart: which of its records may come next. `specs/Rules.antt` has the rules.
 ghost use Rattle.std.specs.Prelude.{◌≡◌};
 ghost use Rattle.log_order.specs.Rules.{takes_header, takes_other, is_awaited, has_edge, has_end, next_number, phase_after, after_header, after_edge, after_end, after_other, after_one, fresh, is_over, is_unfinished};
 
@@ -135,7 +135,7 @@ impl Phase {
 }
 
 impl HartView {
-    /// A hart of which no record came. Where all records are kept it awaits its first Header.
+    /// A hart of which no record came. If all records are kept, it awaits its first Header.
     pub fn fresh(all: bool) -> HartView
         ensures { result ≡ fresh all }
     {

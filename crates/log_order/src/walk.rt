@@ -1,4 +1,4 @@
-//! The first break of the order of records.
+//! The first break of the order of records, by one walk along them. A file with a break is refused.
 ghost use Rattle.std.specs.Prelude.{◌≡◌, ◌<◌, ◌≤◌, ◌^◌, ◌==◌};
 ghost use Rattle.std.specs.List.{list_any};
 ghost use Rattle.bn_base.specs.declared.settings.TheConstants.{HARTS};
@@ -10,7 +10,7 @@ use crate::view::{HartView, OrderLimits};
 use bn_base::{HARTS, Settings};
 use log_record::{Record, RecordList};
 
-/// Where the order of records is broken first, and by which rule.
+/// The first break of the order of records: its place and its rule.
 #[derive(Clone, Copy, Debug, PartialEq, Eq, Drop)]
 pub struct OrderBreak {
     /// The place of the record, in bytes from the first record's; for rule 6 the records' end.
@@ -164,8 +164,8 @@ fn broken(terms: &OrderLimits, count: usize, all: bool, records: &RecordList) ->
     }
 }
 
-/// Where the order of a log's records is broken first, so many records having been dropped before
-/// them. `None` comes exactly where they are in order.
+/// The first break of the order of a log's records, before which so many were dropped. `None` if and
+/// only if they are in order.
 pub fn broken_by(settings: &Settings, dropped: u64, records: &RecordList) -> Option<OrderBreak>
     requires { total records.now < 2 ^ 63 }
     ensures { result ≡ broken_by settings.now dropped records.now }

@@ -11,7 +11,7 @@ use Rattle.log_record.specs.declared.stored_record.StoredRecord.{StoredRecord}
 use Rattle.log_record.specs.declared.stored_record.StoredRecord.TheVariants.{Header as KeptHeader, FirstLoad as KeptLoad, ScOk as KeptOk, ScFailed as KeptFailed, Edge as KeptEdge, End as KeptEnd}
 use Rattle.log_record.specs.Entries.{state_of, states_of, entry_of, header_with, record_of, IsKept}
 
--- an entry stands for the same record, whatever states are kept behind the others
+-- an entry represents the same record, whatever states are kept after the others
 same : (states more : List HartState) (e : StoredRecord) → IsKept (length states) e → record_of (states ++ more) e ≡ record_of states e
 same states more (KeptHeader h place n) lt = ap (header_with h n) (get_or_append_left states more (state_of 0 [] 0) place lt)
 same states more (KeptLoad h skip value) k = refl
@@ -36,7 +36,7 @@ all_wider : (count more : ℕ) (es new : List StoredRecord) → AllByRecursion (
 all_wider count more [] new k last = last
 all_wider count more (e ∷ es) new k last = (wider count more e k.0, all_wider count more es new k.1 last)
 
--- the entry of the record whose state came last stands for it
+-- the entry of the record whose state came last represents it
 stands : (states : List HartState) (r : Record) → record_of (states ++ states_of r) (entry_of (length states) r) ≡ r
 stands states (Header h n ic pc x) = ap (header_with h n) (get_or-append_seam states (state_of pc x ic) [] (state_of 0 [] 0))
 stands states (FirstLoad h skip value) = refl

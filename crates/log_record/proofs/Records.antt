@@ -33,7 +33,7 @@ byte_passed at next bytes b rest n e = ap (λ (k : ℕ). drop k bytes) (sym n) �
 
 -- ---- what the fields make has the bytes that stand there
 
--- some bytes begin with those of a record, and go on at a place
+-- some bytes begin with those of a record, and what follows begins at a place
 pub record BeginsAt (bytes : List ℕ) (r : Record) (next : ℕ) : Type 0 where
   pub fits : FitsFields r
   pub parts : bytes ≡ bytes_of r ++ drop next bytes
@@ -144,7 +144,7 @@ module _ (written : NumbersAreWritten) (fit : Fit) where
   by_tag (suc (suc (suc (suc (suc (suc (suc tag))))))) n bytes are e size within =
       absurd (none_is n (sym (size ∙ no_size (suc (suc (suc (suc (suc (suc (suc tag))))))) (omega arith))))
 
-  -- where there are bytes enough, they begin with those of the record that their fields make
+  -- if there are bytes enough, they begin with those of the record that their fields make
   pub record_stands : AreWritten
   record_stands n bytes are size within = let s = by_tag (slice_index bytes 0) n bytes are refl (sym size) within in (s.fits, s.parts)
 

@@ -1,4 +1,4 @@
--- Words one after another: read where they are written, and written where they are read.
+-- Words one after another: what is written at a place is read there, and what is read is written there.
 use Rattle.std.proofs.Common.{◌≡◌, ℕ, zero, suc, ◌+◌, ◌-◌, ◌*◌, ◌^◌, ◌<◌, ◌≤◌, List, [], ◌∷◌, ◌++◌, length, drop, refl, sym, ap, ap₂, ◌∙◌, append_assoc, arith}
 use Rattle.std.specs.List.{flat_map, AllByRecursion}
 use Rattle.std.specs.Prelude.{slice_index}
@@ -14,7 +14,7 @@ length-words_at zero at bytes = refl
 length-words_at (suc count) at bytes = ap suc (length-words_at count (at + 4) bytes)
 
 module _ (written : AreWritten) (fit : Fit) where
-  -- bytes go on with the bytes of the words that are read there
+  -- from a place on, bytes are those of the words that are read there, and the rest
   pub drop-words_at : (count at next : ℕ) (bytes : List ℕ) → AreBytes bytes → next ≤ length bytes → at + 4 * count ≡ next
       → drop at bytes ≡ flat_map (number_bytes 4) (words_at count at bytes) ++ drop next bytes
   unfolding words_at

@@ -1,4 +1,4 @@
--- What a list keeps of a record, and the record that this stands for.
+-- What a list keeps of a record, and the record that this represents.
 use Rattle.std.specs.Prelude.{ℕ, ◌<◌, List, [], ◌∷◌, slice_index_or}
 use Rattle.bn_base.specs.declared.state.HartState.{HartState}
 use Rattle.log_record.specs.declared.record.Record.{Record}
@@ -19,7 +19,7 @@ states_of (ScFailed h) = []
 states_of (Edge h ic s j) = []
 states_of (End h mark) = []
 
--- what is kept of a record at its own place, where a Header's state has this place among the states
+-- what is kept of a record at its own place, if a Header's state has this place among the states
 abbrev pub entry_of : ℕ → Record → StoredRecord
 entry_of place (Header h n ic pc x) = KeptHeader h place n
 entry_of place (FirstLoad h skip value) = KeptLoad h skip value

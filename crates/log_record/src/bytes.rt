@@ -1,4 +1,4 @@
-//! The bytes of one record.
+//! The bytes of one record, in an array: recorders write it without memory.
 ghost use Rattle.std.specs.Prelude.{◌≡◌, ◌<◌, ◌≤◌, ◌+◌, ◌++◌, ◌∷◌, [], ◌↔◌, IsTrue, length, take};
 ghost use Rattle.le_numbers.specs.Numbers.{number_bytes};
 

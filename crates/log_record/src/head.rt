@@ -1,4 +1,4 @@
-//! What stands before the records of a log.
+//! What a log file has before the records: the settings and the program's digest.
 use bn_base::Settings;
 
 /// The settings of the recording, and the SHA-256 digest (FIPS 180-4) of the recorded program's

@@ -1,4 +1,4 @@
-//! What the bytes of records have to do with each other.
+//! Laws by which log files are read back: records' bytes begin no other record, and are read as they were written.
 ghost use Rattle.std.specs.Prelude.{◌≡◌, Some, length};
 ghost use Rattle.log_record.specs.declared.record.Record.{Record};
 ghost use Rattle.log_record.specs.Spelling.{size_of, tag_of, bytes_of, FitsFields};
@@ -17,7 +17,7 @@ pub fn tags_tell_sizes()
     numbers_have_their_width();
 }
 
-/// A record that is written is read back, whatever stands behind it.
+/// A record that is written is read back, whatever comes after it.
 pub fn written_records_are_read()
     ensures { AreRead }
 {

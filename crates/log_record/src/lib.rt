@@ -1,4 +1,5 @@
-//! The records of a log, their bytes, and lists of them in little memory.
+//! The records of a log, their bytes, and lists of them in little memory. A recorder writes them; files, replays and
+//! reports read them. `specs/Spelling.antt` pins each byte.
 #![tactic(auto)]
 
 pub mod bytes;

@@ -1,4 +1,4 @@
-//! A list of records.
+//! A list of records, in little memory: Headers' states are kept apart. Contracts see the records alone.
 ghost use Rattle.std.specs.Prelude.{◌≡◌, ◌<◌, ◌^◌, ◌++◌, ◌∷◌, [], length, slice_index_or, is_ok, if◌then◌else◌, IfOk, IsTrue, ◌↔◌};
 ghost use Rattle.log_record.specs.Entries.{record_of};
 
@@ -52,7 +52,7 @@ impl RecordList {
         })
     }
 
-    /// Appends a record. Want of memory changes nothing.
+    /// Appends a record. When out of memory, it changes nothing.
     pub fn push(&mut self, entry: Record) -> Result<(), AllocError>
         ensures { self.new ≡ (if is_ok result then self.old ++ entry ∷ [] else self.old) }
     {

@@ -1,4 +1,4 @@
-//! Reading a record.
+//! Reading a record from the beginning of some bytes, for readers of log files.
 ghost use Rattle.std.specs.Prelude.{◌≡◌, ◌≤◌, ◌++◌, ◌∷◌, List, ℕ, Some, length, slice_index, IfSome};
 ghost use Rattle.log_record.specs.declared.record.Record.{Record};
 ghost use Rattle.log_record.specs.Spelling.{size_of, bytes_of, has_value, has_no_value, is_mark, is_marked, Fits, BeginsWith};
@@ -153,9 +153,9 @@ fn record_in(bytes: &[u8], size: usize) -> Record
     }
 }
 
-/// The record of a log of this version that is at the front of some bytes, and how many bytes it
-/// has. Others may follow it. `None` comes exactly where no such record's bytes are at the front.
-/// Version 2 has one more reason of an End, the guard's.
+/// The record of a log of this version that some bytes begin with, and how many bytes it has. Others
+/// may follow it. `None` comes if and only if the bytes begin with no such record. Version 2 has one
+/// more reason of an End, the guard's.
 #[inline(always)]
 pub fn read_as(format: u8, bytes: &[u8]) -> Option<(Record, usize)>
     // What is read stands there.
@@ -179,8 +179,8 @@ pub fn read_as(format: u8, bytes: &[u8]) -> Option<(Record, usize)>
     }
 }
 
-/// The record of a log of version 1 that is at the front of some bytes, and how many bytes it has.
-/// `None` comes exactly where no such record's bytes are at the front.
+/// The record of a log of version 1 that some bytes begin with, and how many bytes it has. `None`
+/// comes if and only if the bytes begin with no such record.
 #[inline(always)]
 pub fn read(bytes: &[u8]) -> Option<(Record, usize)>
     ensures found { IfSome result (λ x. BeginsWith 1 bytes.now x.0 x.1) }

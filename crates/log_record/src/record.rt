@@ -1,4 +1,4 @@
-//! The records of a log.
+//! The records of a log: what a recorder writes down, so that a replay needs the log and the program alone.
 ghost use Rattle.std.specs.Prelude.{◌≡◌, ◌≤◌, length};
 ghost use Rattle.log_record.specs.Spelling.{bytes_of, hart_of};
 

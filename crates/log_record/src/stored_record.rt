@@ -1,4 +1,4 @@
-//! What a list keeps of a record.
+//! What a list keeps of a record. A Header's state is kept elsewhere, so that all other records take few bytes.
 ghost use Rattle.std.specs.Prelude.{◌≡◌, ◌++◌, OnOk, OnErr};
 ghost use Rattle.log_record.specs.Entries.{entry_of, states_of};
 
@@ -79,7 +79,7 @@ impl StoredRecord {
     }
 }
 
-/// Appends the state that a record tells, if it is a Header. Want of memory changes nothing.
+/// Appends a record's state, if it is a Header. When out of memory, it changes nothing.
 #[inline(always)]
 pub(crate) fn keep_state(states: &mut Vec<HartState>, entry: &Record) -> Result<(), AllocError>
     ensures ok { OnOk result (states.new.items ≡ states.old.items ++ states_of entry.now) }

@@ -1,4 +1,4 @@
-//! The bytes of a record.
+//! Writing a record's bytes.
 ghost use Rattle.std.specs.Prelude.{◌≡◌, ◌++◌, ◌∷◌, [], ◌≤◌, ◌<◌, ◌^◌, ◌+◌, drop, length, IsTrue};
 ghost use Rattle.std.specs.List.{flat_map, AllByRecursion};
 ghost use Rattle.le_numbers.specs.Numbers.{number_bytes};

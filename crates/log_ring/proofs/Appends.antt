@@ -40,7 +40,7 @@ gives_up old new r gone latest dropped count few =
     let gone_is : gone ≡ length f.0 = omega (arith, ap length parts, length-append f.0 new.records, length-append old.records (r ∷ [])) in
     record { front = f.0; parts = parts; dropped = omega arith; few = omega arith }
 
--- a ring that holds what is kept goes on doing so
+-- after an append a ring still holds what is kept
 pub still_holds : (old new : Held) (r : Record) (gone : ℕ) → new.records ≡ kept old.size (old.records ++ r ∷ []) → new.dropped ≡ old.dropped + gone
     → gone + length new.records ≡ length old.records + 1 → new.size ≡ old.size → (appended : List Record) → HoldsLog old appended → HoldsLog new (appended ++ r ∷ [])
 still_holds old new r gone latest dropped count size appended holds = record {

@@ -120,7 +120,7 @@ no_bytes : (bytes : List ℕ) → length bytes ≡ 0 → records_in bytes ≡ []
 no_bytes [] e = records_in-nil
 no_bytes (b ∷ bytes) e = absurd (omega arith)
 
--- whole records are none where there are no bytes
+-- no bytes are no records, and no records no bytes
 pub empty_when : (bytes : List ℕ) (rs : List Record) (b : Bool) → IsWhole bytes → records_in bytes ≡ rs → b ≡ (length bytes == 0) → IsTrue b ↔ (rs ≡ [])
 empty_when bytes rs b whole view e =
     let tell : IsTrue b → length bytes ≡ 0 = λ t. grind arith in

@@ -18,7 +18,7 @@ total-append (x ∷ xs) ys = omega (arith, total-cons x xs, total-cons x (xs ++ 
 pub total-one : (r : Record) → total (r ∷ []) ≡ length (bytes_of r)
 total-one r = ap length (append-nil (bytes_of r))
 
--- a first record goes where they are too many
+-- a first record goes if the records are too large together
 pub kept-over : (size : ℕ) (r : Record) (rs : List Record) → size < total (r ∷ rs) → kept size (r ∷ rs) ≡ kept size rs
 unfolding kept
 kept-over size r rs over = rw (lt-leb (total (r ∷ rs)) size over) refl
@@ -56,7 +56,7 @@ kept-longest size (x ∷ front) back under =
       | inr h ↦ omega (arith, ap length (kept-over size x (front ++ back) h.1), kept-longest size front back under)
     ]
 
--- the records behind those that were given up are enough to go on with
+-- what is kept after one more record is determined by what was kept before it
 pub kept-kept : (size : ℕ) (rs : List Record) (r : Record) → kept size (kept size rs ++ r ∷ []) ≡ kept size (rs ++ r ∷ [])
 kept-kept size [] r = ap (λ (xs : List Record). kept size (xs ++ r ∷ [])) (kept-all size [] (omega arith))
 kept-kept size (x ∷ rs) r =

@@ -1,4 +1,4 @@
-//! What it means to keep the longest suffix.
+//! Laws of the longest suffix: what is dropped stays dropped, so a ring needs only what it holds.
 ghost use Rattle.std.specs.Prelude.{◌≡◌, ◌≤◌, ◌++◌, ◌∷◌, [], ℕ, List, length};
 ghost use Rattle.log_record.specs.declared.record.Record.{Record};
 ghost use Rattle.log_record.specs.Spelling.{total};

@@ -1,4 +1,4 @@
-//! The ring.
+//! The ring buffer of a recording's log. A byte buffer holds whole records; the oldest give way.
 ghost use Rattle.std.specs.Prelude.{◌≡◌, ◌++◌, ◌∷◌, [], ◌+◌, ◌-◌, ◌<◌, ◌≤◌, ◌^◌, length, List, ◌↔◌, IfOk, Some, slice_get, IsTrue};
 ghost use Rattle.std.specs.List.{flat_map, AllByRecursion};
 ghost use Rattle.log_record.specs.declared.record.Record.{Record};
@@ -92,7 +92,7 @@ fn make_room(bytes: &mut HeapCircularBuffer<u8>, room: usize) -> u64
 }
 
 impl Ring {
-    /// A ring that holds up to `size` bytes of records, and none yet.
+    /// An empty ring, for up to `size` bytes of records.
     pub fn new(alloc: Global, size: usize) -> Result<Ring, AllocError>
         requires { 146 ≤ size }
         ensures { IfOk result (λ r. r ≡ held [] 0 size) }
