@@ -3,8 +3,8 @@
 
 tests/prose.py [PAGE, SOURCE or FOLDER..]
 
-Without words all are checked. Checked are: no sentence of more than 35 words, no table cell of more than 60, none of
-the words in WORDS, no link that leads nowhere, and no page of more words than PAGES says (as `wc -w` counts).
+Without words all are checked. No sentence may have more than 35 words, no table cell more than 60, and no page more
+than PAGES says (as `wc -w` counts). None of the words in WORDS may stand there, and no link may lead nowhere.
 Code is not prose: blocks are passed over, and a piece of inline code is one word of its sentence.
 
 Of a source (COMMENTS has the endings), the lines of a comment are one text; so are those of a Python docstring.
@@ -111,9 +111,10 @@ COMMENTS = {
     ".antt": rf"{STRING}|(?P<mark>(?<!\S)--)(?P<line>[^\n]*)",
     ".py": rf'{DOCSTRING}|"""(?:\\.|[^\\])*?"""|{SHORT_STRING}|(?P<mark>#)(?!!)(?P<line>[^\n]*)',
     ".sh": r"'[^'\n]*'|\"(?:\\.|[^\"\\\n])*\"|(?P<mark>(?<!\S)#)(?!!)(?P<line>[^\n]*)",
+    ".edit": r"(?P<mark>^#)(?P<line>[^\n]*)",
 }
 COMMENTS = {ending: re.compile(pattern, re.S | re.M) for ending, pattern in COMMENTS.items()}
-ALIKE = {".awk": ".sh", ".bash": ".sh", "zelkuma": ".sh"}
+ALIKE = {".awk": ".sh", ".bash": ".sh", "zelkuma": ".sh", "run": ".sh", "crates.txt": ".edit"}
 
 # Sources, and the faults that their comments have, each as line and words.
 LONG = "word " * 20
@@ -132,7 +133,12 @@ SOURCES = [
     (".antt", f"-- ---- {LONG}\n-- {LONG}\n", []),
     (".py", '"""A page.\n\nIt is dear.\n"""\na = "# dear"  # dear\n', [(3, "'dear'"), (5, "'dear'")]),
     (".py", 'a = """\n# not yet\n"""\nb = \'#\'\n', []),
+    (".py", f'def f():\n    """{LONG}\n    {LONG}\n\n    {LONG}"""\n', [(2, "sentence of 40 words")]),
+    (".py", f"a = 1  # {LONG}\n# {LONG}\nb = 2  # {LONG}\n", []),
     (".sh", "#!/bin/dear\n# It goes\n#   by steps.\na=${#dear} # yet\nb='# yet'\n", [(2, "'goes by'"), (4, "'yet'")]),
+    (".sh", f"# {LONG}\n# {LONG}\nf() {{\n    [ $# = 0 ] && echo \"$# # yet\" # not dear\n}}\n", [(1, "of 40 words"), (4, "'dear'")]),
+    (".sh", "awk '\n# anew, it doesn't end here\n{ print }' a#yet\n", [(2, "'anew'")]),
+    (".edit", "# Not yet.\nfile: a.rt\nold: x # dear\nnew: # lent\n# as ever\n", [(1, "'yet'"), (5, "'as ever'")]),
 ]
 
 CODE = "ξ"
@@ -351,8 +357,9 @@ def comment_faults(kind, text):
 
 def source_kind(path):
     """Says of which kind a source is; None if it isn't one."""
-    ending = os.path.splitext(path)[1] or os.path.basename(path)
-    kind = ALIKE.get(ending, ending)
+    name = os.path.basename(path)
+    ending = os.path.splitext(name)[1]
+    kind = ALIKE.get(name) or ALIKE.get(ending, ending)
     return kind if kind in COMMENTS else None
 
 
