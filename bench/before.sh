@@ -1,9 +1,10 @@
 #!/usr/bin/env bash
-# Times touches of a hart's cache, and accesses of the race log, as an earlier commit has them beside those of this
+# Times accesses through a hart's cache, and those of the race log, as an earlier commit has them beside those of this
 # tree, in turns in one run, and prints the ratios.
 #
-# bench/before.sh REV [COUNT [RUNS]]: so many touches, and a quarter of that many accesses, RUNS times; the best of
-# each counts, so that a busy moment of the machine spoils no ratio. Both are proved first, in checkouts of their own.
+# bench/before.sh REV [COUNT [RUNS]]: COUNT accesses of the cache, and a quarter of that many of the log, RUNS times. The
+# best of each counts, so that a busy moment of the machine spoils no ratio. Both commits are proved first, in checkouts
+# of their own.
 set -eu
 top=$(cd "$(dirname "$0")/.." && pwd)
 rev=$1

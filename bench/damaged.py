@@ -3,8 +3,8 @@
 
 bench/damaged.py [SECONDS [SEED]]: as many recordings as there is time for (60). Each log has to be taken by `check`,
 `list` and `joint`, `audit` has to agree, `convert` and `salvage` have to save the same bytes, and drawn intervals have
-to be replayed to their last row. Then a bit behind the head is flipped: what `salvage` saves has to be taken by
-`joint`, and drawn intervals of it by `replay`; or nothing is left. It ends with 1 where a call was answered otherwise.
+to be replayed to their last row. Then a bit after the head is flipped: what `salvage` saves has to be taken by
+`joint`, and drawn intervals of it by `replay`; or nothing is left. It ends with 1 if a call was answered otherwise.
 """
 
 import collections
@@ -55,7 +55,7 @@ def replay_some(draw, calls, what, log, elf, listed):
     for line in draw.sample(listed, min(3, len(listed))):
         hart, interval, first, last = line.split()[:4]
         _, lines = calls.run(what, (0,), "replay", log, elf, hart, interval)
-        # A fault's row stands behind those that are counted.
+        # A fault's row follows those that are counted.
         if len(lines) - 2 - (int(last) - int(first)) not in (0, 1):
             calls.wrong.append(f"{what}: {log} {line}: {len(lines)} lines")
 

@@ -41,7 +41,7 @@ class Damage:
         self.sections = struct.unpack_from("<H", data, 48)[0]
 
     def section(self):
-        """Where a section's header is, and where the section lies in the file."""
+        """The place of a section's header, and the section's place and length in the file."""
         head = self.first + 40 * self.draw.randrange(self.sections)
         offset, size = struct.unpack_from("<II", self.data, head + 16)
         return head, min(offset, len(self.data) - 1), max(1, min(size, len(self.data) - offset))

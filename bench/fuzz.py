@@ -3,26 +3,29 @@
 
 bench/fuzz.py [COUNT [SEED [PROCESSES [SECONDS]]]], at most so many seconds by the clock
 
-First come all fronts and all flipped bits of a small log, of version 1 and of version 2, with its digests and with
-digests made anew, and of a small program file with a log made for it. Then COUNT files (10,000) made from recordings
-of examples/: bits flipped, bytes cut out or put in, records left out, doubled, exchanged, put in or changed in a
-field, fronts and ends of two logs put together, settings changed, with the digest made anew or not; half of them in
-version 2, of recordings with format 2 too, and there also blocks left out, doubled, exchanged, cut elsewhere, damaged
-or with other numbers, most with the digests made anew; and program files with bytes changed, under logs that say
-their digest.
+First come all prefixes and all flipped bits of a small log, in version 1 and in version 2, with its digests and with
+renewed ones. The same is done with a small program file and a log made for it. Then come COUNT files (10,000) made from
+recordings of examples/, half of them in version 2:
 
-A log is given to `check`, and one of version 2 to `salvage`; one that `check` takes also to `list`, `replay`, `joint`,
-`debug`, `races`, `slice`, `convert` and, with a drawn list of turns, to `audit`, and one that it refuses also to one
-of these. A program file is given to `replay`, `joint`, `debug`, `races`, `slice` and `record`. Each call has to end by
-itself, with a status that its command has, one line on err that fits the status, within SECONDS of processor time and
-BYTES of memory; and `check` has to say what bench/verdict.py says, and `convert` and `salvage` too, and to save it.
+- bits flipped, bytes cut out or put in
+- records left out, doubled, exchanged, put in or changed in a field
+- a prefix of one log with the end of another, or settings changed; with renewed digests or not
+- blocks left out, doubled, exchanged, cut elsewhere, damaged or with other numbers, most with renewed digests
+- program files with bytes changed, under logs that say their digest
+
+A log is given to `check`, and one of version 2 to `salvage`. One that `check` takes is given to `list`, `replay`,
+`joint`, `debug`, `races`, `slice`, `convert` and, with a drawn list of turns, to `audit`. One that `check` refuses is
+given to one of these. A program file is given to `replay`, `joint`, `debug`, `races`, `slice` and `record`. Each call
+has to end by itself, within SECONDS of processor time and BYTES of memory, with a status that its command has and one
+line on err that fits it. What `check`, `convert` and `salvage` say has to be what bench/verdict.py says, and the last
+two have to save it.
 
 With ZELKUMA_CASES the same files are given to the same call in memory, many of them to one process: that variable
 names the built program of the crate program_cases, which does what lines say. Only the recordings come of the
 program itself then. Seconds are those of that process for a call, and bytes are its most in all.
 
-It prints how many calls of each command had which status, the longest and the largest, and ends with 1 where a
-call was answered otherwise; such a file is kept, and its name and words are printed.
+It prints how many calls of each command had which status, the longest and the largest. It ends with 1 if a call was
+answered otherwise; such a file is kept, and its name and words are printed.
 """
 
 import collections
@@ -118,7 +121,7 @@ class Calls:
             return file.read()
 
     def spawn(self, words, out):
-        """Runs the program, and returns how it ended, and what it took; None where it didn't end."""
+        """Runs the program, and returns how it ended, and what it took; None if it didn't end."""
         create = os.O_WRONLY | os.O_CREAT | os.O_TRUNC
         files = [
             (os.POSIX_SPAWN_OPEN, 0, self.path("keys"), os.O_RDONLY, 0),
@@ -269,8 +272,8 @@ class Cases(Calls):
 # ---- what is made of recordings
 
 
-# Of each example: how many harts, the limit, the interval, and how many bytes of records are kept; then the same with
-# format 2, where the log is saved in version 2, and small enough for the guard.
+# Of each example: how many harts, the limit, the interval, and how many bytes of records are kept. Then options for
+# format 2, which is saved in version 2, in logs that are small enough for the guard.
 RECORDED = ((1, 400, 100, 4096), (2, 300, 60, 2048), (4, 120, 50, 1024), (2, 400, 12, 12_000))
 SMALL_CACHE = ("--log-size", "16384", "--sets", "1", "--ways", "1", "--line", "1")
 RECORDED2 = (("--harts", "16", "--limit", "250", *SMALL_CACHE), ("--limit", "2000", "--sets2", "2", "--ways2", "1", *SMALL_CACHE))
@@ -407,7 +410,7 @@ def mutated_log(draw, pool):
 
 
 def sealed2(signed, blocks):
-    """Returns a file of version 2 with all digests made anew: blocks are records' bytes, before and left."""
+    """Returns a file of version 2 with renewed digests: blocks are records' bytes, before and left."""
     data = forge.sealed(signed)
     return data + b"".join(forge.block(data[104:136], *each) for each in blocks)
 
@@ -471,7 +474,7 @@ def with_left(blocks):
 
 
 def rebuilt(draw, signed, records):
-    """Returns a file of version 2 with other records, blocks or numbers, all its digests made anew."""
+    """Returns a file of version 2 with other records, blocks or numbers, all its digests renewed."""
     dropped = struct.unpack_from("<Q", signed, 92)[0]
     if draw.random() < 0.3:
         dropped = draw.choice((0, 1, 2**64 - 1))
@@ -629,7 +632,7 @@ def give_elf(draw, calls, signed, elf):
 
 
 def give_small(calls):
-    """Gives all fronts and flipped bits of a small log and of a small program file."""
+    """Gives all prefixes and flipped bits of a small log and of a small program file."""
     draw = random.Random(0)
     elf = forge.program(0x00500513, 0x05D00893, 0x73)
     data = forge.log(elf, forge.begun(0) + forge.end(0, 3, forge.EXIT, 5))
@@ -651,7 +654,7 @@ def give_small(calls):
 
 
 def give_small2(calls, draw, first, elf):
-    """Gives all fronts and flipped bits of a small log in version 2, as they are and sealed anew."""
+    """Gives all prefixes and flipped bits of a small log in version 2, as they are and sealed again."""
     data = version2(first)
     signed, blocks = forge.parts2(data)
     for length in range(len(data)):

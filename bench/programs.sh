@@ -1,13 +1,18 @@
 #!/usr/bin/env bash
-# Times the whole program on examples/sort.elf: its recording, the audit of it, the replay of its longest
-# interval, a demonstration, and the reading of a full log of 64 MiB, with the memory that it takes. Beside
-# them stand qemu-riscv32 on the same program, one instruction at a time too, the demonstration's parts by
-# single commands, and sha256sum on the same log.
-# Then how much memory the list of turns takes; harts in threads beside harts by a seed, by the clock; the
-# joint replay beside single replays of the same intervals, the race report beside the joint replay and a slice
-# beside a replay; a replay and a joint replay into a pipe; and how far back a log of 1 MiB reaches in each example.
-# Last come five programs beside qemu-riscv32, one instruction at a time: sort, and the four of bench/guests.sh. It
-# prints ratios; the times beside them are those of the machine and of the moment.
+# Times the whole program, beside what is like it. It prints ratios; the times beside them are those of the machine and
+# of the moment.
+#
+# - on examples/sort.elf: its recording, the audit of it and the replay of its longest interval; a demonstration; the
+#   reading of a full log of 64 MiB, with the memory that it takes
+# - beside them: qemu-riscv32 on the same program, also one instruction at a time; the demonstration's parts by single
+#   commands; sha256sum on the same log
+# - the memory of the list of turns
+# - harts in threads beside harts by a seed, by the clock
+# - the joint replay beside single replays of the same intervals, the race report beside the joint replay, and a slice
+#   beside a replay
+# - a replay and a joint replay into a pipe
+# - how far back a log of 1 MiB reaches in each example
+# - five programs beside qemu-riscv32, one instruction at a time: sort, and the four of bench/guests.sh
 #
 # bench/programs.sh [RUNS]: each is run RUNS times (3), and the least processor time counts. ZELKUMA_GUESTS is a folder
 # of bench/guests.sh (else the programs are built), and ZELKUMA_THREAD_TURNS the turns of a long recording of harts in
@@ -186,8 +191,8 @@ number() {
     done
 }
 
-# harts COUNT TIMES LOOPS [APART]: lets `harts` be so many harts of bench/harts.elf, each with so many loads
-# and stores and so many loops of two instructions before each, on the same words or so many bytes apart.
+# harts COUNT TIMES LOOPS [APART]: sets `harts` to the words that record COUNT harts of bench/harts.elf. Each does TIMES
+# loads and stores, with LOOPS loops of two instructions before each, on the same words or APART bytes apart.
 harts() {
     local hart
     for hart in $(seq "$1"); do

@@ -2,26 +2,31 @@
 """Runs the built program with one call of the system or of the C library refused, for each such call in turn.
 
 bench/refused.py [MOST [COMMAND..]]: for each command, or for those named, at most so many calls of a kind (400, and
-of `demo` 600) are refused, evenly chosen where there are more. The kinds: `alloc`, room for bytes isn't given; `open`,
-`read`, `write`, `sync`, `rename` fail; `short`, a read or a write of several bytes moves one; `ended`, the process is
-killed at a call that could change a file or a folder. bench/refuse.c does it, in front of the C library.
+of `demo` 600) are refused, evenly chosen if there are more. The kinds:
+
+- `alloc`: room for bytes isn't given
+- `open`, `read`, `write`, `sync`, `rename`: the call fails
+- `short`: a read or a write of several bytes moves one
+- `ended`: the process is killed at a call that could change a file or a folder
+
+bench/refuse.c does it, before the C library.
 
 Each run has to end with the status of a run that nothing was refused, and then with its texts and files, or else:
 
 | refused | status | line on err | out | files |
 |---|---|---|---|---|
-| `alloc` | 9 | `out of memory` | a front of the text | none but LOG, or LOG and BOOK, saved by `record`; NEW or not by `convert` and `salvage` |
-| `open`, `read` | 3; 12 where a session's commands are read | `store failed: NAME`; `read failed` | nothing; the answers before | as before |
-| `write` | 13; 3 where a file is saved | `write failed`; `store failed: NAME` | a front of the text | all saved; those saved before |
+| `alloc` | 9 | `out of memory` | a prefix of the text | none but LOG, or LOG and BOOK, saved by `record`; NEW or not by `convert` and `salvage` |
+| `open`, `read` | 3; 12 as a session reads commands | `store failed: NAME`; `read failed` | nothing; the answers before | unchanged |
+| `write` | 13; 3 as a file is saved | `write failed`; `store failed: NAME` | a prefix of the text | all saved; those saved before |
 | `sync`, `rename` | 3 | `store failed: NAME` | nothing | those saved before |
 | `short` | | | | |
-| `ended` | | a front | a front | each as before, or saved |
+| `ended` | | a prefix | a prefix | each unchanged, or saved |
 
-A file that isn't saved is as before, and unless the process is killed no further file is left.
+A file that isn't saved is unchanged, and unless the process is killed no further file is left.
 
 A request for room that the thread of a hart makes ends with 9 always: its run isn't made again.
 
-It prints how many runs of each command ended with which status, and ends with 1 where one ended otherwise.
+It prints how many runs of each command ended with which status, and ends with 1 if one ended otherwise.
 """
 
 import collections
@@ -129,7 +134,7 @@ def saved_before(ran, plain):
 
 
 def fault_of(ran, plain, kind):
-    """Returns what is wrong with how a run ended where a call was refused; nothing where all is as it has to be."""
+    """Returns what is wrong with how a run with a refused call ended; nothing if all is as it has to be."""
     line = SAID[kind].get(ran.status)
     if line is None:
         return "the status"

@@ -1,8 +1,7 @@
 #!/usr/bin/env bash
-# Times recordings with format 2 by a seed: a turn of sixteen harts beside a turn of eight, where each hart goes
-# through words of its own, and what the guard costs beside format 1: where no ask is guarded, and where the log is
-# so small that intervals end all the time. It prints ratios; the times beside them are those of the machine and of
-# the moment.
+# Times recordings with format 2 by a seed. A turn of sixteen harts is timed beside a turn of eight; each hart goes through
+# words of its own. The cost of the guard is timed beside format 1: if no ask is guarded, and if the log is so small that
+# intervals end all the time. It prints ratios; the times beside them are those of the machine and of the moment.
 #
 # bench/sixteen.sh [RUNS]: each is run RUNS times (5), in turns with what stands beside it, and the least processor
 # time counts.
@@ -74,7 +73,7 @@ beside() { # WHAT NAME OTHER_WHAT OTHER
 beside "8 harts, format 2" eight2 "8 harts, format 1" eight
 beside "16 harts, format 2" sixteen "8 harts, format 2" eight2
 
-# The guard, of four harts: where the log has room for all, and where it has little. With a cache of one word each
+# The guard, of four harts: in a log that has room for all, and in one that has little. With a cache of one word each
 # load is logged, and with the greatest interval the guard alone ends intervals.
 guest 32
 small=(--harts 4 --interval 10000000 --sets 1 --ways 1 --line 1)

@@ -1,8 +1,8 @@
 #!/usr/bin/env bash
-# Times a turn of a recording by a seed: of one hart in runs of ever more turns, with the most memory that they take
-# beside the list of turns, which has a byte for each; and of eight harts that all load and store the same words. With an
-# earlier program beside it, each is timed with that too, in turns. It prints ratios; the times beside them are those of
-# the machine and of the moment.
+# Times a turn of a recording by a seed: of one hart in runs of ever more turns, and of eight harts that all load and store
+# the same words. Of one hart's runs it prints the most memory too, beside the list of turns, which has a byte for each.
+# With an earlier program beside it, each is timed with that too, in turns. It prints ratios; the times beside them are
+# those of the machine and of the moment.
 #
 # bench/turns.sh [RUNS]: each is run RUNS times (3), and the least processor time counts. ZELKUMA_TURNS are the numbers
 # of turns (1000000 10000000 100000000), ZELKUMA_BEFORE is the earlier program.
@@ -19,7 +19,7 @@ number() {
     printf "$(printf '\\x%02x' $(($1 & 255)) $(($1 >> 8 & 255)) $(($1 >> 16 & 255)) $(($1 >> 24)))"
 }
 
-# once PROGRAM NAME HARTS TIMES: records so many harts, each with so many loads and stores of the same words, adds the
+# once PROGRAM NAME HARTS TIMES: records HARTS harts, each with TIMES loads and stores of the same words. It adds the
 # processor time to the file of the name, and leaves turns and most memory (in KiB) beside it.
 once() {
     local program=$1 name=$2 count=$3 hart
@@ -44,7 +44,7 @@ measured() { # NAME HARTS TIMES
     done
 }
 
-beside() { # NAME: what stands behind its line
+beside() { # NAME: the end of its line
     [ -z "$before" ] || awk -v now="$(turn "$1")" -v then="$(turn "$1.before")" 'BEGIN { printf ", %.2f times as fast as before (%.0f)", then / now, then }'
 }
 

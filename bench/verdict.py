@@ -1,6 +1,7 @@
-"""Says what `check` has to print of a log file of version 1 or 2, and what `salvage` has to save of one of
-version 2, by docs/FORMAT.md alone: each refusal in its order, the walk over the blocks, and the seven rules of the
-order of records. The script beside it compares the program with it.
+"""Says what `check` has to print of a log file, and what `salvage` has to save of one of version 2.
+
+It knows docs/FORMAT.md alone: each refusal in its order, the walk over the blocks, and the seven rules of the order of
+records. bench/fuzz.py compares the program with it.
 """
 
 import struct
@@ -103,7 +104,7 @@ class Hart:
 
 
 def rule_of(harts, record, interval, limit):
-    """Returns the lowest rule that a record breaks, or 0; then the hart goes on."""
+    """Returns the lowest rule that a record breaks, or 0; then the hart continues."""
     tag, number = record[0], record[1]
     if number >= len(harts) or (tag == 5 and (record[10] >= len(harts) or record[10] == number)):
         return 1
@@ -135,7 +136,7 @@ def check_order(records, n, dropped, settings):
 
 
 def good_block(data, end, seal, n, left):
-    """Returns how many bytes of records the block has that ends at a place, or 0 where it is bad."""
+    """Returns how many bytes of records the block has that ends at a place, or 0 if it is bad."""
     if end - 136 < 48:
         return 0
     said, size = struct.unpack_from("<II", data, end - 40)
@@ -146,8 +147,8 @@ def good_block(data, end, seal, n, left):
 
 
 def walk(data, n):
-    """Returns the good blocks from the end back, first to last, each its records, its before and its end; and where
-    the first one begins."""
+    """Returns the good blocks from the end back, first to last, each its records, its before and its end; and the
+    place at which the first one begins."""
     seal, end, left, blocks = forge.digest(data[:104]), len(data), 0, []
     while size := good_block(data, end, seal, n, left):
         start = end - 48 - size

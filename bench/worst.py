@@ -2,8 +2,9 @@
 """Gives the program the worst files within its limits that are known, and tells what each command takes of them.
 
 bench/worst.py [MIB [NAME..]]: logs of so many MiB (64), of all kinds or of those named; a call is stopped after
-SECONDS of processor time. Those of many records are given in version 1 and in version 2. For each call: its status, its processor time and its most memory, both also for each
-byte of all files that it was given, and whether the memory is within the goal of 20 bytes a byte and 64 MiB.
+SECONDS of processor time. Those of many records are given in version 1 and in version 2. For each call it prints the
+status, the processor time and the most memory, both also for each byte of all files that the call was given. It says
+too whether the memory is within the goal of 20 bytes a byte and 64 MiB.
 Times are measured and not bounded: no clause of the program's contract speaks of time.
 """
 
@@ -182,7 +183,7 @@ def read(folder, name, log="LOG", commands=READERS):
 
 
 def read_both(folder, make, size):
-    """Gives a log in both versions, where it can be converted."""
+    """Gives a log in both versions, if it can be converted."""
     if os.path.exists(f"{folder}/SEALED"):
         os.remove(f"{folder}/SEALED")
     made(folder, make, size)

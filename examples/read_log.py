@@ -57,7 +57,7 @@ def head_of(data, salvage):
 
 
 def good_block(data, seal, n, left):
-    """How many bytes of records the block has that ends the data, or None where it is bad."""
+    """How many bytes of records the block has that ends the data, or None if it is bad."""
     size = number(data, len(data) - 36, 4) if len(data) >= 136 + 48 else 0
     if not (1 <= size <= 4096 and size + 48 <= len(data) - 136 and left + size <= n):
         return None
@@ -67,7 +67,7 @@ def good_block(data, seal, n, left):
 
 
 def blocks_of(data, n):
-    """The good blocks from the end back, first to last, and where the first begins."""
+    """The good blocks from the end back, first to last, and the place at which the first begins."""
     seal, blocks, left, end = digest(data[:104]), [], 0, len(data)
     while (size := good_block(data[:end], seal, n, left)) is not None:
         start = end - size - 48

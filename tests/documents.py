@@ -7,10 +7,10 @@ An example can be pasted: a block ```sh has commands, and a block ```text right 
 from them; without such a block that is nothing. A block whose first line begins with a prompt ('$ ') can't be pasted,
 and is refused.
 
-All examples of a document run in one bash, one after another, in a folder with examples/, tests/crashes/, companion/, LICENSE and
-./zelkuma, which runs PROGRAM as an installed one does, and with another folder for /tmp/. A line '...' stands for any
-lines. Not run is a block behind a line '<!-- not run -->', nor one behind '<!-- needs NAME -->' if there is no command
-or file NAME, which is said. With --write the document gets what was printed, where it differs.
+All examples of a document run in one bash, one after another, with another folder for /tmp/. Their folder has examples/,
+tests/crashes/, companion/, LICENSE and ./zelkuma, which runs PROGRAM as an installed one does. A line '...' represents
+any lines. A block after a line '<!-- not run -->' isn't run, nor one after '<!-- needs NAME -->' if there is no command
+or file NAME, which is said. With --write the document gets what was printed, if it differs.
 """
 import os
 import re
@@ -26,7 +26,7 @@ END = "\x01"
 
 
 class Step:
-    """Commands, what they have to print, and where in the document that stands; `fence` is put around it if it is new."""
+    """Commands, what they have to print, and that text's place in the document; `fence` is put around it if it is new."""
 
     def __init__(self, command, wanted, start, fence=False):
         self.command, self.wanted, self.start, self.fence = command, wanted, start, fence

@@ -142,7 +142,7 @@ runs 4 env ZELKUMA_SCHEDULE=book:no-file "$zelkuma" record ELF LOG BOOK
 says "bugnet: missing list of turns"
 unset ZELKUMA_SCHEDULE
 
-# Each line of words: the program refuses them just if the script knows why. A bare '@' stands for an empty word.
+# Each line of words: the program refuses them just if the script knows why. A bare '@' represents an empty word.
 what="words as the program reads them"
 while read -r -a line; do
     line=("${line[@]/#@/}")

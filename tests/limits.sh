@@ -1,8 +1,8 @@
 #!/usr/bin/env bash
-# Gives the program files of just their greatest length and of a byte more, saves a file past the limit that the
-# system sets to a process's files, and saves over files that were loaded or saved, through links, onto a full disk and
-# into a closed folder: tests/limits.sh PROGRAM. The long files take no room on the disk. BOOK takes a gigabyte of
-# memory for two seconds.
+# Tries the limits of files: tests/limits.sh PROGRAM. It gives the program files of just their greatest length and of a
+# byte more, and saves a file past the limit that the system sets to a process's files. It saves over files that were
+# loaded or saved, through links, onto a full disk and into a closed folder. The long files take no room on the disk.
+# BOOK takes a gigabyte of memory for two seconds.
 set -u
 . "$(dirname "$0")/fresh_start.sh"
 top=$(cd "$(dirname "$0")/.." && pwd)
@@ -13,7 +13,7 @@ cd "$work" || exit 1
 cp "$top/examples/counter.elf" ELF
 failures=0
 
-# answers STATUS LINE WORD..: the words have to end with this status, and with this line on err; any where it is empty.
+# answers STATUS LINE WORD..: the words have to end with this status, and with this line on err; an empty LINE allows any.
 # The program alone has the limit, never this script: what it prints may go into a file that is longer already.
 blocks=unlimited
 answers() {

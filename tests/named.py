@@ -3,7 +3,7 @@
 
 tests/named.py
 
-A mutant is a wrong body of one function. A must-fail edit writes it, and the prover has to refuse it; if
+A mutant is a fault put into one function. A must-fail edit writes it, and the prover has to refuse it; if
 no contract can see the fault, a test has to. This list has the mutants whose refusal shows most of what
 is promised. It fails if an edit is gone or no longer fits its file, or if a test is gone.
 

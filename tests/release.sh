@@ -1,5 +1,5 @@
 #!/usr/bin/env bash
-# Compares the shipped program with the one that was just built from these sources: tests/release.sh
+# Compares the shipped program with the one that was just built from these sources: tests/release.sh.
 # It fails if they differ, but for a kit that release/STAMP doesn't name: that may compile otherwise, and it is told.
 set -u
 . "$(dirname "$0")/fresh_start.sh"

@@ -19,7 +19,7 @@ done
 without=$work/system
 path=$work/kit/bin:$without
 
-# Where the compiler isn't as it is known, rt builds all.
+# A compiler that isn't the known one makes rt build all.
 cat >"$work/kit/bin/rt" <<'END'
 #!/usr/bin/env bash
 echo "$*" >>"$RT_CALLS"

@@ -15,8 +15,8 @@ lanes() {
     } | sort -n | awk 'NR == 1 { print $1 < 1 ? 1 : $1 }'
 }
 
-# For each crate the lines of code from it up to the program, along the longest way: how long the first
-# call takes goes by the longest chain of crates, and not by how much there is to prove.
+# For each crate the lines of code from it up to the program, along the longest way. The longest chain of crates
+# determines how long the first call takes, and not how much there is to prove.
 measure_chains() {
     local place name it
     for ((place = ${#order[@]} - 1; place >= 0; place--)); do
@@ -140,8 +140,8 @@ take_kept() { # CRATE..
 }
 
 # Proves the libraries that the program stands on, as many side by side as there are lanes. Those with the longest chains
-# come first. Where fewer can be proved than there are lanes, they share these. Where one fails, those that were begun
-# still end.
+# come first. If fewer can be proved than there are lanes, they share these. If one fails, those that were begun still
+# end.
 prove() {
     local next place it jobs crate
     while :; do

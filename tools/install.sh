@@ -1,4 +1,4 @@
-# Lays zelkuma where it is to be used, and takes it away again: the words install and uninstall of the script zelkuma, which
+# Installs zelkuma for its users, and takes it away again: the words install and uninstall of the script zelkuma, which
 # has set `top`, `program`, `installed` and `stop`. packaging/deb.sh lays what a package has.
 #
 # In lib/zelkuma lie the program and the files of tools/files.txt, a fixed list, which is one of them. So an earlier

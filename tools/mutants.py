@@ -3,8 +3,8 @@
 
 tools/mutants.py CRATE..
 
-The gate tries several mutants of a crate in one check, each a change of another function (in a crate of laws, of a
-statement), since a check takes some eight seconds whatever it looks at. Such an edit has a line `# NAME` before each
+The gate tries several mutants of a crate in one check, since a check takes some eight seconds whatever it looks at. Each
+is a change of another function (in a crate of laws, of a statement). Such an edit has a line `# NAME` before each
 change. If a contract became weaker, the refusal of one change could hide that another is not refused any more. So
 call this for a crate whose contracts or mutants have changed: it makes an edit of each change, in a copy of the
 checkout, and calls `rt must-fail` there.

@@ -3,9 +3,13 @@
 
 tools/sizes.py [TOP] [CRATE..]    at first all crates of its own checkout
 
-By crate: functions; their clauses (requires and ensures), and the characters of these; lines of code without clauses,
-imports of clauses, comments and empty lines; lines of comments in the code; lines of specs/ and of proofs/; calls of
-`refuse`, which tell an error where it arises; and matches of an error that only pass it on, where `?` would do.
+It prints by crate:
+
+- functions; their clauses (requires and ensures), and the characters of these
+- lines of code without clauses, imports of clauses, comments and empty lines; lines of comments in the code
+- lines of specs/ and of proofs/
+- calls of `refuse`, which tell an error at the place that finds it
+- matches of an error that only pass it on, though `?` would do
 """
 import pathlib
 import re
@@ -20,7 +24,7 @@ HEADS = ("functions", "clauses", "chars", "code", "comments", "specs", "proofs",
 
 
 def clauses_of(text):
-    """Where each clause stands: from its keyword to the brace that closes it."""
+    """The bounds of each clause: from its keyword to the brace that closes it."""
     places = []
     for found in CLAUSE.finditer(text):
         if places and found.start() < places[-1][1]:

@@ -27,7 +27,7 @@ def write(name, data):
 
 
 def stuck_log():
-    """A log of two harts, each of which waits for the other: two Edges more, with the digest made anew."""
+    """A log of two harts, each of which waits for the other: two Edges more, with a renewed digest."""
     subprocess.run([PROGRAM, "record", "--seed", "1", "--harts", "2", "--limit", "40", example("counter"), path("two.log"),
                     path("two.book")], stdout=subprocess.PIPE, stderr=subprocess.PIPE)
     with open(path("two.log"), "rb") as file:

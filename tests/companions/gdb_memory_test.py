@@ -74,7 +74,7 @@ def case_03_memory_that_is_loaded_later(recordings):
 
 
 def case_03_memory_that_a_read_filled_in_another_order(recordings):
-    """Hart 0 reads twice. Once its steps are forgotten and taken again, its calls are told anew."""
+    """Hart 0 reads twice. Once its steps are forgotten and taken again, its calls are told again."""
     code = [branch_unless_equal(A0, 0, 32), lui(A1, DATA), addi(A2, 0, 4), addi(A7, 0, 63), ECALL, addi(A1, A1, 16),
             addi(A0, 0, 0), ECALL, *EXIT]
     log, elf = recordings.words("twice", code, "--harts", "2", "--input", recordings.write("input", b"onceonce"))
@@ -116,7 +116,7 @@ def case_03_memory_of_a_log_that_dropped_records(recordings):
 
 
 def case_03_harts_whose_steps_were_lost(recordings):
-    """While a hart isn't in the log yet, its stores aren't told: so what is loaded later says nothing of now."""
+    """Before the log's first record of a hart, its stores aren't told: so a later load says nothing of an earlier time."""
     log, elf = recordings.example("counter", "--harts", "4", "--log-size", "16384", "--interval", "64", "--limit",
                                   "3000")
     client, reference = Client(log, elf), Reference(log, elf)

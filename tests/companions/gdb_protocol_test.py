@@ -138,7 +138,7 @@ def case_15_refusals(recordings):
 
 
 def case_15_a_log_whose_harts_wait_for_each_other(recordings):
-    """The program takes its records, and refuses it when no hart can go on."""
+    """The program takes its records, and refuses it when no hart can continue."""
     log, elf = recordings.example("counter", "--harts", "2", "--limit", "20")
     with open(log, "rb") as file:
         data = file.read()[:-32]

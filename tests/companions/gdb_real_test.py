@@ -1,8 +1,8 @@
 #!/usr/bin/env python3
 """Tries `zelkuma gdb` by the real gdb-multiarch, whose answers are compared with `gdb/sessions`.
 
-Where gdb isn't installed nothing is tried, and so with the sessions that need names where the
-compiler isn't there, or makes other programs of the examples than those that are kept. It says so.
+If gdb isn't installed, nothing is tried. Sessions that need names aren't tried if the compiler isn't there, or makes
+other programs of the examples than those that are kept. It says so.
 """
 import os
 import random

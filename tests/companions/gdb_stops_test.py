@@ -24,7 +24,7 @@ def case_06_breakpoints(recordings):
     for count in counts[:3]:
         stop = Stop(client("vCont;c"))
         assert (stop.signal, stop.pc, client.counts()) == (TRAP, line, {0: count})
-        assert client("vCont;c") == stop.text  # one that stands there is reported where it stands
+        assert client("vCont;c") == stop.text  # a hart that is there already is reported, before it moves
         client("vCont;s:1")
     for count in reversed(counts[:3]):
         assert Stop(client("bc")).pc == line and client.counts() == {0: count}
@@ -221,7 +221,7 @@ def case_09_back_over_what_others_did(recordings):
 
 
 def case_10_arrival_behind_the_last_row(recordings):
-    """A hart that the crash of another one stopped stands at a breakpoint where it has no row."""
+    """A hart that the crash of another one stopped is at a breakpoint, and has no row there."""
     log, elf = recordings.example("tills", "--harts", "2", "--format", "2")
     reference = Reference(log, elf)
     ends = {int(words[0]): words for words in map(str.split, run("list", log).splitlines())}

@@ -1,4 +1,4 @@
-"""The annotations of the companions hold: mypy --strict, where it is installed. And they run by the oldest Python here."""
+"""The annotations of the companions hold: mypy --strict, if it is installed. And they run by the oldest Python here."""
 import os
 import shutil
 import subprocess

@@ -1,8 +1,8 @@
 #!/usr/bin/env bash
-# Makes all that tells the words of zelkuma from the tables beside this file, so that no two of them differ:
-# the pages that `zelkuma help` and `zelkuma COMMAND --help` print, what the script knows of words, the manual page, the
-# completion of words in bash, and the tables of docs/COMMANDS.md, which stand there between two comments. It also lists
-# the files that `zelkuma install` lays. tests/help.sh tries that it was called.
+# Makes all that tells the words of zelkuma from the tables beside this file, so that no two of them differ. These are
+# the pages that `zelkuma help` and `zelkuma COMMAND --help` print, what the script knows of words, the manual page, and
+# the completion of words in bash. So are the tables of docs/COMMANDS.md, which stand there between two comments. It also
+# lists the files that `zelkuma install` lays. tests/help.sh tries that it was called.
 #
 # tools/help/make.sh [TOP]: TOP is the folder of the sources that these are written to, at first its own
 set -euo pipefail
@@ -15,7 +15,7 @@ made() { # KIND FORM TABLE [HEAD]
     awk -f "$here/read.awk" "$here/$3.txt" | awk -v form="$2" -v head="${4-}" -f "$here/$1.awk"
 }
 
-# Prints a text in which a line `@FORM TABLE@` stands for a table.
+# Prints a text in which each line `@FORM TABLE@` is replaced by a table.
 filled() { # KIND
     local line form table
     while IFS= read -r line; do
@@ -28,7 +28,7 @@ filled() { # KIND
     done <"$here/$1.in"
 }
 
-# Prints a document with the tables that stand in it made anew.
+# Prints a document with the tables that stand in it made again.
 renewed() { # DOCUMENT
     local line form table head keeps=1
     while IFS= read -r line; do

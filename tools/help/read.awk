@@ -4,7 +4,7 @@
 #     # a comment
 #     ENTRY              at the line's start; several with nothing between them share what follows,
 #       KEY TEXT         and are given as one entry, with ", " between them
-#           TEXT         more indented: the text goes on
+#           TEXT         more indented: the text continues
 #
 # A text `-` says that there is none.
 

@@ -1,7 +1,7 @@
-# Makes of a table (as read.awk gives it) what the script has to know of it, as elements of an array in bash. form says
+# Makes of a table (as read.awk gives it) what the script has to know of it, as elements of an array in bash. `form` says
 # which: names (that a command takes), options (of the commands, from the same lines), record (the options that record
-# has), ranges (of names that are numbers), or advice (after a status); or as one text: companions. The value of an option
-# is N (a number), FILE, or for one without a value `flag`.
+# has), ranges (of names that are numbers), or advice (after a status). The form companions makes one text. The value of
+# an option is N (a number), FILE, or for one without a value `flag`.
 
 BEGIN { FS = "\t" }
 

@@ -56,7 +56,7 @@ class Client:
         return self.receive()
 
     def registers(self, hart=None):
-        """Returns x0 to x31 and the pc of a hart, or None where they aren't known."""
+        """Returns x0 to x31 and the pc of a hart, or None if they aren't known."""
         if hart is not None:
             assert self(f"Hg{hart + 1:x}") == "OK"
         text = self("g")

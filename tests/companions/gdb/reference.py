@@ -107,7 +107,7 @@ class Reference:
         return [row for row in self.rows if row.count < counts.get(row.hart, 0) and not row.fault]
 
     def word(self, counts, address):
-        """Returns the bytes of a word at these counts of the harts, or None where they aren't known."""
+        """Returns the bytes of a word at these counts of the harts, or None if they aren't known."""
         for first, data, is_read_only in self.segments:
             if is_read_only and first <= address and address + 4 <= first + len(data):
                 return data[address - first:address - first + 4]
@@ -126,7 +126,7 @@ class Reference:
     def later_word(self, counts, address):
         """Returns the bytes that the first row after these counts loads, if it touches the word, else None."""
         if any(hart not in counts for hart in self.harts):
-            return None  # that hart's accesses aren't in the log yet
+            return None  # the log has accesses of that hart only later
         for row in self.rows:
             if row.count < counts[row.hart] or row.fault:
                 continue

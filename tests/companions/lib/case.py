@@ -49,7 +49,7 @@ class Case(unittest.TestCase):
         return said
 
     def check(self, what, good, seen=""):
-        """One test of several; the others go on if it fails. `seen` is shown then."""
+        """One test of several; the others are run even if it fails. `seen` is shown then."""
         with self.subTest(what):
             self.assertTrue(good, seen)
 
