@@ -9,13 +9,13 @@
 //! | line | what it does |
 //! |---|---|
 //! | `# TEXT` | begins a case, with no events and steps, and prints the line |
-//! | `note TEXT` | nothing: it tells the reader what the lines behind it are |
+//! | `note TEXT` | nothing: it tells the reader what the lines after it are |
 //! | `words WORD\|..` | what these words of a command line ask for, or that they are refused; `words` alone has none |
 //! | `settings SETTING VALUE ..` | whether they are in range, or which isn't |
 //! | `mark REASON` | the word of a mark |
 //! | `fault-mark COUNT FAULT VALUE` | the mark of a fault, and its word |
 //! | `list BYTE ..` | the items of the list of these bytes, and how many it gives back |
-//! | `file HEX`, `more HEX` | the bytes of a program file, and those behind them |
+//! | `file HEX`, `more HEX` | the bytes of a program file, and those after them |
 //! | `load SETTING VALUE ..` | the program of the file, with these settings |
 //! | `bounds` | its first address, the bounds of its heap, the memory's size, the harts and the segments |
 //! | `mapped ADDRESS` | whether an address is mapped |

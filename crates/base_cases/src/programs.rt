@@ -6,14 +6,14 @@ use elf_loader::load;
 use std::alloc::{AllocError, Global};
 use system_calls::{Kernel, plan};
 
-// The bytes of a file, and others behind them.
+// The bytes of a file, and others after them.
 fn joined(alloc: Global, file: &[u8], others: &[u8]) -> Result<Vec<u8>, AllocError> {
     let mut bytes = file.to_vec(alloc)?;
     bytes.extend_from_slice(others)?;
     Ok(bytes)
 }
 
-/// The file that a line makes of another: its own bytes, or these behind those of the other.
+/// The file that a line makes of another: its own bytes, or these after those of the other.
 pub fn made(alloc: Global, file: &[u8], verb: &str, words: &[&str]) -> anyhow::Result<Vec<u8>> {
     let others = hex::decode(alloc, word(words, 1))?;
     match verb {

@@ -69,7 +69,7 @@ fn bytes(alloc: Global, words: &[&str]) -> Result<Vec<u8>, AllocError> {
     Ok(bytes)
 }
 
-// Prints a list's items, with a space behind each.
+// Prints a list's items, with a space after each.
 fn print_items<R: Print>(rt: &R, items: &[u8]) -> io::Result<()> {
     for item in items {
         print!(rt; "{item:x} ")?;

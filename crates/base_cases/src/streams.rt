@@ -17,13 +17,13 @@ fn failing(alloc: Global, text: &str) -> Result<Vec<u64>, AllocError> {
     Ok(calls)
 }
 
-// Prints a text behind what it is.
+// Prints a text after what it is.
 fn print_text<R: Print>(rt: &R, what: &str, bytes: &[u8]) -> anyhow::Result<()> {
     println!(rt; "{what} {}", from_utf8(bytes)?)?;
     Ok(())
 }
 
-// Prints the text that a store has under a name, behind how it was found.
+// Prints the text that a store has under a name, after how it was found.
 fn print_file<R: Print>(rt: &R, how: &str, name: &str, bytes: &[u8]) -> anyhow::Result<()> {
     println!(rt; "{how} {name} {}", from_utf8(bytes)?)?;
     Ok(())

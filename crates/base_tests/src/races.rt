@@ -105,7 +105,7 @@ fn first_steps(s: &mut Shadow) -> Result<bool, AllocError>
     Ok(store && load && other)
 }
 
-// A load of all words, where the edge from hart 1 implies the one from hart 0, and stores after loads.
+// A load of all words, of which the edge from hart 1 implies the one from hart 0, and stores after loads.
 fn next_steps(s: &mut Shadow) -> Result<bool, AllocError>
     requires harts { harts_of s.old ≡ 3 }
     requires turn { next_turn s.old ≡ 3 }

@@ -32,7 +32,7 @@ fn load() -> Record
     }
 }
 
-// Puts a piece behind bytes, so many times.
+// Puts a piece after bytes, so many times.
 fn append_all(bytes: &mut Vec<u8>, piece: &[u8], count: u64) -> Result<(), AllocError> {
     for _ in 0..count {
         bytes.extend_from_slice(piece)?;

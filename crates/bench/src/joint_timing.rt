@@ -119,7 +119,7 @@ fn rows_of(replayer: &mut Replayer) -> anyhow::Result<u64> {
     Ok(rows)
 }
 
-// Times the replay of an interval, from where it has begun.
+// Times the replay of an interval, from its first row on.
 fn time_interval(
     rt: &HostRuntime,
     image: &Image,

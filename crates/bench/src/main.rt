@@ -28,7 +28,6 @@ mod touch_timing;
 
 use std::env;
 
-// Tells the words.
 fn tell_words(rt: &HostRuntime) -> anyhow::Result<()> {
     println!(rt;
         "bench LAYER COUNT, where LAYER is decode, meaning, races, ring, cache, file, serve, again, joint or replay"

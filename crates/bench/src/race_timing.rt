@@ -70,7 +70,7 @@ fn many(
     Ok(edges)
 }
 
-// The bytes of memory that the process has in use, or 0 where the system doesn't say.
+// The bytes of memory that the process has in use, or 0 if the system doesn't say.
 fn resident(rt: &HostRuntime) -> u64 {
     let Ok(text) = fs::read_to_string(rt, "/proc/self/statm") else {
         return 0;

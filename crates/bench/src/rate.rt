@@ -2,7 +2,7 @@
 use std::fs;
 use std::time::Instant;
 
-/// How many microseconds the process ran on a processor so far, or 0 where the system doesn't say.
+/// How many microseconds the process ran on a processor so far, or 0 if the system doesn't say.
 pub fn spent_micros(rt: &HostRuntime) -> u64 {
     let Ok(text) = fs::read_to_string(rt, "/proc/self/schedstat") else {
         return 0;

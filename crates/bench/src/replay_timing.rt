@@ -29,7 +29,7 @@ fn end(count: u64) -> Record
 }
 
 // The bytes of the records of the loop's first instructions: the first load of a turn is logged
-// where its word is new, and the second is skipped. Memory is all 0.
+// if its word is new, and the second is skipped. Memory is all 0.
 fn kept(alloc: Global, count: u64) -> Result<Vec<u8>, AllocError>
     requires { count ≤ 10000000 }
 {
@@ -103,7 +103,7 @@ fn sum_of_row(row: &Row) -> u32 {
         .wrapping_add(sum_of_access(row.store))
 }
 
-// That number of the next row; `None` behind the last.
+// That number of the next row; `None` after the last.
 pub(crate) fn next_sum(replayer: &mut Replayer) -> Result<Option<u32>, ReplayError> {
     match replayer.step() {
         Ok(Some(row)) => Ok(Some(sum_of_row(&row))),

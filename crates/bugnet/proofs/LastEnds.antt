@@ -188,7 +188,7 @@ end_goes t v w m e =
     let f = passes (not (has_end t.interval v.phase m.reason m.ic)) 5 _ w d.1 in
     (of_not (takes_other v.phase) a.0, ap (λ (x : HartView). x.phase) (sym (same_seen _ w f.1)))
 
--- behind an End there is nothing but a Header
+-- after an End there is nothing but a Header
 closed_by : (b : Bool) (p : Phase) (ic : ℕ) → takes_other (if b then Awaiting (next_number p) ic else Done) ≡ false
 closed_by true p ic = refl
 closed_by false p ic = refl
@@ -196,7 +196,7 @@ closed_by false p ic = refl
 closed : (w : HartView) (p : Phase) (m : EndMark) → w.phase ≡ phase_after p m → takes_other w.phase ≡ false
 closed w p m e = ap takes_other e ∙ closed_by (goes_on m.reason) p m.ic
 
--- ---- the first End behind
+-- ---- the first End after
 
 -- the hart's first Header or End is its End with this mark
 abbrev Direct : ℕ → EndMark → List Record → Type 0
@@ -232,7 +232,7 @@ direct_mark k m (End h e ∷ rs) d = by (h == k) (direct_mark k m rs) d
     by true later d = d
     by false later d = later d
 
--- ---- an End behind an End
+-- ---- an End after an End
 
 ends_first : {P : Type 0} (b : Bool) → b ≡ false → b ≡ true → P
 ends_first b c e = not_both (sym e ∙ c)

@@ -29,7 +29,7 @@ use Rattle.bugnet.specs.Sessions.{EndsBy, SessionOver, CanDebug, whole_input}
 use Rattle.bugnet.proofs.Single.{Grammar}
 use Rattle.bugnet.proofs.Suffices.{FileLaws}
 
--- ---- what bytes hold, with more behind them
+-- ---- what bytes hold, with more after them
 
 abbrev next : (count : ℕ) (line : List ℕ) (byte : ℕ) → (over room feed : Bool) → List ℕ → Input
 next count line byte over room feed rest = elim over as (λ y. Input) [

@@ -28,7 +28,7 @@ use Rattle.bugnet.specs.Sessions.{Commands, AreRead, IsUnread, SessionOver, whol
 
 -- ---- a recording
 
--- the point where a session over a recording's records stands after these lines of commands
+-- the place of a session over a recording's records after these lines of commands
 abbrev pub session_after : Recording → List Record → List (List ℕ) → Answer
 session_after r records lines = answers lines (session_begin (begin r records))
 

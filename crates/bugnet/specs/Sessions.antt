@@ -26,7 +26,7 @@ use Rattle.log_commands.specs.declared.refusal.Refusal.TheVariants as why
 
 -- ---- the commands
 
--- the commands that were read: their bytes, and whether a read failed behind these
+-- the commands that were read: their bytes, and whether a read failed after these
 pub record Commands : Type 0 where
   pub bytes : List ℕ
   pub failed : Bool
@@ -35,7 +35,7 @@ pub record Commands : Type 0 where
 abbrev pub whole_input : List ℕ → Commands
 whole_input all = record { bytes = all; failed = false }
 
--- behind a failed read no more is read
+-- after a failed read no more is read
 abbrev pub cut : Bool → Input → Input
 cut true input = record input { refused = Some ReadFault }
 cut false input = input
@@ -48,7 +48,7 @@ input_in c = cut c.failed (input_of c.bytes)
 abbrev pub NoQuit : List (List ℕ) → Type 0
 NoQuit lines = AllByRecursion (λ line. command_of line ≢ Quit) lines
 
--- bytes end with the line `quit`, the first one: no byte behind it is there, not even one that is too many
+-- bytes end with the line `quit`, the first one: no byte after it is there, not even one that is too many
 pub record EndsWithQuit (bytes : List ℕ) : Type 0 where
   pub front : List (List ℕ)
   pub line : List ℕ
@@ -67,7 +67,7 @@ pub record EndsWithLine (bytes : List ℕ) : Type 0 where
   pub none : (input_of bytes).refused ≡ None
   pub before : NoQuit front
 
--- lines of which none is `quit`, and behind them no byte is too many
+-- lines of which none is `quit`, and after them no byte is too many
 abbrev pub NoneEnds : Input → Type 0
 NoneEnds input = NoQuit input.lines × (input.refused ≡ None)
 
@@ -138,7 +138,7 @@ pub record AreRead (c : Commands) (status : ℕ) (left now_left : Option (List �
   -- a read failed only if the source's count rose, and no `quit` was read before
   pub failed : c.failed ≡ true → Rose before now × NoQuit (input_of c.bytes).lines
   pub cause : status ≡ 12 → c.failed ≡ true
-  -- a session that is done has read nothing behind the first `quit`; or all, and then no line that ends with LF is `quit`
+  -- a session that is done has read nothing after the first `quit`; or all, and then no line that ends with LF is `quit`
   pub done : status ≡ 0 → EndsWithQuit c.bytes ⊎ ReadsAll left now_left c.bytes
   -- however it ended, it has read no further than its end says, and each byte once; before a session nothing is read
   pub up_to : IsUnread c reads now_reads ⊎ SessionReads c.bytes status left now_left reads now_reads

@@ -24,7 +24,6 @@ use whole_runs::{
     Listed, run_listed, run_scheduled, run_seeded, run_threads_lean, run_threads_listed,
 };
 
-// The count of a mark.
 fn count_of(mark: &Option<EndMark>) -> u64
     ensures { result ≡ count_of mark.now }
 {
@@ -34,7 +33,7 @@ fn count_of(mark: &Option<EndMark>) -> u64
     }
 }
 
-// The sum of the counts of marks.
+// The instructions that all harts did: the sum of their last marks' counts.
 fn instructions_of(marks: &[Option<EndMark>]) -> u128
     ensures { result ≡ instructions_of marks.now }
 {

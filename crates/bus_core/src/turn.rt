@@ -38,7 +38,6 @@ pub fn answer_orderly<B: Book>(
     Ok((reply, guarded))
 }
 
-// Serves an orderly ask.
 fn take_orderly<B: Book>(
     plain: &mut Plain,
     book: &mut B,

@@ -93,7 +93,7 @@ rows_in i log (r ∷ rs) = rows_at i log r + rows_in i log rs
 abbrev pub known_words : Recording → List (ℕ × ℕ)
 known_words r = (run_all (begin r (kept r))).walk.now.memory
 
--- a word behind its address
+-- a word after its address
 abbrev pub word_bytes : ℕ × ℕ → List ℕ
 word_bytes m = number_bytes 4 m.0 ++ number_bytes 4 m.1
 

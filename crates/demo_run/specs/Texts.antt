@@ -3,11 +3,11 @@ use Rattle.std.specs.Prelude.{ℕ, List, ◌++◌, codes, decimal}
 use Rattle.hex.specs.Hex.{encode_lower}
 use Rattle.demo_run.specs.declared.figures.Figures.{Figures}
 
--- a number behind a word
+-- a number after a word
 unfoldable pub counted : List ℕ → ℕ → List ℕ
 counted word n = word ++ decimal n
 
--- a line of two numbers, each behind a word, or the end of one
+-- a line of two numbers, each after a word, or the end of one
 unfoldable pub two_counts : (first : List ℕ) → ℕ → (second : List ℕ) → ℕ → List ℕ
 two_counts first a second b = counted first a ++ counted second b ++ codes "\n"
 

@@ -104,7 +104,7 @@ fn replay(
 /// The five lines of the demonstration of a number:
 /// - the number;
 /// - the turns and the instructions of the run;
-/// - the records that its log of a mebibyte keeps, those that were given up, and the bytes of the kept ones;
+/// - the records that its log of a mebibyte keeps, those that were dropped, and the bytes of the kept ones;
 /// - the intervals that the log keeps, and the rows that their replays give, each by itself;
 /// - the words that are known after the joint replay of all of them, with their SHA-256 digest (FIPS 180-4).
 ///   The digest is of the words by ascending address: address and value, four bytes each, the lowest first.

@@ -17,7 +17,7 @@ pub struct Figures {
     pub instructions: u128,
     /// The records that the log keeps.
     pub records: u64,
-    /// The records that were given up before them.
+    /// The records that were dropped before them.
     pub dropped: u64,
     /// The bytes of the kept records.
     pub bytes: u64,
@@ -31,7 +31,7 @@ pub struct Figures {
     pub digest: [u8; 32],
 }
 
-// Appends a number behind a word. By its type it may pass 64 bits.
+// Appends a number after a word. By its type it may pass 64 bits.
 #[tactic(auto, unfolding(crate::specs::Texts::counted))]
 fn push_counted(text: &mut Text, word: &str, n: u128) -> Result<(), AllocError>
     ensures { OnOk result (text.new ≡ text.old ++ counted word.now n) }
@@ -41,7 +41,7 @@ fn push_counted(text: &mut Text, word: &str, n: u128) -> Result<(), AllocError>
     text.push_str(buffer.format(n))
 }
 
-// Appends two numbers, each behind a word, and the end of the line.
+// Appends two numbers, each after a word, and the end of the line.
 #[tactic(auto, unfolding(crate::specs::Texts::two_counts))]
 fn push_two(text: &mut Text, first: &str, a: u128, second: &str, b: u128) -> Result<(), AllocError>
     ensures { OnOk result (text.new ≡ text.old ++ two_counts first.now a second.now b) }

@@ -18,7 +18,6 @@ pub struct DemoRecording {
     pub file: Vec<u8>,
 }
 
-// The count of a mark.
 fn count_of(mark: &Option<EndMark>) -> u64
     ensures { result ≡ count_of mark.now }
 {
@@ -28,7 +27,7 @@ fn count_of(mark: &Option<EndMark>) -> u64
     }
 }
 
-// The sum of the counts of marks.
+// The instructions that all harts did: the sum of their last marks' counts.
 fn counts_in(marks: &[Option<EndMark>]) -> u128
     ensures { result ≡ counts_in marks.now }
 {

@@ -11,7 +11,6 @@ use run_model::Start;
 use sha2::{Digest, Sha256};
 use std::alloc::{AllocError, Global};
 
-// The settings of every demonstration.
 #[tactic(auto, unfolding(crate::specs::Demonstration::demo_settings))]
 fn demo_settings() -> Settings
     ensures { result ≡ demo_settings }

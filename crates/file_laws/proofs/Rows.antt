@@ -100,7 +100,7 @@ KeptAreInOrder = (t : OrderLimits) (count dropped : ℕ) (kept : List Record) (h
 abbrev pub EarlyAreNotLate : Type 0
 EarlyAreNotLate = (counts : ℕ → ℕ) (harts : List HartView) (start : ℕ) (rs : List Record) → EndsLast counts harts → AllByRecursion (IsEarly counts) rs → late_edge harts start rs ≡ None
 
--- as many were given up as come before the kept ones
+-- as many were dropped as come before the kept ones
 pub dropped_is : (stream front back : List Record) → stream ≡ front ++ back → length stream - length back ≡ length front
 dropped_is stream front back e = omega (arith, ap length e, length-append front back)
 
@@ -203,7 +203,7 @@ kept_in_order suffix given order early c run known over =
     (all_over known.views (λ j v e. (ended_at c run known none j v e).over))
     (early (counts_of run) known.views 0 (kept_of c run) (ends_last c run known none) (kept_early suffix c run w))
 
--- so are all records, where none are given up
+-- so are all records, if none is dropped
 pub stream_in_order : KeptAreInOrder → EarlyAreNotLate → (c : RawSettings) (run : Run) → Recording c run → runs.is_over c run ≡ true → broken_by c 0 run.stream ≡ None
 stream_in_order order early c run known over =
     let none = over_known (any_live c.harts run.harts) over in

@@ -10,7 +10,7 @@ use Rattle.run_model.specs.Runs.{start, start_state}
 use Rattle.run_model.specs.Turn.{Run}
 use Rattle.run_laws.specs.History.{after_rows}
 
--- the ELF header of a RISC-V executable that begins at 0x10054, with one program header behind it
+-- the ELF header of a RISC-V executable that begins at 0x10054, with one program header after it
 abbrev pub elf_header : List ℕ
 elf_header =
     (0x7f ∷ 0x45 ∷ 0x4c ∷ 0x46 ∷ 1 ∷ 1 ∷ 1 ∷ []) ++ replicate 9 0 ++ number_bytes 2 2 ++ number_bytes 2 243 ++ number_bytes 4 1 ++ number_bytes 4 0x10054

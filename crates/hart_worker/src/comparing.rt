@@ -105,7 +105,6 @@ fn left_after<'a>(row: &TurnRow, hart: HartId, rest: &'a [TurnRow]) -> Option<&'
     }
 }
 
-// Whether two rows are the same.
 fn same_row(a: &TurnRow, b: &TurnRow) -> bool
     ensures same { result ≡ true → a.now ≡ b.now }
     ensures all { a.now ≡ b.now → result ≡ true }

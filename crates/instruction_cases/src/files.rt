@@ -54,14 +54,14 @@ pub fn loaded(
     Ok(load(alloc, &bytes, &Settings::default()))
 }
 
-// The bytes of a file, and others behind them.
+// The bytes of a file, and others after them.
 fn joined(alloc: Global, file: &[u8], others: &[u8]) -> Result<Vec<u8>, AllocError> {
     let mut bytes = file.to_vec(alloc)?;
     bytes.extend_from_slice(others)?;
     Ok(bytes)
 }
 
-// The bytes of a file, and those that a text says behind them.
+// The bytes of a file, and those that a text says after them.
 fn extended(alloc: Global, file: &[u8], text: &str) -> anyhow::Result<Vec<u8>> {
     let others = hex::decode(alloc, text)?;
     Ok(joined(alloc, file, &others)?)

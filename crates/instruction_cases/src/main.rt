@@ -7,7 +7,7 @@
 //! | line | what it does |
 //! |---|---|
 //! | `# TEXT` | begins a case, with an empty text, and prints the line |
-//! | `note TEXT` | nothing: it tells the reader what the lines behind it are |
+//! | `note TEXT` | nothing: it tells the reader what the lines after it are |
 //! | `decode WORD` | the instruction of a word, its format, and the word that it is encoded to |
 //! | `text PC WORD` | the text of an instruction |
 //! | `row HART COUNT PC WORD PART ..` | the line of a row; a word `-` is none. A part is `reg NUMBER VALUE`, `load ADDRESS WORD`, `store ADDRESS WORD` or `fault NUMBER VALUE` |
@@ -20,11 +20,11 @@
 //! | `leaves WORD` | what the last ask makes of that word in memory |
 //! | `orderly FROM BUDGET WANT` | whether an ask at the count 5 is orderly; a want is `cut`, `breakpoint VALUE` or `store ADDRESS WIDTH` |
 //! | `done PC PART ..`, `called PC PART ..`, `faulted PC PART ..` | the line of the row of hart 3, after 7 instructions, with ten times its number in each register |
-//! | `file HEX`, `more HEX` | the bytes of a program file, and those behind them |
+//! | `file HEX`, `more HEX` | the bytes of a program file, and those after them |
 //! | `guest NUMBER KIND` | the program file that a number gives, with the end `loop` or `crash`, and its length |
 //! | `load PLACE WORD ..` | the file with these words at these places, loaded as the program, or why it is refused |
 //! | `load-first LENGTH` | the same of its first bytes |
-//! | `begins` | where the program and its heap begin |
+//! | `begins` | the first addresses of the program and of its heap |
 //! | `at ADDRESS` | what stands there: the word, whether it is code, and whether it may be stored to |
 #![tactic(auto)]
 

@@ -3,7 +3,7 @@ ghost use Rattle.std.specs.Prelude.{◌≡◌, ◌∷◌, [], Some, length, repl
 ghost use Rattle.run_model.specs.Examples.{is_whole};
 ghost use Rattle.joint_laws.specs.Examples.{orders_from, merges, allowed_of, words_after, a_short_relay, late_relay, relay_orders, a_spoiled_store, late_store, store_orders};
 
-/// A relay of which the first intervals are given up. Of the 210 merges of the harts' steps eighteen are
+/// A relay whose first intervals are dropped. Of the 210 merges of the harts' steps eighteen are
 /// allowed. In each of them hart 1 passes the point at which it loaded, after hart 0's store and before
 /// its own; all end with the same words.
 pub fn a_relay_has_eighteen_orders()

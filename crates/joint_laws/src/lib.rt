@@ -62,7 +62,7 @@ pub fn fills_are_filled()
 
 /// Race order: in each beginning of an allowed order each word's retained writes come as recorded, and
 /// each of its retained reads between the same retained writes, by whatever hart. It rests on the kept
-/// Edges alone, those through intervals that were given up among them. In a whole allowed order all of
+/// Edges alone, those through intervals that were dropped among them. In a whole allowed order all of
 /// them are done, each once.
 pub fn the_race_order_is_kept()
     ensures begun { OfBeginnings KeepsOrder }

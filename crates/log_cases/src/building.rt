@@ -1,4 +1,4 @@
-//! Bytes that are put behind those of a file.
+//! Bytes that are put after those of a file.
 use crate::files::Files;
 use crate::words::{number, numbers, rest, word};
 use log_file::head::digest_of;
@@ -27,7 +27,7 @@ fn tag_of(verb: &str) -> Option<u8> {
     }
 }
 
-// How wide the number at a place of a record is: a Header has registers behind the fourth.
+// How wide the number at a place of a record is: a Header has registers after the fourth.
 fn width_of(tag: u8, place: usize) -> usize {
     match (tag, place) {
         (_, 0) => 1,
@@ -42,7 +42,7 @@ fn width_of(tag: u8, place: usize) -> usize {
     }
 }
 
-// Appends the numbers of a record behind its tag.
+// Appends the numbers of a record after its tag.
 fn push_numbers(bytes: &mut Vec<u8>, tag: u8, numbers: &[u64]) -> Result<(), AllocError> {
     for (place, number) in numbers.iter().enumerate() {
         push_number(bytes, width_of(tag, place), *number)?;
@@ -80,14 +80,14 @@ fn push_counts(bytes: &mut Vec<u8>, before: u64, left: u64, length: u64) -> Resu
     push_number(bytes, 4, length)
 }
 
-// Appends the seal of a block behind a head, whose bytes are these.
+// Appends the seal of a block after a head, whose bytes are these.
 fn push_seal(alloc: Global, head: &[u8], bytes: &mut Vec<u8>) -> Result<(), AllocError> {
     let mut signed = part(head, 104, 136).to_vec(alloc)?;
     signed.extend_from_slice(bytes)?;
     bytes.extend_from_slice(&digest_of(&signed))
 }
 
-// A block behind a head, sealed: its records' bytes, and the two numbers behind them.
+// A block after a head, sealed: its records' bytes, and the two numbers after them.
 fn block(
     alloc: Global,
     head: &[u8],

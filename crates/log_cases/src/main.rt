@@ -4,9 +4,9 @@
 //! | line | what it does |
 //! |---|---|
 //! | `# TEXT` | begins a case, with the files that stand before the first case and no code, and prints the line |
-//! | `note TEXT` | nothing: it tells the reader what the lines behind it make |
-//! | `bytes NAME HEX` | these bytes behind those that the file has |
-//! | `header NAME HART INTERVAL COUNT PC X1 ..` | a Header behind them, whose other registers are 0 |
+//! | `note TEXT` | nothing: it tells the reader what the lines after it make |
+//! | `bytes NAME HEX` | these bytes after those that the file has |
+//! | `header NAME HART INTERVAL COUNT PC X1 ..` | a Header after them, whose other registers are 0 |
 //! | `first-load NAME HART SKIP VALUE` | a FirstLoad |
 //! | `sc-ok NAME HART`, `sc-failed NAME HART` | what came of a store-conditional |
 //! | `edge NAME HART COUNT FROM COUNT` | an Edge |
@@ -14,7 +14,7 @@
 //! | `part NAME OTHER FROM END` | the bytes of another file from a place up to another |
 //! | `join NAME OTHER ..` | all bytes of other files |
 //! | `digest NAME OTHER` | the digest of the bytes of another file |
-//! | `block NAME HEAD RECORDS FROM END BEFORE LEFT` | a sealed block behind that head: the bytes of records from a place up to another, the number of records before it, and of bytes left behind it |
+//! | `block NAME HEAD RECORDS FROM END BEFORE LEFT` | a sealed block after that head: the bytes of records from a place up to another, the number of records before it, and of bytes left after it |
 //! | `take NAME OTHER` | a copy of another file |
 //! | `set NAME PLACE WIDTH NUMBER` | a number in place of so many bytes from a place on |
 //! | `put NAME PLACE HEX` | these bytes in place of those from a place on |

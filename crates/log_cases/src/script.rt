@@ -26,14 +26,14 @@ impl Case {
         }
     }
 
-    // Puts bytes behind those of a file.
+    // Puts bytes after those of a file.
     fn extend(&mut self, name: &str, bytes: &[u8]) -> Result<(), AllocError> {
         let mut file = self.files.bytes(name).to_vec(self.alloc)?;
         file.extend_from_slice(bytes)?;
         self.files.put(name, &file)
     }
 
-    // Puts the bytes that were made behind those of the file that a line names.
+    // Puts the bytes that were made after those of the file that a line names.
     fn append(&mut self, made: anyhow::Result<Vec<u8>>, words: &[&str]) -> anyhow::Result<()> {
         let bytes = made?;
         Ok(self.extend(word(words, 1), &bytes)?)

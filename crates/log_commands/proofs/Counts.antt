@@ -5,11 +5,11 @@ use Rattle.std.proofs.lemmas.List.{drop_all}
 use Rattle.log_record.specs.declared.record.Record.{Record}
 use Rattle.log_commands.specs.Texts.{record_text, list_text}
 
--- the k-th record, as a loop has it, and those behind it
+-- the k-th record, as a loop has it, and those after it
 pub left : (records : List Record) (k : ℕ) (x : Record) → k < length records → x ≡ get_or records k x → drop k records ≡ x ∷ drop (k + 1) records
 left records k x lt is = rw add-one (drop-cons records k x lt) ∙ ap (λ (y : Record). y ∷ drop (k + 1) records) (sym is)
 
--- the line of the k-th record, and those of the records behind it
+-- the line of the k-th record, and those of the records after it
 pub list-more : (records : List Record) (k : ℕ) (x : Record) → k < length records → x ≡ get_or records k x
     → list_text (drop k records) ≡ record_text x (drop (k + 1) records) ++ list_text (drop (k + 1) records)
 unfolding list_text

@@ -12,7 +12,7 @@ use Rattle.log_commands.specs.declared.refusal.Refusal.TheVariants as why
 
 -- ---- the bytes
 
--- what was loaded for each role; empty where nothing was
+-- what was loaded for each role; empty if nothing was
 pub record Bytes : Type 0 where
   pub elf : List ℕ
   pub log : List ℕ
@@ -87,7 +87,7 @@ pub record Stored : Type 0 where
   pub counts : Counts
   pub noted : ℕ
 
--- a store was read only: its files stay, no save was asked for, no count fell, and a refusal by it comes where its count rose
+-- a store was read only: its files stay, no save was asked for, no count fell, and a refusal by it comes only if its count rose
 pub record OnlyLoads {A : Type 0} (old new : Stored) (result : Result A Refusal) : Type 0 where
   pub same : new.files ≡ old.files
   pub asks : new.saves ≡ old.saves

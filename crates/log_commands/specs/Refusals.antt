@@ -76,11 +76,11 @@ joint_refusal joint.OutOfMemory = OutOfMemory
 unfoldable pub digest_text : List ℕ → List ℕ
 digest_text digest = flat_map (λ b. padded_integral (format_spec 32 0 4 2 (2 ^ 64 - 1)) false [] (digits 16 false b)) digest
 
--- two numbers behind a word
+-- two numbers after a word
 unfoldable pub pair_text : List ℕ → ℕ → ℕ → List ℕ
 pair_text word a b = word ++ decimal a ++ codes " " ++ decimal b
 
--- two digests behind a word
+-- two digests after a word
 unfoldable pub digests_text : List ℕ → List ℕ → List ℕ → List ℕ
 digests_text word a b = word ++ digest_text a ++ codes " " ++ digest_text b
 

@@ -47,7 +47,7 @@ list_text (r ∷ rs) = record_text r rs ++ list_text rs
 unfoldable pub check_line : LogCounts → List ℕ
 check_line n = counted (codes "ok records ") n.records ++ counted (codes " intervals ") n.intervals ++ (counted (codes " dropped ") n.dropped ++ counted (codes " bytes ") n.bytes ++ codes "\n")
 
--- the line of a log: its records, its intervals, how many records were given up, and the bytes of those that are kept
+-- the line of a log: its records, its intervals, how many records were dropped, and the bytes of those that are kept
 abbrev pub check_text : Content → List ℕ
 check_text d = check_line (counts_of d)
 
@@ -59,7 +59,7 @@ agree_text = codes "agree\n"
 
 -- ---- a recording
 
--- its line: turns, instructions, records given up, bytes kept, and how it ended
+-- its line: turns, instructions, records dropped, bytes kept, and how it ended
 unfoldable pub summary_text : (turns instructions dropped kept : ℕ) → (ending : List ℕ) → List ℕ
 summary_text turns instructions dropped kept ending = counted (codes "bugnet: turns ") turns ++ counted (codes " instructions ") instructions
     ++ (counted (codes " dropped ") dropped ++ counted (codes " kept ") kept ++ (codes " end " ++ ending ++ codes "\n"))

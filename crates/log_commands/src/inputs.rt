@@ -62,7 +62,6 @@ pub struct Inputs {
 }
 
 impl Inputs {
-    // No bytes.
     fn none(alloc: Global) -> Inputs
         ensures { bytes_of result ≡ no_bytes }
     {

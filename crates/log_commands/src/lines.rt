@@ -29,7 +29,7 @@ fn push_digest(alloc: Global, text: &mut Text, digest: &[u8; 32]) -> Result<(), 
     Ok(())
 }
 
-// Appends two digests behind a word.
+// Appends two digests after a word.
 #[tactic(auto, unfolding(crate::specs::Refusals::digests_text))]
 fn push_digests(
     alloc: Global,
@@ -46,7 +46,7 @@ fn push_digests(
     push_digest(alloc, text, b)
 }
 
-// Appends two numbers behind a word.
+// Appends two numbers after a word.
 #[tactic(auto, unfolding(crate::specs::Refusals::pair_text))]
 fn push_pair(text: &mut Text, word: &str, a: u64, b: u64) -> Result<(), AllocError>
     ensures { OnOk result (text.new ≡ text.old ++ pair_text word.now a b) }
@@ -57,7 +57,7 @@ fn push_pair(text: &mut Text, word: &str, a: u64, b: u64) -> Result<(), AllocErr
     text.push_decimal(b)
 }
 
-// Appends a number of 32 bits, in hexadecimal, behind a word.
+// Appends a number of 32 bits, in hexadecimal, after a word.
 fn push_word(text: &mut Text, word: &str, n: u32) -> Result<(), AllocError>
     ensures { OnOk result (text.new ≡ text.old ++ (word.now ++ hex8 n)) }
 {
@@ -65,7 +65,7 @@ fn push_word(text: &mut Text, word: &str, n: u32) -> Result<(), AllocError>
     text.push_hex8(n)
 }
 
-// Appends a name behind a word.
+// Appends a name after a word.
 fn push_named(text: &mut Text, word: &str, name: &str) -> Result<(), AllocError>
     ensures { OnOk result (text.new ≡ text.old ++ (word.now ++ name.now)) }
 {
@@ -203,7 +203,6 @@ fn push_stuck(text: &mut Text, positions: &[(HartId, Ic)]) -> Result<(), AllocEr
     push_positions(text, positions)
 }
 
-// Appends a turn and its hart.
 fn push_turn(text: &mut Text, at: u64, hart: HartId) -> Result<(), AllocError>
     ensures { OnOk result (text.new ≡ text.old ++ (counted (codes "book: turn ") at ++ counted (codes " hart ") hart)) }
 {

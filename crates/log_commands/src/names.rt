@@ -15,13 +15,13 @@ pub enum Role {
     Book,
     /// What the program reads as its input.
     Input,
-    /// The log that is read, where another is saved that is made of it.
+    /// The log that is read, if another is made of it and saved.
     // `Log` is what a command saves or, if it saves none, reads: so what is said of saving a recording's log is
     // said of what `convert` and `salvage` save too.
     Origin,
 }
 
-/// The name of the file in each role; empty where the command has none.
+/// The name of the file in each role; empty if the command has none.
 #[derive(Drop)]
 pub struct Names<'a> {
     pub elf: &'a str,

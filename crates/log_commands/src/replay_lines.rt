@@ -23,7 +23,7 @@ pub enum ReplayEnd {
     Stopped(ReplayError),
 }
 
-// Puts the line of a row behind what waits.
+// Puts the line of a row after what waits.
 fn gather_row<O: SinkExt>(
     lines: &mut RowLines,
     text: &mut Text,

@@ -9,7 +9,7 @@ use log_file::LogCounts;
 use rv_text::{Text, write_mark};
 use std::alloc::AllocError;
 
-/// Appends a number behind a word.
+/// Appends a number after a word.
 #[tactic(auto, unfolding(crate::specs::Marks::counted))]
 pub fn push_counted(text: &mut Text, word: &str, n: u64) -> Result<(), AllocError>
     ensures { OnOk result (text.new ≡ text.old ++ counted word.now n) }
@@ -18,7 +18,7 @@ pub fn push_counted(text: &mut Text, word: &str, n: u64) -> Result<(), AllocErro
     text.push_decimal(n)
 }
 
-// Appends two numbers behind a word.
+// Appends two numbers after a word.
 fn push_two(text: &mut Text, word: &str, a: u64, b: u64) -> Result<(), AllocError>
     ensures { OnOk result (text.new ≡ text.old ++ (word.now ++ decimal a ++ codes " " ++ decimal b)) }
 {
@@ -71,7 +71,7 @@ pub fn push_interval(
     push_marked(text, "", mark, "\n")
 }
 
-// Appends two numbers, each behind a word.
+// Appends two numbers, each after a word.
 fn push_counts(text: &mut Text, first: &str, a: u64, second: &str, b: u64) -> Result<(), AllocError>
     ensures { OnOk result (text.new ≡ text.old ++ (counted first.now a ++ counted second.now b)) }
 {
@@ -79,7 +79,7 @@ fn push_counts(text: &mut Text, first: &str, a: u64, second: &str, b: u64) -> Re
     push_counted(text, second, b)
 }
 
-// Appends two numbers, each behind a word, and the end of the line.
+// Appends two numbers, each after a word, and the end of the line.
 fn push_last_counts(
     text: &mut Text,
     first: &str,
@@ -136,7 +136,7 @@ fn push_kept(text: &mut Text, run: &RunCounts, ending: &str) -> Result<(), Alloc
     push_ending(text, ending)
 }
 
-// Appends a number of up to 128 bits behind a word.
+// Appends a number of up to 128 bits after a word.
 #[tactic(auto, unfolding(crate::specs::Marks::counted))]
 fn push_great(text: &mut Text, word: &str, n: u128) -> Result<(), AllocError>
     ensures { OnOk result (text.new ≡ text.old ++ counted word.now n) }

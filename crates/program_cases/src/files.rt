@@ -12,7 +12,7 @@ const HEADERS: [u8; 84] = [
     0x00, 0x10, 0x00, 0x00,
 ];
 
-// Puts code words behind the headers.
+// Puts code words after the headers.
 fn push_words(bytes: &mut Vec<u8>, words: &[u32]) -> Result<(), AllocError> {
     for word in words {
         bytes.extend_from_slice(word.to_le_bytes().as_slice())?;

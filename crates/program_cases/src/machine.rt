@@ -6,14 +6,14 @@ use std::mem::replace;
 use std::sync::Wait;
 use std::thread::Threads;
 
-// Puts a word behind others.
+// Puts a word after others.
 fn add_word(alloc: Global, words: &mut Vec<String>, word: &str) -> Result<(), AllocError> {
     let word = String::from_str(alloc, word)?;
     words.push(word)?;
     Ok(())
 }
 
-// The words of a call, behind the program's name.
+// The words of a call, after the program's name.
 fn call_words(alloc: Global, words: &[&str]) -> Result<Vec<String>, AllocError> {
     let mut owned = Vec::new(alloc);
     add_word(alloc, &mut owned, "bugnet")?;

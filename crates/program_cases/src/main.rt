@@ -8,13 +8,13 @@
 //! | `# TEXT` | begins a case, with no file, code or input and by default settings, and prints the line |
 //! | `program NAME WORD ..` | a program file of these code words, in hexadecimal |
 //! | `guest NAME NUMBER` | the program file that a number generates and that crashes |
-//! | `bytes NAME HEX` | these bytes behind those that the file has |
+//! | `bytes NAME HEX` | these bytes after those that the file has |
 //! | `put NAME PLACE HEX` | these bytes in place of those from a place on |
 //! | `cut NAME LENGTH` | the first bytes of the file alone |
 //! | `zeros NAME LENGTH` | a file of so many bytes 0 |
 //! | `failing-store CALL ..` | a store of no file, whose calls of these numbers fail |
 //! | `failing-out CALL ..`, `failing-err CALL ..` | the next call's out or err fails at its writes of these numbers |
-//! | `type TEXT` | the next call can read this line, behind what it could before |
+//! | `type TEXT` | the next call can read this line, after what it could before |
 //! | `keys HEX`, `keys HEX COUNT` | the same of these bytes, or of a byte so many times |
 //! | `failing-keys CALL ..` | the next call's reads of these numbers fail |
 //! | `run WORD ..` | the program with these words; if it could read, how much it left |

@@ -26,7 +26,7 @@ use Rattle.race_laws.proofs.Streams.{ArePlain, load_plain, sc_plain, over_plain,
 -- ---- what comes after a Header
 
 -- a Header of the hart with this count stood before the points from place `first` on: these are all that the hart has from
--- the count on, and the Edges into them are behind it
+-- the count on, and the Edges into them are after it
 pub record IsHead (points : List Point) (hart ic : ℕ) (rest : List Record) : Type 0 where
   pub first : ℕ
   pub within : first ≤ length points

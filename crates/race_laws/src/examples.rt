@@ -17,7 +17,7 @@ pub fn a_relay_has_two_edges()
     ensures third { edge (recorded a_relay).points 0 4 ≡ false }
 {}
 
-/// With shorter intervals, and a log that has given up the middle hart's interval with count 3, the
+/// With shorter intervals, and a log that has dropped the middle hart's interval with count 3, the
 /// Edges that go through it are kept.
 #[tactic(auto, using(crate::proofs::Worked::kept_headers, crate::proofs::Worked::kept_edges))]
 pub fn edges_through_a_dropped_interval_are_kept()

@@ -138,7 +138,7 @@ pub fn late_edges_are_kept()
 
 /// Race order, whatever end of the records is kept: a chain of program order and kept Edges leads from
 /// each point of a kept interval to each later point that conflicts with it. The chain may lead through
-/// points of intervals that were given up.
+/// points of intervals that were dropped.
 pub fn kept_edges_order_conflicts()
     ensures turns { OfLists OrdersConflicts }
     ensures rows { OfRows OrdersConflicts }

@@ -156,7 +156,7 @@ same_runs c i h n z (k ∷ ks) run a l f =
 
 -- ---- where so many of its moves lead
 
--- hart h in the run `there`, with the moves that are left, is behind some turns of the list, or in the next one, at a guarded ask
+-- hart h in the run `there`, with the moves that are left, is after some turns of the list, or in the next one, at a guarded ask
 record IsReached (c : RawSettings) (i : Program) (h : ℕ) (b : List ℕ) (run there : Run) (ms : List Move) : Type 0 where
   past : List ℕ
   left : List ℕ

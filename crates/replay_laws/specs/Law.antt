@@ -53,7 +53,7 @@ pub record IsBeforeTurn (run : Run) (h : ℕ) (s : HartState) (before : List Row
   pub state : s ≡ (run.harts h).state
   pub none : before ≡ []
 
--- hart h's turn is the next one, its ask is guarded, and s is the state in which it asks, behind the rows of its quiet
+-- hart h's turn is the next one, its ask is guarded, and s is the state in which it asks, after the rows of its quiet
 -- instructions
 pub record IsAtGuard (c : RawSettings) (i : Program) (run : Run) (left : List ℕ) (h : ℕ) (s : HartState) (before : List Row) : Type 0 where
   pub later : List ℕ

@@ -18,7 +18,7 @@ same_number a b h = grind arith
 pub is_number : (a b : ℕ) → a ≡ b → (a == b) ≡ true
 is_number a b h = grind arith
 
--- ---- one list behind another
+-- ---- one list after another
 
 pub record IsBehind {X : Type 0} (xs ys : List X) (k : ℕ) (x : X) : Type 0 where
   pub place : ℕ

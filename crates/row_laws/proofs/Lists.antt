@@ -53,7 +53,7 @@ all_move known c i input a (k ∷ ks) setting legal =
     all_move known c i input (a ++ k ∷ []) ks setting (ap (legal_from c i (start c i input)) (append_assoc a (k ∷ []) ks) ∙ legal) in
     (here, subst (λ (x : Run). AreMoves c i x ks) (run_append c i (start c i input) a (k ∷ [])) rest)
 
--- the turns in front move their harts, and so do those behind them
+-- the turns in front move their harts, and so do those after them
 pub both_move : (c : RawSettings) (i : Program) (a b : List ℕ) (run : Run) → AreMoves c i run (a ++ b) → AreMoves c i run a × AreMoves c i (run_from c i run a) b
 both_move c i [] b run o = (tt, o)
 both_move c i (k ∷ ks) b run o = let p = both_move c i ks b (turn c i run k) o.1 in ((o.0, p.0), p.1)

@@ -126,14 +126,14 @@ kept_back size (x ∷ front) back fits = by (nat_le (total (x ∷ (front ++ back
     by true rest = (x ∷ front, refl)
     by false rest = rest
 
--- a Header that has room with all behind it is kept
+-- a Header that has room with all after it is kept
 header_kept : (stream : List Record) (bytes k size : ℕ) (t : Hart) (st : StandsIn stream bytes k t) → 146 + total st.back ≤ size → HasHeader k t.number t.begun (kept size stream)
 header_kept stream bytes k size t st room =
     let all : List Record = Header k t.number t.begun st.pc st.x ∷ st.back in
     let p = kept_back size st.front all (omega (arith, room, header_bytes k t.number t.begun st.pc st.x st.back st.size)) in
     record { front = p.0; back = st.back; pc = st.pc; x = st.x; parts = ap (kept size) st.parts ∙ p.1 }
 
--- ---- the room behind a Header
+-- ---- the room after a Header
 
 three : (a b d : Bool) → a ≡ true → b ≡ false → (a && (not b && d)) ≡ false → d ≡ false
 three true false d e f h = h
@@ -212,7 +212,7 @@ cut_or (Faulted f v) = inr refl
 
 -- ---- a turn
 
--- the Header behind a turn, by what comes after it
+-- the Header after a turn, by what comes after it
 pub own_kept : (next : TurnEnd) (stream es ls cs : List Record) (bytes k n skipped size : ℕ) (s : HartState) (t : Hart) (harts : ℕ → Hart) → length s.x ≡ 32 → StandsIn stream bytes k t → NoneBefore k es ls cs → 146 ≤ size
     → (Begins next ≡ false → 146 + (bytes - t.headed) + (total es + total ls + total cs + 15 + 15 * n) ≤ size)
     → let rs = turn_records next es ls cs k t.number n s harts in let u = hart_after next s skipped (bytes + total rs) t in HasHeader k u.number u.begun (kept size (stream ++ rs))
@@ -367,7 +367,7 @@ headers_kept laws c i input b k guarding legal live =
 ends_behind : (k : ℕ) (m : EndMark) (xs ys : List Record) → last_end k ys ≡ Some m → last_end k (xs ++ ys) ≡ Some m
 ends_behind k m xs ys e = last_of_both k xs ys ∙ ap (λ (z : Option EndMark). option_or z (last_end k xs)) e
 
--- behind the Header stands the End with which the hart's turn ended the run
+-- after the Header stands the End with which the hart's turn ended the run
 ended_by : (reason value : ℕ) (stream es ls cs : List Record) (bytes k n skipped size : ℕ) (s : HartState) (t : Hart) (harts : ℕ → Hart) → length s.x ≡ 32 → StandsIn stream bytes k t → NoneBefore k es ls cs → 146 ≤ size
     → 146 + (bytes - t.headed) + (total es + total ls + total cs + 15 + 15 * n) ≤ size
     → let rs = turn_records (RunOver reason value) es ls cs k t.number n s harts in let u = hart_after (RunOver reason value) s skipped (bytes + total rs) t in

@@ -1,4 +1,4 @@
--- Each hart's present Header stands among the records, and a run counts the bytes behind it.
+-- Each hart's present Header stands among the records, and a run counts the bytes after it.
 use Rattle.std.proofs.Common.{◌≡◌, ℕ, zero, suc, ◌+◌, ◌*◌, ◌<◌, ◌≤◌, Bool, true, false, Option, Some, None, List, [], ◌∷◌, ◌++◌, length, refl, sym, ◌∙◌, ap, subst, arith, append_assoc, inl, inr}
 use Rattle.std.specs.Prelude.{◌≢◌, ◌==◌, not, ◌&&◌, slice_get, nat_lt}
 use Rattle.std.specs.List.{AllByRecursion}
@@ -94,7 +94,7 @@ none_in_turn h es ls cs ns os before next over =
 -- ---- one hart's Header
 
 -- the Header of hart k's present interval, t being the hart, is in the stream, no later one of the hart is, and the stream's bytes
--- are those up to it and those behind it
+-- are those up to it and those after it
 pub record StandsIn (stream : List Record) (bytes k : ℕ) (t : Hart) : Type 0 where
   pub front : List Record
   pub back : List Record

@@ -55,7 +55,7 @@ KeptIsAnEnd = (c : RawSettings) (run : Run) → IsEndOf run.stream (kept_of c ru
 abbrev pub harts_of : List TurnRow → List ℕ
 harts_of rows = map (λ (r : TurnRow). r.hart) rows
 
--- each hart's rows are the hart's own from the point where it is in a run
+-- each hart's rows are the hart's own from its place in a run
 abbrev pub AreOwn : RawSettings → Program → Run → List TurnRow → Type 0
 AreOwn c i run rows = (h : ℕ) → h < c.harts → IsOwn c i h (place_of (run.harts h)) (rows_by h rows)
 
@@ -77,7 +77,7 @@ OwnRowsAreTurns = (c : RawSettings) (i : Program) (input : List ℕ) (rows : Lis
 
 -- ---- a hart that makes its own rows, and rows that continue
 
--- the point where a hart is after rows of its own
+-- the place of a hart after rows of its own
 abbrev pub place_over : RawSettings → Place → List TurnRow → Place
 place_over c p [] = p
 place_over c p (r ∷ rs) = place_over c (place_after c p r.ask r.guarded r.reply) rs

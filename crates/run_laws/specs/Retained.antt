@@ -34,7 +34,7 @@ pub record HasHeader (k number begun : ℕ) (rs : List Record) : Type 0 where
   pub x : List ℕ
   pub parts : rs ≡ front ++ Header k number begun pc x ∷ back
 
--- and the hart's last End behind it has that mark
+-- and the hart's last End after it has that mark
 pub record HasEnded (k number begun : ℕ) (m : EndMark) (rs : List Record) : Type 0 where
   pub header : HasHeader k number begun rs
   pub end : last_end k header.back ≡ Some m
@@ -65,7 +65,7 @@ HeadersAreKept = (c : RawSettings) (i : Program) (input b : List ℕ) (k : ℕ) 
     → let run = run_of c i input (b ++ k ∷ []) in let h = run.harts k in
     h.live ≡ true → HasHeader k h.number h.begun (kept_of c run)
 
--- If the run ends in a fault, the interval of the fault is retained: its Header is kept, and behind it its End with the fault
+-- If the run ends in a fault, the interval of the fault is retained: its Header is kept, and after it its End with the fault
 abbrev pub FaultsAreKept : Type 0
 FaultsAreKept = (c : RawSettings) (i : Program) (input b : List ℕ) (k : ℕ) (kind : Fault) (value : ℕ) → IsGuarding c → legal_from c i (start c i input) (b ++ k ∷ []) ≡ true
     → (ask_at c i ((run_of c i input b).harts k)).want ≡ Faulted kind value

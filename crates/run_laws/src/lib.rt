@@ -89,7 +89,7 @@ pub fn own_rows_are_turns()
     own_rows_go_on();
 }
 
-/// A hart that asks what it asks next has one more row of its own, and is where the reply leaves it.
+/// A hart that asks what it asks next has one more row of its own; its place is the one after the reply.
 pub fn own_rows_grow()
     ensures { OwnRowsGrow }
 {}

@@ -45,7 +45,7 @@ fn done(
     Ok((port.turns().len(), x[5], x[6], ends_with_a_load(&port)))
 }
 
-// The same of that program, where the two words are given.
+// The same of that program, with the two words given.
 fn loads(rt: &impl Wait, alloc: Global) -> Result<(usize, u32, u32, bool), AllocError> {
     let settings = Settings::default();
     let image = program(alloc, &settings)?;

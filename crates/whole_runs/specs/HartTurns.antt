@@ -23,7 +23,7 @@ use Rattle.whole_runs.specs.declared.hart_place.HartPlace.{HartPlace}
 abbrev pub place_at : HartPlace → Place
 place_at p = record { state = p.state; begun = p.begun }
 
--- the point where hart h is before its first turn
+-- the place of hart h before its first turn
 abbrev pub first_place : RawSettings → Program → ℕ → Place
 first_place c i h = place_of (start_hart h (start_state c i h))
 
@@ -37,7 +37,7 @@ taken_after false rows h ask answer = rows
 taken_after true rows h ask None = rows
 taken_after true rows h ask (Some answered) = rows ++ row_of h ask answered ∷ []
 
--- the rows that hart h took from its first place are its own; if they are told, it is at the point where they leave it, else there are none
+-- the rows that hart h took from its first place are its own; if they are told, its place is the one after them, else there are none
 pub record IsDriven (tells : Bool) (c : RawSettings) (i : Program) (h : ℕ) (first : Place) (rows : List TurnRow) (now : Place) : Type 0 where
   pub own : IsOwn c i h first rows
   pub place_is : tells ≡ true → now ≡ place_over c first rows

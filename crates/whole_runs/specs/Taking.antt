@@ -57,7 +57,7 @@ abbrev pub kept_with : Bool → List ℕ → List ℕ → List ℕ
 kept_with true list more = list ++ more
 kept_with false list more = list
 
--- the turns of seed 0 finish the run of a bus; they are kept behind a list
+-- the turns of seed 0 finish the run of a bus; they are added to a list
 pub record Finishes (tells : Bool) (old new : Seen) (keeps : Bool) (before after : List ℕ) : Type 0 where
   pub more : List ℕ
   pub kept : after ≡ kept_with keeps before more

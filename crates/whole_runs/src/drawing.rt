@@ -47,7 +47,6 @@ fn powers(manner: Manner) -> u64
     }
 }
 
-// A power of two.
 fn power(exponent: u64) -> u64
     requires { exponent < 64 }
     ensures value { result ≡ 2 ^ exponent }
@@ -123,7 +122,6 @@ fn other_than<B: Book>(bus: &Bus<B>, sleeper: HartId, number: u64) -> Option<Har
     )
 }
 
-// The hart of the next turn.
 fn taker<B: Book>(bus: &Bus<B>, manner: Manner, now: Drawing) -> Option<HartId>
     requires live { is_live bus.now now.hart ≡ true }
     requires within { now.hart < bus.now.began.settings.harts }

@@ -182,7 +182,7 @@ impl<J: Beginning, B: Book> ListedBus<J, B> {
         self.bus.halt();
     }
 
-    /// One turn of a hart at its own ask, made from a place where it was: the reply, and whether the ask
+    /// One turn of a hart at its own ask, made from a place that it had: the reply, and whether the ask
     /// was guarded. None if the hart isn't live, and then nothing changes. None too if the hart isn't at
     /// that place in the bus, and then no hart is live any more.
     ///

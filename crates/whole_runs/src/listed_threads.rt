@@ -21,7 +21,7 @@ use std::sync::{Mutex, Wait};
 use std::thread;
 use std::thread::Threads;
 
-// The turns of one hart, from where it begins.
+// The turns of one hart, from its first place.
 fn run_one<J: Beginning, B: Book, G: Gate, R: Wait>(
     rt: &R,
     bus: &Mutex<ListedBus<J, B>>,

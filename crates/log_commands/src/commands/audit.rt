@@ -20,7 +20,7 @@ use rv_text::Text;
 use std::alloc::Global;
 
 // What a recording of this program and input with the settings and the digest of the log begins with. The
-// log's records are given up.
+// log's records are dropped.
 fn start_of(reading: JointReading, input: Vec<u8>) -> Start
     ensures image { result.image ≡ reading.image }
     ensures settings { result.settings ≡ reading.log.head.settings }

@@ -53,7 +53,6 @@ fn send_run<O: SinkExt>(
     }
 }
 
-// Sends the lines of all steps.
 fn send_steps<O: SinkExt>(alloc: Global, joint: &mut Joint, out: &mut O) -> Result<(), Refusal>
     ensures { SendsSteps joint.old joint.new (O.stream out.old) (O.stream out.new) result }
 {
@@ -62,7 +61,7 @@ fn send_steps<O: SinkExt>(alloc: Global, joint: &mut Joint, out: &mut O) -> Resu
     send_run(joint, &mut lines, &mut text, out)
 }
 
-// Puts the line of a known word behind what waits.
+// Puts the line of a known word after what waits.
 fn gather_word<O: SinkExt>(
     text: &mut Text,
     addr: u32,

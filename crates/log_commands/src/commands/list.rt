@@ -26,7 +26,7 @@ pub fn evaluate(alloc: Global, log: &[u8]) -> Result<Answer, Refusal>
     Ok(Answer::Listed(log))
 }
 
-// Puts the line of an interval behind what waits.
+// Puts the line of an interval after what waits.
 fn gather_interval<O: SinkExt>(
     text: &mut Text,
     hart: u64,
