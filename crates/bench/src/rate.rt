@@ -1,4 +1,4 @@
-//! How many a second.
+//! How many a second, by processor time or by the clock.
 use std::fs;
 use std::time::Instant;
 

@@ -1,4 +1,4 @@
-//! A hart's cache: touches per second, to words that stay and to words that go.
+//! A hart's cache: accesses per second, to words that stay and to words that are evicted.
 ghost use Rattle.std.specs.Prelude.{◌≡◌, ◌+◌, ◌<◌, ◌≤◌, ◌^◌};
 
 use crate::rate::rate_since;

@@ -1,4 +1,4 @@
-//! How a run is recorded, by its words.
+//! How a run is recorded, by the options of `record`.
 
 /// How a run is recorded.
 #[derive(Clone, Copy, Drop)]

@@ -1,4 +1,5 @@
 //! The program: it reads its words, loads, answers, saves and prints.
+//! The contract of `run` says all that is proved of the whole; code below it may change as long as that stands.
 ghost use Rattle.std.specs.Prelude.{◌≡◌, ◌≤◌, ◌⊎◌, true, Some, None, IfOk, MatchOption};
 ghost use Rattle.bn_outside.specs.Counts.{Rose, NoneFell};
 ghost use Rattle.command_words.specs.Words.{command_in, seen, seen_recording, RecordLine};
@@ -472,7 +473,7 @@ pub fn run<S: Store, I: Source, O: Sink, X: Sink, G: Gate, R: Threads + Wait + S
     err: &mut X,
     gate: &G,
 ) -> u8
-    // If the store's files can be named, they and the words determine the status, the texts and the files
+    // If the store's files are known, they and the words determine the status, the texts and the files
     // that are left. A recording without a seed has one more input: its list of turns. By any store the
     // words alone say whether the status is 2.
     ensures told { TellsAnswer (command_in words.now) result (call S.files S.counts O.written O.faults X.written X.faults store.old out.old err.old store.new out.new err.new) }

@@ -75,7 +75,7 @@ reached-stopped files names roles r rest had refusal so_far (inr (inl h)) =
 reached-stopped files names roles r rest had refusal so_far (inr (inr h)) =
     inr (so_far.is ∙ step files names r rest had (Err (TooLong r)) (too-long r (files (name_of names r)) h.0) ∙ ap (λ (x : Refusal). Err x) (sym h.1))
 
--- ---- if the store's files can be named
+-- ---- if the store's files are known
 
 pub so_far-first : (known : Option Files) (names : FileNames) (roles : List Role) (had : Bytes) → had ≡ no_bytes → WithFiles known (λ files. Reached files names roles roles had)
 so_far-first None names roles had e = tt

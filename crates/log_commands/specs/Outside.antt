@@ -33,7 +33,7 @@ use Rattle.log_commands.specs.declared.answer.Answer.TheVariants.{Recorded, Inte
 
 -- ---- what is loaded
 
--- if the files of a store can be named
+-- if the files of a store are known
 abbrev pub WithFiles : Option Files → (Files → Type 0) → Type 0
 WithFiles None P = Unit {0}
 WithFiles (Some files) P = P files

@@ -1,4 +1,4 @@
-//! The line of a refusal on err.
+//! The line of a refusal on err; each of its bytes is said in specs/Refusals.antt.
 ghost use Rattle.std.specs.Prelude.{◌≡◌, ◌++◌, OnOk, codes, decimal};
 ghost use Rattle.rv_text.specs.Instructions.{hex8};
 ghost use Rattle.bn_base.specs.Ranges.{setting_name};

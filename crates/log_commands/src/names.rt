@@ -1,4 +1,4 @@
-//! The names of the files of a command.
+//! The names of a command's files, by what each file is to it.
 ghost use Rattle.std.specs.Prelude.{◌≡◌, []};
 ghost use Rattle.log_commands.specs.Names.{no_names, name_of};
 

@@ -1,4 +1,4 @@
-//! The lines of intervals, logs and recordings.
+//! The lines of intervals, logs and recordings; each of their bytes is said in specs/Texts.antt.
 ghost use Rattle.std.specs.Prelude.{◌≡◌, ◌++◌, OnOk, codes, decimal};
 ghost use Rattle.rv_text.specs.Marks.{mark_text};
 ghost use Rattle.log_commands.specs.Marks.{counted};

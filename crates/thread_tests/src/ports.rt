@@ -1,4 +1,4 @@
-//! A hart at a port in memory.
+//! A hart that takes its turns at a port in memory.
 ghost use Rattle.std.specs.Prelude.{◌≡◌, ◌≤◌, []};
 
 use bn_base::{Image, Segment, Settings};

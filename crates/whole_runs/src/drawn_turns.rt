@@ -1,4 +1,5 @@
-//! Runs by the turns that a number draws, on the caller's thread.
+//! Runs by the turns that a number draws, on the caller's thread: `record` with the schedule `bursts:N` or `sleeper:N`.
+//! Which turns these are is said in specs/Drawn.antt.
 ghost use Rattle.std.specs.Prelude.{◌≡◌, [], true, List, IfOk};
 ghost use Rattle.bn_outside.specs.declared.turn_row.TurnRow.{TurnRow};
 ghost use Rattle.bus_core.specs.Bus.{began_of};

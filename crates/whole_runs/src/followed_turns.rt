@@ -1,4 +1,4 @@
-//! Runs that follow a given list of turns, on the caller's thread.
+//! Runs that follow a given list of turns, on the caller's thread: `record` with the schedule `book:FILE`.
 ghost use Rattle.std.specs.Prelude.{◌≡◌, ◌≤◌, [], true, List, length, take, IfOk};
 ghost use Rattle.bn_outside.specs.declared.turn_row.TurnRow.{TurnRow};
 ghost use Rattle.bus_core.specs.Bus.{began_of};

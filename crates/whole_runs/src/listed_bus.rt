@@ -1,4 +1,5 @@
 //! A bus whose turns each hart takes by itself, with their list.
+//! By its invariant a legal list led to it, so that a run in threads needs no comparison at its end.
 ghost use Rattle.std.specs.Prelude.{◌≡◌, ◌∷◌, ◌++◌, [], ℕ, List, true, false, ◌⊎◌, is_some, IfOk, IfSome, IfNone, OnOk, OnErr, IsTrue};
 ghost use Rattle.run_model.specs.Turn.{Run, ask_at};
 ghost use Rattle.run_laws.specs.History.{ask_from, place_of};

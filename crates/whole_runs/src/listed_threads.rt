@@ -1,4 +1,4 @@
-//! Runs whose harts are in threads of their own, on a bus that knows its list of turns.
+//! Runs of harts in threads, on a bus that knows its list of turns: `record` without seed and schedule.
 ghost use Rattle.std.specs.Prelude.{◌≡◌, ◌<◌, ℕ, List, vec_len, IfOk};
 ghost use Rattle.bn_outside.specs.declared.turn_row.TurnRow.{TurnRow};
 ghost use Rattle.bus_core.specs.Bus.{began_of};

@@ -1,4 +1,4 @@
-//! Whole runs on the caller's thread: by the turns that a number chooses, or by a list.
+//! Whole runs on the caller's thread: by the turns that a number chooses (`record --seed`, `demo`), or by a list.
 ghost use Rattle.std.specs.Prelude.{◌≡◌, ◌⊎◌, [], true, Some, List, OnOk, IfOk, IfErr};
 ghost use Rattle.run_model.specs.Runs.{seeded};
 ghost use Rattle.bus_core.specs.Bus.{began_of};

@@ -1,4 +1,4 @@
-//! The run of a recording without a seed on the caller's thread.
+//! The run of a recording without a seed on the caller's thread, by the schedule that the gate has.
 ghost use Rattle.std.specs.Prelude.{◌≡◌, List, IfOk};
 ghost use Rattle.bn_outside.specs.declared.turn_row.TurnRow.{TurnRow};
 ghost use Rattle.bus_core.specs.Bus.{began_of};
