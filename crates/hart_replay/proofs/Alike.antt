@@ -78,7 +78,7 @@ left_alike h s origin t m called a b e =
 
 -- ---- the next instruction
 
--- both go on alike, with the same row, or both stop
+-- both continue alike, with the same row, or both stop
 abbrev pub BothGo : Side → Next → Side → Next → Type 0
 BothGo a (On p) b (On q) = (p.state ≡ q.state) × (p.called ≡ q.called) × (take 1 p.rows ≡ take 1 q.rows) × Alike (later a p) (later b q)
 BothGo a (On p) b (Stop o) = ⊥
@@ -187,7 +187,7 @@ ending i h s origin t m called a b e = by_reason (nat_lt 16 m.reason) (step i t)
 
 -- ---- all that is to come
 
--- the rest, where both go on or stop
+-- the rest, if both continue or both stop
 both : (i : Program) (h n : ℕ) (s origin : HartState) (m : EndMark) (a b : Side) (x y : Next) → BothGo a x b y
     → ((t : HartState) (called : Bool) (c d : Side) → Alike c d → to_come i h (interval_at s m c) n (position_at t called c) ≡ to_come i h (interval_at origin m d) n (position_at t called d))
     → elim x as (λ u. Replayed) [ On q ↦ with_rows (take 1 q.rows) (to_come i h (interval_at s m a) n q) | Stop o ↦ record { rows = []; outcome = o } ]

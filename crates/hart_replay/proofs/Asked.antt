@@ -71,7 +71,7 @@ AsksWell = (i : Program) (s : HartState) (w : Want) → step i s ≡ Asks w → 
 abbrev pub CountsUp : Type 0
 CountsUp = (i : Program) (s t : HartState) → step i s ≡ Quiet t → t.ic ≡ count_up s.ic
 
--- where it isn't a cut, the instruction asks
+-- unless it is a cut, the instruction asks
 pub asks_of : (i : Program) (s t : HartState) (k : Want) → ◌≡◌ {A = Ask} (record { state = t; want = k }) (ask_of i 1 s) → (k ≡ Cut → ⊥) → (step i s ≡ Asks k) × (t ≡ s)
 asks_of i s t k e uncut = by_ask (one_ask i s t k e)
   where

@@ -8,7 +8,7 @@ use Rattle.rv_meaning.specs.declared.asks.Want.TheVariants.{System}
 use Rattle.hart_replay.specs.Replay.{call_reason}
 use Rattle.hart_replay.specs.Sides.{call_answer}
 
--- by whether the call goes on, and by its number's two tests
+-- by whether the hart continues after the call, and by its number's two tests
 answer_counts : (b : Bool) (n v : ℕ) (args : List ℕ) (s : HartState)
     → (after (System n args) (elim b as (λ y. Reply) [ true ↦ Answer v | false ↦ Over ]) s).ic ≡ elim b as (λ y. ℕ) [ true ↦ count_up s.ic | false ↦ count_up_if ((n == 93) || (n == 94)) s.ic ]
 answer_counts true n v args s = refl

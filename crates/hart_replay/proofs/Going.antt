@@ -97,7 +97,7 @@ module _ (i : Program) (h : ℕ) (m : EndMark) (s : HartState) (called : Bool) (
 
 -- ---- the contracts of the steps
 
--- the definition's next, where it depends on a word
+-- the definition's next, if it depends on a word
 abbrev pub by_word : IntervalCursor → Want → ℕ → (ℕ → Reply) → (load store : ℕ → Option (ℕ × ℕ)) → Option ℕ → Next
 by_word c k w reply load store o = elim o as (λ y. Next) [ None ↦ missing c.hart (position_at c.state c.called (side_of c)) w | Some y ↦ after_ask c.image.now c.hart (position_at c.state c.called (side_of c)) (record { state = c.state; want = k }) (reply y) 1 (load y) (store y) ]
 

@@ -74,7 +74,7 @@ pub record Replaying : Type 0 where
 abbrev pub over : Outcome → Replayed
 over o = record { rows = []; outcome = o }
 
--- what a step gives where it writes its row, or whatever it tells, to a place of the caller
+-- what a step gives that writes its row, or another answer, to a place of the caller
 abbrev pub given : {A : Type 0} → Result Bool ReplayError → A → Result (Option A) ReplayError
 given (Ok true) x = Ok (Some x)
 given (Ok false) x = Ok None
@@ -98,7 +98,7 @@ abbrev pub a_word_comes : List Row → Bool
 a_word_comes [] = false
 a_word_comes (r ∷ rs) = tells_word r
 
--- what a step does: it gives the first row that is left, or none if the replay is done, or the outcome; it may run
+-- what a step does: it gives the first row that is left, or none if the replay is done, or the outcome. It may run
 -- out of memory instead, but only if the first row that is left tells a word
 abbrev pub Stepped : Replaying → Result (Option Row) ReplayError → Replaying → Type 0
 Stepped old (Ok None) new = (old.left ≡ over Done) × (new ≡ old)

@@ -21,7 +21,7 @@ interval_of_cursor c = interval_at c.state c.mark (side_of c)
 abbrev pub position_of : IntervalCursor → Position
 position_of c = position_at c.state c.called (side_of c)
 
--- the next instruction, where it asks this
+-- the next instruction, if it asks this
 abbrev pub next_asked : IntervalCursor → Want → Next
 next_asked c k = ask_step c.image.now c.hart (interval_of_cursor c) (position_of c) k
 

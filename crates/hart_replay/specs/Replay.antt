@@ -55,7 +55,7 @@ put h (ScFailed k) l = elim (k == h) [ true ↦ record { loads = l.loads; condit
 put h (Edge k ic s j) l = l
 put h (End k m) l = elim (k == h) [ true ↦ record { loads = []; conditionals = []; mark = m } | false ↦ l ]
 
--- what records have for hart h up to its next End: they are put in from the last to the first, and an End begins anew
+-- what records have for hart h up to its next End: they are put in from the last to the first, and an End clears what came before
 abbrev pub puts : ℕ → List Record → Logged → Logged
 puts h [] l = l
 puts h (r ∷ rs) l = put h r (puts h rs l)
@@ -156,8 +156,8 @@ system_step i h v p ask n a0 =
       | false ↦ Stop (Refused (EndDiffers h v.mark (found (p.state.ic + 1) reason value)))
     ]
 
--- an instruction that asks. A loading access gets the logged word, else the word that the rows know; a store-conditional goes
--- as the log says; a system call has to be that of the End, and a fault before the End's count is refused
+-- an instruction that asks. A loading access gets the logged word, else the word that the rows know. A store-conditional
+-- succeeds if the log says so. A system call has to be that of the End, and a fault before the End's count is refused
 abbrev pub ask_step : Program → ℕ → Interval → Position → Want → Next
 ask_step i h v p k = elim k as (λ x. Next) [
   | Load a w s rd ↦ elim (word_for v p a) [ None ↦ missing h p a | Some x ↦ after_ask i h p (record { state = p.state; want = k }) (Word x) 1 (Some (a, x)) None ]

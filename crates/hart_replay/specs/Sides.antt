@@ -94,8 +94,8 @@ abbrev pub KeepsWord : Next → Type 0
 KeepsWord (On q) = a_word_comes q.rows ≡ true
 KeepsWord (Stop o) = ⊥
 
--- an instruction at state s did what the definition says: it continued, and this row was written, or it stopped; it may run
--- out of memory instead of a row that tells a word, and of nothing else
+-- an instruction at state s did what the definition says: it continued, and this row was written, or it stopped. It may run
+-- out of memory in place of a row that tells a word, and of nothing else
 abbrev pub Does : Side → Next → HartState → Result (Unit {0}) ReplayError → Row → HartState → Bool → Side → Type 0
 Does a n s (Ok u) row t called b = Goes a n row t called b × (t.ic ≡ count_up s.ic)
 Does a n s (Err e) row t called b = ((n ≡ Stop (Refused e)) ⊎ ((e ≡ OutOfMemory) × KeepsWord n)) × (t ≡ s)

@@ -29,7 +29,7 @@ struct Lookup {
 /// A program, and what was looked up last at the addresses of its code: of those that have the same
 /// place in a table of 1,024, the latest. Contracts see the program.
 ///
-/// The table takes 32 KiB, once there is a look-up to keep. Where memory is wanting nothing is kept.
+/// The table takes 32 KiB, once there is a look-up to keep. When out of memory, nothing is kept.
 #[derive(Drop)]
 pub(crate) struct Code<'a> {
     image: &'a Image,
@@ -74,7 +74,7 @@ fn place_of(pc: Addr) -> usize
     (pc / 4) as usize % KEPT
 }
 
-// Makes the table, where there is none and memory for it.
+// Makes the table, if there is none and there is memory for it.
 fn make_table(kept: &mut Vec<Lookup>)
     ensures { (i : Program) → AreLookups i kept.old.items → AreLookups i kept.new.items }
 {
@@ -86,7 +86,7 @@ fn make_table(kept: &mut Vec<Lookup>)
     }
 }
 
-// Keeps a look-up at a place of the table, where it has that place.
+// Keeps a look-up at a place of the table, if the table is there.
 fn keep(kept: &mut Vec<Lookup>, place: usize, lookup: Lookup)
     ensures { (i : Program) → IsLookup i lookup → AreLookups i kept.old.items → AreLookups i kept.new.items }
 {
@@ -96,7 +96,7 @@ fn keep(kept: &mut Vec<Lookup>, place: usize, lookup: Lookup)
 }
 
 impl<'a> Code<'a> {
-    /// The program, of which nothing is kept yet. It takes no memory.
+    /// The program, without look-ups. It takes no memory.
     pub(crate) fn new(alloc: Global, image: &'a Image) -> Code<'a>
         ensures { result.now ≡ image.now }
     {
@@ -146,7 +146,7 @@ impl<'a> Code<'a> {
         }
     }
 
-    // The same where it isn't kept. It is from then on.
+    // The same for an address that isn't kept, which then is.
     #[inline(never)]
     fn look_up(&mut self, hart: HartId, state: &HartState) -> Fetched
         ensures value { result ≡ fetched hart self.old.now state.now }
@@ -164,7 +164,7 @@ impl<'a> Code<'a> {
         here
     }
 
-    /// The same program, of which nothing is kept yet.
+    /// The same program, without look-ups.
     pub(crate) fn copy(&self) -> Code<'a>
         ensures { result ≡ self.now }
     {

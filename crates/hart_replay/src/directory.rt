@@ -1,4 +1,4 @@
-//! Where the page of a number stands.
+//! A radix tree from the numbers of pages to their places, for the words that a replay knows.
 ghost use Rattle.std.specs.Prelude.{◌≡◌, ◌≤◌, ◌<◌, ◌+◌, ◌^◌, ◌==◌, ℕ, true, if◌then◌else◌, OnOk, IfOk, IsOk};
 ghost use Rattle.hart_replay.specs.Directories.{place_at, place_for, has_branch};
 
@@ -35,7 +35,7 @@ impl Model for Directory {
     } };
 }
 
-// Makes the first level's node, where there is none.
+// Makes the first level's node, if there is none.
 fn make_root(root: &mut usize, tops: &mut RadixLevel) -> Result<(), AllocError>
     ensures made { OnOk result (has_branch tops.new.branches root.new 0 ≡ true) }
     ensures same { (at : ℕ) → place_at tops.new.branches root.new 0 at ≡ place_at tops.old.branches root.old 0 at }
@@ -48,7 +48,7 @@ fn make_root(root: &mut usize, tops: &mut RadixLevel) -> Result<(), AllocError>
     Ok(())
 }
 
-// The place of the node of `low` below the node of a part, which is made where there is none.
+// The place of the node of `low` below the node of a part. It is made if there is none.
 fn below(
     upper: &mut RadixLevel,
     node: usize,
@@ -101,8 +101,8 @@ impl Directory {
         self.leaves.place(leaf, middle, number % 256)
     }
 
-    /// Changes the place of a number. It takes no memory where there is room for a number, and fills
-    /// the room of one at most.
+    /// Changes the place of a number. It takes no memory if there is room for a number, and fills the
+    /// room of one at most.
     pub(crate) fn put(&mut self, number: u32, place: usize) -> Result<(), AllocError>
         requires { number < 2 ^ 24 }
         ensures place { OnOk result ((n : ℕ) → n < 2 ^ 24 → place_for self.new n ≡ (if n == number then place else place_for self.old n)) }

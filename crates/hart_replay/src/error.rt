@@ -1,4 +1,4 @@
-//! Why the replay of an interval stops.
+//! Why the replay of an interval stops before its end.
 use bn_base::{Addr, EndMark, HartId, Ic};
 use thiserror::Error;
 

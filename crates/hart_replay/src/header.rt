@@ -1,4 +1,4 @@
-//! The Header that an interval begins with.
+//! The search for the Header that an interval begins with, and with it the replay.
 ghost use Rattle.std.specs.Prelude.{◌≡◌, ◌∷◌, List, None, take, drop, IfSome};
 ghost use Rattle.log_record.specs.declared.record.Record.{Record};
 ghost use Rattle.hart_replay.specs.Replay.{interval_of};

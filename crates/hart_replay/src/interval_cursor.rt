@@ -25,9 +25,9 @@ use rv_meaning::{
 };
 use std::alloc::AllocError;
 
-/// Where the replay of an interval stands: the hart's state, what of the log is still to be met,
-/// the words that the rows so far tell, and whether the last instruction was the system call that
-/// ends the interval.
+/// The state of an interval's replay. It has the hart's state, what of the log is still to be met,
+/// and the words that the rows so far tell. It also says whether the last instruction was the system
+/// call that ends the interval.
 #[derive(Drop)]
 pub(crate) struct IntervalCursor<'a> {
     pub(crate) image: Code<'a>,
@@ -68,8 +68,8 @@ fn fault_in(want: &Want) -> Option<(Fault, u32)>
 }
 
 impl<'a> IntervalCursor<'a> {
-    // The word for a loading access: the log's, where it has a first load of this place, else the
-    // one that the rows tell.
+    // The word for a loading access: the log's, if it has a first load of this place, else the one
+    // that the rows tell.
     fn load_word(&mut self, addr: Addr) -> Result<u32, ReplayError>
         ensures ok { IfOk result (λ x. word_due self.old.loads (word_at self.old.words.pages (addr / 4)) ≡ Some x) }
         ensures err { IfErr result (λ e. (e ≡ LoadMissing self.old.hart self.old.state.ic addr) × (word_due self.old.loads (word_at self.old.words.pages (addr / 4)) ≡ None)) }
@@ -417,8 +417,8 @@ impl<'a> IntervalCursor<'a> {
         }
     }
 
-    /// Does the next instruction before the mark's count, and writes its row. On an error the state
-    /// is as before.
+    /// Does the next instruction before the mark's count, and writes its row. An error leaves the
+    /// state unchanged.
     #[inline(always)]
     pub(crate) fn go_on(&mut self, row: &mut Row) -> Result<(), ReplayError>
         requires { self.old.state.ic < self.old.mark.ic }
@@ -429,7 +429,7 @@ impl<'a> IntervalCursor<'a> {
         self.go_on_at(&here, row)
     }
 
-    // The same, where the instruction is looked up.
+    // The same, for an instruction that was looked up.
     #[inline(always)]
     fn go_on_at(&mut self, here: &Fetched, row: &mut Row) -> Result<(), ReplayError>
         requires here { here.now ≡ fetched self.old.hart self.old.image.now self.old.state }

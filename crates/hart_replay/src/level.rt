@@ -43,7 +43,7 @@ impl Node {
         self.part == part
     }
 
-    /// Its place for one of its parts, where it is the node of `part`, else 0.
+    /// Its place for one of its parts, if it is the node of `part`, else 0.
     pub(crate) fn place(&self, part: u32, at: u32) -> usize
         requires { at < 256 }
         ensures { result ≡ place_in (Some self.now) part at }
@@ -132,8 +132,8 @@ impl RadixLevel {
         }
     }
 
-    /// Makes a node of a part, and answers its place. No place changes, and it takes no memory where
-    /// there is room.
+    /// Makes a node of a part, and answers its place. No place changes, and it takes no memory if there
+    /// is room.
     pub(crate) fn make(&mut self, part: u32) -> Result<usize, AllocError>
         ensures made { IfOk result (λ n. has_branch self.new.branches n part ≡ true) }
         ensures fresh { IfOk result (λ n. (at : ℕ) → place_at self.new.branches n part at ≡ 0) }

@@ -1,4 +1,5 @@
-//! The replay of one checkpoint interval, from its log and the program alone.
+//! The replay of one checkpoint interval, from its log and the program alone. `specs/Replay.antt` defines its rows and
+//! its outcome, and `Replayer` gives them one by one.
 #![tactic(auto)]
 
 mod code;

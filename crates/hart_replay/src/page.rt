@@ -38,7 +38,7 @@ impl WordPage {
         }
     }
 
-    /// The word at a place, where it is known.
+    /// The word at a place, if it is known.
     pub(crate) fn word(&self, place: u32) -> Option<u32>
         requires { place < 64 }
         ensures { result ≡ word_in self.now place }

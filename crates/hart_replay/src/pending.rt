@@ -1,4 +1,4 @@
-//! What of an interval's records is still to be met.
+//! What of an interval's records is still to be met: an End with some left is refused.
 ghost use Rattle.std.specs.Prelude.{◌≡◌, ◌≤◌, ◌+◌, ◌<◌, ◌^◌, length, drop};
 ghost use Rattle.hart_replay.specs.Scans.{loads_in, conditionals_in, due, met, IsWaiting, first_of, rest_of};
 

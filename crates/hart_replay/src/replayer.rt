@@ -41,8 +41,8 @@ impl<'a> Model for Replayer<'a> {
 }
 
 impl<'a> Replayer<'a> {
-    /// The replay of an interval of a hart, before its first row. NoInterval comes exactly where the
-    /// log keeps no Header of that hart and interval, and no other error: no memory is taken yet.
+    /// The replay of an interval of a hart, before its first row. The only error is NoInterval: the log
+    /// keeps no Header of that hart and interval. It takes no memory.
     pub fn begin(
         alloc: Global,
         image: &'a Image,
@@ -89,13 +89,13 @@ impl<'a> Replayer<'a> {
         }
     }
 
-    /// The next row; `None` where all rows were given and the interval ended as its log says.
+    /// The next row; `None` if all rows were given and the interval ended as its log says.
     ///
-    /// The errors are those of the definition, and come after the rows before them: a word that
-    /// neither the log nor an earlier row tells, a store-conditional without a record, an end that
-    /// isn't the log's, and records that are left. OutOfMemory comes only in place of a row that
-    /// tells a word of memory, which is kept. After `None` or an error it answers the same again, and
-    /// the state stays.
+    /// The errors are those of the definition, and come after the rows before them. They are a word
+    /// that neither the log nor an earlier row tells, a store-conditional without a record, an end that
+    /// isn't the log's, and records that are left. OutOfMemory comes only in place of a row that tells
+    /// a word of memory, since such words are kept. After `None` or an error it answers the same again,
+    /// and the state stays.
     pub fn step(&mut self) -> Result<Option<Row>, ReplayError>
         ensures { Stepped self.old result self.new }
     {
@@ -149,8 +149,8 @@ impl<'a> Replayer<'a> {
         &self.cursor.state
     }
 
-    /// A replayer that stands where this one does: an equal value. It takes memory in proportion to
-    /// the pages that the interval touched so far, and fails only where that is wanting.
+    /// An equal replayer. It takes memory in proportion to the pages that the interval touched so far,
+    /// and fails only when out of memory.
     pub fn copy(&self) -> Result<Replayer<'a>, AllocError>
         ensures { IfOk result (λ r. r ≡ self.now) }
     {

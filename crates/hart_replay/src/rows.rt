@@ -1,4 +1,4 @@
-//! Rows, which are written where they are wanted: each level that passed one up would copy it.
+//! Rows, which are written in the caller's place: each level that passed one up would copy it.
 ghost use Rattle.std.specs.Prelude.{◌≡◌, ℕ};
 ghost use Rattle.bn_base.specs.Programs.{Program};
 ghost use Rattle.bn_base.specs.declared.state.HartState.{HartState};

@@ -1,4 +1,4 @@
-//! The records of an interval, gone through in their order.
+//! A walk along the records of an interval: its first loads, conditionals and End.
 ghost use Rattle.std.specs.Prelude.{◌≡◌, length, drop};
 ghost use Rattle.hart_replay.specs.Replay.{Logged, put};
 ghost use Rattle.hart_replay.specs.Scans.{loads_in, conditionals_in, mark_in, in_front, scanned, mark_or};

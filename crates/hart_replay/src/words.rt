@@ -1,4 +1,4 @@
-//! The words that a replay knows.
+//! The words that a replay knows: those that the log gave, and those that rows loaded or stored.
 ghost use Rattle.std.specs.Prelude.{◌≡◌, ◌≤◌, ◌<◌, ◌+◌, ◌/◌, ◌==◌, ℕ, Some, None, if◌then◌else◌, OnOk, IfOk, IsOk};
 ghost use Rattle.hart_replay.specs.Pages.{word_at, word_in};
 ghost use Rattle.hart_replay.specs.Directories.{stands_at};
@@ -50,7 +50,7 @@ fn stands_at(pages: &[TaggedPage], place: usize, number: u32) -> bool
     }
 }
 
-/// The known words by address, in pages of 64 words, which are made where a word of theirs is put.
+/// The known words by address, in pages of 64 words. A page is made when the first of its words is put.
 ///
 /// Contracts see the pages, and for how many more there is room. Word k has the addresses from 4k on.
 /// A page is found by four look-ups in arrays, whatever the addresses are.
@@ -81,7 +81,7 @@ impl Words {
         }
     }
 
-    /// The aligned word of an address, where it is known.
+    /// The aligned word of an address, if it is known.
     pub fn get(&self, addr: Addr) -> Option<u32>
         ensures { result ≡ word_at self.now.pages (addr / 4) }
     {
@@ -108,8 +108,8 @@ impl Words {
         self.pages.reserve(pages)
     }
 
-    /// Makes the aligned word of an address known. It takes no memory where there is room for a page,
-    /// and fills the room of one at most.
+    /// Makes the aligned word of an address known. It takes no memory if there is room for a page, and
+    /// fills the room of one at most.
     pub fn put(&mut self, addr: Addr, word: u32) -> Result<(), AllocError>
         ensures word { OnOk result ((k : ℕ) → word_at self.new.pages k ≡ (if k == addr / 4 then Some word else word_at self.old.pages k)) }
         ensures taken { 0 < self.old.room → IsOk result }

@@ -45,7 +45,7 @@ one_begun i records count hs all l b e f = subst (AreBegun i records (count + 1)
     up : (n : ℕ) → suc n ≡ n + 1
     up n = omega arith
 
--- no step was taken yet
+-- before the first step
 pub is_fresh : (i : Program) (records : List Record) (count : ℕ) (hs : List HartLane) (memory : List (ℕ × ℕ)) → AreBegun i records count hs → memory ≡ []
     → joining i records hs memory None ≡ fresh i count records
 is_fresh i records count hs memory b e =

@@ -13,7 +13,7 @@ pub lanes_length : (hs : List HartLane) → length (lanes_of hs) ≡ length hs
 lanes_length [] = refl
 lanes_length (h ∷ hs) = ap suc (lanes_length hs)
 
--- how it goes on after a hart
+-- how the choice continues after a hart
 abbrev pub after : Joining → ℕ → Bool → Readiness → Next
 after j h waiting r = elim r [ is.Ready ↦ Hart h | is.Waits s ic ↦ choice_from j.records j.lanes (h + 1) (drop (h + 1) j.lanes) true | is.Done ↦ choice_from j.records j.lanes (h + 1) (drop (h + 1) j.lanes) waiting ]
 

@@ -29,7 +29,7 @@ is_done (Refused e) = false
 refusal : (e : ReplayError) → Refused e ≡ Done → ⊥
 refusal e h = let f : false ≡ true = ap is_done h in absurd cc
 
--- a call that doesn't go on is an exit, by its number's two tests, and so it is counted
+-- a call after which its hart doesn't continue is an exit, by its number's two tests, and so it is counted
 exits_count : (x y : Bool) (k : ℕ) → (elim x as (λ z. ℕ) [ true ↦ 3 | false ↦ elim y as (λ z. ℕ) [ true ↦ 4 | false ↦ 2 ] ] == 2) ≡ false → count_up_if (x || y) k ≡ count_up k
 exits_count true y k over = refl
 exits_count false true k over = refl

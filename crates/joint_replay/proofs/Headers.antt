@@ -1,4 +1,4 @@
--- Where the Headers of a hart stand in a log in order.
+-- The places of a hart's Headers in a log in order.
 use Rattle.std.proofs.Common.{◌≡◌, ℕ, zero, suc, ◌+◌, ◌<◌, ◌≤◌, Bool, true, false, ◌&&◌, ◌==◌, refl, sym, ap, ◌∙◌, subst, arith, List, [], ◌∷◌, take, length, slice_get, slice_index_or, replicate, is_some, Option, Some, None}
 use Rattle.bn_base.specs.declared.settings.RawSettings.{RawSettings}
 use Rattle.log_record.specs.declared.record.Record.{Record}

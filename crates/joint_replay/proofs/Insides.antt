@@ -1,5 +1,5 @@
--- Where the Edges into a hart lead, by the walk of the order's rules: `seen` is above each target so far, and not above the
--- next Header's or End's count.
+-- The targets of the Edges into a hart, by the walk of the order's rules: `seen` is above each target so far, and not above
+-- the next Header's or End's count.
 use Rattle.std.proofs.Common.{◌≡◌, ℕ, ◌+◌, ◌<◌, ◌≤◌, Bool, true, false, not, ◌&&◌, ◌||◌, ◌==◌, ◌⊎◌, inl, inr, nat_lt, refl, sym, ap, ◌∙◌, subst, arith, List, [], ◌∷◌, Option, Some, None, Result, Ok}
 use Rattle.std.specs.Prelude.{if◌then◌else◌, nat_le}
 use Rattle.bn_base.specs.declared.end_mark.EndMark.{EndMark}

@@ -175,7 +175,7 @@ module _ (i : Program) (log : Content) (count : ℕ) (hs : List HartLane) (memor
       subst (PassesIf i l.lane) (ap (λ (q : Program). lane_step q l.lane) (sym (own_at i log.records 0 h hs l t.own at).0) ∙ e) (steps_pass i l.lane (sound.lanes h l.lane there)) in
       subst (λ (ls : List Lane). is_passed (slice_get ls s) j ≡ true) (sym (lanes_set hs h new)) (stays old h sound l.lane there ready_then new.lane item passes s j p)
 
--- a refusal, or want of memory, leaves all but what a starved replay has left
+-- a refusal, or an allocation that failed, leaves all but what the refused replay has left
 pub together_refused : (i : Program) (log : Content) (count : ℕ) (hs : List HartLane) (memory : List (ℕ × ℕ)) (h : ℕ) (l new : HartLane) (e : ReplayError) → slice_get hs h ≡ Some l → IsTogether i log count hs memory None
     → new ≡ record l { lane = new.lane } → bare new.lane ≡ bare l.lane → IsTogether i log count (slice_set hs h new) memory (Some e)
 together_refused i log count hs memory h l new e at t same b = record {

@@ -53,8 +53,8 @@ pub record Start : Type 1 where
 abbrev pub HasSources : Start → Type 0
 HasSources start = (h ic s j : ℕ) → HasEdge start.records h ic s j → start.on s j
 
--- where a joint replay stands after these steps, first step first: what each hart did and has left is its list, and the
--- instructions that are passed are those that stand in the steps
+-- a joint replay after these steps, first step first: what each hart did and has left is its list, and the instructions
+-- that are passed are those that stand in the steps
 pub record Follows (start : Start) (now : Joining) (steps : List Taken) : Type 0 where
   pub sound : IsSound now
   pub records_are : now.records ≡ start.records

@@ -59,7 +59,7 @@ still_passed old new (s ∷ ss) stays p = (stays s.hart s.ic p.0, still_passed o
 
 -- ---- all harts
 
--- what was met stays so where what is passed stays so
+-- what was met stays so if what is passed stays so
 pub still_met : (records : List Record) (old new : List HartLane) (met : List ℕ) → length new ≡ length old
     → ((s j : ℕ) → is_passed (slice_get (lanes_of old) s) j ≡ true → is_passed (slice_get (lanes_of new) s) j ≡ true) → AreMet records old met → AreMet records new met
 still_met records old new met same stays m = record {
@@ -131,7 +131,7 @@ module _ (i : Program) (log : Content) (count : ℕ) (hs : List HartLane) (memor
     ];
   }
 
--- where no step was refused, the sources of passed targets are passed
+-- if no step was refused, the sources of passed targets are passed
 pub is_sound : StartsAreSound → (i : Program) (log : Content) (count : ℕ) (hs : List HartLane) (memory : List (ℕ × ℕ)) (refused : Option ReplayError) (now : Joining) → joining i log.records hs memory refused ≡ now → now.refused ≡ None
     → IsContent log → IsTogether i log count hs memory refused → IsSound now
 is_sound law i log count hs memory refused now view none c t =
@@ -140,7 +140,7 @@ is_sound law i log count hs memory refused now view none c t =
     let start : IsSound (fresh i (length hs) log.records) = subst (λ n. IsSound (fresh i n log.records)) harts (law i log.head.settings log.dropped log.records (omega (arith, limit)) c.order) in
     subst IsSound (t.reached.whole (ap (λ (j : Joining). j.refused) view ∙ none) ∙ view) (walks_are_sound steps_pass i (length hs) log.records t.reached.order t.reached.walk start t.reached.begun)
 
--- ---- want of memory passes nothing
+-- ---- a step that is out of memory passes nothing
 
 bare_passed : (lane : Lane) (j : ℕ) → is_passed (Some (bare lane)) j ≡ is_passed (Some lane) j
 bare_passed lane j = by lane.points lane.cursors

@@ -96,7 +96,7 @@ step_made j h o = by_step [] j (λ w. run_for 0 w) h o
 pub first_step : (j : Joining) (h : ℕ) → j.refused ≡ None → choice j ≡ Hart h → one_step j ≡ step_made j h (next_step j h)
 first_step j h none lowest = ap (by_refusal [] j (λ w. run_for 0 w)) none ∙ ap (by_choice [] j (λ w. run_for 0 w)) lowest
 
--- a step is taken, and the run goes on
+-- a step is taken, and the run continues
 abbrev Goes : Joining → Taken → Joining → Type 0
 Goes j t next = (ts : List Taken) (go : Walk → Ran) → run_on (walk_of ts j) go ≡ go (walk_of (t ∷ ts) next)
 

@@ -25,7 +25,7 @@ both : (a b : Bool) → (a && b) ≡ true → (a ≡ true) × (b ≡ true)
 both true b e = (refl, e)
 both false b e = cc
 
--- the first of these numbers is above m, or where there is none, m is below the intervals
+-- the first of these numbers is above m; if there is none, m is below the intervals
 abbrev Above : ℕ → List ℕ → List Cursor → Type 0
 Above m [] cs = IsBelow m cs
 Above m (x ∷ xs) cs = m < x

@@ -1,4 +1,4 @@
--- Rows go on from the position that they are to come from.
+-- Rows continue from the position that they are to come from.
 use Rattle.std.proofs.Common.{◌≡◌, ℕ, zero, suc, ◌+◌, ◌-◌, ◌<◌, ◌≤◌, ◌^◌, Bool, true, false, not, ◌&&◌, ◌||◌, ◌==◌, nat_lt, refl, sym, ap, ◌∙◌, subst, arith, [], ◌∷◌, ◌++◌, take}
 use Rattle.bn_base.specs.Faults.{fault_number}
 use Rattle.bn_base.specs.Programs.{Program}

@@ -80,7 +80,7 @@ untold_step old mid new h stepped none lowest s halted = inr (taken_by h s.0, mi
 
 -- ---- no refusal comes first
 
--- want of memory is told of nothing else
+-- only out of memory is told as such
 only_memory : (r : ReplayError) → why.OutOfMemory ≡ error_of r → r ≡ replay.OutOfMemory
 only_memory (replay.NoInterval h c) e = absurd cc
 only_memory (replay.LoadMissing h ic a) e = absurd cc

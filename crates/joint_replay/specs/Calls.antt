@@ -32,7 +32,7 @@ bare_cursor c = record c { left = over Done }
 abbrev pub bare : Lane → Lane
 bare lane = record lane { cursors = map bare_cursor lane.cursors }
 
--- memory ran out: all is as before, but that the refusal is repeated, and a replay that found no memory does the same
+-- memory ran out: nothing changes, but that the refusal is repeated, and a replay that found no memory does the same
 pub record IsHalted (old new : Joining) : Type 0 where
   pub program : new.program ≡ old.program
   pub records : new.records ≡ old.records

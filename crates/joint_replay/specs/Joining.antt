@@ -17,7 +17,7 @@ use Rattle.joint_replay.specs.Points.{sources_into}
 use Rattle.joint_replay.specs.Lanes.{Lane, Item, lane_of, coming_of, count_of, point_of, lane_step, lane_steps}
 use Rattle.joint_replay.specs.Memory.{memory_after}
 
--- the point where a joint replay stands: its program, the log's records, the harts by number, the known words of the joint memory by
+-- the state of a joint replay: its program, the log's records, the harts by number, the known words of the joint memory by
 -- ascending address, and the refusal that it repeats, once there was one
 pub record Joining : Type 0 where
   pub program : Program

@@ -21,7 +21,7 @@ pub record Cursor : Type 0 where
   pub left : Replayed
   pub faulted : Bool
 
--- a hart: the counts of its ordering points that are left, and its retained intervals that aren't at their end yet
+-- a hart: the counts of its ordering points that are left, and its retained intervals that aren't at their end
 pub record Lane : Type 0 where
   pub points : List ℕ
   pub cursors : List Cursor

@@ -67,8 +67,9 @@ StartsAreSound = (i : Program) (s : RawSettings) (dropped : ℕ) (records : List
 abbrev pub SoundnessStays : Type 0
 SoundnessStays = (now : Joining) (h : ℕ) → IsSound now → SoundIf (ready_step now h)
 
--- in every beginning of an allowed order an instruction of a retained interval, from which a chain of program order and kept
--- Edges leads to one that was done, was done before it; the chain may lead through intervals that were given up
+-- take an instruction of a retained interval from which a chain of program order and kept Edges leads to another. Every
+-- prefix of an allowed order that has the other has it too, and earlier. The chain may lead through intervals that were
+-- given up
 abbrev pub ChainsAreKept : Type 0
 ChainsAreKept = (i : Program) (harts : ℕ) (records : List Record) (order : List ℕ) (w : Walk) → IsSound (fresh i harts records) → IsBegun i harts records order w
     → (y h ic : ℕ) → Did w.taken y h ic → (s j : ℕ) → Leads records s j h ic → IsToDo (fresh i harts records) s j → (x : ℕ) × Did w.taken x s j × (y < x)

@@ -137,8 +137,8 @@ pub record IsReadyThere (i : Program) (harts : ℕ) (records : List Record) (ste
   pub waits : (ic : ℕ) → point_at j h ≡ Some ic → (readiness j h ≡ Ready) ↔ ((s n : ℕ) → HasEdge records h ic s n → (x : ℕ) × Stands steps x s n)
   pub free : (c : Coming) → coming j h ≡ Some c → point_at j h ≡ None → readiness j h ≡ Ready
 
--- the hart that is chosen is the lowest one of which an item is admitted, or its replay is refused there; where none is ready no
--- item is admitted; and all are done exactly where the order is whole
+-- the hart that is chosen is the lowest one of which an item is admitted, or its replay is refused there. If none is ready,
+-- no item is admitted. All are done if and only if the order is whole
 pub record IsChosenThere (i : Program) (harts : ℕ) (records : List Record) (steps : List Taken) (j : Joining) : Type 0 where
   pub chosen : (h : ℕ) → choice j ≡ Hart h → ((item : Item) × IsMerge i harts records (one_more steps h item)) ⊎ IsRefusedAt j h
   pub lowest : (h k : ℕ) (item : Item) → choice j ≡ Hart h → IsMerge i harts records (one_more steps k item) → h ≤ k
@@ -192,7 +192,7 @@ abbrev pub ReadyIsAdmitted : Type 0
 ReadyIsAdmitted = (i : Program) (s : RawSettings) (dropped : ℕ) (records : List Record) → s.limit < 2 ^ 64 → broken_by s dropped records ≡ None
     → (order : List ℕ) (w : Walk) → IsBegun i s.harts records order w → Admits i s.harts records (steps_of w) w.now
 
--- in such a merge the source of a kept Edge stands where it is passed
+-- in such a merge the source of a kept Edge stands if and only if it is passed
 abbrev pub PassedIsStanding : Type 0
 PassedIsStanding = (i : Program) (b : RawSettings) (dropped : ℕ) (records : List Record) → b.limit < 2 ^ 64 → broken_by b dropped records ≡ None
     → (steps : List Taken) → IsMerge i b.harts records steps → (h ic s j : ℕ) → HasEdge records h ic s j → ((x : ℕ) × Stands steps x s j) ↔ IsPassed records steps s j

@@ -6,7 +6,7 @@ use Rattle.joint_replay.specs.Lanes.{Cursor, Lane, Item, Passing, Doing, Ending,
 use Rattle.joint_replay.specs.Joining.{is_passed}
 use Rattle.joint_replay.specs.Counts.{RowsFrom}
 
--- the rows that are left of an interval go on from the hart's state, up to the End's count
+-- the rows that are left of an interval continue from the hart's state, up to the End's count
 abbrev pub GoesOn : Program → Cursor → Type 0
 GoesOn i c = (c.state.ic ≤ c.mark.ic) × RowsFrom i c.mark.ic c.left.outcome c.state c.left.rows
 
@@ -60,7 +60,7 @@ IsRowAt count (Doing before row) = (row.ic ≡ count) × (row.fault ≡ None)
 IsRowAt count (Ending n m) = ⊥
 
 -- a step of the hart: what is passed stays so, and of the instructions on its way only the one at the step's point may be
--- passed by it; what is still to be done stays so, but for the one that it did
+-- passed by it. What is still to be done stays so, but for the one that it did
 pub record Passes (i : Program) (old : Lane) (item : Item) (new : Lane) : Type 0 where
   pub lane : IsLane i new
   pub stays : (k : ℕ) → is_passed (Some old) k ≡ true → is_passed (Some new) k ≡ true

@@ -1,4 +1,4 @@
-//! The bytes that read calls fill.
+//! The bytes that read calls fill. The log doesn't have them, so a joint replay forgets their words.
 ghost use Rattle.std.specs.Prelude.{◌≡◌, Some};
 ghost use Rattle.std.specs.Option.{option_map};
 ghost use Rattle.bn_base.specs.declared.state.HartState.{HartState};
@@ -29,7 +29,7 @@ impl Asked {
     }
 }
 
-// The result of a read call that goes on.
+// The result of a read call after which the hart continues.
 fn read_result(asked: Asked, row: &Row) -> Option<u32>
     ensures { (before : HartState) → asked ≡ asked_by before → result ≡ call_result 63 before row.now }
 {

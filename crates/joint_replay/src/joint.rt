@@ -1,4 +1,4 @@
-//! The joint replay of all retained intervals.
+//! The joint replay of all retained intervals: `Joint`, and what each call promises of an allowed order.
 ghost use Rattle.std.specs.Prelude.{◌≡◌, ◌<◌, ◌+◌, ◌==◌, ◌&&◌, ◌++◌, not, [], ◌∷◌, length, take, replicate, slice_get, Some, None, IfOk, IfErr, OnOk, MatchOption};
 ghost use Rattle.joint_replay.specs.declared.kinds.Readiness.TheVariants.{Ready};
 ghost use Rattle.joint_replay.specs.declared.error.JointError.TheVariants.{OutOfMemory};
@@ -53,7 +53,7 @@ impl<'a> Model for Joint<'a> {
 }
 
 impl<'a> Joint<'a> {
-    /// The joint replay of a log with a program, before its first step. The only error is want of
+    /// The joint replay of a log with a program, before its first step. The only error is out of
     /// memory.
     pub fn begin(alloc: Global, image: &'a Image, log: &'a KeptLog) -> Result<Joint<'a>, JointError>
         ensures fresh { IfOk result (λ j. j ≡ fresh image.now log.now.head.settings.harts log.now.records) }
@@ -111,7 +111,7 @@ impl<'a> Joint<'a> {
         }
     }
 
-    // The step, where none was refused yet.
+    // The step, if none was refused so far.
     #[inline(always)]
     fn take(&mut self, hart: HartId, did: &mut Did) -> Result<Moved, JointError>
         requires there { hart < length self.old.lanes }
@@ -120,8 +120,8 @@ impl<'a> Joint<'a> {
         ensures { Steps self.old hart (told hart result did.new) self.new }
     {
         self.keeps_passed();
-        // Room for the row's words is made before the hart steps: out of memory here leaves the hart where it was, and a
-        // refusal of the step is told first.
+        // Room for the row's words is made before the hart steps, so that out of memory here leaves the hart unchanged,
+        // and a refusal of the step is told first.
         if self.memory.make_room().is_err() {
             let refusal = self.lanes[hart as usize].starve();
             self.refused = Some(refusal);
@@ -139,7 +139,7 @@ impl<'a> Joint<'a> {
         }
     }
 
-    // Where no step was refused, the sources of passed targets are passed. This does nothing.
+    // If no step was refused, the sources of passed targets are passed. This does nothing.
     fn keeps_passed(&self)
         requires { self.now.refused ≡ None }
         ensures { IsSound self.now }
@@ -148,7 +148,7 @@ impl<'a> Joint<'a> {
         let _head = self.log.head();
     }
 
-    // Goes on past the Edges whose sources are passed since a hart moved.
+    // Moves past the Edges whose sources are passed since a hart moved.
     #[inline(always)]
     fn pass_sources(&mut self, moved: HartId)
         ensures { self.new ≡ self.old }
@@ -158,7 +158,7 @@ impl<'a> Joint<'a> {
         }
     }
 
-    // Goes on past those of them that lead into a hart.
+    // Moves past those of them that lead into a hart.
     fn pass_sources_into(&mut self, hart: HartId, moved: HartId)
         requires { hart < length self.old.lanes }
         ensures { self.new ≡ self.old }
@@ -195,9 +195,9 @@ impl<'a> Joint<'a> {
         let _harts = self.harts;
     }
 
-    /// The steps that led here are the beginning of a merge of the harts' lists in which each point
-    /// stands after the sources of the kept Edges into it; a hart is ready where the order with its next item is
-    /// such a beginning again. This does nothing.
+    /// The steps that led here are a prefix of a merge of the harts' lists in which each point stands
+    /// after the sources of the kept Edges into it. A hart is ready if the order with its next item is
+    /// such a prefix again. This does nothing.
     pub fn merged(&self)
         ensures { IsAtMerge (length self.now.lanes) self.now }
     {
@@ -213,7 +213,7 @@ impl<'a> Joint<'a> {
         self.harts
     }
 
-    /// What comes next of a hart; `None` where it is done.
+    /// What comes next of a hart; `None` if it is done.
     pub fn coming(&self, hart: HartId) -> Option<Coming>
         requires { hart < length self.now.lanes }
         ensures { result ≡ coming self.now hart }
@@ -221,7 +221,7 @@ impl<'a> Joint<'a> {
         self.lanes[hart as usize].coming()
     }
 
-    /// The state of a hart, where an interval of it is under way.
+    /// The state of a hart, if an interval of it is under way.
     pub fn state(&self, hart: HartId) -> Option<&HartState>
         requires { hart < length self.now.lanes }
         ensures { MatchOption result (state_at self.now hart ≡ None) (λ s. state_at self.now hart ≡ Some s.now) }
@@ -236,10 +236,10 @@ impl<'a> Joint<'a> {
         self.memory.word(addr)
     }
 
-    /// The first known word of the joint memory at this address or above it; `None` where there is none.
+    /// The first known word of the joint memory at this address or above it; `None` if there is none.
     ///
-    /// All calls that go on from one to the next take as long as there are words up to the highest one
-    /// that was ever known.
+    /// A walk along all known words by such calls takes time linear in the number of words up to the
+    /// highest one that was ever known.
     pub fn known_from(&self, from: u64) -> Option<(Addr, u32)>
         ensures { MatchOption result (known_from from self.now.memory ≡ []) (λ m. known_from from self.now.memory ≡ m ∷ known_from (m.0 + 4) self.now.memory) }
     {
@@ -253,7 +253,7 @@ impl<'a> Joint<'a> {
         self.refused
     }
 
-    /// Stops it for want of memory.
+    /// Stops it as out of memory.
     pub(crate) fn halt(&mut self)
         ensures { IsHalted self.old self.new }
     {
@@ -353,8 +353,8 @@ impl<'a> Joint<'a> {
         }
     }
 
-    /// A joint replay that stands where this one does: an equal value, of the same program and log. It
-    /// takes memory in proportion to what this one holds, and fails only where that is wanting.
+    /// An equal joint replay, of the same program and log. It takes memory in proportion to what this
+    /// one holds, and fails only when out of memory.
     pub fn copy(&self) -> Result<Joint<'a>, AllocError>
         ensures { IfOk result (λ j. j ≡ self.now) }
     {

@@ -1,4 +1,4 @@
-//! What a hart has to do in a joint replay.
+//! What a hart has to do in a joint replay: ordering points to pass, and retained intervals to replay.
 ghost use Rattle.std.specs.Prelude.{◌≡◌, ◌<◌, true, is_some, Some, None, Err, IfOk, MatchOption};
 ghost use Rattle.hart_replay.specs.Coming.{given};
 ghost use Rattle.joint_replay.specs.Lanes.{has_row, lane_of, coming_of, point_of, state_of};
@@ -47,7 +47,7 @@ pub(crate) enum Moved {
 }
 
 impl Did {
-    /// Nothing is written yet.
+    /// A place in which nothing is written.
     pub(crate) fn blank() -> Did {
         Did {
             row: blank_row(),
@@ -271,7 +271,7 @@ impl<'a> Lane<'a> {
         self.sources.all()
     }
 
-    /// The hart's state, where an interval is under way.
+    /// The hart's state, if an interval is under way.
     pub(crate) fn state(&self) -> Option<&HartState>
         ensures { MatchOption result (state_of self.now.lane ≡ None) (λ s. state_of self.now.lane ≡ Some s.now) }
     {

@@ -45,7 +45,7 @@ pub fn runs_go_on()
     ensures { RunsGoOn }
 {}
 
-/// Where no step is taken the run ends.
+/// If no step is taken, the run ends.
 pub fn runs_end()
     ensures { RunsEnd }
 {}
@@ -84,8 +84,8 @@ pub fn starts_are_sound()
     ordering_points_ascend();
 }
 
-/// A run is the step of the lowest ready hart, and the run after it; it ends where that step is refused,
-/// where none is ready, and where all are done.
+/// A run is the step of the lowest ready hart, and the run after it. It ends if that step is refused,
+/// if none is ready, or if all are done.
 #[tactic(auto, using(crate::proofs::Firsts::runs_by_step))]
 pub fn runs_go_by_steps()
     ensures { RunsByStep }
@@ -124,7 +124,7 @@ pub fn ready_harts_are_admitted()
     sources_are_there();
 }
 
-/// In such a merge the source of a kept Edge stands where it is passed.
+/// In such a merge the source of a kept Edge stands if and only if it is passed.
 pub fn passed_sources_stand()
     ensures { PassedIsStanding }
 {

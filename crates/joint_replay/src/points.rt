@@ -34,7 +34,7 @@ pub(crate) fn first_count(hart: HartId, records: &RecordList) -> Option<Ic>
     None
 }
 
-// Whether a count is below the first Header's; every count is, where there is none.
+// Whether a count is below the first Header's. Every count is, if there is none.
 fn is_below(first: Option<Ic>, ic: Ic) -> bool
     ensures { result ≡ is_below first ic }
 {

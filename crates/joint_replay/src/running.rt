@@ -52,7 +52,7 @@ impl<'a> Joint<'a> {
         }
     }
 
-    // Goes on by one step, where none was refused yet.
+    // Takes the next step, if none was refused so far.
     #[inline(always)]
     fn go_on(&mut self, lines: &mut RowLines, out: &mut Text) -> Result<bool, JointError>
         requires none { self.old.refused ≡ None }
@@ -66,11 +66,11 @@ impl<'a> Joint<'a> {
     }
 
     /// Takes the next step of the lowest ready hart, and appends its line, which `lines` writes; `false`
-    /// where all harts are done.
+    /// if all harts are done.
     ///
-    /// Stuck comes where no hart is ready and not all are done, and a refusal of the step where it is
-    /// refused; then there is no line. Where memory is wanting there is no line either, but the step may
-    /// be done. After that, as after any refusal, each step answers the same.
+    /// Stuck comes if no hart is ready and not all are done. If the step is refused, its refusal comes.
+    /// In both cases there is no line. When out of memory, there is no line either, but the step may be
+    /// done. After that, as after any refusal, each step answers the same.
     #[inline(always)]
     pub fn advance(&mut self, lines: &mut RowLines, out: &mut Text) -> Result<bool, JointError>
         ensures { Advances self.old result self.new out.old out.new }

@@ -46,7 +46,7 @@ fn write_known_parts(addr: Addr, word: u32, text: &mut Text) -> Result<(), Alloc
 }
 
 /// Appends the line of a known word: the word `word`, and its address and contents as eight
-/// hexadecimal digits. Where memory is wanting the text is as before.
+/// hexadecimal digits. When out of memory, the text is unchanged.
 pub fn write_known(addr: Addr, word: u32, text: &mut Text) -> Result<(), AllocError>
     ensures ok { OnOk result (text.new ≡ text.old ++ known_text (addr, word)) }
     ensures err { OnErr result (text.new ≡ text.old) }
@@ -60,7 +60,7 @@ pub fn write_known(addr: Addr, word: u32, text: &mut Text) -> Result<(), AllocEr
 }
 
 /// Appends the line of a step: `pass`, the hart and the count of an ordering point; the line of a row;
-/// or that of an interval's end. Where memory is wanting the text is as before.
+/// or that of an interval's end. When out of memory, the text is unchanged.
 pub fn write_step(stepped: &Stepped, text: &mut Text) -> Result<(), AllocError>
     ensures ok { OnOk result (text.new ≡ text.old ++ stepped_text stepped.now) }
     ensures err { OnErr result (text.new ≡ text.old) }
