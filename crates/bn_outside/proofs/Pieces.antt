@@ -40,7 +40,7 @@ more_left (Some a) None c x y n limit p q e h = absurd p
 more_left (Some a) (Some b) None x y n limit p q e h = absurd q
 more_left (Some a) (Some b) (Some c) x y n limit p q e h = omega (arith, ap length p, ap length q, length-append x b, length-append y c, e, h)
 
--- a count that never fell rose over all calls where it rose in the last
+-- a count that never fell rose over all calls if it rose in the last
 pub rose_last : (a b c : ℕ) → a ≤ b → Rose b c → Rose a c
 rose_last a b c h (inl r) = inl (omega (arith, h, r))
 rose_last a b c h (inr r) = inr r

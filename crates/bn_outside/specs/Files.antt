@@ -1,4 +1,4 @@
--- What a store holds: a map from names to bytes, if the store tells it.
+-- What a store holds: a map from names to bytes, for stores whose contents contracts can name.
 use Rattle.std.specs.Prelude.{◌≡◌, ◌≢◌, ℕ, ◌<◌, ◌≤◌, List, length, Option, Some, None, Result, Ok, Err, IsSomeAnd, Vec, ⊤}
 use Rattle.bn_outside.specs.declared.store.LoadError.{LoadError}
 use Rattle.bn_outside.specs.declared.store.LoadError.TheVariants as load

@@ -4,11 +4,11 @@ ghost use Rattle.std.specs.Prelude.{◌≡◌, ◌+◌, ◌<◌, ◌≤◌, [], 
 use crate::TurnRow;
 use std::alloc::AllocError;
 
-/// Where the turns of a run are noted.
+/// A journal of the turns of a run.
 ///
-/// A book may tell its rows or not; that is settled by its type. Whoever lends a book to several
+/// A book may tell its rows or not; its type determines that. Code that passes a book to several
 /// threads asks for `Send` beside it.
-// The type settles it, so that contracts of code that lends a book to threads can say it with no book at hand.
+// The type determines it, so that contracts of code that passes a book to threads can say it with no book at hand.
 pub trait Book: Drop {
     ghost use Rattle.std.specs.Prelude.{Bool, ℕ, List};
     ghost use Rattle.bn_outside.specs.declared.turn_row.TurnRow.{TurnRow};
@@ -16,8 +16,8 @@ pub trait Book: Drop {
     /// Whether books of this type tell their rows.
     ghost tells: { Bool };
 
-    /// The rows that were noted since the book was made or cleared, the oldest first, where it
-    /// tells them.
+    /// The rows that were noted since the book was made or cleared, the oldest first, if it tells
+    /// them.
     ghost told: { Self → List TurnRow };
 
     /// How many rows can be noted before room has to be made again.
@@ -25,8 +25,7 @@ pub trait Book: Drop {
 
     /// Makes room for one row at least.
     ///
-    /// Whatever the answer, the rows stay. An error comes for want of memory, and then there is
-    /// as much room as before.
+    /// Whatever the answer, the rows stay. The error is out of memory; the room is then unchanged.
     fn room(&mut self) -> Result<(), AllocError>
         ensures ok { OnOk result (0 < spare self.new) }
         ensures rows { told self.new ≡ told self.old }
@@ -38,7 +37,7 @@ pub trait Book: Drop {
         ensures row { tells ≡ true → told self.new ≡ told self.old ++ row ∷ [] }
         ensures spare { spare self.old ≤ spare self.new + 1 };
 
-    /// The rows, the oldest first: Some exactly where books of this type tell them.
+    /// The rows, the oldest first: Some if and only if books of this type tell them.
     fn rows(&self) -> Option<&[TurnRow]>
         ensures tells { is_some result ≡ tells }
         ensures rows { IfSome result (λ rows. rows.now ≡ told self.now) };

@@ -47,7 +47,7 @@ impl Book for FullBook {
         ensures rows { self.new.rows ≡ self.old.rows }
         ensures err { OnErr result (self.new ≡ self.old) }
 
-        // Room that is there isn't lost, and an error comes only where there was none.
+        // Room that is there isn't lost, and an error comes only if there was none.
         ensures kept { self.old.spare ≤ self.new.spare }
         ensures needed { OnErr result (self.old.spare ≡ 0) }
     {

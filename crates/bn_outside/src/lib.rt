@@ -4,8 +4,7 @@
 //! Files and streams may fail at any call. What they hold is a meaning that they may tell or not:
 //! files and terminals tell none, the objects in memory tell all of it. Each of them also counts
 //! its refusals in numbers of 64 bits that never fall and stand still at their last value. A
-//! refusal comes only in a call in which its count rose, where a count at its last value counts as
-//! risen.
+//! refusal comes only in a call in which its count rose. A count at its last value counts as risen.
 #![tactic(auto)]
 
 mod book;

@@ -44,8 +44,8 @@ const PIECE: usize = 65_536;
 
 /// Writes all of a text.
 ///
-/// It fails where a write did, which isn't made again. Then the sink was given a front of the text
-/// and not all of it.
+/// It fails if a write did, which isn't made again. Then the sink was given a prefix of the text and
+/// not all of it.
 pub fn send_all<K: Sink>(sink: &mut K, text: &[u8]) -> Result<(), Failed>
     ensures ok { OnOk result (Appends (K.written sink.old) (K.written sink.new) text.now) }
     ensures part { AppendsPart (K.written sink.old) (K.written sink.new) text.now }
@@ -96,14 +96,14 @@ fn gather_within(
     Ok(())
 }
 
-/// Reads all bytes that a source has left, where they are at most `limit`.
+/// Reads all bytes that a source has left, if they are at most `limit`.
 ///
-/// So many bytes are expected: room for them, or for `limit` where that is less, is made once, when
-/// the first bytes have come. It grows where more come.
+/// Room for `expected` bytes, or for `limit` if that is less, is made once, when the first bytes have
+/// come. It grows if more come.
 ///
 /// It stops once more than `limit` bytes have come, so at most 65,536 bytes past the limit are
-/// gone, whatever the answer. `Failed` comes where a read failed, which isn't made again, and memory
-/// is wanting only where some bytes were left and some may come.
+/// gone, whatever the answer. `Failed` comes if a read failed, which isn't made again. It runs out of
+/// memory only if some bytes were left and some may come.
 pub fn read_to_end<I: Source>(
     alloc: Global,
     source: &mut I,

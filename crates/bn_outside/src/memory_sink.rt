@@ -10,7 +10,7 @@ use std::alloc::Global;
 use std::marker::Model;
 
 /// A sink that keeps what it is given. The writes whose numbers are listed fail; the first write has
-/// the number 1. Beside them a write fails for want of memory alone, where it has bytes to keep.
+/// the number 1. Any other write fails only when out of memory, and if it has bytes to keep.
 #[derive(Drop)]
 pub struct MemorySink {
     written: Vec<u8>,

@@ -53,8 +53,8 @@ impl MemoryStore {
         }
     }
 
-    /// Gives `name` these bytes, in place of what it had. This is none of the counted calls. For want
-    /// of memory all stays as it was.
+    /// Gives `name` these bytes, in place of what it had. This is none of the counted calls. When out
+    /// of memory, nothing changes.
     pub fn put(&mut self, name: &str, bytes: &[u8]) -> Result<(), AllocError>
         ensures ok { OnOk result (files_in self.new.entries name.now ≡ Some bytes.now) }
         ensures others { SameElsewhere name.now
@@ -68,7 +68,7 @@ impl MemoryStore {
         Ok(())
     }
 
-    /// The bytes of `name`, where it is there. This is none of the counted calls.
+    /// The bytes of `name`, if it is there. This is none of the counted calls.
     pub fn bytes(&self, name: &str) -> Option<&[u8]>
         ensures { files_in self.now.entries name.now ≡ option_map (λ bytes. bytes.now) result }
     {
@@ -78,7 +78,7 @@ impl MemoryStore {
         }
     }
 
-    // What a load comes to, where it fails or not: nothing is counted yet.
+    // What a load comes to, whether it fails or not. It counts nothing.
     fn found(
         &self,
         fails: bool,

@@ -13,8 +13,8 @@ pub trait Sink {
     /// How often a write has failed.
     ghost faults: { Self → ℕ };
 
-    /// Takes bytes from the front of `piece` and answers how many, at most the piece's length and
-    /// at least one where it has any.
+    /// Takes bytes from the beginning of `piece` and answers how many, at most the piece's length and
+    /// at least one if it has any.
     ///
     /// A failed write takes nothing. Each call counts one fault if it fails, and none else.
     fn write(&mut self, piece: &[u8]) -> Result<usize, Failed>

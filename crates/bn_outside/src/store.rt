@@ -55,7 +55,7 @@ impl From<AllocError> for SaveError {
 
 /// Files by their names.
 pub trait Store {
-    /// The bytes under each name, where the store tells them.
+    /// The bytes under each name, if contracts can name them.
     ghost files: { Self → Option Files };
 
     /// How often a name was missing, had too many bytes, and a call failed.
@@ -65,17 +65,17 @@ pub trait Store {
     ghost saves: { Self → ℕ };
 
     /// What it has noted of its calls, as a number, and that number after one more call. What it notes is its own
-    /// affair. Code that is proved for every store knows nothing of it but that each call is noted once: where its
+    /// affair. Code that is proved for every store knows nothing of it but that each call is noted once. So if its
     /// contract says what is noted after some calls, it makes these calls, in this order, and no other.
     ghost noted: { Self → ℕ };
 
     ghost note: { ℕ → StoreCall → ℕ };
 
-    /// The bytes under `name`, where they are at most `limit`.
+    /// The bytes under `name`, if they are at most `limit`.
     ///
-    /// Whatever the answer, the files are as before. Where the store tells its files, `Missing` and
-    /// `TooLong` are the truth about the name, and memory is wanting only for bytes that are there
-    /// and fit the limit. Each refusal but want of memory comes only in a call that counted it.
+    /// Whatever the answer, the files are unchanged. If contracts can name the store's files,
+    /// `Missing` and `TooLong` are the truth about the name, and out of memory comes only for bytes
+    /// that are there and fit the limit. Each other refusal comes only in a call that counted it.
     fn load(&mut self, alloc: Global, name: &str, limit: usize) -> Result<Vec<u8>, LoadError>
         ensures bound { IfOk result (λ bytes. vec_len bytes ≤ limit) }
         ensures told { IfSome (files self.old) (λ known. LoadTells (known name.now) limit result) }

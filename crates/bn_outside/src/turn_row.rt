@@ -3,8 +3,8 @@ use bn_base::HartId;
 use rv_meaning::{Ask, Reply};
 
 /// One turn of a hart: what it asked after its quiet instructions, and what it was answered.
-/// Where the turn is guarded, the hart's interval ended ahead of the answer, in the ask's state, and
-/// its next one began there. With settings of format 1 no turn is guarded.
+/// If the turn is guarded, the hart's interval ended ahead of the answer, in the ask's state, and its
+/// next one began there. With settings of format 1 no turn is guarded.
 #[derive(Clone, Copy, Drop)]
 pub struct TurnRow {
     pub hart: HartId,

@@ -33,7 +33,7 @@ pub struct FileStore<'a, R: Files> {
 }
 
 impl<'a, R: Files + AllocGlobal> FileStore<'a, R> {
-    /// The files of a host, with nothing loaded, saved or counted yet.
+    /// The files of a host, with nothing loaded, saved or counted.
     pub fn new(rt: &'a R) -> Self
         ensures misses { result.misses ≡ 0 }
         ensures longs { result.longs ≡ 0 }

@@ -3,7 +3,7 @@ use std::fs;
 use std::fs::Files;
 use std::io::Read;
 
-// The bytes of a text as one: none where they aren't UTF-8.
+// The bytes of a text as one: none if they aren't UTF-8.
 fn text_of(bytes: &[u8]) -> &str {
     str::from_utf8(bytes).unwrap_or("")
 }
@@ -20,7 +20,7 @@ pub fn most_in(table: &str) -> u64 {
     u64::MAX
 }
 
-/// The greatest size that this process may give a file. Where the system doesn't tell there is none.
+/// The greatest size that this process may give a file. There is none if the system doesn't tell.
 pub fn most_bytes<R: Files>(rt: &R) -> u64 {
     let mut room = [0; 4096];
     match fs::open(rt, "/proc/self/limits") {

@@ -14,7 +14,7 @@ pub struct ReaderSource<R> {
 }
 
 impl<R: Read> ReaderSource<R> {
-    /// A source of this reader, with nothing counted yet.
+    /// A source of this reader, with nothing counted.
     pub fn new(inner: R) -> Self
         ensures inner { result.inner ≡ record { inner = inner; has_ended = false } }
         ensures faults { result.faults ≡ 0 }
@@ -56,7 +56,7 @@ pub struct Writing<W> {
 }
 
 impl<W: Write> Writing<W> {
-    /// A sink that gives to this writer, with nothing counted yet.
+    /// A sink that gives to this writer, with nothing counted.
     pub fn new(inner: W) -> Self
         ensures inner { result.inner ≡ inner }
         ensures faults { result.faults ≡ 0 }

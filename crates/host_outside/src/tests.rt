@@ -186,7 +186,8 @@ fn is_saved_once<R: Files + AllocGlobal>(
     )
 }
 
-// The spellings of a file in a folder with links, saved where it is there and where it isn't.
+// Whether a save under each spelling of a file, in a folder with links, saves that one file: while it is there, and
+// after it was removed.
 fn each_is_saved_once<R: Files + AllocGlobal>(
     rt: &R,
     folder: &str,
@@ -313,7 +314,7 @@ impl Read for Terminal {
     }
 }
 
-// What two reads give of a reader that has ended and could go on.
+// What two reads give of a reader that has ended and could continue.
 fn read_twice() -> [bool; 2] {
     let mut source = ReaderSource::new(Terminal { reads: 0 });
     [

@@ -6,7 +6,7 @@ use std::io::ErrorKind;
 
 /// The words of the command line, the program's name first.
 ///
-/// Where one of them is not UTF-8 they are no words at all, and so no command.
+/// If one of them is not UTF-8, they are no words at all, and so no command.
 pub fn words_of<R: Env + AllocGlobal>(rt: &R) -> Result<Vec<String>, AllocError> {
     match env::args(rt) {
         Ok(words) => words.collect(rt.alloc()),

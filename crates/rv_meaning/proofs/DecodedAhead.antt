@@ -110,7 +110,7 @@ leads_on i b pc c p q x y z leads within some quiet ic fits =
     let counted : min (ic + (b - (c - 1))) (2 ^ 64 - 1) ≡ count_up n = omega (arith, within, some) in
     ap (λ (m : ℕ). ask_of i (c - 1) (record { pc = q; x = z; ic = m })) counted ∙ quiet_next i c s t some (quiet.2 n ∙ ahead_step i s d quiet.1) ∙ leads ic fits
 
--- where nothing was done, all is as before
+-- nothing was done, and pc and registers are unchanged
 pub leads_still : (i : Program) (b pc c p q : ℕ) (x y z : List ℕ) → LeadsTo i b pc x c p y → (q ≡ p) × (z ≡ y) → LeadsTo i b pc x c q z
 leads_still i b pc c p q x y z leads same =
     subst (λ (a : ℕ). LeadsTo i b pc x c a z) (sym same.0) (subst (λ (w : List ℕ). LeadsTo i b pc x c p w) (sym same.1) leads)

@@ -16,7 +16,7 @@ found_from low high (q ∷ qs) p a h e = by_test (is_in q a) e (found_from (end_
 beyond : (p q : Part) (a : ℕ) → is_in p a ≡ true → end_of q ≤ p.first → is_in q a ≡ false
 beyond p q a has e = grind arith
 
--- where an address is in the part of another, it is found there too
+-- an address that is in the part of another is found there too
 pub part_at-same : (low high : ℕ) (ps : List Part) (p : Part) (a b : ℕ) → AreApart low high ps → part_at ps a ≡ Some p → is_in p b ≡ true → part_at ps b ≡ Some p
 part_at-same low high [] p a b h e has = cc
 part_at-same low high (q ∷ qs) p a b h e has = by_test (is_in q a) e (λ later. part_at-same (end_of q) high qs p a b h.1 later has)

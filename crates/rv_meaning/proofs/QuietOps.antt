@@ -38,7 +38,7 @@ target_pc first target a b f t = omega (arith, a, b, f, t)
 never : {A : Type 0} → false ≡ true → A
 never e = absurd cc
 
--- of an op that is known, by what is done for each instruction that it may stand for
+-- of an op that is known, by what is done for each instruction that it may represent
 pub done_says : (n : Name) (i : Program) (op : Op) (o : Option Instruction) (quiet : Bool) (pc p : ℕ) (x y : List ℕ) → Says op o → op.name ≡ n → is_known n ≡ true
     → ((d : Instruction) → IsOp op d → Done quiet pc x p y (meaning n i d)) → Quietly quiet i o pc x p y
 done_says n i op None quiet pc p x y says e known done = never (sym says ∙ ap is_known e ∙ known)

@@ -1,4 +1,4 @@
--- Registers that hold words hold words after each instruction, and where a hart asks.
+-- Registers that hold words hold words after each instruction, and when a hart asks.
 use Rattle.std.proofs.Common.{◌≡◌, ℕ, zero, suc, ◌+◌, ◌-◌, ◌*◌, ◌/◌, ◌%◌, ◌<◌, ◌≤◌, ◌^◌, Bool, true, false, cond, List, [], ◌∷◌, set, slice_index, ℤ, pos, negsuc, neg_ℤ, ◌*ℤ◌, unsigned_abs, int_div, int_rem, sym, subst, arith, refl, mod-lt, pow_pos, div-le_self, mul-le-mul, w32, w64}
 use Rattle.std.specs.Prelude.{◌==◌, not, nat_lt, if◌then◌else◌, Option, Some, None}
 use Rattle.std.specs.Int.{cast_unsigned, int_shr}
@@ -23,7 +23,7 @@ use Rattle.rv_meaning.specs.Execute.{Step, Quiet, Asks, ask_of, step, fetched, e
 use Rattle.rv_meaning.specs.declared.asks.Ask.{Ask}
 use Rattle.rv_meaning.specs.declared.asks.Want.TheVariants.{Faulted}
 
--- ---- signed numbers as words. The bits of a number are a word where it is not 2 ^ 32 or more
+-- ---- signed numbers as words. The bits of a number are a word if its size is below 2 ^ 32
 
 word_of : (z : ℤ) → mag z < 2 ^ 32 → bits_of z < 2 ^ 32
 word_of (pos n) h = h
@@ -226,7 +226,7 @@ words_next : (i : Program) (n : ℕ) (s : HartState) (x : Step) → AreWords s.x
 words_next i n s (Quiet t) h k rest = rest t k
 words_next i n s (Asks w) h k rest = h
 
--- where a hart asks, its registers hold words
+-- when a hart asks, its registers hold words
 pub ask_words : (i : Program) (n : ℕ) (s : HartState) → AreWords s.x → AreWords (ask_of i n s).state.x
 ask_words i zero s h = h
 ask_words i (suc n) s h = words_next i n s (step i s) h (step_words i s h) (λ t k. ask_words i n t k)

@@ -209,7 +209,7 @@ ask_of i (suc n) s = elim (step i s) [ Quiet t ↦ ask_of i n t | Asks w ↦ rec
 abbrev pub is_exit : ℕ → Bool
 is_exit number = (number == 93) || (number == 94)
 
--- one instruction more if the test holds, else as many as before
+-- one instruction more if the test holds, else no more
 abbrev pub count_up_if : Bool → ℕ → ℕ
 count_up_if true n = count_up n
 count_up_if false n = n

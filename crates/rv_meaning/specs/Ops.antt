@@ -42,7 +42,7 @@ IsBelowEnd a ops = a + 4 * length ops < 2 ^ 32 + 4
 abbrev pub pc_of : ℕ → ℕ → ℕ
 pc_of first place = add first (mul place 4)
 
--- a step from a pc and registers was quiet, and led to others; or nothing is said of it, and they are as before
+-- a step from a pc and registers was quiet, and led to others; or nothing is said of it, and they are unchanged
 abbrev pub Done : Bool → (pc : ℕ) → (x : List ℕ) → (p : ℕ) → (y : List ℕ) → (HartState → Step) → Type 0
 Done true pc x p y does = (ic : ℕ) → Quiet (record { pc = p; x = y; ic = count_up ic }) ≡ does (record { pc = pc; x = x; ic = ic })
 Done false pc x p y does = (p ≡ pc) × (y ≡ x)

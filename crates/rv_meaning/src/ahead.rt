@@ -1,7 +1,7 @@
 //! Code that is decoded ahead, for harts that run many instructions.
 //!
 //! Decoding a word takes longer than doing its instruction. What runs a program for long makes a
-//! [`DecodedImage`] of it once; what does single instructions or short stretches calls
+//! [`DecodedImage`] of it once; what does single instructions or short runs calls
 //! [`quiet_run_in_place`], which needs no memory.
 ghost use Rattle.std.specs.Prelude.{◌≡◌, ◌≤◌, ◌<◌, ◌%◌, ◌^◌, true, false, is_some, length, IfOk, IfSome, OnErr, ℕ, List};
 ghost use Rattle.bn_base.specs.Programs.{Program, code_at, part_at};
@@ -76,7 +76,7 @@ fn decoded_from(
     Ok(ops)
 }
 
-// Where the segment that a program starts in begins.
+// The first address of the segment that a program starts in.
 fn start_of(image: &Image) -> Addr
     ensures { result ≡ start_of (part_at image.now.parts image.now.entry) }
 {
@@ -140,8 +140,8 @@ fn run_quiet<'a>(
 }
 
 impl<'a> DecodedImage<'a> {
-    /// Decodes the segment that the program starts in. The error is that memory is wanting, which
-    /// comes only where that segment is code.
+    /// Decodes the segment that the program starts in. It runs out of memory only if that segment is
+    /// code.
     pub fn new(alloc: Global, image: &'a Image) -> Result<DecodedImage<'a>, AllocError>
         ensures value { IfOk result (λ d. d ≡ image.now) }
         ensures wanting { OnErr result (starts_in_code image.now ≡ true) }
@@ -165,7 +165,7 @@ impl<'a> DecodedImage<'a> {
     }
 
     /// Does a hart's quiet instructions in place, as far as its code is decoded and the budget lasts. It gives what is
-    /// left of the budget, and the op that it stopped at, if there is one: [`DecodedImage::ask`] goes on from there.
+    /// left of the budget, and the op that it stopped at, if there is one: [`DecodedImage::ask`] continues from there.
     #[inline(always)]
     pub fn quiet_ops(&self, state: &mut HartState, budget: u64) -> (Option<&Op>, u64)
         ensures left { result.1 ≤ budget }

@@ -12,7 +12,7 @@ use bn_base::{Addr, Fault, HartState, Ic, Image, Register};
 /// is written to, and `value` the contents of rs2, whole whatever the width.
 #[derive(Clone, Copy, Debug, PartialEq, Eq, Drop)]
 pub enum Want {
-    /// A load; `signed` where a byte or halfword is to be sign-extended.
+    /// A load; `signed` if a byte or halfword is to be sign-extended.
     Load {
         addr: Addr,
         width: u8,
@@ -105,9 +105,9 @@ impl Ask {
     ghost use Rattle.rv_meaning.specs.Orderly.{orderly};
 
     /// Whether this can be the ask of a hart that had done `from` instructions and that may do
-    /// `budget` more: a cut after exactly these, anything else before; an access of 1, 2 or 4
-    /// bytes that is aligned, mapped and, where it may store, not read-only; and no Breakpoint
-    /// with a value but 0.
+    /// `budget` more. A cut comes after exactly these, anything else before. An access has 1, 2 or 4
+    /// bytes and is aligned and mapped, and if it may store, not read-only. A Breakpoint has the
+    /// value 0.
     pub fn is_orderly(&self, image: &Image, from: Ic, budget: u64) -> bool
         ensures { result ≡ orderly image.now from budget self.now }
     {
@@ -126,9 +126,9 @@ pub enum Reply {
     ScOk,
     /// To an SC: it has stored nothing.
     ScFailed,
-    /// To a system call that goes on: its result.
+    /// To a system call after which the hart continues: its result.
     Answer(u32),
-    /// To a cut: the hart goes on.
+    /// To a cut: the hart continues.
     Went,
     /// To any ask: the hart is over. It keeps its pc and registers; the ECALL of an exit is counted.
     Over,

@@ -8,8 +8,8 @@ ghost use Rattle.rv_meaning.specs.Lookups.{destination, written_to, fetched, don
 use bn_base::{Addr, Fault, HartId, HartState, Ic, Image, Register, Registers, Row};
 use rv_decode::decode;
 
-/// An instruction that a hart is about to do: where it stands, its word, and the register that it
-/// writes. It is looked up once, before the instruction is done, and makes the row afterwards.
+/// An instruction that a hart is about to do: its hart, count and pc, its word, and the register that
+/// it writes. It is looked up once, before the instruction is done, and makes the row afterwards.
 #[derive(Clone, Copy, Drop)]
 pub struct Fetched {
     pub hart: HartId,
@@ -18,7 +18,7 @@ pub struct Fetched {
     pub pc: u32,
     /// The code word; `None` where the pc is at none.
     pub word: Option<u32>,
-    /// The destination register, where there is one other than x0.
+    /// The destination register, if there is one other than x0.
     pub rd: Option<Register>,
 }
 
@@ -75,7 +75,7 @@ impl Fetched {
         }
     }
 
-    /// Its row as a system call, with the register that the call wrote: a0 where it goes on.
+    /// Its row as a system call, with the register that the call wrote: a0 if the hart continues.
     pub fn call_row(&self, reg: Option<(Register, u32)>) -> Row
         ensures fields { result ≡ called_row self.now reg }
         ensures looked_up { (h : ℕ) (i : Program) (before : HartState) → self.now ≡ fetched h i before → result ≡ call_row h i before reg }
@@ -92,7 +92,7 @@ impl Fetched {
         }
     }
 
-    /// Its row where it faults.
+    /// Its row if it faults.
     pub fn fault_row(&self, kind: Fault, value: u32) -> Row
         ensures fields { result ≡ faulted_row self.now kind value }
         ensures looked_up { (h : ℕ) (i : Program) (before : HartState) → self.now ≡ fetched h i before → result ≡ fault_row h i before kind value }

@@ -12,8 +12,8 @@ use crate::steps::step;
 use bn_base::{Fault, HartState, Image};
 use rv_decode::{Instr, decode};
 
-/// As [`quiet_run`], but changes the state in place and gives the want alone, which saves copies
-/// where a hart runs and asks many times.
+/// As [`quiet_run`], but changes the state in place and gives the want alone, which saves copies for
+/// a hart that asks many times.
 pub fn quiet_run_in_place(image: &Image, state: &mut HartState, budget: u64) -> Want
     ensures { record { state = state.new; want = result } ≡ ask_of image.now budget state.old }
 {

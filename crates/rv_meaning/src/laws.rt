@@ -22,8 +22,8 @@ pub fn each_ask_is_orderly()
     ensures orderly { (i : Program) (budget : ℕ) (s : HartState) → s.ic + budget < 2 ^ 64 → IsTrue (orderly i s.ic budget (ask_of i budget s)) }
 {}
 
-/// Where the registers hold words of 32 bits, they hold words after each quiet instruction, and
-/// where the hart asks next, whatever numbers the program has for code words.
+/// If the registers hold words of 32 bits, they hold words after each quiet instruction, and when
+/// the hart asks next, whatever numbers the program has for code words.
 pub fn registers_stay_words()
     ensures step { (i : Program) (s t : HartState) → AreWords s.x → step i s ≡ Quiet t → AreWords t.x }
     ensures run { (i : Program) (budget : ℕ) (s : HartState) → AreWords s.x → AreWords (ask_of i budget s).state.x }

@@ -11,7 +11,7 @@ pub fn count_up(ic: Ic) -> Ic
     ic.saturating_add(1)
 }
 
-/// Goes on at `pc`.
+/// Continues at `pc`.
 pub fn next_at(state: &mut HartState, pc: Addr)
     ensures { state.new ≡ next_at pc state.old }
 {
@@ -19,7 +19,7 @@ pub fn next_at(state: &mut HartState, pc: Addr)
     state.ic = count_up(state.ic);
 }
 
-/// Writes `value` to `rd`, and goes on at the following instruction.
+/// Writes `value` to `rd`, and continues at the following instruction.
 pub fn next_with(state: &mut HartState, rd: Register, value: u32)
     ensures { state.new ≡ next_with rd value state.old }
 {

@@ -19,7 +19,7 @@ use bn_base::{Addr, Image, Register, Registers};
 use rv_decode::{Instr, Name};
 
 /// A decoded instruction, with what its meaning reads of it. A word that is none is an `ebreak` here: both fault, and
-/// what faults is decoded again where it is met.
+/// what faults is decoded again when it is met.
 #[derive(Clone, Copy, Drop)]
 pub struct Op {
     /// The 32 bits of the immediate.

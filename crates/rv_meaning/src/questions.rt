@@ -19,7 +19,7 @@ pub fn fault(want: &mut Want, kind: Fault, value: u32) -> bool
     false
 }
 
-// Whether the address passes the tests of a load; where it doesn't, the fault is asked.
+// Whether the address passes the tests of a load; if it doesn't, the fault is asked.
 fn may_load(want: &mut Want, image: &Image, addr: Addr, width: u8) -> bool
     requires { 0 < width }
     ensures { (w : Want) → load_or image.now addr width w ≡ if result then w else want.new }
@@ -33,7 +33,7 @@ fn may_load(want: &mut Want, image: &Image, addr: Addr, width: u8) -> bool
     }
 }
 
-// Whether the address passes the tests of a store; where it doesn't, the fault is asked.
+// Whether the address passes the tests of a store; if it doesn't, the fault is asked.
 fn may_store(want: &mut Want, image: &Image, addr: Addr, width: u8) -> bool
     requires { 0 < width }
     ensures { (w : Want) → store_or image.now addr width w ≡ if result then w else want.new }

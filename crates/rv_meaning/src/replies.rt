@@ -60,9 +60,9 @@ pub fn absorb_in_place(state: &mut HartState, want: &Want, reply: Reply)
 
 /// The state of a hart after the reply to its ask.
 ///
-/// A load writes its register, SC writes 0 where it stored, else 1, and a system call writes its
-/// result to a0. Over leaves pc and registers as they were, and counts the ECALL of an exit, with
-/// number 93 or 94, and nothing else.
+/// A load writes its register, SC writes 0 if it stored, else 1, and a system call writes its result
+/// to a0. Over leaves pc and registers unchanged, and counts the ECALL of an exit, with number 93 or
+/// 94, and nothing else.
 pub fn absorb(ask: &Ask, reply: Reply) -> HartState
     requires { IsTrue (is_reply_to ask.now.want reply) }
     ensures { result ≡ absorbed ask.now reply }

@@ -1,4 +1,4 @@
-//! One instruction of a hart: what it does where it is quiet, else what it asks.
+//! One instruction of a hart: what it does if it is quiet, else what it asks.
 ghost use Rattle.std.specs.Prelude.{◌≡◌, ℕ, true, List};
 ghost use Rattle.bn_base.specs.Registers.{put_reg};
 ghost use Rattle.rv_decode.specs.Seen.{seen};
@@ -16,7 +16,7 @@ use crate::words::{
 use bn_base::{Addr, Fault, Image, Register, Registers};
 use rv_decode::{Instr, Name};
 
-// Writes `value` to `rd`, as an instruction that computes it, and goes on at the following one.
+// Writes `value` to `rd`, as an instruction that computes it, and continues at the following one.
 fn gives(pc: &mut Addr, x: &mut Registers, rd: Register, value: u32) -> bool
     ensures pc { pc.new ≡ add pc.old 4 }
     ensures x { x.new ≡ put_reg rd value x.old }
@@ -61,7 +61,7 @@ fn fence(pc: &mut Addr) -> bool
 }
 
 /// Does an instruction, unless it asks. Then it gives false, `want` is what it asks, and pc and registers
-/// are as before. Where it gives true the caller counts it.
+/// are unchanged. If it gives true, the caller counts it.
 // One match does it, or writes what it asks to the caller's `Want`. Measured: a second match that gave the want
 // by value was a quarter slower on code with loads and stores.
 #[inline(always)]
