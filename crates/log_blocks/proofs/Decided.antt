@@ -51,7 +51,7 @@ no-bytes i = omega arith
 abbrev Fitting : List Piece → Type 0
 Fitting pieces = (dropped : ℕ) → dropped < 2 ^ 64 → dropped_before dropped pieces < 2 ^ 64
 
--- how a walk back goes on from blocks that are kept
+-- how a walk back continues from blocks that are kept
 record Goes (digest : List ℕ) (n : ℕ) (bytes : List ℕ) (kept : List Piece) : Type 0 where
   pub count : ℕ
   pub rest : List ℕ

@@ -144,7 +144,7 @@ module _ (long : HaveTheirWidth) where
   head_size c is =
       omega (arith, ap length (sym (append-nil (head_for c)) ∙ head_is_spelled c.head c.dropped (total c.records) []), length-spelled c.head c.dropped (total c.records) [], is.digest)
 
-  -- what stands behind the head
+  -- what follows the head
   pub record Placed (c : Content) : Type 0 where
     pub head_is : take 104 (file_bytes2 c) ≡ head_for c
     pub kept : kept_digest (file_bytes2 c) ≡ sha256 (head_for c)

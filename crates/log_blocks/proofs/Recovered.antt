@@ -197,7 +197,7 @@ head_again : (bytes : List ℕ) (e : Damage) → head_fault bytes ≡ None → I
 head_again bytes (File f) none x = no_error f (sym none ∙ x)
 head_again bytes (BadBlock at) none x = x
 
--- a file that is written is refused only for want of memory
+-- a file that is written is refused only when out of memory
 pub refused_again : AreRead → HaveTheirWidth → AreNotBad → TagsTell → BeginNoOther → AreNotRefused
 refused_again read long good tell alone c is e (inl memory) = memory
 refused_again read long good tell alone c is e (inr (inl x)) = absurd (head_again (file_bytes2 c) e (no_fault_again read long good c is) x)

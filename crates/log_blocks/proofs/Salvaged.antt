@@ -67,7 +67,7 @@ other_length bytes digest body n rest size sizes b w none differ =
       wrong = inr (inl (nothing_ahead body rest none, λ e. differ (b.n_is ∙ e ∙ sym w.laid.size_is), ap₂ (λ (x y : ℕ). File (LengthDiffers x y)) b.n_is w.laid.size_is));
     }))
 
--- what the call that goes on with the blocks says
+-- what the call that continues with the blocks says
 abbrev pub Answers : (body : List ℕ) (rest size : ℕ) (sizes : List ℕ) → Head → ℕ → Result Content Damage → Type 0
 Answers body rest size sizes head dropped r = (pieces : List Piece) → AreLaid body rest size sizes pieces → MatchResult r (HasBlocks head dropped (136 + rest) pieces) (IsRecordsFault head dropped (136 + rest) pieces)
 

@@ -73,11 +73,11 @@ fault_behind bytes s long begins version known =
     let t = told_by (first_bad (settings_in bytes)) (settings_in bytes) s refl known in
     rw (not_less (length bytes) 124 (omega (arith, long)), begins, eq-eqb _ _ version, not_less (length bytes) 136 long, t.1) (ap (λ (x : RawSettings). later_fault bytes x.log_size) (sym t.0))
 
--- the blocks' records have at most log-size bytes, where there are at most as many as the head says
+-- the blocks' records have at most log-size bytes, if there are at most as many as the head says
 pub size_bound : (bytes : List ℕ) (settings : RawSettings) (n size : ℕ) → head_fault bytes ≡ None → settings ≡ settings_in bytes → n ≡ size_in bytes → size ≤ n → size ≤ settings.log_size
 size_bound bytes settings n size h is n_is le = omega (arith, (no_fault bytes h).within, ap (λ (s : RawSettings). s.log_size) is, n_is, le)
 
--- ---- no fault of a head is want of memory
+-- ---- no fault of a head is `OutOfMemory`
 
 same-fault : (x e : FileError) → Some x ≡ Some e → x ≡ e
 same-fault x e s = grind arith

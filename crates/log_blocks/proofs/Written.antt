@@ -118,7 +118,7 @@ piece_read read long n left front digest p small s =
     ∙ take_at p.bytes (number_bytes 8 p.before ++ (number_bytes 4 p.left ++ (number_bytes 4 (length p.bytes) ++ d))) (length p.bytes) refl in
     piece_again p _ _ _ records a.before_is a.left_is
 
--- sound pieces are walked over, and the walk goes on ahead of them
+-- sound pieces are walked over, and the walk continues ahead of them
 pub walked_over : AreRead → HaveTheirWidth → (digest : List ℕ) (n : ℕ) → n < 2 ^ 32 → (ps : List Piece) (front : List ℕ) (kept : List Piece) (more : ℕ) (rest : List ℕ) (pieces : List Piece) → AreSound n kept ps
     → Walked digest n more front (ps ++ kept) rest pieces → Walked digest n (length ps + more) (front ++ pieces_bytes digest ps) kept rest pieces
 unfolding AreSound

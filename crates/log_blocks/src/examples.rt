@@ -34,8 +34,8 @@ pub fn records_are_cut_in_one_way()
     ensures { first_wrong 136 (blocks_of 0 (ScOk 0 ∷ ScOk 0 ∷ [])) two_blocks ≡ Some 186 }
 {}
 
-/// With fewer bytes behind a good head than a seal has, the block that ends there is bad, and nothing is left to salvage
-/// where there should be records.
+/// If a good head is followed by fewer bytes than a seal has, the block that ends there is bad. If there should be records,
+/// nothing is left to salvage.
 #[tactic(auto, using(crate::proofs::Worked::cut_off_is, crate::proofs::Worked::none_left_is))]
 pub fn a_block_that_is_cut_off_is_bad()
     ensures read { (bytes : List ℕ) → head_fault bytes ≡ None → length (blocks_in bytes) ≡ 47 → IsSecondRefusal bytes (BadBlock 183) }

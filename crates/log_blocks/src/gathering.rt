@@ -17,8 +17,8 @@ use le_numbers::read_u64;
 use log_file::head::tail;
 use std::alloc::{AllocError, Global};
 
-/// The records' bytes of the blocks that a walk back over some bytes kept. The error comes of want
-/// of memory alone.
+/// The records' bytes of the blocks that a walk back over some bytes kept. The only error is out of
+/// memory.
 // They are gathered before they are split: so a record over a border of blocks is no bad record, but a block that
 // is cut otherwise.
 pub(crate) fn gather(alloc: Global, bytes: &[u8], walk: &Walk) -> Result<Vec<u8>, AllocError>
@@ -47,8 +47,8 @@ fn is_other(bytes: &[u8], at: usize, size: usize, cut: usize, before: u64) -> bo
     !(cut == size && read_u64(block, at + size) == before)
 }
 
-/// Where the first of the blocks that a walk back kept ends that isn't cut as their records are, so
-/// many records having been given up before them: its place in the file.
+/// The end, in the file, of the first of the blocks that a walk back kept which isn't cut as their
+/// records are, so many records having been given up before them.
 pub(crate) fn first_wrong(bytes: &[u8], walk: &Walk, dropped: u64, records: &[u8]) -> Option<u64>
     requires { (pieces : List Piece) × AreKept bytes.now walk.now pieces }
     ensures { FindsWrong bytes.now walk.now dropped records.now result }

@@ -62,13 +62,13 @@ pub fn files_have_their_size()
 }
 
 /// The last blocks of some records hold the last of them, know how many are ahead, and are the
-/// blocks into which they are cut again: what is salvaged of a log is an end of it.
+/// blocks into which they are cut again. So what is salvaged of a log is a suffix of it.
 pub fn last_blocks_are_an_end()
     ensures { LastBlocksAreAnEnd }
 {}
 
-/// Where the blocks that are salvaged are the last of a log's, what is salvaged has the log's last
-/// records, and counts those ahead of them: it is an end of the log.
+/// If the blocks that are salvaged are the last of a log's, what is salvaged has the log's last
+/// records, and counts those ahead of them: it is a suffix of the log.
 pub fn salvaged_blocks_are_an_end()
     ensures { SalvagedAreAnEnd }
 {

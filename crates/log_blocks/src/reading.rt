@@ -66,7 +66,7 @@ pub(crate) fn content_of(
     }
 }
 
-/// The walk over the blocks of a file whose head has no fault, where they are all good and have as many
+/// The walk over the blocks of a file whose head has no fault, if they are all good and have as many
 /// bytes of records as the head says. The error is the first that applies.
 pub(crate) fn whole_walk(alloc: Global, bytes: &[u8]) -> Result<Walk, Damage>
     requires long { 136 ≤ length bytes.now }

@@ -27,8 +27,8 @@ fn is_sized(len: usize, said: usize, left: usize, n: usize, whole: usize) -> boo
     1 <= len && len <= BLOCK_SIZE && len + SEAL_SIZE <= whole && said == left && left + len <= n
 }
 
-/// How many bytes of records the block has that ends some bytes, where it is good: `left` bytes of
-/// records stand behind it, and the head says that there are `n`.
+/// How many bytes of records the block has that ends some bytes, if it is good: `left` bytes of
+/// records follow it, and the head says that there are `n`.
 #[tactic(auto, unfolding(crate::specs::Pieces::is_good))]
 pub(crate) fn good_block(digest: &[u8; 32], n: usize, left: usize, bytes: &[u8]) -> Option<usize>
     requires { left < 2 ^ 32 }
@@ -57,8 +57,8 @@ pub(crate) fn good_block(digest: &[u8; 32], n: usize, left: usize, bytes: &[u8])
     }
 }
 
-/// Walks back over the blocks that end some bytes, up to the first bad one. The error comes of want
-/// of memory alone.
+/// Walks back over the blocks that end some bytes, up to the first bad one. The only error is out of
+/// memory.
 pub(crate) fn walk_back(
     alloc: Global,
     digest: &[u8; 32],

@@ -88,8 +88,8 @@ fn push_blocks(
 }
 
 /// The file of version 2 with this head, so many dropped records and these kept ones, at most log-size
-/// bytes: whole records, else it is no log's. They are cut into blocks from the front, each sealed by a
-/// digest. The error comes of want of memory alone.
+/// bytes: whole records, else it is no log's. They are cut into blocks from the first on, each sealed by
+/// a digest. The only error is out of memory.
 pub fn write_file2(
     alloc: Global,
     head: &Head,
@@ -122,8 +122,8 @@ fn push_records(out: &mut Vec<u8>, records: &RecordList) -> Result<(), AllocErro
     Ok(())
 }
 
-/// The file of version 2 of what a log says, whatever the version that it was read of. The error comes
-/// of want of memory alone.
+/// The file of version 2 of what a log says, whatever the version that it was read of. The only error is
+/// out of memory.
 pub fn write_log2(alloc: Global, log: &KeptLog) -> Result<Vec<u8>, AllocError>
     ensures { IfOk result (λ v. v.items ≡ file_bytes2 log.now) }
 {

@@ -28,8 +28,8 @@ abbrev pub bytes_in : (second : Bool) → Content → List ℕ
 bytes_in true d = file_bytes2 d
 bytes_in false d = saved_bytes d
 
--- the file of the run of a list of turns: a log of version 2 is compared with the run's file in that version, whatever the
--- format, and any other log with the file that the recording saves
+-- the file of the run of a list of turns. A log of version 2 is compared with the run's file in that version, whatever the
+-- format; any other log with the file that the recording saves
 abbrev pub audited_file : (second : Bool) → RawSettings → Program → (digest input : List ℕ) → List ℕ → List ℕ
 audited_file second c i digest input b = bytes_in second (content_of c digest (run_of c i input b))
 

@@ -116,7 +116,7 @@ fn audited_file(
     }
 }
 
-// Whether a log is this file, or where they differ first.
+// Whether a log is this file, or the first place at which they differ.
 fn compare(file: &[u8], log: &[u8]) -> Verdict
     ensures { IsVerdict file.now log.now result }
 {
@@ -135,14 +135,14 @@ fn compare(file: &[u8], log: &[u8]) -> Verdict
     }
 }
 
-/// Whether a log is the file of the run of a list of turns, one byte for each turn, the number of its
-/// hart; and where it isn't, the first place where the two differ or one ends. A log whose bytes 8 to 11
-/// are 2, 0, 0, 0 is of version 2: it is compared with the run's file in that version, whatever the
-/// format, and any other log with the file that the recording saves. The run is made again, by code that
-/// is decoded ahead.
+/// Whether a log is the file of the run of a list of turns, which has one byte for each turn, the number
+/// of its hart. If it isn't, the first place at which the two differ or one ends. A log whose bytes 8 to
+/// 11 are 2, 0, 0, 0 is of version 2: it is compared with the run's file in that version, whatever the
+/// format. Any other log is compared with the file that the recording saves. The run is made again, by
+/// code that is decoded ahead.
 ///
-/// The list is refused exactly where one of its harts isn't live at its turn, or some hart is live after
-/// the last; the error names the first such turn, or the lowest such hart. Out of memory may come in
+/// The list is refused if and only if one of its harts isn't live at its turn, or some hart is live after
+/// the last. The error names the first such turn, or the lowest such hart. Out of memory may come in
 /// place of any answer.
 pub fn audit(alloc: Global, from: &Start, list: &[u8], log: &[u8]) -> Result<Verdict, TurnError>
     ensures verdict { IfOk result (λ v. IsVerdict (audited_file (is_version2 log.now) from.now.settings from.now.image from.now.digest from.now.input.items list.now) log.now v) }

@@ -25,7 +25,7 @@ pub fn the_lowest_live_hart_is_named()
     ensures second { error_in a_line_lost (0 ∷ 1 ∷ 0 ∷ 0 ∷ []) ≡ Some (NotFinished 1) }
 {}
 
-/// Files differ first where their bytes do, or where one of them ends.
+/// Files differ first at the first byte that differs, or at the end of the shorter one.
 #[tactic(auto, using(crate::proofs::AuditsWorked::at_a_byte, crate::proofs::AuditsWorked::at_an_end))]
 pub fn files_differ_at_a_byte_or_an_end()
     ensures byte { DifferFirst (7 ∷ 8 ∷ 9 ∷ []) (7 ∷ 6 ∷ 9 ∷ []) 1 }

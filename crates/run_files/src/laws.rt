@@ -13,8 +13,8 @@ pub fn files_number_their_version()
     ensures { FilesNumberTheirVersion }
 {}
 
-/// Bytes have one verdict, which is also told as a function: they agree exactly where they are those of
-/// the file, and else differ first at one place.
+/// Bytes have one verdict, which is also told as a function. They agree if and only if they are those of
+/// the file; else they differ first at one place.
 #[tactic(auto, using(crate::proofs::Verdicts::verdicts))]
 pub fn verdicts_are_unique()
     ensures { VerdictsAreUnique }

@@ -39,7 +39,7 @@ fn second_file(alloc: Global, from: &Start, ring: &Ring) -> Result<Vec<u8>, Allo
 }
 
 /// The log file of a recording, by what it began with and what a ring keeps of its records, in the version
-/// of the settings' format. The only error is want of memory.
+/// of the settings' format. The only error is out of memory.
 pub fn saved_file(alloc: Global, from: &Start, ring: &Ring) -> Result<Vec<u8>, AllocError>
     requires { ring.now.size ≡ from.now.settings.log_size }
     ensures { IfOk result (λ log. log.items ≡ saved_bytes (content (record { settings = from.now.settings; digest = from.now.digest }) ring.now.dropped ring.now.records)) }
@@ -51,8 +51,8 @@ pub fn saved_file(alloc: Global, from: &Start, ring: &Ring) -> Result<Vec<u8>, A
     }
 }
 
-/// The log file as `saved_file` has it, or where the second version is asked for the file of version 2,
-/// whatever the format. The only error is want of memory.
+/// The log file as `saved_file` has it, or the file of version 2, whatever the format, if that is asked
+/// for. The only error is out of memory.
 pub fn saved_file_in(
     alloc: Global,
     from: &Start,

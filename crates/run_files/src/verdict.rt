@@ -5,6 +5,6 @@
 pub enum Verdict {
     /// The bytes are those of the file.
     Agree,
-    /// The first place, counted from 0, where the bytes differ or where one of the two ends.
+    /// The first place, counted from 0, at which the bytes differ or one of the two ends.
     Differ { at_byte: u64 },
 }

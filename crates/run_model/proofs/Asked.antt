@@ -96,7 +96,7 @@ other_stays c old new j k at steps shadow one = record {
   lasting = λ e. subst (λ (x : Shadow). lasts x j ≡ true) (sym shadow) (one.lasting (sym (ap (λ (h : Hart). h.live) at) ∙ e));
 }
 
--- the hart that began anew
+-- the hart that began its next interval
 own_begun : (c : RawSettings) (old new : Trace) (k : ℕ) (ask : Ask) → IsAnew k ask.state old new → IsHartFit c old k → (hart_in old.harts.items k).live ≡ true → (hart_in old.harts.items k).state.ic ≤ ask.state.ic
     → IsFit c (anew ask.state new.log.bytes (hart_in old.harts.items k)) → IsOwnFit c new k
 own_begun c old new k ask a one live from fit =
@@ -172,7 +172,7 @@ touches_once : (word : Option ℕ) → touches word ≤ 1
 touches_once None = omega arith
 touches_once (Some a) = omega arith
 
--- and with the step of a touch
+-- and with the step of an access
 pub few_steps_more : (c : RawSettings) (h : Hart) (steps after : ℕ) (word : Option ℕ) → IsFit c h → c.limit ≤ 2 ^ 40 → steps ≤ h.state.ic + h.number → after ≡ steps + touches word → after < 2 ^ 42
 few_steps_more c h steps after word fit low most e = omega (arith, e, touches_once word, most, fit.number, fit.skipped, fit.limit, low)
 

@@ -39,7 +39,7 @@ caches_begun c cs run k s are = record {
 more_bytes : (now before old more : ℕ) → now ≡ old + more → old ≡ before → now ≡ before + more
 more_bytes now before old more e f = e ∙ ap (λ (n : ℕ). n + more) f
 
--- what is traced then is the run begun anew
+-- what is traced then is the run with the next interval begun
 pub trace_begun : (c : RawSettings) (old new : Trace) (run : Run) (k : ℕ) (s : HartState) (x own : Hart) → IsTrace c old run → k < length old.harts.items → x ≡ run.harts k
     → IsLog new.log (run.stream ++ next_records by_guard k x.number s) → own ≡ anew s new.log.bytes x → new.harts.items ≡ slice_set old.harts.items k own
     → AreCaches c new.caches (events_cleared k run.events) → new.shadow ≡ old.shadow → IsTrace c new (begun_anew run k s)

@@ -27,7 +27,7 @@ changed_more g k old now v below is c = record {
         subst (λ (n : ℕ). get_or (set now k v) n None ≡ g n (get_or old n None)) (sym same) here
     done j h (inr other) = get_or-set_other now k j v None other ∙ c.done j (omega arith)
 
--- once all are changed, they stand for the changed map
+-- once all are changed, they represent the changed map
 pub changed_all : (g : ℕ → Option ℕ → Option ℕ) (k : ℕ) (old now : List (Option ℕ)) (f : ℕ → Option ℕ) → HARTS ≤ k → Changed g k old now → AreReserved old f → AreReserved now (λ j. g j (f j))
 changed_all g k old now f all c r = record { at = λ j h. c.done j (omega arith) ∙ ap (g j) (r.at j h) }
 

@@ -22,7 +22,7 @@ pub record Ending (number : ℕ) (before after : List Hart) : Type 0 where
   pub done : (k : ℕ) (d : Hart) → k < number → get_or after k d ≡ dead (get_or before k d)
   pub rest : (k : ℕ) (d : Hart) → number ≤ k → get_or after k d ≡ get_or before k d
 
--- what stands at a place that is there, whatever stands where there is none
+-- what is at a place within a list, whatever the default
 any_default : (hs : List Hart) (n : ℕ) (d x : Hart) → n < length hs → get_or hs n x ≡ get_or hs n d
 any_default hs n d x within = sym (get_or_from_slice_get hs n (get_or hs n x) d (slice_get-get_or hs n x within))
 

@@ -1,4 +1,4 @@
--- Parts stand for a machine.
+-- Parts represent a machine.
 use Rattle.std.proofs.Common.{◌≡◌, ◌/◌, ℕ, List, refl, sym, ◌∙◌, subst}
 use Rattle.std.specs.Prelude.{Option, None, drop, get_or}
 use Rattle.bus_memory.specs.Contents.{HoldsMap}
@@ -26,7 +26,7 @@ is_meant input p = record {
   err = refl;
 }
 
--- what stands for a machine once more memory was found stood for it before
+-- parts that represent a machine once more memory was found did so before
 pub is_before : (input : List ℕ) (old new : MachineParts) (m : Machine) → IsSameMachine old new → IsMachine input new m → IsMachine input old m
 is_before input old new m same is = record {
   memory = subst (λ (ws : List ℕ). HoldsMap ws m.memory) same.words is.memory;

@@ -56,7 +56,7 @@ some_budget c h a b = grind (arith, common_steps)
 one_up : (n : ℕ) → n < 2 ^ 63 → count_up n ≡ n + 1
 one_up n small = grind (arith, common_steps)
 
--- what a count that goes on says
+-- what is known of a count after which the hart continues
 pub record OnCount (c : RawSettings) (h : Hart) (ic : ℕ) (next : TurnEnd) : Type 0 where
   pub below : is_on next ≡ true → ic < c.limit
   pub within : next ≡ GoesOn → ic < h.begun + c.interval

@@ -42,7 +42,7 @@ none_live (h ∷ hs) (suc k) past = none_live hs k (omega (arith, past))
 past_all : (k n : ℕ) → n ≤ k → nat_lt k n ≡ false
 past_all k n e = grind arith
 
--- and so it is in the run that the list stands for
+-- and so it is in the run that the list represents
 pub live_in_run : (c : RawSettings) (run : Run) (hs : List Hart) (k : ℕ) → AreHarts hs run.harts → length hs ≡ c.harts → is_live_hart (slice_get hs k) ≡ is_live c run k
 live_in_run c run hs k are len = elim (leb_tells c.harts k) [
   | inl p ↦ sym (none_live hs k (omega (arith, p.1, len))) ∙ sym (ap (λ (b : Bool). b && (run.harts k).live) (past_all k c.harts p.1))

@@ -19,7 +19,7 @@ use Rattle.run_model.specs.Represents.Harts.{AreHarts, hart_in}
 pub hart_at : (hs : List Hart) (k : ℕ) (x : Hart) → k < length hs → x ≡ get_or hs k x → x ≡ hart_in hs k
 hart_at hs k x within e = e ∙ get_or_from_slice_get hs k (hart_in hs k) x (slice_get-get_or hs k _ within)
 
--- a hart of the run that the list stands for
+-- a hart of the run that the list represents
 pub hart_of_run : (hs : List Hart) (k : ℕ) (f : ℕ → Hart) → AreHarts hs f → k < length hs → hart_in hs k ≡ f k
 hart_of_run hs k f are within = get_or_from_slice_get hs k (f k) _ (are k within)
 

@@ -221,7 +221,7 @@ fit_traced each_moves c i m old new turns k ask call reply load q ec er st =
       log_size = st.size ∙ q.log_size;
     }
 
--- steps before and after, where both go by one test
+-- steps before and after, if one test decides on both
 pub two_ifs : (b : Bool) (new middle old more clear : ℕ) → new ≡ (if b then middle + clear else middle) → middle ≡ (if b then old + more else old) → new ≡ (if b then old + more + clear else old)
 two_ifs true new middle old more clear e f = e ∙ ap (λ (x : ℕ). x + clear) f
 two_ifs false new middle old more clear e f = e ∙ f

@@ -27,7 +27,7 @@ are_set hs n t g f are within same k below =
     let inside : k < length hs = omega (arith, below, length-set hs n t) in
     set_one hs n k t t g are within inside ∙ ap Some (same k)
 
--- a hart that isn't stopped yet
+-- a hart that the stop didn't reach
 pub below_same : (own n j : ℕ) (f : ℕ → Hart) → n ≤ j → stopped_below own n f j ≡ f j
 below_same own zero j f h = refl
 below_same own (suc n) j f h = elim (eqb_tells j n) [
@@ -63,7 +63,7 @@ stop_more hs own n t f are within e =
       | inr p ↦ ap (λ (b : Bool). elim b as (λ x. Hart) [ true ↦ t | false ↦ stopped_below own n f k ]) p.0 ∙ sym (ap (λ (b : Bool). elim b as (λ x. Hart) [ true ↦ stopped_at own f k | false ↦ stopped_below own n f k ]) p.0)
     ]))
 
--- the hart at a place, in a list that stands for harts
+-- the hart at a place, in a list that represents harts
 pub hart_there : (hs : List Hart) (own n : ℕ) (d : Hart) (f : ℕ → Hart) → AreHarts hs (stopped_below own n f) → n < length hs → f n ≡ get_or hs n d
 hart_there hs own n d f are within = sym (get_or_from_slice_get hs n (stopped_below own n f n) d (are n within) ∙ below_same own n n f (omega arith))
 
@@ -104,7 +104,7 @@ no_change : (b : Bool) (h : Hart) → h ≡ elim b as (λ x. Hart) [ true ↦ h 
 no_change true h = refl
 no_change false h = refl
 
--- where the run goes on, the other harts stay
+-- if the run continues, the other harts stay
 pub others_stay : (next : TurnEnd) (hs : List Hart) (own : ℕ) (f : ℕ → Hart) → other_after next ≡ (λ h. h) → AreHarts hs f → AreHarts hs (others_after next own f)
 others_stay next hs own f e are k below = are k below ∙ ap Some (no_change (k == own) (f k) ∙ ap (λ (g : Hart → Hart). elim (k == own) as (λ x. Hart) [ true ↦ f k | false ↦ g (f k) ]) (sym e))
 

@@ -186,8 +186,8 @@ marked (Header k n ic pc x ∷ rs) = Begins k n ic ∷ marked rs
 marked (End k mark ∷ rs) = Ends k mark.ic mark.reason mark.value ∷ marked rs
 marked (r ∷ rs) = marked rs
 
--- lui s0,0x20; then again and again lw t0,0(s0); addi s0,s0,4, so that each load is logged. More than half of 340 bytes stand
--- behind the Header after three loads
+-- lui s0,0x20; then again and again lw t0,0(s0); addi s0,s0,4, so that each load is logged. After three loads, more than
+-- half of 340 bytes follow the Header
 abbrev pub a_guarded_load : Recording
 a_guarded_load = record { words = 0x00020437 ∷ 0x00042283 ∷ 0x00440413 ∷ 0xff9ff06f ∷ []; settings = record default_settings { format = 2; log_size = 340; limit = 12 }; input = []; turns = 0 ∷ 0 ∷ 0 ∷ 0 ∷ 0 ∷ [] }
 

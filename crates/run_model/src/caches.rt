@@ -26,7 +26,7 @@ use std::marker::Model;
 use system_calls::Plan;
 
 /// A cache for each hart. Contracts see what each of them keeps, and say by `AreCaches` which
-/// histories, one for each hart, they stand for. Only `new` takes memory.
+/// histories, one for each hart, they represent. Only `new` takes memory.
 #[derive(Drop)]
 pub struct Caches {
     of: Vec<Cache>,
@@ -177,8 +177,8 @@ fn clear(caches: &mut Vec<Cache>, hart: HartId)
 }
 
 impl Caches {
-    /// A cache for each hart of the settings, none of which lists a line. Want of memory is the only
-    /// error.
+    /// A cache for each hart of the settings, none of which lists a line. The only error is out of
+    /// memory.
     pub fn new(alloc: Global, settings: &Settings) -> Result<Caches, AllocError>
         ensures stands { IfOk result (λ cs. AreCaches settings.now cs (λ k. [])) }
         ensures steps { IfOk result (λ cs. (k : ℕ) → steps_in cs k ≡ 0) }

@@ -16,8 +16,8 @@ use std::alloc::{AllocError, Global};
 /// How many bytes of the stacks' region each hart has, from the end of memory down.
 const STACK: u32 = 65_536;
 
-/// A hart before the run: it starts at the program's entry, with its number in a0, the number of harts
-/// in a1, and in sp the end of memory less 65,536 bytes for each hart before it.
+/// A hart before the run: it starts at the program's entry, with its number in a0 and the number of
+/// harts in a1. In sp it has the end of memory less 65,536 bytes for each hart before it.
 pub fn start_state(settings: &Settings, image: &Image, number: HartId) -> HartState
     ensures { result ≡ start_state settings.now image.now number }
 {
@@ -51,7 +51,7 @@ fn first_harts(
 }
 
 impl Trace {
-    /// What is traced before the first turn: each hart has begun its interval 0. The only error is want
+    /// What is traced before the first turn: each hart has begun its interval 0. The only error is out
     /// of memory.
     pub fn new(alloc: Global, settings: &Settings, image: &Image) -> Result<Trace, AllocError>
         ensures run { IfOk result (λ t. (input : List ℕ) → IsTrace settings.now t (first_run settings.now image.now input)) }

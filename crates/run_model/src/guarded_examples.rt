@@ -27,7 +27,7 @@ pub fn the_rows_of_a_guarded_turn_are_parted()
     ensures second { counts_in a_guarded_load 0 1 ≡ 10 ∷ 11 ∷ [] }
 {}
 
-/// A fault of a hart that began long ago: its interval begins anew ahead of the fault, and so it is kept.
+/// A fault of a hart that began long ago: its next interval begins just ahead of the fault, and so it is kept.
 pub fn a_late_fault_is_kept()
     ensures marks { marked (kept_records a_late_fault) ≡ Ends 0 5 6 0 ∷ Begins 0 1 5 ∷ Ends 1 2 6 0 ∷ Begins 1 1 2 ∷ Ends 1 2 21 0 ∷ Ends 0 33 5 0 ∷ [] }
     ensures size { total (kept_records a_late_fault) ≡ 462 }

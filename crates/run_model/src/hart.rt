@@ -36,7 +36,7 @@ pub struct Hart {
 }
 
 impl Hart {
-    /// A hart before its first turn; its Header stands behind those of the harts before it.
+    /// A hart before its first turn; its Header follows those of the harts before it.
     pub fn new(number: HartId, state: HartState) -> Hart
         ensures { result ≡ start_hart number state }
     {
@@ -124,7 +124,7 @@ impl Hart {
         }
     }
 
-    /// The run's end stops it, where it is live.
+    /// The run's end stops it, if it is live.
     pub fn stop(&mut self)
         ensures { self.new ≡ stopped self.old }
     {

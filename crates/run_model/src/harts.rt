@@ -47,7 +47,7 @@ fn stop_others(harts: &mut Vec<Hart>, log: &mut Log, own: HartId)
     }
 }
 
-/// Where a turn ends the run, the other harts are stopped and their Ends appended.
+/// If a turn ends the run, the other harts are stopped and their Ends appended.
 #[inline(always)]
 pub fn end_others(harts: &mut Vec<Hart>, log: &mut Log, own: HartId, next: TurnEnd)
     requires few { length harts.old.items ≤ HARTS }

@@ -4,8 +4,8 @@ ghost use Rattle.run_model.specs.Guards.{FormatOneIsUnguarded, RecordsDecideNoth
 
 use system_calls::exits_alone_end;
 
-/// The turn of a live hart's orderly ask moves on within its budget: by one instruction where it
-/// accesses memory, and by some where the hart goes on.
+/// The turn of a live hart's orderly ask moves on within its budget: by one instruction if it
+/// accesses memory, and by some if the hart continues.
 pub fn each_turn_moves_on()
     ensures { EachTurnMovesOn }
 {

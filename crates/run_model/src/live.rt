@@ -6,7 +6,7 @@ ghost use Rattle.run_model.specs.Represents.Harts.{hart_in};
 
 use crate::hart::Hart;
 
-// A set of harts below one, with that one where it is live.
+// A set of harts below one, with that one if it is live.
 fn with_hart(set: u16, number: usize, live: bool) -> u16
     requires number { number < HARTS }
     requires below { set < 2 ^ number }

@@ -37,7 +37,7 @@ use system_calls::{Kernel, Plan, plan};
 /// The machine that all harts share: memory, the harts' reservations, the program break, how much of
 /// the input was taken, and the two output streams.
 ///
-/// Contracts see these parts, and say by `IsMachine` which machines of the definition they stand for,
+/// Contracts see these parts, and say by `IsMachine` which machines of the definition they represent,
 /// the whole input being given. An ask is answered in steps: `call` plans its system call, if it is one;
 /// `pages` and `stream_room` find the memory that the answer needs; and `answer` answers it without
 /// memory.
@@ -72,7 +72,7 @@ pub struct Streams {
 }
 
 impl Machine {
-    /// The machine of a program before it runs. Want of memory is the only error.
+    /// The machine of a program before it runs. The only error is out of memory.
     pub fn new(alloc: Global, image: &Image) -> Result<Machine, AllocError>
         ensures stands { IfOk result (λ p. (input : List ℕ) → IsMachine input p (start_machine image.now input)) }
         ensures size { IfOk result (λ p. size_of p ≡ image.now.memory) }
@@ -113,7 +113,7 @@ impl Machine {
         }
     }
 
-    /// The word of a loading access as it is before it, 0 where there is none.
+    /// The word of a loading access as it is before it, 0 if there is none.
     #[inline(always)]
     pub fn word_before(&self, image: &Image, want: &Want) -> u32
         requires size { size_of self.now ≡ image.now.memory }
@@ -170,7 +170,7 @@ impl Machine {
 
 impl Machine {
     /// Makes the pages of the words that an ask may write. The machine stays as it is, also on `Err`, and
-    /// want of memory is the only error. The ask passes the program's tests, so the words that it accesses
+    /// the only error is out of memory. The ask passes the program's tests, so the words that it accesses
     /// are addresses, whatever the reply.
     pub fn pages(
         &mut self,
@@ -195,7 +195,7 @@ impl Machine {
     }
 
     /// Finds room in the stream that a planned call sends to. The machine stays as it is, also on `Err`,
-    /// and want of memory is the only error.
+    /// and the only error is out of memory.
     pub fn stream_room(
         &mut self,
         image: &Image,
@@ -258,8 +258,8 @@ impl Machine {
     /// Answers what a hart asks: the reply, and the machine after it, are those of the definition. It
     /// takes no memory.
     ///
-    /// The reservations are those of RISC-V (unprivileged ISA, 8.2): a hart's write ends the other
-    /// harts' ones of its word, an SC ends the hart's own, as does each system call, and one that fills
+    /// The reservations are those of RISC-V (unprivileged ISA, 8.2). A hart's write ends the other
+    /// harts' ones of its word. An SC ends the hart's own, as does each system call; one that fills
     /// memory ends all that are of the words that it fills.
     pub fn answer(
         &mut self,
@@ -441,7 +441,7 @@ impl Machine {
     }
 }
 
-// A cut at the limit ends the hart; after any other it goes on.
+// A cut at the limit ends the hart; after any other it continues.
 fn cut_reply(settings: &Settings, ic: Ic) -> Reply
     ensures value { result ≡ cut_reply settings.now ic }
     ensures fits { IsTrue (is_reply_to Cut result) }

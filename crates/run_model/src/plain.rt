@@ -9,7 +9,7 @@ use crate::trace::Trace;
 
 /// A machine that takes turns one by one, on the caller's thread.
 ///
-/// Contracts say by `IsRun` of its parts which runs of the definition it stands for.
+/// Contracts say by `IsRun` of its parts which runs of the definition it represents.
 #[derive(Drop)]
 pub struct Plain {
     pub(crate) start: Start,

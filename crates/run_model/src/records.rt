@@ -19,8 +19,7 @@ use rv_meaning::Reply;
 use std::alloc::{AllocError, Global};
 
 impl Log {
-    /// A log that keeps up to `size` bytes of records, and took none yet. The only error is want of
-    /// memory.
+    /// An empty log that keeps up to `size` bytes of records. The only error is out of memory.
     pub fn new(alloc: Global, size: usize) -> Result<Log, AllocError>
         requires { 146 ≤ size }
         ensures ring { IfOk result (λ l. l.ring ≡ held [] 0 size) }

@@ -34,7 +34,7 @@ impl Start {
             && self.digest == other.digest
     }
 
-    /// The same again. The only error is want of memory.
+    /// The same again. The only error is out of memory.
     pub fn copy(&self, alloc: Global) -> Result<Start, AllocError>
         ensures image { IfOk result (λ s. s.image ≡ self.now.image) }
         ensures settings { IfOk result (λ s. s.settings ≡ self.now.settings) }

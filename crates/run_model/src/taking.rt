@@ -13,7 +13,7 @@ use std::alloc::AllocError;
 
 impl Plain {
     /// A turn of a live hart: its quiet instructions up to its first ask, and the answer to that. The
-    /// only error is want of memory; then no turn was taken.
+    /// only error is out of memory; then no turn was taken.
     pub fn turn(&mut self, hart: HartId) -> Result<(), AllocError>
         requires { is_live (parts self.old) hart ≡ true }
         ensures run { OnOk result ((run : Run) → IsRun (parts self.old) run → IsRun (parts self.new) (turn self.old.start.settings self.old.start.image run hart)) }

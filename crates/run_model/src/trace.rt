@@ -90,7 +90,7 @@ fn take_turn(
 
 impl Trace {
     /// Finds the memory that the race log needs to take in an access of these words. All stays as it is,
-    /// also on `Err`, and want of memory is the only error.
+    /// also on `Err`, and the only error is out of memory.
     #[inline(always)]
     pub fn reserve(&mut self, span: Option<Span>) -> Result<(), AllocError>
         requires { AreAddresses span }
@@ -127,8 +127,8 @@ impl Trace {
     }
 
     #[tactic(auto, using(crate::proofs::Begun::trace_unguarded))]
-    /// Where the ask that a hart makes in this state is guarded, the hart first begins its next interval
-    /// there; else all stays as it is.
+    /// If the ask that a hart makes in this state is guarded, the hart first begins its next interval
+    /// there; else nothing changes.
     pub fn guard(&mut self, guarded: bool, hart: HartId, state: &HartState)
         requires hart { hart < length self.old.harts.items }
         requires caches { hart < length self.old.caches }
@@ -194,7 +194,7 @@ impl Trace {
         load
     }
 
-    // Clears the bits of a hart's cache, where it begins an interval.
+    // Clears the bits of a hart's cache, if it begins an interval.
     #[inline(always)]
     pub(crate) fn begin(&mut self, hart: HartId, next: TurnEnd)
         requires caches { hart < length self.old.caches }
@@ -243,7 +243,7 @@ impl Trace {
         next
     }
 
-    /// Where an interval ended, the race log gives up the accesses that all live harts know of, if the walk is due.
+    /// If an interval ended and the walk is due, the race log gives up the accesses that all live harts know of.
     // A hart that isn't live then can access nothing any more: so what is kept suffices for the live ones.
     #[inline(always)]
     pub fn forget(&mut self, next: TurnEnd)

@@ -8,11 +8,11 @@ use bn_base::{Ic, Settings};
 use rv_meaning::{Reply, Want};
 use system_calls::Plan;
 
-/// What comes after a hart's turn: its present interval goes on, or it ends for a reason, which has
+/// What comes after a hart's turn: its present interval continues, or it ends for a reason, which has
 /// the code and the value of an [`EndMark`](bn_base::EndMark).
 #[derive(Clone, Copy, Drop)]
 pub enum TurnEnd {
-    /// The interval goes on.
+    /// The interval continues.
     GoesOn,
     /// The interval ends, and the hart begins its next one.
     NewInterval { reason: u8, value: u32 },
@@ -23,7 +23,7 @@ pub enum TurnEnd {
 }
 
 impl TurnEnd {
-    /// A guarded ask ends its hart's interval, and the hart goes on.
+    /// A guarded ask ends its hart's interval, and the hart continues.
     pub fn by_guard() -> TurnEnd
         ensures { result ≡ by_guard }
     {

@@ -84,7 +84,7 @@ impl Plain {
 
     /// Plans the system call that an orderly ask makes, if it makes one, and finds all memory that its
     /// turn needs: first pages, then the race log's, then a stream's. The machine stays as it is, also on
-    /// `Err`, and want of memory is the only error.
+    /// `Err`, and the only error is out of memory.
     pub fn prepare(&mut self, ask: &Ask) -> Result<Option<Plan>, AllocError>
         requires { IsTrue (passes self.old.start.image ask.now.want) }
         ensures run { (run : Run) → IsRun (parts self.old) run → IsRun (parts self.new) run }
@@ -156,7 +156,7 @@ impl Plain {
         end_each(&mut self.trace.harts);
     }
 
-    /// The machine before its first turn. The only error is want of memory.
+    /// The machine before its first turn. The only error is out of memory.
     pub fn new(alloc: Global, from: &Start) -> Result<Plain, AllocError>
         ensures run { IfOk result (λ p. IsRun (parts p) (start from.now.settings from.now.image from.now.input.items)) }
         ensures image { IfOk result (λ p. p.start.image ≡ from.now.image) }

@@ -25,7 +25,7 @@ use Rattle.run_model.specs.Represents.Plain.{PlainParts, IsRun, IsRaceReady, IsS
 use Rattle.run_model.specs.Represents.Tracing.{next_by}
 use Rattle.run_model.specs.Represents.InPlace.{ask_here}
 
--- the race log can take in the access of these words by hart k's instruction of this count, at this turn: the hart has
+-- the race log can take in the access of these words by hart k's instruction of this count, at this turn. The hart has
 -- a place in it, no count is ahead, and it is ready for the words
 pub record CanNote (s : Shadow) (turn k at : ℕ) (words : Option Span) : Type 0 where
   pub shadow : k < harts_of s
@@ -54,7 +54,7 @@ pub record CanAccess (t : Trace) (turn k at : ℕ) (words : Span) : Type 0 where
   pub note : CanNote t.shadow turn k at (Some words)
   pub room : taken t.log.ring + 17 < 2 ^ 56
 
--- from one to the other hart k's instruction of this count accessed these words: the caches, the race log and the log
+-- from one to the other hart k's instruction of this count accessed these words. The caches, the race log and the log
 -- took that in, with a FirstLoad of the word if it was loaded cold, and the harts stayed
 pub record IsAccessed (old new : Trace) (turn k at : ℕ) (words : Span) (load : Option Warm) (word : ℕ) : Type 0 where
   pub caches : (c : RawSettings) (events : ℕ → List Event) → AreCaches c old.caches events → AreCaches c new.caches (events_after GoesOn k None (Some words) events)
@@ -67,7 +67,7 @@ pub record IsAccessed (old new : Trace) (turn k at : ℕ) (words : Span) (load :
   pub took : taken new.log.ring ≤ taken old.log.ring + 17
   pub size : new.log.ring.size ≡ old.log.ring.size
 
--- hart k's ask can be finished with a reply of its kind: the counts of the hart and its cache are in range, the End
+-- hart k's ask can be finished with a reply of its kind. The counts of the hart and its cache are in range, the End
 -- that comes next is one that a log can have, and the log has room for the records
 pub record CanFinish (c : RawSettings) (call : Option Plan) (t : Trace) (k : ℕ) (ask : Ask) (reply : Reply) : Type 0 where
   pub hart : k < length t.harts.items

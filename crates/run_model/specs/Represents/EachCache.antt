@@ -59,7 +59,7 @@ pub record IsDropped (spared : Option ℕ) (lost : List Event → List Event) (n
   pub done : (k : ℕ) → k < n → (es : List Event) → RepresentsEvents (cache_of old k) es → RepresentsEvents (cache_of new k) (elim (is_spared spared k) [ true ↦ es | false ↦ lost es ])
   pub rest : (k : ℕ) → n ≤ k → cache_of new k ≡ cache_of old k
 
--- an event, a touch or a clear, happens to hart h's cache
+-- an event, an access or a clear, happens to hart h's cache
 pub record IsSetTo (h : ℕ) (event : Event) (old new : List Contents) : Type 0 where
   pub count : length new ≡ length old
   pub geometry : (k : ℕ) → (cache_of new k).geometry ≡ (cache_of old k).geometry

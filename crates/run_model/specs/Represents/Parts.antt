@@ -17,8 +17,8 @@ use Rattle.run_model.specs.declared.span.Span.{Span}
 use Rattle.run_model.specs.Machine.{Machine, Answered}
 use Rattle.run_model.specs.Turn.{span_of}
 
--- memory, the word that each hart has reserved (as many as there can be), the program break, how many bytes of the input were
--- taken, the two output streams, and how much room each of them has
+-- memory, the word that each hart has reserved (as many as there can be), and the program break. Then how many bytes of the
+-- input were taken, the two output streams, and how much room each of them has
 pub record MachineParts : Type 0 where
   pub memory : Contents
   pub reserved : List (Option ℕ)

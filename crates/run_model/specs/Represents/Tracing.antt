@@ -51,7 +51,7 @@ abbrev pub with_access : List Hart → (turn k : ℕ) → Option Plan → Ask �
 with_access hs turn k call ask reply load word points rs =
     rs ++ edge_records (point_of k ask.state.ic turn (span_of call ask.want reply)) points ++ load_record load k (hart_in hs k).skipped word ++ sc_record reply k
 
--- caches that stand for histories with hart k's access stand for them with what comes next
+-- caches that represent histories with hart k's access represent them with what comes next
 abbrev pub CachesGoOn : RawSettings → TurnEnd → ℕ → Option Plan → Option Span → (ℕ → List Event) → (old new : List Contents) → Type 0
 CachesGoOn c next k call span events old new = AreCaches c old (events_after GoesOn k call span events) → AreCaches c new (events_after next k call span events)
 
