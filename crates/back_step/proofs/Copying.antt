@@ -153,7 +153,7 @@ latest_there every p n to some low (inr e) other =
 abbrev pub steps_from : ℕ → List Entry → ℕ → List Entry
 steps_from every entries to = take (to - to / every * every) (drop (to / every * every) entries)
 
--- the same, by the number of steps past it, of entries that were lent
+-- the same, by the number of steps past it, of entries passed by reference
 pub steps_lent : (every : ℕ) (entries lent : List Entry) (to : ℕ) → lent ≡ entries → take (to - (to - to % every)) (drop (to - to % every) lent) ≡ steps_from every entries to
 steps_lent every entries lent to e =
     ap (λ (es : List Entry). take (to - (to - to % every)) (drop (to - to % every) es)) e ∙ ap (λ a. take (to - a) (drop a entries)) (past_is every to)

@@ -54,7 +54,7 @@ lane_there j h e = by (slice_get j.lanes h) refl e
     by None at e = absurd cc
     by (Some lane) at e = below j.lanes h lane at
 
--- a step is done only where no refusal is repeated, and leaves none
+-- a step is done only if no refusal is repeated, and leaves none
 abbrev IsCalm : Option ReplayError → Option (Result (Item × Joining) ReplayError) → Type 0
 IsCalm before None = Unit {0}
 IsCalm before (Some (Err e)) = Unit {0}
@@ -132,7 +132,7 @@ state_is start k es a =
 
 -- ---- steps that are taken again
 
--- an element of a list, whatever stands for none
+-- an element of a list, whatever the default
 pub element : (es : List Entry) (i : ℕ) (d : Entry) → i < length es → slice_index_or es i d ≡ slice_index_or es i (slice_index_or es i d)
 element [] i d low = absurd (omega (arith, low))
 element (e ∷ es) zero d low = refl

@@ -4,8 +4,8 @@ ghost use Rattle.std.specs.Prelude.{◌≡◌, [], length, IfOk, OnOk};
 use crate::trail::Trail;
 use std::alloc::AllocError;
 
-/// From the position 3 of a trail with a copy at each second one, back to 1 and then to 0: of the
-/// first way back one step is taken again, and of the second none.
+/// From the position 3 of a trail with a copy at each second one, back to 1 and then to 0. On the
+/// first way back one step is taken again, and on the second none.
 pub fn one_step_and_then_none(trail: &mut Trail) -> Result<(u64, u64), AllocError>
     requires every { trail.old.every ≡ 2 }
     requires position { length trail.old.trace.entries ≡ 3 }

@@ -20,7 +20,7 @@ fn try_step(trail: &mut Trail, hart: HartId)
     }
 }
 
-/// Takes a step, and goes back by it: all that shows is as before, but for a refusal that was there.
+/// Takes a step, and goes back by it: nothing that shows changes, but for a refusal that was there.
 pub fn there_and_back(trail: &mut Trail, hart: HartId) -> Result<(), AllocError>
     requires there { hart < length trail.old.trace.now.lanes }
     requires ready { readiness trail.old.trace.now hart ≡ Ready }

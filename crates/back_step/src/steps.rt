@@ -30,7 +30,7 @@ fn push_copy<'a>(joint: &Joint<'a>, copies: &mut Vec<Joint<'a>>) -> Result<(), A
     }
 }
 
-/// Puts a copy behind others, where one is due.
+/// Puts a copy after others, if one is due.
 pub(crate) fn keep_copy<'a>(
     joint: &Joint<'a>,
     copies: &mut Vec<Joint<'a>>,
@@ -46,7 +46,7 @@ pub(crate) fn keep_copy<'a>(
     }
 }
 
-/// Puts an entry behind others, where there is room for it.
+/// Puts an entry after others, if there is room for it.
 pub(crate) fn put(entries: &mut Vec<Entry>, entry: Entry)
     requires { vec_len entries.old < vec_capacity entries.old }
     ensures { entries.new.items ≡ entries.old.items ++ entry ∷ [] }
@@ -57,7 +57,7 @@ pub(crate) fn put(entries: &mut Vec<Entry>, entry: Entry)
     }
 }
 
-// Takes a hart's next step, which isn't refused. It fails only where memory is wanting.
+// Takes a hart's next step, which isn't refused. It fails only when out of memory.
 fn take(joint: &mut Joint, hart: HartId) -> Result<(), AllocError>
     requires { CanStep joint.old hart }
     ensures { OnOk result (Took joint.old hart joint.new) }
@@ -68,7 +68,7 @@ fn take(joint: &mut Joint, hart: HartId) -> Result<(), AllocError>
     }
 }
 
-// Takes these steps, each once. It fails only where memory is wanting.
+// Takes these steps, each once. It fails only when out of memory.
 fn take_all(joint: &mut Joint, steps: &[Entry]) -> Result<(), AllocError>
     requires { CanTake joint.old steps.now }
     ensures { OnOk result (LeadsBy joint.old steps.now joint.new) }

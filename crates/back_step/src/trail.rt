@@ -14,14 +14,14 @@ use log_order::KeptLog;
 use std::alloc::{AllocError, Global};
 use std::marker::Model;
 
-/// A joint replay that keeps which steps led to where it stands, so that it can go back to each of
-/// them. A position is a number of steps.
+/// A joint replay that keeps which steps led to its state, so that it can go back to each of them. A
+/// position is a number of steps.
 ///
 /// It keeps an entry for each step, and a copy of the joint replay at each position that is a
 /// multiple of a number. Such a copy is made before the first step from there.
 ///
 /// Contracts see that number, and the trace: what the joint replay began as, the entries, the first
-/// first, and where it stands.
+/// first, and its present state.
 #[derive(Drop)]
 pub struct Trail<'a> {
     image: &'a Image,
@@ -45,7 +45,7 @@ impl<'a> Model for Trail<'a> {
 }
 
 impl<'a> Trail<'a> {
-    /// The joint replay of a log with a program, before its first step. The only error is want of
+    /// The joint replay of a log with a program, before its first step. The only error is out of
     /// memory.
     pub fn begin(
         alloc: Global,
@@ -70,7 +70,7 @@ impl<'a> Trail<'a> {
         }
     }
 
-    /// The joint replay, where it stands.
+    /// The joint replay in its present state.
     pub fn joint(&self) -> &Joint<'a>
         ensures { result.now ≡ self.now.trace.now }
     {
@@ -106,8 +106,8 @@ impl<'a> Trail<'a> {
     /// Takes the next step of a hart that is ready, as the joint replay does, and keeps its entry. At
     /// a position that is to have a copy, and has none, that is made first.
     ///
-    /// Where there is no memory for the copy or the entry, all is as before. Where the joint replay
-    /// refuses the step there is no entry, and it repeats the refusal until a `seek`.
+    /// If there is no memory for the copy or the entry, nothing changes. If the joint replay refuses
+    /// the step, there is no entry, and it repeats the refusal until a `seek`.
     pub fn step(&mut self, hart: HartId) -> Result<Stepped, JointError>
         requires there { hart < length self.old.trace.now.lanes }
         requires ready { readiness self.old.trace.now hart ≡ Ready }
@@ -130,11 +130,11 @@ impl<'a> Trail<'a> {
         }
     }
 
-    /// Goes to a position that it came by, and gives up the entries and copies behind it. A refusal is
+    /// Goes back to an earlier position, and gives up the entries and copies after it. A refusal is
     /// forgotten. It answers how many steps were taken again, which are those from the latest copy that
-    /// isn't behind the position.
+    /// isn't after the position.
     ///
-    /// Where memory is wanting all is as before.
+    /// When out of memory, nothing changes.
     pub fn seek(&mut self, to: u64) -> Result<u64, AllocError>
         requires { to ≤ length self.old.trace.entries }
         ensures steps { IfOk result (λ n. n ≡ to % self.old.every) }

@@ -88,7 +88,7 @@ abbrev pub words_from : ℕ → ℕ → List ℕ
 words_from first zero = []
 words_from first (suc n) = first ∷ words_from ((first + 4) % 2 ^ 32) n
 
--- the accesses of the words of a touch
+-- the accesses of the words of a `Touch`
 abbrev pub accesses_of : Touch → List Access
 accesses_of t = map (λ w. record { word = w; writes = t.writes }) (words_from t.first t.count)
 

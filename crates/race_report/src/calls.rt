@@ -29,7 +29,7 @@ impl Asked {
     }
 }
 
-// The result of a call of this number that goes on.
+// The result of a call of this number after which the hart continues.
 fn call_result(asked: Asked, number: u32, row: &Row) -> Option<u32>
     ensures { (before : HartState) → asked ≡ asked_by before → result ≡ call_result number before row.now }
 {

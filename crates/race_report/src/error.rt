@@ -5,7 +5,7 @@ use thiserror::Error;
 /// Why there is no race report.
 #[derive(Debug, Drop, Error)]
 pub enum RaceError {
-    /// The joint replay can't go on. The error in it is never `OutOfMemory`.
+    /// The joint replay can't continue. The error in it is never `OutOfMemory`.
     #[error("the joint replay is refused")]
     Joint(JointError),
     /// There are more races than were asked for.

@@ -11,8 +11,8 @@ pub fn a_relay_has_three_races()
     ensures count { count_in relay ≡ 3 }
 {}
 
-/// A store before an AMO, and a load by another hart after its AMO of the same word: no race where that AMO
-/// comes second, and one where it comes first.
+/// A store before an AMO, and a load by another hart after its AMO of the same word: no race if that AMO
+/// comes second, and one if it comes first.
 #[tactic(auto, using(crate::proofs::Worked::passed_races, crate::proofs::Worked::early_races))]
 pub fn an_atomic_passes_a_message()
     ensures passed { races_in 2 passed_message ≡ [] }

@@ -2,10 +2,10 @@
 //! synchronisation orders.
 //!
 //! A point is an instruction of a retained interval that accesses words. A sync point is an LR, an AMO
-//! or an SC that succeeded. One point is ordered before another where a chain leads there of steps from
-//! a point to a later one of its hart, or from a sync point to a later conflicting one, later in the
-//! joint replay with the lowest ready hart first. An order by synchronisation in intervals that were
-//! given up isn't seen.
+//! or an SC that succeeded. One point is ordered before another if a chain of steps leads there. A step
+//! goes from a point to a later one of its hart, or from a sync point to a later conflicting one. Later
+//! means in the joint replay with the lowest ready hart first. An order by synchronisation in intervals
+//! that were given up isn't seen.
 #![tactic(auto)]
 
 mod calls;

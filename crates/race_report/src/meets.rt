@@ -119,7 +119,7 @@ pub(crate) fn note_words(
     Ok(())
 }
 
-/// Its races: where it writes, with all accesses of its words, else with those that write.
+/// Its races: if it writes, with all accesses of its words, else with those that write.
 pub(crate) fn meet_point(
     all: &Track,
     written: &Track,
@@ -145,7 +145,7 @@ pub(crate) fn meet_point(
     }
 }
 
-/// Adds the accesses of a point: to all, and where it writes to those that write.
+/// Adds the accesses of a point: to all, and if it writes, to those that write.
 pub(crate) fn note_point(
     all: &mut Track,
     written: &mut Track,

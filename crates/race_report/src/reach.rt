@@ -22,7 +22,7 @@ fn mode_of(writes: bool) -> Mode
     if writes { Mode::Write } else { Mode::Read }
 }
 
-// How many words of a point count: its one word where it is a sync point.
+// How many words of a point count: its one word if it is a sync point.
 fn counted(syncs: bool) -> u32
     ensures { result ≡ (if syncs then 1 else 0) }
 {

@@ -30,7 +30,7 @@ fn told_as(error: JointError) -> RaceError
     }
 }
 
-// What a hart asks of a system call, where an interval of it is under way.
+// What a hart asks of a system call, if an interval of it is under way.
 fn asked_in(joint: &Joint, hart: HartId) -> Option<Asked>
     requires { hart < length joint.now.lanes }
     ensures { result ≡ option_map asked_by (state_at joint.now hart) }
@@ -122,7 +122,7 @@ fn gather_all(
     }
 }
 
-// Takes all steps of the joint replay of a log, and takes in all rows, where none is taken in yet.
+// Takes all steps of the joint replay of a log, and takes in all rows.
 fn gather_into(
     alloc: Global,
     image: &Image,
@@ -156,9 +156,9 @@ fn gather(alloc: Global, image: &Image, log: &KeptLog, most: u64) -> Result<Gath
 /// The races of a log: all pairs of conflicting points that no chain of program order and
 /// synchronisation orders, each once, by hart and count of the first and then of the second.
 ///
-/// Where the joint replay stops, the error is why it does; else where there are more than `max` races,
-/// it is TooMany. It keeps the rows that access words, at most 2^32 - 1 of them; more are taken for want
-/// of memory.
+/// If the joint replay stops, the error says why. Else, if there are more than `max` races, it is
+/// TooMany. It keeps the rows that access words, at most 2^32 - 1 of them; more are treated as out of
+/// memory.
 pub fn report(
     alloc: Global,
     image: &Image,

@@ -34,7 +34,7 @@ fn text_of(alloc: Global, races: &[Race]) -> Result<Text, AllocError>
 }
 
 /// The text of a log's race report: the lines of each race in the order of `report`, and then the line of
-/// how many there are. Where there is no report, the error is that of `report`.
+/// how many there are. If there is no report, the error is that of `report`.
 pub fn races_text(alloc: Global, image: &Image, log: &KeptLog, max: u64) -> Result<Text, RaceError>
     ensures { IsReportText log.now.head.settings.harts max (joint_of image.now log.now) result }
 {

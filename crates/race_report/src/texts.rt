@@ -43,7 +43,7 @@ fn write_race_parts(race: &Race, text: &mut Text) -> Result<(), AllocError>
 }
 
 /// Appends the lines of a race: `race`, the harts and counts of both points, and the word as eight
-/// hexadecimal digits; then both rows. Where memory is wanting the text is as before.
+/// hexadecimal digits; then both rows. When out of memory, the text is unchanged.
 pub fn write_race(race: &Race, text: &mut Text) -> Result<(), AllocError>
     ensures ok { OnOk result (text.new ≡ text.old ++ race_text race.now) }
     ensures err { OnErr result (text.new ≡ text.old) }
@@ -65,7 +65,7 @@ fn write_count_parts(count: u64, text: &mut Text) -> Result<(), AllocError>
     end_with_decimal("races ", count, text)
 }
 
-/// Appends the line of how many races there are. Where memory is wanting the text is as before.
+/// Appends the line of how many races there are. When out of memory, the text is unchanged.
 pub fn write_count(count: u64, text: &mut Text) -> Result<(), AllocError>
     ensures ok { OnOk result (text.new ≡ text.old ++ count_text count) }
     ensures err { OnErr result (text.new ≡ text.old) }

@@ -90,7 +90,7 @@ fn loaded_words(asked: Asked, row: &Row) -> Option<Touch>
 }
 
 /// What an instruction accesses: the word that it stores, which an AMO loads too; else the word that
-/// it loads; else the words that a call fills or takes. `None` where it accesses nothing, or faults.
+/// it loads; else the words that a call fills or takes. `None` if it accesses nothing, or faults.
 pub(crate) fn touch_of(asked: Asked, row: &Row) -> Option<Touch>
     ensures value { (before : HartState) → asked ≡ asked_by before → result ≡ touch_of before row.now }
     ensures whole { IfSome result IsTouch }

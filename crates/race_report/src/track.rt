@@ -81,8 +81,8 @@ impl Track {
         }
     }
 
-    /// Adds an access of a word by a hart, at this place. There are fewer than 2^32 - 1 of them, else
-    /// it is taken for want of memory.
+    /// Adds an access of a word by a hart, at this place. There are fewer than 2^32 - 1 of them; one
+    /// more is treated as out of memory.
     pub(crate) fn note(&mut self, hart: HartId, word: Addr, place: u32) -> Result<(), AllocError>
         requires { hart < length self.old.heads.items }
         ensures harts { length self.new.heads.items ≡ length self.old.heads.items }

@@ -27,7 +27,7 @@ use Rattle.slice_back.proofs.Facts.{Code, reg_for, ap_call, row_reg, After, chan
 
 -- ---- registers
 
--- a system call changes a0 where it goes on, and no register else
+-- a system call changes a0 if the hart continues, and no register else
 call_after : (m : EndMark) (n : ℕ) (args : List ℕ) (s t : HartState) → 10 < length s.x → t ≡ after (System n args) (call_answer m.reason m.value) s → (r : ℕ) → After (call_reg m.reason m.value) s.x t.x r
 call_after m n args s t count e r = by (m.reason == 2) e
   where
@@ -103,7 +103,7 @@ pub no_store : (b : Bool) → part_stored b None ≡ None
 no_store true = refl
 no_store false = refl
 
--- a store uses its word where it stores a part
+-- a store uses its word if it stores a part
 part : (o : Option ℕ) (b c : Bool) → b ≡ not c → (elim b as (λ x. Option ℕ) [ true ↦ o | false ↦ None ]) ≡ (elim c as (λ x. Option ℕ) [ true ↦ None | false ↦ o ])
 part o b true e = ap (λ d. elim d as (λ x. Option ℕ) [ true ↦ o | false ↦ None ]) e
 part o b false e = ap (λ d. elim d as (λ x. Option ℕ) [ true ↦ o | false ↦ None ]) e

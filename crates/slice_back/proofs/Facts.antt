@@ -190,7 +190,7 @@ set_here r y [] h = absurd (omega (arith, h))
 set_here zero y (a ∷ x) h = refl
 set_here (suc r) y (a ∷ x) h = set_here r y x (omega (arith, h))
 
--- a register after a row is the one that the row wrote, or as before
+-- a register after a row is the one that the row wrote, or unchanged
 abbrev pub After : Option (ℕ × ℕ) → List ℕ → List ℕ → ℕ → Type 0
 After reg x y r = (reg ≡ Some (r, slice_index y r)) ⊎ ((is_of r reg ≡ false) × (slice_index y r ≡ slice_index x r))
 

@@ -44,7 +44,7 @@ Matched (e ∷ es) [] = ⊥
 
 -- ---- a fault
 
--- what a row uses is the same, where it is in the slice
+-- what a row uses is the same, if it is in the slice
 used_same : (i : Program) (p o : Position) (e : Noted) (l : Live) (d : Instruction) → Agreeing (live_before true e l) p o → e.row.word ≡ code_at i p.state.pc → p.state.pc ≡ o.state.pc → length p.state.x ≡ 32 → length o.state.x ≡ 32
     → instruction_in (code_at i p.state.pc) ≡ Some d → SameUsed d p.state o.state
 used_same i p o e l d agree word pc one two is = record {
@@ -93,7 +93,7 @@ fault_back i s t f z pc same e = by (instruction_in (code_at i s.pc)) refl
     by None n = none_same i s t pc n ∙ e
     by (Some d) n = alike_back d (step i s) (step i t) f z (steps_alike i s t (code_as i s d n) (ap (λ k. instruction_in (code_at i k)) (sym pc) ∙ n) (same d n)) e
 
--- what goes on doesn't fault
+-- a replay that takes a step doesn't fault
 no_fault : (i : Program) (h : ℕ) (v : Interval) (p q : Position) (row : Row) (f : Fault) (z : ℕ) → Turn i h v p q row → step i p.state ≡ Asks (Faulted f z) → ⊥
 no_fault i h v p q row f z (quiet e r n) g = let t : Quiet q.state ≡ Asks (Faulted f z) = sym e ∙ g in cc
 no_fault i h v p q row f z (asked k b x e a u r w n) g =
@@ -103,7 +103,7 @@ no_fault i h v p q row f z (asked k b x e a u r w n) g =
 
 -- ---- all rows
 
--- what two replays know when they go on alike
+-- what two replays know when they continue alike
 pub record Alongside (v w : Interval) (p o : Position) (pend rest : Pending) (es fs : List Noted) : Type 0 where
   pub linked : Linked v pend p.loads
   pub other_linked : Linked w rest o.loads
@@ -151,7 +151,7 @@ match_faults i h g v w p o pend rest e f later laters k j y z s a b n c d = reco
       (ap (λ (x : Row). x.store) one ∙ sym (ap (λ (x : Row). x.store) two)) (ap (λ (x : Row). x.fault) one ∙ ap (λ (x : Fault). Some (x, y)) kind ∙ ap (λ (x : ℕ). Some (j, x)) value ∙ sym (ap (λ (x : Row). x.fault) two)));
 }
 
--- one faults, and its twin would go on
+-- one faults, and its twin would continue
 one_faults : (i : Program) (h g : ℕ) (v w : Interval) (p o u : Position) (pend rest : Pending) (e f : Noted) (later laters : List Noted) (k : Fault) (y : ℕ) (other : Row) → Alongside v w p o pend rest (e ∷ later) (f ∷ laters)
     → step i p.state ≡ Asks (Faulted k y) → e ≡ note pend (fault_row h i p.state k y) → later ≡ [] → Turn i g w o u other → f ≡ note rest other → ⊥
 one_faults i h g v w p o u pend rest e f later laters k y other s a b n t d =
@@ -170,7 +170,7 @@ other_faults i h g v w p q o pend rest e f later laters k y row s a b n t d =
     let word : e.row.word ≡ code_at i p.state.pc = ap (λ (x : Row). x.word) one ∙ row_word i h v p q row t in
     no_fault i h v p q row k y t (fault_back i p.state o.state k y pc (λ m is. used_same i p o e (live []) m (last_live e later p o n s.agree) word pc s.count s.other_count is) a)
 
--- both go on
+-- both continue
 both_go : (i : Program) (h g : ℕ) (v w : Interval) (p q o u : Position) (pend rest : Pending) (row other : Row) (later laters : List Noted) → Alongside v w p o pend rest (note pend row ∷ later) (note rest other ∷ laters)
     → Turn i h v p q row → q.rows ≡ row ∷ p.rows → Turn i g w o u other → u.rows ≡ other ∷ o.rows
     → Match (note pend row) (note rest other) later × Alongside v w q u (passed pend row) (passed rest other) later laters

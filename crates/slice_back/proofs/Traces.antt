@@ -52,7 +52,7 @@ stands-stopped ic loads whole left s e (inl p) w h = stands-refused ic loads who
 stands-stopped ic loads whole left s e (inr q) (inl p) h = stands-refused ic loads whole left s e p h
 stands-stopped ic loads whole left s e (inr q) (inr w) h = subst (λ (x : ReplayError). IsStop whole (error_of x)) (sym q) (inr (omega (arith, a_row_comes left.rows w, h.rest)))
 
--- a row that came is not noted for want of memory
+-- a row that came is not noted when out of memory
 pub stands-unnoted : (ic : ℕ) (loads : List (ℕ × ℕ)) (whole left more : Replayed) (row : Row) (s : Tracing) → left ≡ with_rows (row ∷ []) more → TracedSoFar ic loads whole left s → IsStop whole ends.OutOfMemory
 stands-unnoted ic loads whole left more row s e h =
     let one : length left.rows ≡ suc (length more.rows) = ap (λ (x : Replayed). length x.rows) e in

@@ -1,4 +1,4 @@
--- Two replays go on alike: their rows of a slice are the same, and they agree on what is live after them.
+-- Two replays continue alike: their rows of a slice are the same, and they agree on what is live after them.
 use Rattle.std.proofs.Common.{◌≡◌, ℕ, ◌==◌, ◌&&◌, ◌||◌, Bool, true, false, not, List, Option, Some, None, refl, sym, ◌∙◌, ap, subst, inl, inr, arith}
 use Rattle.std.specs.Prelude.{slice_index}
 use Rattle.bn_base.specs.Programs.{Program, code_at}

@@ -66,8 +66,8 @@ abbrev pub is_last : List Noted → Bool
 is_last [] = true
 is_last (e ∷ es) = false
 
--- what is live before a row, by what is live after it and whether the row is in the slice: what it uses then, but for a word that
--- it takes from the log; and what it neither writes, stores nor takes
+-- what is live before a row, by what is live after it and whether the row is in the slice. What is live after it stays so,
+-- unless the row writes, stores or takes it. A row in the slice adds what it uses, but for a word that it takes from the log
 abbrev pub live_before : Bool → Noted → Live → Live
 live_before chosen e l = record {
   registers = λ q. (chosen && uses_register q e.row) || (not (writes_register q e.row) && l.registers q);

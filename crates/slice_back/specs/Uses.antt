@@ -20,7 +20,7 @@ abbrev pub is_argument : ℕ → Bool
 is_argument q = (q == 10) || (q == 11) || (q == 12) || (q == 17)
 
 -- whether an instruction reads register q, which isn't x0: q is its rs1 or rs2 (a field that its format lacks is 0), or an
--- argument of an ECALL; a word that is no instruction reads none
+-- argument of an ECALL. A word that is no instruction reads none
 abbrev pub reads : ℕ → Option Instruction → Bool
 reads q None = false
 reads q (Some d) = elim (is_call d.name) [ true ↦ is_argument q | false ↦ (q == d.rs1) || (q == d.rs2) ]

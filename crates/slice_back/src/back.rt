@@ -18,13 +18,13 @@ use log_order::KeptLog;
 use log_record::RecordList;
 use std::alloc::Global;
 
-/// The backward slice of the row of a count in an interval of a hart, by data alone: the rows that it
-/// stands on, what of it came from before the interval or from the log, and the branches that aren't
-/// in it.
+/// The backward slice of the row of a count in an interval of a hart, by data alone. It has the rows
+/// that this one depends on, what came from before the interval or from the log, and the branches that
+/// aren't in it.
 ///
-/// The whole interval is replayed first. Replay comes exactly where that is refused, and then NoRow
-/// exactly where the interval has no row of that count. OutOfMemory may come instead, but not where
-/// the log keeps no such interval. It takes time in proportion to the interval's rows, and memory in
+/// The whole interval is replayed first. Replay comes if and only if that is refused, and then NoRow
+/// if and only if the interval has no row of that count. OutOfMemory may come instead, but not if the
+/// log keeps no such interval. It takes time in proportion to the interval's rows, and memory in
 /// proportion to those up to the given one.
 pub fn slice(
     alloc: Global,

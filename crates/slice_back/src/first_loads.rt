@@ -31,7 +31,7 @@ fn loads_from(
     Ok(loads)
 }
 
-/// The first loads (skip, value) of an interval, in their order; none where the log doesn't keep it.
+/// The first loads (skip, value) of an interval, in their order; none if the log doesn't keep it.
 pub(crate) fn first_loads(
     alloc: Global,
     hart: u64,

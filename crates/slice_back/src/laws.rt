@@ -6,7 +6,7 @@ ghost use Rattle.slice_back.specs.Laws.{RowsAreLeast, RegistersAreFromBefore, Wo
 use hart_replay::laws::first_loads_are_met_by_place;
 use rv_meaning::each_instruction_is_counted_or_asks;
 
-/// A row is told exactly where it is in the least set that has the given row and, with each row, the
+/// A row is told if and only if it is in the least set that has the given row and, with each row, the
 /// rows that it needs.
 pub fn slices_are_least()
     ensures rows { RowsAreLeast }

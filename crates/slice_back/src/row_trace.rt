@@ -67,7 +67,7 @@ impl<'a> RowTrace<'a> {
         Ok(())
     }
 
-    // Goes on to a row.
+    // Takes in one more row.
     fn note(&mut self, row: Row) -> Result<(), AllocError>
         ensures { OnOk result ((rows : List RowOf) → reached self.new rows ≡ reached self.old (row ∷ rows)) }
     {
@@ -82,7 +82,7 @@ impl<'a> RowTrace<'a> {
     }
 }
 
-// The error of a slice whose replay stops; want of memory is its own.
+// The error of a slice whose replay stops; out of memory is its own.
 fn error_of(error: ReplayError) -> SliceError
     ensures { result ≡ error_of error }
 {
@@ -96,11 +96,10 @@ fn error_of(error: ReplayError) -> SliceError
     }
 }
 
-/// The rows of a replay up to the one with a count, where it is done; `None` where there is no such
-/// row.
+/// The rows of a replay up to the one with a count, if it is done; `None` if there is no such row.
 ///
-/// All rows are replayed. The error is the replay's, or want of memory, which comes only where the
-/// replay has a row or found none itself.
+/// All rows are replayed. The error is the replay's, or out of memory, which comes only if the replay
+/// has a row or was out of memory itself.
 pub(crate) fn rows_up_to(
     alloc: Global,
     replayer: &mut Replayer,

@@ -73,9 +73,9 @@ fn text_of(alloc: Global, hart: u64, ic: Ic, slice: &Slice) -> Result<Text, Allo
     Ok(text)
 }
 
-/// The text of the backward slice of the row of a count: its first line, the lines of its rows, of the
-/// registers and the words that it takes from before, and of the branches that aren't in it. Where there
-/// is no slice, the error is that of `slice`.
+/// The text of the backward slice of the row of a count. It has the first line and the lines of the
+/// rows, of the registers and the words that it takes from before, and of the branches that aren't in it.
+/// If there is no slice, the error is that of `slice`.
 pub fn slice_text(
     alloc: Global,
     image: &Image,

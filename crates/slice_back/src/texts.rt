@@ -20,7 +20,7 @@ fn write_head_parts(hart: u64, ic: Ic, text: &mut Text) -> Result<(), AllocError
 }
 
 /// Appends the first line of a slice: the word `slice`, the hart and the count of the row in decimal.
-/// Where memory is wanting the text is as before.
+/// When out of memory, the text is unchanged.
 pub fn write_head(hart: u64, ic: Ic, text: &mut Text) -> Result<(), AllocError>
     ensures ok { OnOk result (text.new ≡ text.old ++ head_text hart ic) }
     ensures err { OnErr result (text.new ≡ text.old) }
@@ -45,7 +45,7 @@ fn write_register_parts(register: Register, value: u32, text: &mut Text) -> Resu
 }
 
 /// Appends the line of a register from before the interval: the word `in`, its name, and its contents
-/// as eight hexadecimal digits. Where memory is wanting the text is as before.
+/// as eight hexadecimal digits. When out of memory, the text is unchanged.
 pub fn write_register(register: Register, value: u32, text: &mut Text) -> Result<(), AllocError>
     ensures ok { OnOk result (text.new ≡ text.old ++ register_line (register, value)) }
     ensures err { OnErr result (text.new ≡ text.old) }
@@ -88,8 +88,8 @@ fn write_word_parts(ic: Ic, addr: Addr, word: u32, text: &mut Text) -> Result<()
 }
 
 /// Appends the line of a word that the log told: the word `in`, the count of the row that took it in
-/// decimal, and its aligned address and its contents as eight hexadecimal digits. Where memory is
-/// wanting the text is as before.
+/// decimal, and its aligned address and its contents as eight hexadecimal digits. When out of memory,
+/// the text is unchanged.
 pub fn write_word(ic: Ic, addr: Addr, word: u32, text: &mut Text) -> Result<(), AllocError>
     ensures ok { OnOk result (text.new ≡ text.old ++ word_line (ic, addr, word)) }
     ensures err { OnErr result (text.new ≡ text.old) }
@@ -112,8 +112,8 @@ fn write_branch_parts(row: &Row, text: &mut Text) -> Result<(), AllocError>
     write_row(row, text)
 }
 
-/// Appends the line of a branch that isn't in the slice: the word `branch` and its row. Where memory
-/// is wanting the text is as before.
+/// Appends the line of a branch that isn't in the slice: the word `branch` and its row. When out of
+/// memory, the text is unchanged.
 pub fn write_branch(row: &Row, text: &mut Text) -> Result<(), AllocError>
     ensures ok { OnOk result (text.new ≡ text.old ++ branch_line row.now) }
     ensures err { OnErr result (text.new ≡ text.old) }

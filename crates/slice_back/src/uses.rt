@@ -60,7 +60,7 @@ pub(crate) fn word_of(access: Option<(Addr, u32)>) -> Option<Addr>
     }
 }
 
-// The aligned address of a store, where it is of a byte or halfword. Only a store is decoded.
+// The aligned address of a store, if it is of a byte or halfword. Only a store is decoded.
 #[tactic(auto, using(crate::proofs::Afters::no_store))]
 fn part_store(word: Option<u32>, store: Option<(Addr, u32)>) -> Option<Addr>
     ensures value { result ≡ part_stored (stores_part (instruction_in word)) store }

@@ -37,7 +37,7 @@ lines_before lines input = by input.refused
     by None = append_assoc lines input.lines (input.last ∷ [])
     by (Some e) = refl
 
--- ---- where a session stands
+-- ---- the progress of a session
 
 -- so many bytes are gone, these lines of them are answered, and this text is sent
 pub record SessionAt (j : Trace) (s : Session) (count : ℕ) (left now_left written now_written : Option (List ℕ)) : Type 0 where
@@ -70,7 +70,7 @@ unfolding at_begin
 counted_at_begin j s count left written reads e z = record { stands = at_begin j s count left written e z; read = refl }
 
 module _ (j : Trace) (s : Session) (old new : Reading) (left now_left next_left written now_written : Option (List ℕ)) (before after : ℕ) where
-  -- one line is answered, and the session goes on
+  -- one line is answered, and the session continues
   pub one_more : (next_written : Option (List ℕ)) → SessionAt j s old.count left now_left written now_written → NextLine old now_left next_left before after (Ok true) new → (answer s (command_of new.line)).ends ≡ GoesOn
       → Appends now_written next_written (answer s (command_of new.line)).text → SessionAt j (answer s (command_of new.line)).session new.count left next_left written next_written
   one_more next_written t n on h =
@@ -103,7 +103,7 @@ joined : (j : Trace) (s : Session) (count : ℕ) (left now_left written now_writ
     → input_of (t.gone ++ more) ≡ with_lines t.lines input
 joined j s count left now_left written now_written t more input e = t.read more ∙ ap (with_lines t.lines) e
 
--- where no LF is among further bytes, the lines before them are all, and the session went on after them
+-- if no LF is among further bytes, the lines before them are all, and the session continued after them
 not_over : (j : Trace) (s : Session) (count : ℕ) (left now_left written now_written : Option (List ℕ)) (t : SessionAt j s count left now_left written now_written) (more line : List ℕ) → input_from count [] more ≡ ends_in line None
     → (answers (input_of (t.gone ++ more)).lines (begin_at j)).ends ≡ GoesOn
 not_over j s count left now_left written now_written t more line e =
@@ -123,7 +123,7 @@ answered_first j s count left now_left written now_written next_written t line e
     let is : answers t.lines (begin_at j) ≡ behind t.text (says s []) = ap (λ (ls : List (List ℕ)). answers ls (begin_at j)) (sym (append-nil t.lines)) ∙ t.said [] in
     subst (λ (a : Answer). (mid : Option (List ℕ)) × Appends written mid a.text × SendsPart e mid next_written (answer a.session (command_of line)).text) (sym is) (now_written, sent, p)
 
--- where no LF is among further bytes, they are that next line
+-- if no LF is among further bytes, they are that next line
 last_first : (j : Trace) (s : Session) (count : ℕ) (left now_left written now_written next_written : Option (List ℕ)) (t : SessionAt j s count left now_left written now_written) (more line : List ℕ) (e : DebugError)
     → input_from count [] more ≡ ends_in line None → SendsPart e now_written next_written (answer s (command_of line)).text
     → WritesUpTo j (input_of (t.gone ++ more)).lines (input_of (t.gone ++ more)).last e written next_written
@@ -389,7 +389,7 @@ ends_counted j s old new left now_left next_left written now_written next_writte
 
 module _ (j : Trace) (s next : Session) (old new : Reading) (left now_left next_left written now_written next_written : Option (List ℕ)) (start before after write_start write_before write_after reads mid now : ℕ)
     (t : CountedStands j s old.count left now_left written now_written reads mid) where
-  -- the session goes on behind it
+  -- the session continues after it
   pub line_more : TakesLine s next old new now_left next_left before after mid now now_written next_written write_before write_after (Ok true) → CountedStands j next new.count left next_left written next_written reads now
   line_more a = subst (λ (x : Session). CountedStands j x new.count left next_left written next_written reads now) (sym a.session)
       (counted_more j s old new left now_left next_left written now_written before after next_written reads mid now t a.read a.ends a.sent)

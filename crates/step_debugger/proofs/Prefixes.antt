@@ -1,4 +1,4 @@
--- Commands that go on from others.
+-- Commands that others begin.
 use Rattle.std.proofs.Common.{◌≡◌, ℕ, ◌+◌, Bool, true, false, List, [], ◌∷◌, ◌++◌, length, nat_lt, Option, Some, None, refl}
 use Rattle.step_debugger.specs.declared.error.DebugError.{DebugError}
 use Rattle.step_debugger.specs.declared.error.DebugError.TheVariants.{LineTooLong, TooMuch}

@@ -25,7 +25,7 @@ part_longer a b s t h =
     let f = front_longer h.0 s t (cases_lt (length s) h.0) in
     (f.0, subst (λ (u : List ℕ). Appends a b u) (sym f.1) h.1)
 
--- a whole text and then a front of another
+-- a whole text and then a prefix of another
 take_behind : (s t : List ℕ) (n : ℕ) → take (length s + n) (s ++ t) ≡ s ++ take n t
 take_behind [] t n = ap (λ (k : ℕ). take k t) (omega arith)
 take_behind (x ∷ s) t n =
@@ -36,7 +36,7 @@ pub part_behind : (a b c : Option (List ℕ)) (s t : List ℕ) → Appends a b s
 part_behind a b c s t h k =
     (length s + k.0, subst (λ (u : List ℕ). Appends a c u) (sym (take_behind s t k.0)) (Appends-trans a b c s (take k.0 t) h k.1))
 
--- the same of a front that isn't all of it
+-- the same of a prefix that isn't all of it
 short_longer : (a b : Option (List ℕ)) (s t : List ℕ) → AppendsShort a b s → AppendsShort a b (s ++ t)
 short_longer a b s t h =
     let size = length-append s t in
@@ -160,7 +160,7 @@ module _ (first : List ℕ) (whole : Moves) (h count k : ℕ) (j new : Trace) (w
       let is = one_left h count k j low ∙ t.2 (λ i. step_up_to h (count - (k + 1)) i) in
       (s.sent, s.appended, s.text ∙ ap (λ (m : Moves). s.sent ++ (waiting ++ m.text)) is ∙ ap (λ (x : List ℕ). s.sent ++ x) (sym t.1), (sym (s.moved ∙ ap (λ (m : Moves). m.now) is), sym (s.ends ∙ ap (λ (m : Moves). m.ends) is)))
 
-  -- memory is wanting
+  -- out of memory
   pub they_starve : (e : DebugError) → SoFar first whole (step_up_to h (count - k) j) waiting old now before after → e ≡ OutOfMemory → SendsPart e old now (first ++ whole.text) × Stops before after e
   they_starve e s none =
       (subst (λ (x : DebugError). SendsPart x old now (first ++ whole.text)) (sym none) (subst (λ (x : List ℕ). AppendsPart old now x) (sym s.text) (part_longer old now s.sent (waiting ++ (step_up_to h (count - k) j).text) (part_whole old now s.sent s.appended))), starved before after e none)

@@ -24,7 +24,7 @@ module _ (s next : Session) (old new : Reading) (left now_left : Option (List �
       let k = subst (λ (x : List ℕ). IsAnswered x s next written now_written write_before write_now (Err e)) is h in
       record { read = read; sent = k.0; stops = k.1 }
 
-  -- the session goes on behind a line that ends with LF
+  -- the session continues after a line that ends with LF
   pub goes_on : (whole : Bool) → AnswersLine s next old new left now_left before now reads now_reads written now_written whole GoesOn
       → TakesLine s next old new left now_left before now reads now_reads written now_written write_before write_now (Ok whole)
   goes_on true a = a

@@ -25,8 +25,8 @@ abbrev pub their_commands : List DebugCommand
 their_commands = Hart 1 ∷ Step 1 ∷ Step 20 ∷ Step 1000000 ∷ Step 1 ∷ Go ∷ Break 0x1005c
     ∷ Break 0x1005c ∷ Unbreak 1 ∷ Registers ∷ Word 0xfffffffc ∷ Where ∷ Quit ∷ Empty ∷ Back 1 ∷ Back 1000000 ∷ Back 20 ∷ ReverseGo ∷ []
 
--- lines that are no command: numbers that are too great, too long, negative, signed or missing; addresses with nine digits, with
--- `0X`, without a digit, with another sign; words that aren't parted by one space, in another case, or followed by a CR or a tab
+-- lines that are no command. Numbers are too great, too long, negative, signed or missing. Addresses have nine digits, `0X`,
+-- no digit or another sign. Words aren't parted by one space, are in another case, or are followed by a CR or a tab
 abbrev pub other_lines : List (List ℕ)
 other_lines = codes "step 0" ∷ codes "step 1000001" ∷ codes "step 00000001" ∷ codes "step -1" ∷ codes "step +1" ∷ codes "step " ∷ codes "step  1" ∷ codes "step 1 "
     ∷ codes "step a" ∷ codes "back 0" ∷ codes "back 1000001" ∷ codes "back  1" ∷ codes "back -1" ∷ codes "Back" ∷ codes "rgo 1" ∷ codes "rgo " ∷ codes "hart" ∷ codes "hart 12345678" ∷ codes "hart -0" ∷ codes "break" ∷ codes "break 123456789" ∷ codes "break 0x123456789"

@@ -60,7 +60,7 @@ IsUnrefused t = (e : ReplayError) → t.now.refused ≡ Some e → e ≡ replay.
 abbrev pub StaysUnrefused : Trace → Trace → Type 0
 StaysUnrefused old new = IsUnrefused old → IsUnrefused new
 
--- what a command tells as a refusal isn't out of memory; and if it goes on, or is told as out of memory, no step was refused
+-- what a command tells as a refusal isn't out of memory; and if the session continues, or the command is told as out of memory, no step was refused
 abbrev pub EndsApart : Trace → Ending → Trace → Type 0
 EndsApart old GoesOn new = StaysUnrefused old new
 EndsApart old Quits new = StaysUnrefused old new

@@ -74,8 +74,8 @@ GivesByte old new before now (Ok (Some byte)) = Consumes old new (byte ∷ [])
 GivesByte old new before now (Ok None) = ConsumesAll old new []
 GivesByte old new before now (Err e) = Consumes old new [] × Rose before now
 
--- what is read next, of a source of which these bytes are gone then: a line that ends with LF (`true`); the end of the source,
--- and the bytes before it; or why there is none, if memory runs out for the last byte that is gone
+-- what is read next, of a source of which these bytes are gone then. It is a line that ends with LF (`true`), the end of the
+-- source and the bytes before it, or why there is none, if memory runs out for the last byte that is gone
 abbrev pub ReadsLine : Reading → (gone : List ℕ) → (left now_left : Option (List ℕ)) → (before now : ℕ) → Result Bool DebugError → Reading → Type 0
 ReadsLine old gone left now_left before now (Ok true) new = (old.count < new.count) × (new.count ≤ input_limit) × ((more : List ℕ) → input_from old.count [] (gone ++ more) ≡ with_line new.line (input_from new.count [] more))
 ReadsLine old gone left now_left before now (Ok false) new = (input_from old.count [] gone ≡ ends_in new.line None) × ConsumesAll left now_left gone

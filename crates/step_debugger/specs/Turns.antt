@@ -30,7 +30,7 @@ pub record MissesLine (old new : Reading) (left now_left : Option (List ℕ)) (b
   pub read : CountedLine old left now_left before now reads now_reads (Err e) new
   pub same : now_written ≡ written
 
--- one line of a session: it goes on behind it (`true`), or it ends with it or an error stops it, and nothing more is read
+-- one line of a session: it continues after it (`true`), or it ends with it or an error stops it, and nothing more is read
 abbrev pub TakesLine : (s next : Session) → (old new : Reading) → (left now_left : Option (List ℕ)) → (before now reads now_reads : ℕ) → (written now_written : Option (List ℕ)) → (write_before write_now : ℕ) → Result Bool DebugError → Type 0
 TakesLine s next old new left now_left before now reads now_reads written now_written write_before write_now (Ok true) =
     AnswersLine s next old new left now_left before now reads now_reads written now_written true GoesOn

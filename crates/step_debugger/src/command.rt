@@ -24,7 +24,7 @@ pub enum DebugCommand {
     Registers,
     /// A word of the memory.
     Word(Addr),
-    /// Where each hart is.
+    /// The count and pc of each hart, and what it waits for.
     Where,
     /// The end.
     Quit,

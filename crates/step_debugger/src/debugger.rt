@@ -13,7 +13,7 @@ use bn_outside::{Sink, Source};
 use rv_text::Text;
 use std::alloc::Global;
 
-// Reads the next line and does its command: whether the session goes on behind it.
+// Reads the next line and does its command: whether the session continues after it.
 fn answer_next<I: Source, O: Sink>(
     trail: &mut Trail,
     focus: &mut Focus,
@@ -46,11 +46,10 @@ fn answer_next<I: Source, O: Sink>(
 /// to `out`, each as soon as its command is done.
 ///
 /// It is `Ok` after the command `quit`, of which nothing behind is read, and at the end of the input.
-/// The source is read once for each byte that is gone. A further read is made only where it finds the end or fails.
+/// The source is read once for each byte that is gone. A further read is made only if it finds the end or fails.
 ///
-/// It fails where a read or a write does, where a line has more than 256 bytes or all commands have
-/// more than 2^24, where the joint replay is refused, and where memory is wanting. The answers before
-/// that stand.
+/// It fails if a read or a write does, if a line has more than 256 bytes or all commands have more
+/// than 2^24, if the joint replay is refused, and when out of memory. The answers before that stay.
 pub fn debug<I: Source, O: Sink>(
     alloc: Global,
     trail: &mut Trail,

@@ -44,7 +44,7 @@ pub fn waiting_harts_are_told()
     ensures { relay_session ≡ relay_told }
 {}
 
-/// Two harts that wait for each other: where they are, the registers of one, and the end of the
+/// Two harts that wait for each other: their places, the registers of one, and the end of the
 /// session.
 #[tactic(auto, using(crate::proofs::Worked::crossed_is))]
 pub fn a_stuck_session_is_refused()

@@ -84,11 +84,10 @@ impl LineReader {
         }
     }
 
-    /// Reads the next line. It is `true` where that ended with LF; `false` where the source ended,
-    /// which may be without a byte behind the last LF.
+    /// Reads the next line. It is `true` if that ended with LF; `false` if the source ended, which may
+    /// be without a byte after the last LF.
     ///
-    /// It fails where a read fails, where the line or all commands are too long, or where memory is
-    /// wanting.
+    /// It fails if a read fails, if the line or all commands are too long, or when out of memory.
     pub(crate) fn next<I: Source>(&mut self, source: &mut I) -> Result<bool, DebugError>
         ensures read { CountedLine self.old (I.left source.old) (I.left source.new) (I.faults source.old) (I.faults source.new) (I.reads source.old) (I.reads source.new) result self.new }
         ensures later { I.faults source.old ≤ I.faults source.new }

@@ -26,7 +26,7 @@ pub(crate) fn ready(joint: &Joint, hart: HartId) -> Readiness
     }
 }
 
-/// The state of a hart, where an interval of it is under way.
+/// The state of a hart, if an interval of it is under way.
 pub(crate) fn state<'a>(joint: &'a Joint, hart: HartId) -> Option<&'a HartState>
     ensures { MatchOption result (state_at joint.now hart ≡ None) (λ s. state_at joint.now hart ≡ Some s.now) }
 {
@@ -37,7 +37,7 @@ pub(crate) fn state<'a>(joint: &'a Joint, hart: HartId) -> Option<&'a HartState>
     }
 }
 
-/// The pc of a hart, where an interval of it is under way.
+/// The pc of a hart, if an interval of it is under way.
 pub(crate) fn pc_at(joint: &Joint, hart: HartId) -> Option<Addr>
     ensures { result ≡ pc_at joint.now hart }
 {
@@ -47,7 +47,7 @@ pub(crate) fn pc_at(joint: &Joint, hart: HartId) -> Option<Addr>
     }
 }
 
-// How the refusal of a step is told; want of memory is none.
+// How the refusal of a step is told; out of memory is none.
 fn refused_by(error: JointError) -> Result<Ending, DebugError>
     ensures { result ≡ refused_by error }
 {
@@ -76,8 +76,8 @@ fn step_told(trail: &mut Trail, hart: HartId, text: &mut Text) -> Result<Option<
     }
 }
 
-/// One more step of a hart: it is told. Where it isn't ready the steps end there, and it is told what
-/// it waits for.
+/// One more step of a hart: it is told. If the hart isn't ready, the steps end there, and it is told
+/// what the hart waits for.
 pub(crate) fn step_once(
     trail: &mut Trail,
     hart: HartId,
@@ -110,7 +110,7 @@ fn stop_with(breaks: &[Addr], ic: Ic, pc: Addr) -> Option<(Ic, Addr)>
     }
 }
 
-// The count and the pc of a hart's next row, if that is at a breakpoint. Where none is set nothing
+// The count and the pc of a hart's next row, if that is at a breakpoint. If none is set, nothing
 // else is asked.
 fn stop_at(breaks: &[Addr], joint: &Joint, hart: HartId) -> Option<(Ic, Addr)>
     requires { hart < length joint.now.lanes }

@@ -13,7 +13,7 @@ fn is_same(one: &[u8], other: &[u8]) -> bool
     one == other
 }
 
-// What stands behind a word at the front of a line.
+// The rest of a line that begins with a word.
 fn behind<'a>(word: &[u8], line: &'a [u8]) -> Option<&'a [u8]>
     ensures { MatchOption result (behind word.now line.now ≡ None) (λ rest. behind word.now line.now ≡ Some rest.now) }
 {

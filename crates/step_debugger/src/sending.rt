@@ -22,7 +22,7 @@ pub(crate) fn send<O: Sink>(text: &Text, out: &mut O) -> Result<(), DebugError>
     }
 }
 
-/// Sends what waits of a text, where it is a block or more. The only error is that of a write.
+/// Sends what waits of a text, if it is a block or more. The only error is that of a write.
 pub(crate) fn send_block<O: Sink>(text: &mut Text, out: &mut O) -> Result<(), DebugError>
     ensures sent { Gathers text.old (λ _. Unit {0}) (O.written out.old) (O.written out.new) (O.faults out.old) (O.faults out.new) text.new result }
     ensures later { O.faults out.old ≤ O.faults out.new }

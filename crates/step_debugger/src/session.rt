@@ -20,7 +20,7 @@ use joint_replay::{Joint, JointError};
 use rv_text::Text;
 use std::alloc::AllocError;
 
-/// Whether a session goes on after a command.
+/// Whether a session continues after a command.
 #[derive(Drop)]
 pub enum Ending {
     GoesOn,
@@ -109,7 +109,7 @@ fn push_registers(joint: &Joint, hart: HartId, text: &mut Text) -> Result<(), Al
     }
 }
 
-// Where a hart is.
+// The line of a hart: its count and pc, and what it waits for.
 fn push_hart_place(joint: &Joint, hart: HartId, text: &mut Text) -> Result<(), AllocError>
     requires { hart < length joint.now.lanes }
     ensures { OnOk result (text.new ≡ text.old ++ hart_place joint.now hart) }
@@ -126,7 +126,7 @@ fn push_hart_place(joint: &Joint, hart: HartId, text: &mut Text) -> Result<(), A
     }
 }
 
-// Where all harts are.
+// The lines of all harts.
 fn push_places(joint: &Joint, text: &mut Text) -> Result<(), AllocError>
     ensures { OnOk result (text.new ≡ text.old ++ places_from joint.now 0 (length joint.now.lanes)) }
 {
