@@ -6,10 +6,11 @@ address again and again with no such call between is a look-up, and no giver."""
 from __future__ import annotations
 
 import bisect
+from collections import Counter
 from typing import NamedTuple, Optional
 
 from .elf import WRITABLE, Elf
-from .instruction import RA
+from .instruction import JUMP, RA
 from .rows import LOADS, STORES, Trace
 
 LOWEST, NEAR, LARGEST = 4096, 1024, 1 << 16
@@ -42,7 +43,8 @@ class Blocks:
     """by_address   {address: the blocks that were given out there, in order}; addresses: these, sorted
     arguments    {address: the calls with it, in order}
     writers      {row: the blocks whose address it wrote into a0}
-    taker        {giver: taker}"""
+    taker        {giver: taker}
+    own          the functions that hand out memory and take it back, and not those that call them to do it"""
 
     def __init__(self, trace: Trace, elf: Elf) -> None:
         self.trace, self.elf = trace, elf
@@ -59,6 +61,9 @@ class Blocks:
         self.addresses = sorted(self.by_address)
         self.collect_arguments()
         self.taker = self.takers()
+        self.own = self.allocators([given.block for given in found if given.block.giver in givers])
+        self.leads = {ins.pc: ins.leads for ins in trace.codes if ins.kind == JUMP}
+        self.own_nodes: dict[int, bool] = {}
 
     def add(self, block: Block) -> None:
         """A block replaces those that were given out within its call at the same address, as malloc's are in calloc."""
@@ -154,6 +159,33 @@ class Blocks:
             found[giver] = function
         return found
 
+    def allocators(self, blocks: list[Block]) -> set[int]:
+        """The innermost functions that returned a block, and of each the function that got its address last before it was
+        given out again."""
+        latest: dict[int, Block] = {}
+        last: Counter[tuple[int, int]] = Counter()
+        found = set()
+        for block in blocks:                    # in the order of their returns: inner calls first
+            before = latest.get(block.address)
+            if before and before.call > block.call:
+                continue
+            found.add(block.giver)
+            if before:
+                between = [call.function for call in self.arguments.get(block.address, ()) if before.back < call.row < block.call]
+                last.update((block.giver, function) for function in between[-1:])
+            latest[block.address] = block
+        for giver in list(found):
+            votes = [(times, function) for (one, function), times in last.items() if one == giver]
+            found.update(function for _, function in sorted(votes)[-1:])
+        return found
+
+    def is_own(self, n: int) -> bool:
+        """Whether a row is an allocator's own."""
+        node = self.trace.node_of(n)
+        if node not in self.own_nodes:
+            self.own_nodes[node] = any(self.leads.get(at) in self.own for at in self.trace.calls_at(n))
+        return self.own_nodes[node]
+
     def behind(self, row: int, address: int) -> Optional[Block]:
         """The block that a pointer came from, by the row that wrote the pointer and the address that it leads to."""
         seen, todo = {row}, [row]
@@ -200,7 +232,7 @@ class Blocks:
             return trace.writers(n).rows
         if trace.flags[n] & STORES:
             return [trace.d2[n]]
-        return [trace.d1[n], trace.d2[n]] if trace.code_of(n).rd else []
+        return [trace.before_counting(n), trace.d2[n]] if trace.code_of(n).rd else []
 
     def given_back(self, block: Block, low: int, high: int) -> list[int]:
         """The calls of the taker with a block's address between two rows."""

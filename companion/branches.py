@@ -14,6 +14,7 @@ from .suspect import Extra, Suspect
 from .text import number
 
 EQUAL, RARE_WAY, CUT, ROUND = 10, 4, 8, 6   # what these signs are worth
+ENTRY = 12                  # what a branch of the code that sets up a hart costs more
 EXIT, INNER = 5, 4          # a loop's exit, and each call that it is deeper than the outermost one
 MOST = 40                   # branches that are looked at
 ORDERS = "blt", "bge"
@@ -44,7 +45,10 @@ def branch_suspects(facts: Facts, history: History) -> list[Suspect]:
             continue
         suspect = found[line] = Suspect("branch", row, row, decided.cost)
         judge_values(facts, suspect)
-        judge_way(suspect, ways.of(row))
+        way = ways.of(row)
+        judge_way(suspect, way)
+        if way.all_times == 1 and not facts.trace.node_of(row) and not facts.trace.is_cut(row):
+            suspect.sign(-ENTRY, "it ran once, before any call")
         suspect.extra.append(Extra(BEFORE[decided.how], decided.row))
     return list(found.values())
 

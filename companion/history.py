@@ -146,7 +146,7 @@ class History:
             self.step(trace.d1[n], price + self.address, n, "address")
         elif ins.kind not in (CALL, JUMP):      # a call's result comes from outside, a return address is a constant
             price += 0 if ins.move else 1
-            self.step(trace.d1[n], price, n, "value")
+            self.step(trace.before_counting(n), price, n, "value")
             self.step(trace.d2[n], price, n, "value")
             for register, writer in ((ins.rs1, trace.d1[n]), (ins.rs2, trace.d2[n])):
                 if register and not writer:

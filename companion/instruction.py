@@ -17,9 +17,10 @@ class Instruction:
     kind    one of the eight above; rd, rs1, rs2 are 0 if it has none
     width   the bytes that it accesses
     call, ret, move     a jump that links, a return, a plain copy of a register
+    counts  whether it adds a constant to a register in place
     leads   where a branch or a jump by an offset leads, else 0"""
-    __slots__ = ("at", "row", "pc", "word", "text", "kind", "rd", "rs1", "rs2", "width", "call", "ret", "move", "name",
-                 "leads")
+    __slots__ = ("at", "row", "pc", "word", "text", "kind", "rd", "rs1", "rs2", "width", "call", "ret", "move", "counts",
+                 "name", "leads")
 
     def __init__(self, at: int, key: bytes) -> None:
         """`key` is the row's address, word and text."""
@@ -28,7 +29,7 @@ class Instruction:
         self.text = words[2].decode("ascii", "replace") if len(words) > 2 else "-"
         self.name = self.text.split(" ")[0]
         self.kind, self.rd, self.rs1, self.rs2, self.width = NONE, 0, 0, 0, 4
-        self.call = self.ret = self.move = False
+        self.call = self.ret = self.move = self.counts = False
         self.word = self.leads = 0
         if words[1] != b"--------" and self.text not in ("illegal", "-"):
             self.word = int(words[1], 16)
@@ -62,3 +63,4 @@ class Instruction:
             self.rs1 = rs1 if low in (OP_IMMEDIATE, OP_REGISTER) else 0
             self.rs2 = rs2 if low == OP_REGISTER else 0
             self.move = low == OP_IMMEDIATE and f3 == 0 and word >> 20 == 0
+            self.counts = low == OP_IMMEDIATE and f3 == 0 and rd == rs1

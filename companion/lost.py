@@ -143,7 +143,7 @@ def cut_behind(trace: Trace, row: int) -> Optional[Cut]:
         if trace.flags[n] & LOADS:
             todo += trace.writers(n).rows
         else:
-            todo += [trace.d2[n]] if trace.flags[n] & STORES else [trace.d1[n], trace.d2[n]]
+            todo += [trace.d2[n]] if trace.flags[n] & STORES else [trace.before_counting(n), trace.d2[n]]
     return None
 
 

@@ -13,6 +13,7 @@ from .rows import LOADS, STORES
 from .suspect import Extra, Suspect
 
 GIVEN_BACK, NEVER_WRITTEN, OVER_THE_END = 16, 14, 10
+OWN = 6                     # an allocator's own store: if it loads it itself, it is less likely guilty
 TWICE, MOST_TWICE = 8, 3     # what such a suspect costs, and how many there may be: else a taker is none
 SIZE_ROWS = 2000            # rows of a size's history
 
@@ -30,6 +31,8 @@ class MemoryUse:
         if where is None or not self.blocks.by_address:
             return []
         address = where.address
+        if self.is_own_use(item):
+            return []
         loaded = self.blocks.behind(trace.d1[item.load], address)
         if loaded is None:
             return []
@@ -48,6 +51,16 @@ class MemoryUse:
         if stored.giver == loaded.giver and stored.address == loaded.address and stored.call > loaded.call:
             return self.given_back(item, loaded, stored)
         return []
+
+    def is_own_use(self, item: Suspect) -> bool:
+        """Whether an allocator loads what it stored: free blocks are its own. What it stored and others load is a sign."""
+        if not self.blocks.is_own(item.store):
+            return False
+        if self.blocks.is_own(item.load):
+            item.sign(-OWN, "both are the allocator's own")
+            return True
+        item.sign(OWN, "an allocator's own word, which others loaded")
+        return False
 
     def given_back_twice(self) -> list[Suspect]:
         """Blocks that were given back twice, whatever the history: no sound program does that."""

@@ -136,6 +136,7 @@ class Trace:
         self.tails: list[Tail] = []
         self.pairs: dict[int, int] = {}
         self.reads: list[ReadCall] = []
+        self.began: dict[int, int] = {}         # {row of a loop's counter: what wrote the value that it began with}
         self.fault: Optional[Fault] = None
         self.regs: list[int] = []
         self.tree = CallTree(entries)
@@ -399,6 +400,21 @@ class Trace:
         if store:
             said += f" | store {store.address:08x}={store.value:08x}"
         return said
+
+    def before_counting(self, n: int) -> int:
+        """The row that wrote a row's first register. The rounds of a loop that adds a constant to it are one step: what
+        counts is the value that it began with."""
+        source, passed = self.d1[n], []
+        if not self.code_of(n).counts:
+            return source
+        while source and self.pc[source] == self.pc[n]:
+            if source in self.began:
+                source = self.began[source]
+                break
+            passed.append(source)
+            source = self.d1[source]
+        self.began.update((row, source) for row in passed)
+        return source
 
     def last_rows(self, n: int, most: int) -> list[int]:
         """The latest rows of a row's hart up to it, in their order."""
