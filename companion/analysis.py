@@ -1,8 +1,9 @@
 """What follows from the facts of a crash: its history, its suspects, and where values came from."""
 from __future__ import annotations
 
+from .calls import entries_of
 from .control import Control
-from .elf import FUNCTION, Elf
+from .elf import Elf
 from .facts import Byte, Facts, asked_row, find_starts, race_pairs
 from .history import NO_REGISTER, History
 from .log import Log
@@ -31,7 +32,7 @@ class Analysis(Facts):
         recursion = find_recursion(trace, self.start)
         loop = self.starts[0 if self.hangs else 1:] + [n for n in recursion.given if n != self.start]
         self.history = History(trace, self.starts + loop, control=Control(trace, elf),
-                               is_output=output is not None)
+                               is_output=output is not None, hangs=self.hangs)
         self.races = race_pairs(log, elf)
         self.lines = self.history.lines(self.places)
         self.suspects = Ranking(self, self.history, self.races.pairs, recursion.suspects, loop).found
@@ -64,7 +65,7 @@ def analysed(log_name: str, elf_name: str, names: str = "", row: str = "", rows:
         elf = Elf(elf_name)
         named = named_elf(elf, names)
         asked = Asked(asked_row(row).hart, asked_row(row).count) if row else None
-        entries = {symbol.address for symbol in named.functions if symbol.kind == FUNCTION}
+        entries = entries_of(named)
         rows = ALL_ROWS if output else rows
         log = source.end(rows or FIRST_ROWS, asked)
         trace = read_trace(log, elf_name, entries, output.write if output else -1)

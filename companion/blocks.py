@@ -14,6 +14,7 @@ from .instruction import JUMP, RA
 from .rows import LOADS, STORES, Trace
 
 LOWEST, NEAR, LARGEST = 4096, 1024, 1 << 16
+OFTEN = 3
 MOST_JUMPS = 500000         # so many of the latest calls and returns are looked at, which bounds the memory
 HEADER = 4                  # bytes before a block that are surely its allocator's
 STEPS = 600                 # so many rows are looked at for the block that a pointer came from
@@ -131,7 +132,10 @@ class Blocks:
                 kind = again if between else alone
                 kind[block.giver] = kind.get(block.giver, 0) + 1
             latest[key] = block.back
-        return {giver for giver, _ in latest if alone.get(giver, 0) <= again.get(giver, 0)}
+        addresses = Counter(giver for giver, _ in latest)
+        # One address again and again is what a register held, as that of a lock.
+        return {giver for giver, _ in latest if alone.get(giver, 0) <= again.get(giver, 0) and
+                (addresses[giver] > 1 or again.get(giver, 0) < OFTEN)}
 
     def collect_arguments(self) -> None:
         trace = self.trace

@@ -18,7 +18,7 @@ ENTRY = 12                  # what a branch of the code that sets up a hart cost
 EXIT, INNER = 5, 4          # a loop's exit, and each call that it is deeper than the outermost one
 MOST = 40                   # branches that are looked at
 ORDERS = "blt", "bge"
-BEFORE = {"control": "before", "kept": "so this kept its value in"}
+BEFORE = {"control": "before", "kept": "so this kept its value in", "awaited": "so this goes on waiting in"}
 
 
 class Compared(NamedTuple):

@@ -8,6 +8,16 @@ from __future__ import annotations
 from array import array
 from typing import AbstractSet, NamedTuple
 
+from .elf import FUNCTION, Elf
+
+
+RESTORES = "__riscv_restore_"
+
+
+def entries_of(elf: Elf) -> set[int]:
+    """Where functions begin. What takes registers back for a function that ends is a part of it."""
+    return {symbol.address for symbol in elf.functions if symbol.kind == FUNCTION and not symbol.name.startswith(RESTORES)}
+
 
 class Above(NamedTuple):
     """calls   the places of the innermost calls over a node, innermost first

@@ -93,11 +93,13 @@ class Control:
     def kept(self, load: int, store: int) -> int:
         """The latest branch between a store and the load that got it which went past the store's place: had it gone the
         other way, the word would have been stored again. Or 0."""
-        trace, hart = self.trace, self.trace.hart[load]
-        if trace.hart[store] != hart:
-            return 0
-        place, after = trace.code_of(store).pc, load
-        for n in range(load - 1, max(store, load - MOST_ROWS), -1):
+        return self.passed(store, load) if self.trace.hart[store] == self.trace.hart[load] else 0
+
+    def passed(self, store: int, end: int) -> int:
+        """The latest branch of a store's hart, before a row of it, which went past the store's place. Or 0."""
+        trace, hart = self.trace, self.trace.hart[store]
+        place, after = trace.code_of(store).pc, end
+        for n in range(end - 1, max(store, end - MOST_ROWS), -1):
             if trace.hart[n] == hart:
                 if trace.code_of(n).kind == BRANCH and self.is_past(n, trace.code_of(after).pc, place):
                     return n

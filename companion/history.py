@@ -21,6 +21,7 @@ DECIDING_ROWS, MOST_BRANCHES = 300, 24
 CONTROL, OUTPUT_CONTROL, NEXT_CONTROL = 12, 8, 4    # the branch that decided of a row; of a row of an output; of a branch
 MOST_CONTROL, MOST_KEPT, MOST_FILLED = 2000, 400, 4  # how often it is asked what decided of a row
 DEAREST_CONTROL, DEAREST_FILLED, KEPT_ROWS = 40, 6, 50
+AWAITED, NEAR_LOOP = 4, 3   # the branch by which another hart didn't store what a loop waits for
 STORES_ANOTHER = "amoswap", "sc."       # atomics whose stored word owes nothing to the loaded one
 FAR = 1000                  # a store so many rows before its load is far
 NO_REGISTER = 0                         # memory
@@ -73,9 +74,9 @@ class History:
              run's start"""
 
     def __init__(self, trace: Trace, starts: Sequence[int], most: int = MOST_ROWS, control: Optional[Control] = None,
-                 is_output: bool = False) -> None:
+                 is_output: bool = False, hangs: bool = False) -> None:
         """`starts` are the rows that are asked of; the first is the one that the report is about. With `control` the
-        branches that decided of the rows are followed too."""
+        branches that decided of the rows are followed too. `hangs` says that the starts are of a loop without end."""
         self.trace, self.start, self.most = trace, starts[0], most
         self.cost: dict[int, int] = {}
         self.parent: dict[int, Step] = {}
@@ -85,6 +86,7 @@ class History:
         self.branches: dict[int, Decided] = {}
         self.asked = self.kept = self.filled = 0
         self.address = OUTPUT_ADDRESS if is_output else ADDRESS
+        self.hangs = hangs
         self.control, self.control_cost = control, OUTPUT_CONTROL if is_output else CONTROL
         self.cut = False
         self.left: set[Left] = set()
@@ -112,7 +114,7 @@ class History:
     def step(self, row: int, price: int, source: int, how: str) -> None:
         if row and (row not in self.cost or price < self.cost[row]):
             self.cost[row], self.parent[row] = price, Step(source, how)
-            if how in ("decision", "control", "kept") or source in self.decided:
+            if how in ("decision", "control", "kept", "awaited") or source in self.decided:
                 self.decided.add(row)
             else:
                 self.decided.discard(row)
@@ -185,6 +187,7 @@ class History:
             self.step(writer, cost, n, "memory")
             key = Pair(n, writer)
             self.far[key] = min(cost, self.far.get(key, cost))
+            self.awaited(n, writer, price)
             if self.control and price <= DEAREST_CONTROL and n - writer >= KEPT_ROWS and cost > price and self.kept < MOST_KEPT:
                 self.kept += 1
                 self.decide(self.control.kept(n, writer), Decided(price + self.control_cost, n, "kept"))
@@ -196,6 +199,13 @@ class History:
             for row in self.trace.beside(n):    # why not here?
                 self.step(self.trace.d1[row], price + FILLED, n, "address")
         return bool(found)
+
+    def awaited(self, load: int, store: int, price: int) -> None:
+        """What a hart waits for is stored by another one: the branch by which that one didn't store it again."""
+        trace = self.trace
+        if self.control and self.hangs and price <= NEAR_LOOP and trace.hart[load] != trace.hart[store]:
+            branch = self.control.passed(store, trace.last[trace.hart[store]])
+            self.decide(branch, Decided(price + AWAITED, load, "awaited"))
 
     def is_far(self, load: int, store: int) -> bool:
         return self.trace.hart[load] != self.trace.hart[store] or load - store > FAR

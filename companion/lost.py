@@ -6,15 +6,16 @@ from typing import NamedTuple, Optional, Sequence
 from .facts import Facts
 from .history import ADDRESS, History
 from .instruction import ALU, STORE, Instruction
-from .rows import LOADS, STORES, Trace
-from .suspect import Suspect
+from .rows import LOADS, OFFSET, STORES, Trace
+from .suspect import Extra, Suspect
 
 MOST = 300                  # rows that are looked at, nearest to the fault first
 BECAME_ZERO, WAS_CUT, MASKED, BELOW_ZERO = 12, 6, 2, 14
 SMALL = 1 << 16             # how far below zero a difference may be
 MASKS = {(1 << width) - 1: width for width in range(4, 12)}
 ZEROED, DIVIDED = ("mul", "sll", "slli", "srli"), ("div", "divu", "rem", "remu")
-ALIGNMENT, SUMS = 10, ("add", "addi", "sub", "or", "ori")
+ALIGNMENT, SUMS, CONSTANTS = 10, ("add", "addi", "sub", "or", "ori"), ("lui", "auipc")
+ODD_COST = 2 * ADDRESS
 STEPS = 14                  # rows of a compared value that are looked at
 
 
@@ -80,7 +81,17 @@ def lost_bits(facts: Facts, history: History, rows: Sequence[Narrowing]) -> list
                 continue
             suspect = found[line] = Suspect("lost", n, n, history.cost[n])
             suspect.sign(*said)
+            add_store(facts, history, suspect)
     return list(found.values())
+
+
+def add_store(facts: Facts, history: History, suspect: Suspect) -> None:
+    """Tells of the first store on the way from a suspect to the fault, if it is of another line."""
+    for n, _ in reversed(history.path(suspect.guilty)):
+        if facts.trace.flags[n] & STORES:
+            if facts.line(n) != facts.line(suspect.guilty):
+                suspect.extra.append(Extra("what came of it was stored in", n))
+            break
 
 
 def loss(trace: Trace, rows: Narrowing) -> Optional[Loss]:
@@ -112,15 +123,35 @@ def lost_alignment(facts: Facts, history: History) -> list[Suspect]:
     width = 4 if fault.name.startswith("Target") else fault.instruction.width
     found: dict[str, Suspect] = {}
     for n in sorted(history.cost, key=lambda row: (history.cost[row], -row)):
-        if history.cost[n] >= ADDRESS:
+        if history.cost[n] >= ODD_COST:
             break
+        if facts.line(n) in found:
+            continue
         before, after = trace.result_of(trace.d1[n]), trace.result_of(n)
         second = trace.result_of(trace.d2[n]) or 0
         if trace.code_of(n).name in SUMS and before and after and after % width and not before % width and not second % width:
-            suspect = found.setdefault(facts.line(n), Suspect("odd", n, n, history.cost[n]))
-            if not suspect.why:
-                suspect.sign(ALIGNMENT, f"{before:08x}, a multiple of {width}, became {after:08x}")
+            if trace.code_of(trace.d1[n]).name in CONSTANTS:
+                continue
+            suspect = found[facts.line(n)] = Suspect("odd", n, n, history.cost[n])
+            suspect.sign(ALIGNMENT, f"{before:08x}, a multiple of {width}, became {after:08x}")
+            add_store(facts, history, suspect)
+        elif is_first_odd(trace, n, width):
+            suspect = found[facts.line(n)] = Suspect("odd", n, n, history.cost[n])
+            suspect.sign(ALIGNMENT, f"the word held a multiple of {width} until then")
     return list(found.values())
+
+
+def is_first_odd(trace: Trace, n: int, width: int) -> bool:
+    """Whether a row stores a computed value that is no multiple where a multiple was."""
+    ins, value, old = trace.code_of(n), trace.result_of(trace.d2[n]), trace.dm[n]
+    if ins.kind != STORE or ins.width == 1 or not old or value is None or value % width == 0:
+        return False
+    source = trace.d2[n]
+    while source and trace.code_of(source).move:
+        source = trace.d1[source]
+    told = trace.store_of(old)
+    before = told.value >> 8 * (trace.flags[n] & OFFSET) & (1 << 8 * ins.width) - 1 if told else 1
+    return not trace.flags[source] & LOADS and before % width == 0
 
 
 class Cut(NamedTuple):

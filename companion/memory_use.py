@@ -8,11 +8,12 @@ from .blocks import Block, Blocks
 from .facts import Facts
 from .history import History
 from .instruction import ALU
-from .lost import lost_bits, narrowings
+from .lost import cut_behind, lost_bits, narrowings
 from .rows import LOADS, STORES
 from .suspect import Extra, Suspect
 
 GIVEN_BACK, NEVER_WRITTEN, OVER_THE_END = 16, 14, 10
+CUT_BOUND = 8
 OWN = 6                     # an allocator's own store: if it loads it itself, it is less likely guilty
 TWICE, MOST_TWICE = 8, 3     # what such a suspect costs, and how many there may be: else a taker is none
 SIZE_ROWS = 2000            # rows of a size's history
@@ -77,6 +78,7 @@ class MemoryUse:
         if self.is_new("over", item.guilty, block.call):
             item.sign(OVER_THE_END, f"{words} over the end of its block, into another")
             item.extra.append(Extra("that block was given out in", block.call))
+            self.judge_bound(item)
         size = self.trace.jump_writer[self.trace.jump_at(block.call)]
         if not size or not self.is_new("size", size):
             return []
@@ -88,6 +90,14 @@ class MemoryUse:
             suspect.score += item.cost - OVER_THE_END
             suspect.extra.append(Extra("the block was given out in", block.call))
         return found
+
+    def judge_bound(self, item: Suspect) -> None:
+        """What bounds the loop that wrote over the end may have lost bits."""
+        branch = self.history.control.before(item.store) if self.history.control else 0
+        cut = cut_behind(self.trace, self.trace.d1[branch]) or cut_behind(self.trace, self.trace.d2[branch])
+        if cut:
+            item.sign(CUT_BOUND, "a bound of its loop had lost bits")
+            item.extra.append(Extra(cut.words + " in", cut.row))
 
     def is_new(self, kind: str, row: int, other: int = 0) -> bool:
         """Whether something is told the first time."""

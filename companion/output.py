@@ -8,8 +8,8 @@ from typing import Any, Iterable, Iterator, NamedTuple, Optional
 from . import streams
 from .answers import place_of as code_place
 from .answers import put_answer
-from .calls import CallTree
-from .elf import FUNCTION, Elf
+from .calls import CallTree, entries_of
+from .elf import Elf
 from .instruction import A0, A1, A7, AMO, CALL, JUMP, LOAD, STORE, Instruction
 from .log import Log, read_log
 from .memory import Memory, quoted
@@ -115,7 +115,7 @@ def main(words: list[str]) -> int:
     (log_name, elf_name), given = parse(words, {"--names": True, "--json": False}, 2, FORM)
     log, elf = read_log(log_name), Elf(elf_name)
     named = named_elf(elf, given.get("--names", ""))
-    tree = CallTree({symbol.address for symbol in named.functions if symbol.kind == FUNCTION})
+    tree = CallTree(entries_of(named))
     count = size = unknown = 0
     if "--json" in given:
         with closing(places_of(named)) as places, Output("joint", log.name, elf_name) as lines:

@@ -18,6 +18,8 @@ class Suspect:
                  "lost": arithmetic that lost bits
                  "odd": arithmetic that lost an address's alignment
                  "branch": a branch that chose the way; "exit": one that would have ended a loop
+                 "unlocked": an access without the lock that others hold
+                 "constant": a constant that went on as it was
                  "calls": a function that goes on calling itself
     load, store  its rows; they are the same row if it has only one
     guilty       the row that the suspect is about

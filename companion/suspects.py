@@ -14,7 +14,8 @@ from typing import Sequence
 from .branches import branch_suspects, exit_suspects
 from .facts import At, Facts
 from .history import ADDRESS, History, Pair
-from .instruction import AMO, SP, STORE
+from .instruction import ALU, AMO, SP, STORE
+from .locks import unlocked
 from .lost import lost_alignment, lost_bits, narrowings
 from .memory_use import MemoryUse
 from .suspect import Suspect, rank
@@ -22,6 +23,7 @@ from .text import counted, number
 
 OTHER_HART, NARROW, RACE, OTHER_FUNCTION, RARITY = 8, 12, 6, 3, 5
 CLOSES, CLOSE = 8, 3        # the store that closed a circle, and how near to the loop its load is
+CONSTANT = 2                # what a constant is worth less
 SYMPTOM = 8                 # a stack that has grown into data is a consequence of its depth
 NEAR_STORE = 6              # what a near store is worth less
 MOST_LOOKED_AT = 60         # pairs of loads and stores whose rows are read
@@ -44,6 +46,7 @@ class Ranking:
         found = [suspect for item in stores[:MOST_LOOKED_AT] for suspect in memory.judge(item)]
         found += memory.given_back_twice() + lost_bits(facts, history, narrowings(self.trace, history))
         found += lost_alignment(facts, history) + branch_suspects(facts, history) + exit_suspects(facts)
+        found += unlocked(facts, history) + constants(facts, history)
         self.found = sorted(stores + found + recursion, key=rank)
 
     def stores(self) -> list[Suspect]:
@@ -125,3 +128,20 @@ class Ranking:
             return
         item.shown = item.cost < ADDRESS
         item.sign(-NEAR_STORE, f"{counted(distance, 'row')} earlier")
+
+
+def constants(facts: Facts, history: History) -> list[Suspect]:
+    """Constants that went on as they were: what a function returned, or what a loop didn't replace."""
+    trace = facts.trace
+    found: dict[str, Suspect] = {}
+    for n, price in history.cost.items():
+        ins = trace.code_of(n)
+        if ins.kind != ALU or ins.name != "addi" or ins.rs1 or price >= ADDRESS or n in history.decided or n not in history.parent:
+            continue
+        user = trace.code_of(history.parent[n].row)
+        if user.move or history.parent[n].row == facts.start:
+            suspect = Suspect("constant", n, n, price)
+            suspect.sign(-CONSTANT, f"{trace.result_of(n) or 0:08x} is a constant, which went on as it was")
+            if facts.line(n) not in found or rank(suspect) < rank(found[facts.line(n)]):
+                found[facts.line(n)] = suspect
+    return list(found.values())

@@ -1,0 +1,99 @@
+"""A word that harts access while they hold a lock, and once without it.
+
+A lock is a word that a hart sets from 0 by an atomic instruction, and sets to 0 again. Nothing has to say which words it
+guards: that shows in what is held at their accesses."""
+from __future__ import annotations
+
+from collections import Counter
+from typing import Iterable, NamedTuple
+
+from .facts import Facts
+from .history import History
+from .instruction import AMO
+from .rows import LOADS, STORES, Trace
+from .suspect import Extra, Suspect
+
+LEAST, RARE = 3, 3          # how often a guarded word is accessed with its lock at least, and how much rarer without
+UNLOCKED = 12
+
+
+class Held(NamedTuple):
+    """An access to a word, and the locks that its hart held."""
+    row: int
+    locks: frozenset[int]
+
+
+def setting(trace: Trace) -> list[tuple[int, int, bool]]:
+    """The rows that set a word from 0 by an atomic instruction, or back to 0: with the word, and whether it was set."""
+    found, free = [], set()
+    for n, address in zip(trace.access_rows, trace.addresses):
+        if trace.code_of(n).kind == AMO:
+            told, stored = trace.load_of(n), trace.store_of(n)
+            if told and not stored:             # a store-conditional may follow
+                free.discard(address)
+                if not told.value:
+                    free.add(address)
+            elif stored and stored.value and (not told.value if told else address in free):
+                found.append((n, address, True))
+    words = {address for _, address, _ in found}
+    for n, address in zip(trace.access_rows, trace.addresses):
+        if address in words and trace.flags[n] & STORES:
+            stored = trace.store_of(n)
+            if stored and not stored.value:
+                found.append((n, address, False))
+    return sorted(found)
+
+
+def accesses(trace: Trace, words: Iterable[int]) -> dict[int, list[Held]]:
+    """The accesses to some words."""
+    held: dict[int, set[int]] = {hart: set() for hart in trace.last}
+    changes = setting(trace)
+    given_back = {(trace.hart[n], lock) for n, lock, is_set in changes if not is_set}
+    found: dict[int, list[Held]] = {word: [] for word in words}
+    at = 0
+    for n, address in zip(trace.access_rows, trace.addresses):
+        hart = trace.hart[n]
+        while at < len(changes) and changes[at][0] <= n:
+            row, lock, is_set = changes[at]
+            if is_set and (trace.hart[row], lock) in given_back:
+                held[trace.hart[row]].add(lock)
+            else:
+                held[trace.hart[row]].discard(lock)
+            at += 1
+        if address & ~3 in found:
+            found[address & ~3].append(Held(n, frozenset(held[hart])))
+    return found
+
+
+def unlocked(facts: Facts, history: History) -> list[Suspect]:
+    """The accesses without a lock to words that are behind the start and that others access with one."""
+    trace = facts.trace
+    if len(trace.last) < 2:
+        return []
+    nearest: dict[int, int] = {}
+    for n, price in history.cost.items():
+        if trace.flags[n] & (LOADS | STORES):
+            word = trace.access(n).address & ~3
+            nearest[word] = min(price, nearest.get(word, price))
+    found = []
+    for word, held in accesses(trace, nearest).items():
+        lock, times = max(Counter(lock for each in held for lock in each.locks).items(), key=lambda item: item[1],
+                          default=(word, 0))
+        harts: set[int] = set()
+        bare = []
+        for each in held:                       # until a second hart comes, nothing has to be guarded
+            harts.add(trace.hart[each.row])
+            if lock not in each.locks and len(harts) > 1:
+                bare.append(each.row)
+        stores = [n for n in bare if trace.flags[n] & STORES]
+        if lock != word and bare and times >= LEAST and times >= RARE * len(bare):
+            found.append(suspect_of(facts, (stores or bare)[-1], bare, nearest[word]))
+            found[-1].sign(UNLOCKED, f"{times} other accesses hold a lock, {facts.named.data_name(lock) or f'{lock:08x}'}")
+    return found
+
+
+def suspect_of(facts: Facts, guilty: int, bare: list[int], cost: int) -> Suspect:
+    suspect = Suspect("unlocked", guilty, guilty, cost)
+    other = [n for n in bare if facts.line(n) != facts.line(guilty)]
+    suspect.extra += [Extra("and so did", n) for n in other[-1:]]
+    return suspect
