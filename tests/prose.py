@@ -7,7 +7,8 @@ Without words all are checked. No sentence may have more than 35 words, no table
 than PAGES says (as `wc -w` counts). None of the words in WORDS may stand there, and no link may lead nowhere.
 Code is not prose: blocks are passed over, and a piece of inline code is one word of its sentence.
 
-Of a source (COMMENTS has the endings), the lines of a comment are one text; so are those of a Python docstring.
+Of a source (COMMENTS has the endings), the lines of a comment are one text; so are those of a Python docstring. A line
+in which blanks set a name apart from what it is begins a text of its own.
 
 The checks are first tried on text that has each fault and on text that has none (SAMPLES, SOURCES).
 """
@@ -135,6 +136,7 @@ SOURCES = [
     (".py", 'a = """\n# not yet\n"""\nb = \'#\'\n', []),
     (".py", f'def f():\n    """{LONG}\n    {LONG}\n\n    {LONG}"""\n', [(2, "sentence of 40 words")]),
     (".py", f"a = 1  # {LONG}\n# {LONG}\nb = 2  # {LONG}\n", []),
+    (".py", f'class A:\n    """first   {LONG}\n    second  {LONG}\n    {LONG}"""\n', [(3, "of 41 words")]),
     (".sh", "#!/bin/dear\n# It goes\n#   by steps.\na=${#dear} # yet\nb='# yet'\n", [(2, "'goes by'"), (4, "'yet'")]),
     (".sh", f"# {LONG}\n# {LONG}\nf() {{\n    [ $# = 0 ] && echo \"$# # yet\" # not dear\n}}\n", [(1, "of 40 words"), (4, "'dear'")]),
     (".sh", "awk '\n# anew, it doesn't end here\n{ print }' a#yet\n", [(2, "'anew'")]),
@@ -333,8 +335,9 @@ def comment_texts(kind, text):
     first, last, lines = 0, None, []
     for line, column, mark, words in comments_in(kind, text):
         title = re.match(r"\s*--+\s*", words)
+        is_item = re.search(r"\S\s{2,}\S", words)
         place = (line, column, mark)
-        if lines and (title or column is None or place != last):
+        if lines and (title or is_item or column is None or place != last):
             yield first, "\n".join(lines)
             lines = []
         first = first if lines else line
