@@ -28,7 +28,7 @@ def addresses_of(elf: Elf, name: str) -> list[Named]:
 
 
 def addresses_of_line(elf: Elf, file: str, line: int) -> list[Named]:
-    """Where each piece of code of a line begins. The tools answer lines of addresses alone, so all code is asked."""
+    """The first address of each piece of code of a line. The tools answer lines of addresses alone, so all code is asked."""
     found, before = [], False
     with closing(places_of(elf)) as places:
         code = code_of(elf)

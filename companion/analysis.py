@@ -1,4 +1,4 @@
-"""What follows from the facts of a crash: its history, its suspects, and where values came from."""
+"""What follows from the facts of a crash: its history, its suspects, and the origins of values."""
 from __future__ import annotations
 
 from .calls import entries_of

@@ -101,7 +101,7 @@ class Blocks:
         return None
 
     def entry(self, call: int) -> int:
-        """Where the called function begins: the place of its first row."""
+        """The called function's first address: the place of its first row."""
         trace, hart, n = self.trace, self.trace.hart[call], call + 1
         while n <= trace.rows and trace.hart[n] != hart:
             n += 1

@@ -48,7 +48,7 @@ def last_place(trace: Trace, hart: int, reason: str) -> int:
     last = trace.last_rows(trace.last[hart], LOOP_ROWS)
     if reason == "limit":                       # any row of the loop can be last
         return min(last, key=lambda n: (trace.tree.depth[trace.node_of(n)], trace.code_of(n).pc))
-    # Behind a jump to where no code is, the jump's place tells more.
+    # After a jump to an address without code, the jump's place tells more.
     return last[-2 if reason == "FetchOutside" and len(last) > 1 else -1]
 
 

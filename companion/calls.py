@@ -2,7 +2,7 @@
 
 Calls are a tree, which all harts share: a node is the place of a call made in another node; node 0 is the outermost.
 A return goes to the nearest node whose call it returns behind; one that fits none changes nothing, and so do longjmp
-and hand-made returns. A jump to where a function begins is a call too, which returns for the function that made it."""
+and hand-made returns. A jump to the first address of a function is a call too, which returns for the function that made it."""
 from __future__ import annotations
 
 from array import array
@@ -15,7 +15,7 @@ RESTORES = "__riscv_restore_"
 
 
 def entries_of(elf: Elf) -> set[int]:
-    """Where functions begin. What takes registers back for a function that ends is a part of it."""
+    """The first addresses of functions. What takes registers back for a function that ends is a part of it."""
     return {symbol.address for symbol in elf.functions if symbol.kind == FUNCTION and not symbol.name.startswith(RESTORES)}
 
 

@@ -114,7 +114,7 @@ class Control:
 
 
 def other_side(branch: Instruction, went: int) -> Optional[int]:
-    """Where a branch would have gone else; None if both of its sides are one place."""
+    """The address to which a branch would have gone else; None if both of its sides are one place."""
     passed = branch.pc + 4
     if branch.leads == passed:
         return None

@@ -31,7 +31,7 @@ class Symbol(NamedTuple):
 
 
 class SectionHead(NamedTuple):
-    """The fields of a section's header that are read: its kind, where it lies, and the section that it names."""
+    """The fields of a section's header that are read: its kind, its place, and the section that it names."""
     kind: int
     offset: int
     size: int

@@ -80,7 +80,7 @@ def jump_words(trace: Trace, fault: Fault) -> list[str]:
 
 
 def stack_words(trace: Trace, elf: Elf, base: int) -> list[str]:
-    """Whether the stack's pointer is where no stack should be."""
+    """Whether the stack's pointer is at a place for no stack."""
     pointer = trace.regs[SP]
     if base == SP or pointer < PAGE or elf.part_of(pointer):
         return [f"The stack's pointer is {pointer:08x}{near(elf, pointer)}: the stack may have overflowed."]

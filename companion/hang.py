@@ -59,7 +59,7 @@ def exit_lines(facts: Facts, item: Exit) -> list[str]:
 
 
 def operand_words(facts: Facts, operand: Operand) -> str:
-    """What a value is, where it was loaded, and who stored it last."""
+    """What a value is, which row loaded it, and who stored it last."""
     trace, value = facts.trace, facts.trace.result_of(operand.row)
     told = trace.load_of(operand.load) if operand.load else None
     said = f"{NAMES[operand.register]} is " + ("unknown" if value is None else f"{value:08x}")

@@ -67,7 +67,7 @@ class History:
     parent   {row: the row that needed it, and how}
     far      {a load and the store that it got: cost}
     before   loads of bytes that no row stored
-    decided  the rows that stand behind the start only by a branch
+    decided  the rows that led to the start only by a branch
     branches {a branch that decided of a row: of which}
     cut      whether the search was cut off
     left     loads and registers near to the start whose values come from before a hart's first row, and not from the
@@ -221,7 +221,7 @@ class History:
         return steps[::-1]
 
     def root(self, row: int) -> int:
-        """Which of the rows that the history begins with a row stands behind."""
+        """Which of the rows that the history begins with a row led to."""
         while row in self.parent and self.parent[row].how != LOOP:
             row = self.parent[row].row
         return row

@@ -18,7 +18,7 @@ class Instruction:
     width   the bytes that it accesses
     call, ret, move     a jump that links, a return, a plain copy of a register
     counts  whether it adds a constant to a register in place
-    leads   where a branch or a jump by an offset leads, else 0"""
+    leads   the address to which a branch or a jump by an offset leads, else 0"""
     __slots__ = ("at", "row", "pc", "word", "text", "kind", "rd", "rs1", "rs2", "width", "call", "ret", "move", "counts",
                  "name", "leads")
 

@@ -23,7 +23,7 @@ LATEST, LATEST_ROWS = 6, 50000  # how many stores of each place are looked at fo
 
 class Operand(NamedTuple):
     """A value that a branch compares: its register, the row that wrote it, the load that it came from, the store that
-    this got. 0 stands for none."""
+    this got. 0 is none."""
     register: int
     row: int
     load: int
@@ -68,7 +68,7 @@ class Loop:
         self.stopped = self.find_stopped()
 
     def find_places(self) -> tuple[set[int], int]:
-        """The places, and where the stay begins among the hart's rows."""
+        """The places, and the beginning of the stay among the hart's rows."""
         end = len(self.codes)
         latest = sorted(self.latest.items(), key=lambda item: -item[1]) + [(NO_CODE, -1)]     # before the first row
         cuts = [i for i in range(1, len(latest)) if end - latest[i][1] >= LONGER * (end - latest[i - 1][1])]

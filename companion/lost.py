@@ -116,7 +116,7 @@ def loss(trace: Trace, rows: Narrowing) -> Optional[Loss]:
 
 
 def lost_alignment(facts: Facts, history: History) -> list[Suspect]:
-    """Where the address of a misaligned access stopped being a multiple of its width, the nearest such row of each line."""
+    """The rows at which the address of a misaligned access stopped being a multiple of its width: the nearest of each line."""
     trace, fault = facts.trace, facts.trace.fault
     if not facts.faulted or not fault or not fault.name.endswith("Misaligned"):
         return []
@@ -142,7 +142,7 @@ def lost_alignment(facts: Facts, history: History) -> list[Suspect]:
 
 
 def is_first_odd(trace: Trace, n: int, width: int) -> bool:
-    """Whether a row stores a computed value that is no multiple where a multiple was."""
+    """Whether a row stores a computed value that is no multiple in place of one."""
     ins, value, old = trace.code_of(n), trace.result_of(trace.d2[n]), trace.dm[n]
     if ins.kind != STORE or ins.width == 1 or not old or value is None or value % width == 0:
         return False

@@ -1,4 +1,4 @@
-"""Where words came from that no row of the log stored, and how to record more."""
+"""The origins of words that no row of the log stored, and how to record more."""
 from __future__ import annotations
 
 from typing import NamedTuple
@@ -13,7 +13,7 @@ MOST_LOADS = 400
 
 
 class Origin(NamedTuple):
-    """Where a load's word came from, in words, and the place of the load."""
+    """The origin of a load's word, in words, and the place of the load."""
     words: str
     place: str
 

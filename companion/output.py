@@ -99,7 +99,7 @@ class Reader:
 
 
 def place_of(places: Places, tree: CallTree, write: Write) -> str:
-    """Where a write was made, and the calls over it, innermost first."""
+    """The place of a write, and the calls over it, innermost first."""
     pcs = [write.pc] + tree.calls(write.node, MOST_FRAMES).calls
     frames = [frame for pc in pcs for frame in places.frames(pc)][:MOST_FRAMES]
     said = [f"{frame.function} {frame.file}:{frame.line}" if frame.line else frame.function for frame in frames]

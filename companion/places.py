@@ -41,7 +41,7 @@ class Tool:
     """One addr2line. The first question starts it; `name` is empty if there is none, or it has failed.
 
     An answer is the echo of its address and two lines for each frame. The names in it are the file's, and can hold
-    anything, ends of lines as well. So a mark is asked before each address: an address that each process draws anew,
+    anything, ends of lines as well. So a mark is asked before each address: an address that each process draws for itself,
     which no file can know. What stands between two of its echoes is the answer to one address."""
 
     def __init__(self, elf: Elf, tools: Iterable[str]) -> None:

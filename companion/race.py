@@ -44,7 +44,7 @@ RANK_WORDS = {ON_CHAIN: "on the chain of values behind the fault", CHAIN_WORD: "
 
 
 class Judged:
-    """The groups of a log in the order in which they are told, and why each stands where it does.
+    """The groups of a log in the order in which they are told, and why each has its place.
 
     A family is the groups of one object's words that have the same places. It is told as one group."""
 

@@ -1,7 +1,7 @@
 """The races of a log as the program lists them, in groups: by the two places and the word.
 
-A group is judged in two ways, which are guesses from the code and no more: it is *fenced* if both accesses stand beside
-a fence, and *ordered by fences* if each of its pairs lies behind a fenced store and before a fenced load of its word."""
+A group is judged in two ways, which are guesses from the code and no more. It is *fenced* if both accesses stand beside
+a fence. It is *ordered by fences* if each of its pairs lies after a fenced store and before a fenced load of its word."""
 from __future__ import annotations
 
 import bisect

@@ -1,8 +1,8 @@
 """The end of a large log as a log of its own, since what tells of a crash is mostly among its last rows.
 
 A file of version 2 ends in blocks that are good by themselves. So its head and its last blocks are what `salvage` takes,
-and what that saves is a log: the program's own `joint`, `races` and `list` read it, in a time that doesn't grow with the
-whole."""
+and what that saves is a log. The program's own `joint`, `races` and `list` read it, in a time that doesn't grow with
+the whole."""
 from __future__ import annotations
 
 import contextlib
@@ -73,7 +73,7 @@ class LogFile:
         return log
 
     def start_of(self, data: mmap.mmap, rows: int, asked: Optional[Asked]) -> int:
-        """Where the blocks begin that are read."""
+        """The place of the first block that is read."""
         blocks = Blocks(data, rows, asked)
         if asked and blocks.rows > max(MOST_ROWS, 2 * rows):
             raise CompanionError(f"row {asked.hart}:{asked.at} is more than {MOST_ROWS} rows before the end: "
@@ -106,7 +106,7 @@ class Blocks:
         self.most, self.asked = rows, asked
         self.rows = 0
         self.ends: dict[int, int] = {}          # {hart: where its interval ends, whose Header comes further back}
-        self.awaited: set[int] = set()          # harts whose last interval isn't whole yet
+        self.awaited: set[int] = set()          # harts whose last interval is still incomplete
         self.faulted: set[int] = set()
         self.seen: set[int] = set()
         self.start = len(data)

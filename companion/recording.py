@@ -22,7 +22,7 @@ ENDS = DONE, FAULT, LIMIT = 0, 10, 11   # the statuses of recordings that were m
 
 
 class Kind(IntEnum):
-    """Where the turns of a recording come from."""
+    """What determines the turns of a recording."""
     SEED, BURSTS, SLEEPER, THREADS = range(4)
 
 

@@ -1,7 +1,7 @@
 """The rows of `joint` as numbers: 22 bytes a row, 12 for each access to memory, 20 for each call or return, in arrays
 that are filled in one pass.
 
-Row numbers begin with 1; 0 stands for no row. Beside the arrays the reader keeps two entries for each word of memory
+Row numbers begin with 1; 0 is no row. Beside the arrays the reader keeps two entries for each word of memory
 that a row touched, and one for each pair of a load's and a store's code."""
 from __future__ import annotations
 
@@ -33,7 +33,7 @@ class Access(NamedTuple):
 
 
 class Row(NamedTuple):
-    """An instruction that was done: `ic` is its hart's count before it, `word` is None without code; `register` is the name
+    """An instruction that was done. `ic` is its hart's count before it, `word` is None without code. `register` is the name
     of what it wrote, or empty, and `result` the value; `fault` is the name of the fault, or empty."""
     hart: int
     ic: int
@@ -48,8 +48,8 @@ class Row(NamedTuple):
 
 
 class Hart:
-    """What is known of a hart while its rows are read: of each register the row that wrote it, and its value; the node
-    of its calls; where its rows begin again behind another hart's; its calls and returns."""
+    """What is known of a hart while its rows are read. Of each register it has the row that wrote it, and its value. It has
+    the node of its calls, the counts at which its rows begin again after another hart's, and its calls and returns."""
     __slots__ = ("number", "writers", "values", "last", "rows", "counts", "node", "jumps", "nodes", "is_cut")
 
     def __init__(self, number: int, registers: Sequence[int], is_cut: bool) -> None:

@@ -84,7 +84,7 @@ def show(text: str) -> None:
 
 
 def give_up() -> None:
-    """What isn't written yet can't be: python must not try it again when it ends."""
+    """What is left to write can't be written: python must not try it again when it ends."""
     for number in (1, 2):
         null = os.open(os.devnull, os.O_WRONLY)
         os.dup2(null, number)

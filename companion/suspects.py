@@ -1,8 +1,8 @@
 """What may be guilty of a crash, likeliest first.
 
-A suspect is a load and the store that it got, memory that was used after it was given back or before it was written, a
-row that lost bits, a branch that chose the way, or a call that goes on calling itself. Its score is the cost at which the history of the fault
-reached it, less what its signs are worth; the lowest score is the likeliest.
+A suspect is a load and the store that it got, or memory that was used after it was given back or before it was written.
+It may also be a row that lost bits, a branch that chose the way, or a call that keeps calling itself. Its score is the
+cost at which the history of the fault reached it, less what its signs are worth; the lowest score is the likeliest.
 
 The signs, and what each is worth, were set by looking at few programs: tests/crashes/README.md says which, and how well
 they do on others."""
@@ -105,7 +105,7 @@ class Ranking:
         self.judge_distance(item)
 
     def is_copied(self, load: int) -> bool:
-        """Whether a load's word went on into memory as it was, as the parts of a copied object do."""
+        """Whether a load's word was stored again unchanged, as the parts of a copied object do."""
         return load in self.history.parent and self.trace.code_of(self.history.parent[load].row).kind == STORE
 
     def judge_rarity(self, item: Suspect) -> None:
@@ -131,7 +131,7 @@ class Ranking:
 
 
 def constants(facts: Facts, history: History) -> list[Suspect]:
-    """Constants that went on as they were: what a function returned, or what a loop didn't replace."""
+    """Constants that were passed on unchanged: what a function returned, or what a loop didn't replace."""
     trace = facts.trace
     found: dict[str, Suspect] = {}
     for n, price in history.cost.items():

@@ -104,7 +104,7 @@ class View:
                 for value in (access.hart, access.count, self.trace.row_of(access.hart, access.count))]
 
     def where(self) -> int:
-        """The place of the end; if the fault is a jump to where there is no code, that of the jump."""
+        """The place of the end; if the fault is a jump to an address without code, that of the jump."""
         row = self.crash.start
         if self.fault and self.fault.name == "FetchOutside" and len(self.crash.last) > 1:
             row = self.crash.last[-2]

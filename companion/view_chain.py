@@ -30,7 +30,7 @@ Drawn = Mapping[str, Any]       # nodes and links as the page's script reads the
 
 
 class Box:
-    """rows   those that it stands for, from the end backwards
+    """rows   those that it represents, from the end backwards
     how    how its first row was needed; next: the boxes behind it"""
     __slots__ = ("rows", "how", "next", "skipped")
 
@@ -93,7 +93,7 @@ class Ways:
 
 
 class Boxes:
-    """The nodes and links of the page. A fork's first way goes on in its column, each other takes a new one."""
+    """The nodes and links of the page. A fork's first way continues in its column, each other takes a new one."""
 
     def __init__(self, page: Page, suspects: Mapping[int, Sequence[Ranked]], origins: Mapping[int, str]) -> None:
         """Both are by rows; `origins` are in words."""

@@ -39,7 +39,7 @@ class PageEdge(NamedTuple):
 
 
 class Segments(NamedTuple):
-    """The counts and the rows at which a hart goes on behind another hart, and 1 if some are left out."""
+    """The counts and the rows at which a hart continues after another hart, and 1 if some are left out."""
     counts: list[int]
     rows: list[int]
     left_out: int

@@ -24,7 +24,7 @@ a quarter of a second over a million steps where single steps would take an hour
 
 The harts' order is the bridge's: the hart that gdb resumes goes as far as it can, and of those that it
 waits for just as many steps are taken as it needs. The last `end` of a hart is never taken, nor a
-fault's row: so at a crash all harts have their registers, and stand where the run's end found them.
+fault's row: so at a crash all harts have their registers, and the places that they had as the run ended.
 Stepping a hart that isn't the next one leaves the known future, which is forgotten.
 
 What gdb needs

@@ -1,4 +1,4 @@
-"""What `read` calls filled: no row tells these bytes, but the registers at the call tell where they are."""
+"""What `read` calls filled: no row tells these bytes, but the registers at the call tell their place."""
 from __future__ import annotations
 
 import bisect
@@ -28,7 +28,7 @@ class Call(NamedTuple):
 
 
 class Fills:
-    """The `read` calls among the steps. Where no row tells a register, a hart's first Header does."""
+    """The `read` calls among the steps. If no row tells a register, a hart's first Header does."""
 
     def __init__(self, steps: Steps, log: Log) -> None:
         self.steps = steps

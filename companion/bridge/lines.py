@@ -48,7 +48,7 @@ def last_match(text: bytearray, pattern: Pattern, low: int, high: int) -> Option
 
 
 def nearest(text: bytearray, patterns: Sequence[Pattern], low: int, high: int, last: bool) -> Optional[int]:
-    """Where the first line in text[low:high] begins that a pattern matches, or the last."""
+    """The beginning of the first line in text[low:high] that a pattern matches, or of the last one."""
     best = None
     for pattern in patterns:
         if last:
@@ -85,7 +85,7 @@ class KeptLines:
         return self.starts[piece + 1] if piece + 1 < len(self.starts) else self.count
 
     def offset(self, piece: int, number: int) -> int:
-        """Where a line begins in its piece, counted from the nearest known line."""
+        """The beginning of a line in its piece, counted from the nearest known line."""
         text = self.texts[piece]
         known = [(self.starts[piece], 0), (self.end_of(piece), len(text))]
         if self.near and self.near.piece == piece:

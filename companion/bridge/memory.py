@@ -5,7 +5,7 @@ A byte is known in one of four cases, tried in this order:
 1. It lies in a read-only segment: no run can change it.
 2. A row so far loaded or stored its word, and no `read` call has filled the word since: `debug` tells it.
 3. The log has dropped nothing, and no row so far touched the word, nor did a `read` call fill a byte
-   of it: then it is what it was at the start, which is the ELF's bytes, or 0 outside of the segments.
+   of it. Then it is what it was at the start: the ELF's bytes, or 0 outside of the segments.
 4. All harts have a state, and of the known steps ahead the first that touches its word loads it: then
    the word has that value already.
 
@@ -74,7 +74,7 @@ class Memory:
         return struct.pack(f"<{len(found)}I", *found)[address & 3:][:length]
 
     def next_border(self, address: int, end: int) -> int:
-        """Where the segment ends that holds an address, or where the next one begins."""
+        """The end of the segment that holds an address, or the beginning of the next one."""
         at = bisect.bisect_right(self.borders, address)
         return min([end] + self.borders[at:at + 1])
 

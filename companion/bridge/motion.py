@@ -2,7 +2,7 @@
 
 gdb takes it that a watchpoint of RISC-V stops before its access, as a trigger of the hardware does:
 it steps over the access by itself, in its direction, and looks at the value then. So forward the
-stop is where the access is the next step, and on the way back where it was the last one.
+access is the next step at the stop, and on the way back it was the last one.
 """
 from __future__ import annotations
 
@@ -14,7 +14,7 @@ from .session import Session
 from .target import INTERRUPTED, TRAP
 
 FIRST_CHUNK, LARGEST_CHUNK = 64, 1 << 16  # steps between two looks at gdb
-SINGLE_STEPS = 16  # of a range before it goes on by chunks: a step too far takes a way back
+SINGLE_STEPS = 16  # of a range before it continues by chunks: a step too far takes a way back
 BEGIN, END = "replaylog:begin;", "replaylog:end;"
 
 
@@ -76,7 +76,7 @@ class Motion:
     # Forward
 
     def go(self, hart: int, alone: bool) -> Stop:
-        """All harts go on, this one first; or this one alone, and what it waits for."""
+        """All harts continue, this one first; or this one alone, and what it waits for."""
         session, only = self.session, hart if alone else None
         if session.at < self.steps.count and self.steps.hart_at(session.at) != hart and session.left(hart):
             self.steps.cut(session.at)
@@ -117,7 +117,7 @@ class Motion:
         return self.ends_here(hart, True)
 
     def leaves(self, hart: int, start: int, low: int, high: int) -> Optional[int]:
-        """Where a hart first stands outside of [low, high), after the step at `start`, which was
+        """The first place of a hart outside of [low, high), after the step at `start`, which was
         its own as all steps since; or None."""
         def is_outside(line: bytes) -> bool:
             return line[:1].isdigit() and not low <= int(line.split(b" ", 3)[2], 16) < high

@@ -65,7 +65,7 @@ class Points:
         return kind in WATCH_KINDS
 
     def next_break(self, start: int, end: int, last: bool = False, only: Optional[int] = None) -> Optional[Hit]:
-        """The first place in [start, end) where a hart stands before a breakpoint's row, or the
+        """The first place in [start, end) at which a hart is before a breakpoint's row, or the
         last one; of all harts, or of one only. A hart that comes to a breakpoint behind its last row
         has no row there: its arrival is such a place too."""
         def at_pc(pc: bytes) -> Pattern:

@@ -148,7 +148,7 @@ class Server:
         return self.last_stop
 
     def resume(self, text: str) -> str:
-        """Does the first action that steps or goes on."""
+        """Does the first action that steps or continues."""
         actions = [action.partition(":") for action in text.split(";")]
         alone = not any(word[:1] in ("c", "C") and self.threads.hart_of(thread) is None
                         for word, _, thread in actions)
@@ -177,7 +177,7 @@ class Server:
         return UNSUPPORTED
 
     def serve(self, at_end: bool = False) -> None:
-        """Answers packets until gdb leaves; begins at the end of the log, or at its front."""
+        """Answers packets until gdb leaves; begins at the end of the log, or at its beginning."""
         self.stopped(self.motion.begin())
         if at_end:
             self.stopped(self.motion.go(self.threads.shown, False))

@@ -21,7 +21,7 @@ class Awaited(NamedTuple):
 
 
 class Position(NamedTuple):
-    """Where a hart stands: its count, its pc, which is None if the log has lost its present interval, and what it has to
+    """The place of a hart: its count, its pc, which is None if the log has lost its present interval, and what it has to
     wait for."""
     at: int
     pc: Optional[int]
@@ -56,7 +56,7 @@ class Session:
     def close(self) -> None:
         self.process.close()
 
-    # Where the harts stand
+    # The places of the harts
 
     def take_positions(self, text: bytes) -> None:
         """Takes an answer to `where`."""

@@ -14,7 +14,7 @@ ANSWERS = (b"w", b"d")  # `waits` and `done`, which can end an answer to `step`,
 
 
 class Arrival(NamedTuple):
-    """Where a hart came to its last step: the place, and its pc."""
+    """The arrival of a hart at its last step: the place, and its pc."""
     place: int
     pc: int
 
@@ -74,7 +74,7 @@ class Steps:
         return self.owners[self.span_at(place)]
 
     def span_end(self, place: int) -> int:
-        """Where the span ends that a step belongs to."""
+        """The end of the span that a step belongs to."""
         span = self.span_at(place) + 1
         return self.spans[span] if span < len(self.spans) else self.count
 

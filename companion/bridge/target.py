@@ -1,4 +1,4 @@
-"""What gdb is told of the processor: its registers, and the signals that stand for faults."""
+"""What gdb is told of the processor: its registers, and the signals for faults."""
 from __future__ import annotations
 
 import struct

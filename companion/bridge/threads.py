@@ -21,7 +21,7 @@ class Threads:
         self.ids = {f"{hart + 1:x}": hart for hart in session.positions}
 
     def hart_of(self, text: str) -> Optional[int]:
-        """The hart of a thread id, or None where it names no thread; ValueError if it is none."""
+        """The hart of a thread id, or None if it names no thread; ValueError if it is none."""
         if text in ANY:
             return None
         if text not in self.ids:
