@@ -25,7 +25,7 @@ def digest(data):
 
 
 def sealed(signed):
-    """Returns the bytes with their digest behind them."""
+    """Returns the bytes with their digest after them."""
     return signed + digest(signed)
 
 
@@ -52,7 +52,7 @@ def head2(settings, program, dropped, n):
 
 
 def block(seal, records, before, left):
-    """Returns a block of some records' bytes, sealed behind a head's digest."""
+    """Returns a block of some records' bytes, sealed after a head's digest."""
     body = records + struct.pack("<QII", before % 2**64, left % 2**32, len(records) % 2**32)
     return body + digest(seal + body)
 
@@ -147,7 +147,7 @@ def segment(offset, address, file_size, memory_size, flags=5, kind=1):
 
 
 def elf(entry, headers, data):
-    """Returns an executable for RV32 with these program headers, and the data behind them."""
+    """Returns an executable for RV32 with these program headers, and the data after them."""
     ident = b"\x7fELF\x01\x01\x01" + bytes(9)
     fields = (2, 243, 1, entry, 52, 0, 0, 52, 32, len(headers), 0, 0, 0)
     return ident + struct.pack("<HHIIIIIHHHHHH", *fields) + b"".join(headers) + data

@@ -465,7 +465,7 @@ def changed_blocks(draw, blocks):
 
 
 def with_left(blocks):
-    """Returns blocks each of which says how many bytes are left behind it."""
+    """Returns blocks each of which says how many bytes are left after it."""
     left, found = sum(len(records) for records, _, _ in blocks), []
     for records, before, _ in blocks:
         left -= len(records)

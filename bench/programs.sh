@@ -71,7 +71,7 @@ piped() { # WORD..
     least "$work/times"
 }
 
-# The number behind a word of the summary that was last on err.
+# The number after a word of the summary that was last on err.
 told() { sed -n "s/^bugnet: .*$1 \([0-9]*\).*/\1/p" "$work/err"; }
 
 peak() { # WORD..: the most memory that they took, in KiB; a recording may end with the limit's 11

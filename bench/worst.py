@@ -30,7 +30,7 @@ LOADS = (0x00020437, 0x00042283, 0xFFDFF06F)
 STORES = (0x00020437, 0x00042023, 0x10040413, 0xFF9FF06F)
 FIRST_STORE, STRIDE, MEMORY = 0x20000, 256, 2**26
 STORES_END = 1 + 3 * ((MEMORY - FIRST_STORE) // STRIDE)
-# The commands that read a log, and their words behind it; `slice` is of the last row of hart 0's first interval.
+# The commands that read a log, and their words after it; `slice` is of the last row of hart 0's first interval.
 READERS = {
     "check": (),
     "list": (),

@@ -1,6 +1,6 @@
 #!/usr/bin/env bash
 # Prints which hart came first: the rows of all harts that ask something of the machine (they access
-# memory, call the system or fault), in the order of their turns, each behind its turn's number.
+# memory, call the system or fault), in the order of their turns, each after its turn's number.
 #
 # examples/turns.sh LOG ELF BOOK
 #

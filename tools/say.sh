@@ -1,4 +1,4 @@
-# What the scripts have to say: a line on err, behind the name of the script.
+# What the scripts have to say: a line on err, after the name of the script.
 
 say() { echo "${name:-zelkuma}: $*" >&2; }
 

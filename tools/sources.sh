@@ -56,7 +56,7 @@ made() { # SOURCES KIT PROGRAM [KIT..]
     printf 'program %s\n' "$(sha256 <"$3")"
 }
 
-# What a stamp says behind a word.
+# What a stamp says after a word.
 stamped() { # STAMP WORD
     local word rest
     while read -r word rest; do

@@ -86,7 +86,7 @@ class BadInputTest(case.Case):
             self.check("%s: a closed pipe is status 13, without a word" % words[0], process.wait() == 13 and not err, err)
 
     def test_hostile_elf(self):
-        """Any bytes behind the first few: refused, or read; never another error."""
+        """Any bytes after the first few: refused, or read; never another error."""
         elf = self.crash("use_after_free")[1]
         with open(elf, "rb") as file:
             good = file.read()

@@ -14,7 +14,7 @@ from companion.log import read_log
 from companion.rows import read_trace
 
 RA = 1
-# T0 is the data's address. Each place is told by its number; the words behind `#` are what the test asks of it.
+# T0 is the data's address. Each place is told by its number; the words after `#` are what the test asks of it.
 PROGRAM = [
     lui(T0, DATA),                              # 0
     addi(T1, 0, 3),                             # 1

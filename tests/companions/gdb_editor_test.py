@@ -16,7 +16,7 @@ BOUND = 60
 
 
 class Editor:
-    """gdb by its MI interface: a command, and what it answers up to its result, or up to the stop behind it."""
+    """gdb by its MI interface: a command, and what it answers up to its result, or up to the stop after it."""
 
     def __init__(self):
         self.process = subprocess.Popen([GDB, "-nx", "-q", "--interpreter=mi2"], stdin=subprocess.PIPE,

@@ -135,7 +135,7 @@ class Session:
         stop = Stop(self.client("vCont;c"))
         end = self.client.counts()
         self.passes_nothing(begin, end, None)
-        for other, count in end.items():  # also those that came to a breakpoint behind their last row
+        for other, count in end.items():  # also those that came to a breakpoint after their last row
             if stop.end and begin.get(other) not in (None, count):
                 assert self.reference.states[other, count][32] not in self.breaks
         self.is_stop(stop, 0)

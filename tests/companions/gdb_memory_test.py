@@ -89,7 +89,7 @@ def case_03_memory_that_a_read_filled_in_another_order(recordings):
 
 
 def case_03_memory_that_is_loaded_later_in_another_order(recordings):
-    """Both orders of the harts have a place 11, behind another call of hart 0's."""
+    """Both orders of the harts have a place 11, after another call of hart 0's."""
     code = [branch_unless_equal(A0, 0, 48), lui(A1, DATA), addi(A2, 0, 4), addi(A7, 0, 63), ECALL, load(T0, A1),
             addi(A0, 0, 0), addi(T1, 0, 1), ECALL, load(T0, A1), *EXIT, *[addi(T1, T1, 1)] * 2, *EXIT]
     log, elf = recordings.words("orders", code, "--harts", "2", "--input", recordings.write("input", b"one.two."))

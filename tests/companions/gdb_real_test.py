@@ -36,7 +36,7 @@ def bridge(log, elf, *options):
 
 
 def talk(target, commands, names=None):
-    """Returns gdb's answer to each command, behind that to `target remote`, with single spaces."""
+    """Returns gdb's answer to each command, after that to `target remote`, with single spaces."""
     lines = list(SETTINGS)
     for number, command in enumerate([f"target remote {target}"] + commands):
         lines += [f"echo \\n@@{number}\\n", command]

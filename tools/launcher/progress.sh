@@ -19,7 +19,7 @@ measure_memory() { # PROCESS
     done <"/proc/$1/status"
 } 2>/dev/null
 
-# Reads first the program's process, by a line; hands on what comes behind it, and until then shows a line each second,
+# Reads first the program's process, by a line; hands on what comes after it, and until then shows a line each second,
 # from the third on. A NUL that comes first isn't handed on, which no terminal shows.
 show_progress() { # WHAT
     local process memory byte='' wait=2 began=$SECONDS shown=

@@ -18,7 +18,7 @@ is_number() { # WORD LOW HIGH
     [[ $1 =~ ^\+?0*([0-9]+)$ ]] && is_most "$2" "${BASH_REMATCH[1]}" && is_most "${BASH_REMATCH[1]}" "$3"
 }
 
-# A number with K, M or G behind it (1024 times, each), or 0x before it, in decimal; sets `decimal`. A word that is none,
+# A number with K, M or G after it (1024 times, each), or 0x before it, in decimal; sets `decimal`. A word that is none,
 # and one that is too large, stay as they are.
 to_decimal() { # WORD
     local digits K=10 M=20 G=30

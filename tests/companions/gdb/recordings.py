@@ -10,7 +10,7 @@ from common import EXAMPLES, PROGRAM
 if not os.access(PROGRAM, os.X_OK):
     sys.exit(f"{sys.argv[0]}: {PROGRAM} is no program; ZELKUMA_PROGRAM names one")
 CODE, DATA, DATA_SIZE = 0x10000, 0x20000, 4096
-FIRST = CODE + 116  # where the code begins, behind the headers
+FIRST = CODE + 116  # where the code begins, after the headers
 
 T0, T1, T2, A0, A1, A2, A7 = 5, 6, 7, 10, 11, 12, 17
 EBREAK, ECALL, NO_INSTRUCTION = 0x00100073, 0x00000073, 0xffffffff
