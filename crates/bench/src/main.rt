@@ -46,7 +46,7 @@ fn time_run(rt: &HostRuntime, layer: &str, count: u64) -> anyhow::Result<()> {
     }
 }
 
-// The same of all layers.
+// Times so much of a layer, or tells the words.
 fn time_layer(rt: &HostRuntime, layer: &str, count: u64) -> anyhow::Result<()> {
     match layer {
         "decode" => decode_timing::decoding(rt, count),

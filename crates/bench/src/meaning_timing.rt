@@ -107,7 +107,7 @@ fn run(image: &Image, memory: &mut Vec<u32>, limit: u64) -> HartState {
     state
 }
 
-// The same, over the program decoded ahead.
+// Runs until so many instructions are done, over the program decoded ahead.
 fn run_decoded(image: &DecodedImage, memory: &mut Vec<u32>, limit: u64) -> HartState {
     let mut state = start();
     for _ in 0..limit {

@@ -103,7 +103,7 @@ fn sum_of_row(row: &Row) -> u32 {
         .wrapping_add(sum_of_access(row.store))
 }
 
-// That number of the next row; `None` after the last.
+// A number that all that the next row tells goes into; `None` after the last.
 pub(crate) fn next_sum(replayer: &mut Replayer) -> Result<Option<u32>, ReplayError> {
     match replayer.step() {
         Ok(Some(row)) => Ok(Some(sum_of_row(&row))),

@@ -94,11 +94,11 @@ pub record CanBeDone (line : Line) (files : Files) : Type 0 where
   pub answer : (what : Told) × IsAnswer (Some line) files what
   pub done : (told : Told) → IsAnswer (Some line) files told → IsRecorded told.status
 
--- so it is with each line for which words and files are as it needs them
+-- each line can be done for which words and files are as it needs them
 abbrev pub EachCanBeDone : Type 0
 EachCanBeDone = (line : Line) (files : Files) → CanDo line files → CanBeDone line files
 
--- and the command is done, unless memory ran out or the outside failed
+-- a command whose words and files are as it needs them is done, unless memory ran out or the outside failed
 abbrev pub IsDone : Option Line → Files → ℕ → Type 0
 IsDone None files status = Unit {0}
 IsDone (Some line) files status = CanDo line files → IsFree status ⊎ IsRecorded status

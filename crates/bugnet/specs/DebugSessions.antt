@@ -38,7 +38,7 @@ pub record ShowsRun (r : Recording) (records : List Record) (lines : List (List 
   pub walk : Walk
   pub says : SaysSoFar r (session_after r records lines).session.trace.now walk
 
--- So it is wherever a session comes, over the records of each log of the recording
+-- A session over the records of any log of a recording shows the run, after any lines of commands
 abbrev pub SessionsShowTheRun : Type 0
 SessionsShowTheRun = (r : Recording) (records : List Record) → IsLogOf r records → (lines : List (List ℕ)) → ShowsRun r records lines
 
@@ -60,7 +60,8 @@ pub record DoneSession (r : Recording) (records : List Record) (c : Commands) (s
   -- if they keep to their limits with all that may follow them, and no read failed, it wasn't stopped
   pub whole : (more : List ℕ) → c.failed ≡ false → (input_of (c.bytes ++ more)).refused ≡ None → status ≡ 0
 
--- so it is, unless memory ran out, the store or a write failed, or the program file is too long
+-- a session over a recording's log is done so, unless memory ran out, the store or a write failed, or the program file is
+-- too long
 abbrev pub ShowsSession : Commands → (log elf : List ℕ) → Files → ℕ → Option (List ℕ) → Option (List ℕ) → Type 0
 ShowsSession c log elf files status out_old out_new = (r : Recording) (h : HasRun log elf files r)
     → IsFree status ⊎ Either (nat_lt 67108864 (length r.elf)) (status ≡ 5) (DoneSession r h.says.log.records c status out_old out_new)
@@ -71,7 +72,7 @@ abbrev pub RecordingsCanBeDebugged : Type 0
 RecordingsCanBeDebugged = (c : Commands) (log elf : List ℕ) (files : Files) (r : Recording) → HasRun log elf files r → length r.elf ≤ 67108864
     → c.failed ≡ false → (input_of c.bytes).refused ≡ None → CanDebug c log elf files
 
--- Nor is a session stopped at any prefix of commands that keep to their limits
+-- A session isn't stopped at any prefix of commands that keep to their limits
 abbrev pub PrefixesCanBeDebugged : Type 0
 PrefixesCanBeDebugged = (c : Commands) (more log elf : List ℕ) (files : Files) (r : Recording) → HasRun log elf files r → length r.elf ≤ 67108864
     → c.failed ≡ false → (input_of (c.bytes ++ more)).refused ≡ None → CanDebug c log elf files

@@ -72,7 +72,7 @@ pub record ReplaysRun (line : Option Line) (files : Files) (p : Part) (v : Inter
 abbrev pub IsReplayed : Option Line → Part → Interval → Told → Type 0
 IsReplayed line p v what = Either (nat_lt 67108864 (length p.elf)) (what ≡ refused (names_by line) (TooLong role.Elf)) (what ≡ printed (run_text p v))
 
--- so is the answer, and there is no other
+-- the only answer to the replay of an interval of a recording is the text of the run's own rows
 abbrev pub Headline : Type 0
 Headline = (line : Option Line) (files : Files) (p : Part) (v : Interval) → ReplaysRun line files p v → (what : Told) → IsAnswer line files what → IsReplayed line p v what
 

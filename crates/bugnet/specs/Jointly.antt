@@ -47,11 +47,12 @@ pub record TellsRun (r : Recording) (records : List Record) (what : Told) : Type
   pub text : what ≡ printed (joint_text (run_all (begin r records)))
   pub says : SaysTheRun r records (run_all (begin r records))
 
--- so is what is answered; but a program file of more than 2 ^ 26 bytes is too long for any command, also for the one that records
+-- What is answered tells the run; but a program file of more than 2 ^ 26 bytes is too long for any command, also for the one
+-- that records
 abbrev pub IsJoined : Option Line → Recording → List Record → Told → Type 0
 IsJoined line r records what = Either (nat_lt 67108864 (length r.elf)) (what ≡ refused (names_by line) (TooLong role.Elf)) (TellsRun r records what)
 
--- so is the answer, and there is no other
+-- the only answer to the joint replay of a recording's log tells the run
 abbrev pub JointHeadline : Type 0
 JointHeadline = (line : Option Line) (files : Files) (r : Recording) (j : JoinsRun line files r) (what : Told) → IsAnswer line files what → IsJoined line r j.says.log.records what
 
@@ -76,7 +77,8 @@ pub record DoneJointly (r : Recording) (records : List Record) (status : ℕ) (o
   pub text : Appends out_old out_new (joint_text (run_all (begin r records)))
   pub says : SaysTheRun r records (run_all (begin r records))
 
--- so it is, unless memory ran out, the outside failed, or the program file is too long
+-- the joint replay of a recording's log is printed so, unless memory ran out, the outside failed, or the program file is too
+-- long
 abbrev pub PrintsJointly : Option Line → Files → ℕ → Option (List ℕ) → Option (List ℕ) → Type 0
 PrintsJointly line files status out_old out_new = (r : Recording) (j : JoinsRun line files r)
     → IsFree status ⊎ Either (nat_lt 67108864 (length r.elf)) (status ≡ 5) (DoneJointly r j.says.log.records status out_old out_new)

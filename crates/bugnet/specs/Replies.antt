@@ -27,7 +27,7 @@ pub record Replies (line : Line) (status : ℕ) (note : Note) (old new : World) 
   pub recorded : LeavesRun (Some line) status old.store.files new.store.files
   pub read : status ≢ 12
 
--- so it is once the refusal, if there is one, is told
+-- a command that reads no commands does so once its refusal, if there is one, is told
 abbrev pub RepliesTo : Line → FileNames → Note → (old new : World) → Result ℕ Refusal → Type 0
 RepliesTo line names note old new result = (status : ℕ) (end : Stream) → IsClosed names result status new.err end → Replies line status note old (with_err new end)
 

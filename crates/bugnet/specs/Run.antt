@@ -9,7 +9,7 @@ use Rattle.bn_outside.specs.Counts.{Rose, NoneFell}
 
 -- ---- any command
 
--- so it is with the answer that words have
+-- a command was stopped before it had the answer that its words and the files have
 abbrev pub StoppedEarly : Option Line → Files → ℕ → Call → Type 0
 StoppedEarly line files status k = StoppedBy (names_by line) (λ files. IsAnswer line files) files status k
 

@@ -33,7 +33,7 @@ pub record SalvagesRun (p : Part) (bytes : List ℕ) (d : Content) : Type 0 wher
 abbrev pub SalvagedSayEnds : Type 0
 SalvagedSayEnds = (p : Part) (bytes : List ℕ) (d : Content) → SalvagesRun p bytes d → SaysEnd p.settings p.program p.elf p.input p.turns (file_bytes2 d)
 
--- So the replay of each interval whose Header the saved log has prints the recorded run's rows
+-- The replay of each interval whose Header a salvaged log has prints the recorded run's rows
 abbrev pub SalvagedAreReplayed : Type 0
 SalvagedAreReplayed = (p : Part) (bytes : List ℕ) (d : Content) → SalvagesRun p bytes d → (v : Interval) → interval_of p.hart p.number d.records ≡ Some v → length p.elf ≤ 67108864
     → (files : Files) (log elf : List ℕ) → files log ≡ Some (file_bytes2 d) → files elf ≡ Some p.elf

@@ -33,7 +33,8 @@ races_kept names r records most =
     let run = joint_run r records in
     races_listed (nat_lt most (race_count (points_in run))) names most (races_of r.settings.harts (points_in run))
 
--- so is what is told of that log with its program
+-- the only answer to `races` of a recording's log with its program is the races of their joint replay, or that there are too
+-- many
 abbrev pub RacesAreTold : Type 0
 RacesAreTold = (log elf : List ℕ) (most : ℕ) (files : Files) (r : Recording) (h : HasRun log elf files r)
     → (what : Told) → IsAnswer (Some (RacesLine log elf most)) files what
@@ -47,7 +48,7 @@ pub record ListsRaces (r : Recording) (records : List Record) (what : Told) : Ty
   pub text : what ≡ printed (races_text races)
   pub run : SayTheRun r records races
 
--- so it is wherever `races` is done
+-- what `races` prints of a recording's log are the races of the run's own points
 abbrev pub PrintedRacesSayTheRun : Type 0
 PrintedRacesSayTheRun = (log elf : List ℕ) (most : ℕ) (files : Files) (r : Recording) (h : HasRun log elf files r)
     → (what : Told) → IsAnswer (Some (RacesLine log elf most)) files what → what.status ≡ 0 → ListsRaces r h.says.log.records what
@@ -58,7 +59,8 @@ abbrev pub slice_kept : FileNames → Recording → (hart interval ic : ℕ) →
 slice_kept names r hart interval ic None = refused names (ReplayStopped (NoInterval hart interval))
 slice_kept names r hart interval ic (Some v) = slice_told names (text_of hart ic (slice_or ic v.start.x (up_to ic (noted v.loads (interval_rows r hart interval)))))
 
--- so is what is told. No replay is stopped
+-- The only answer to `slice` of a recording's log with its program is the slice of the run's own row, or why there is none.
+-- No replay is stopped
 abbrev pub SlicesAreTold : Type 0
 SlicesAreTold = (log elf : List ℕ) (hart interval ic : ℕ) (files : Files) (r : Recording) (h : HasRun log elf files r)
     → (what : Told) → IsAnswer (Some (SliceLine log elf hart interval ic)) files what

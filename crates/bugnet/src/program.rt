@@ -391,7 +391,7 @@ fn attempt<S: Store, I: Source, O: Sink, X: Sink, G: Gate, R: Threads + Wait + S
     }
 }
 
-// The same, with its refusal told: each error but that of reading the words ends here.
+// Does what a command asks for, and tells its refusal: each error but that of reading the words ends here.
 fn obey<S: Store, I: Source, O: Sink, X: Sink, G: Gate, R: Threads + Wait + Sync>(
     rt: &R,
     alloc: Global,

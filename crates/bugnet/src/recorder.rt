@@ -149,7 +149,8 @@ fn run_unseeded<G: Gate, R: Threads + Wait + Sync>(
     }
 }
 
-// Such a run, of which no list is given. In threads nothing is kept of a turn.
+// A run by the gate's schedule, or else of harts in threads of their own, without its list. In threads
+// nothing is kept of a turn.
 fn run_unseeded_lean<G: Gate, R: Threads + Wait + Sync>(
     rt: &R,
     alloc: Global,

@@ -141,7 +141,7 @@ pub record IsTold (s : Seen) (rows : List TurnRow) : Type 0 where
   pub told : AreTold s.began s.disordered rows
   pub state : IsState s (run_after s.began s.halted rows)
 
--- and of those that a book doesn't tell, with a ring that holds the log. Its records keep the rules of single records, and each
+-- These rows led to the bus, and a ring holds the log of their run. Its records keep the rules of single records, and each
 -- of their Edges comes from an instruction that its source has done
 pub record IsLogged (s : Seen) (ring : Held) (rows : List TurnRow) : Type 0 where
   pub told : AreTold s.began s.disordered rows

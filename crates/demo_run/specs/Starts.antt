@@ -28,7 +28,7 @@ pub record ComesToEnd (v : Interval) (r : Replayed) : Type 0 where
   pub done : r.outcome ≡ Done
   pub few : length r.rows ≤ v.mark.ic + 1
 
--- so does that of each interval of which a log has the Header
+-- the replay of each interval of which a log has the Header comes to its End
 abbrev pub AllComeToEnd : Program → Content → Type 0
 AllComeToEnd i d = (h n : ℕ) (v : Interval) → interval_of h n d.records ≡ Some v → ComesToEnd v (replayed i d.records h n)
 

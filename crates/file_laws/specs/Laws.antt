@@ -29,7 +29,7 @@ abbrev pub KeptRecordsKeepTheRules : Type 0
 KeptRecordsKeepTheRules = (c : RawSettings) (i : Program) (input : List ℕ) (rows : List TurnRow) → IsSetting c → IsLawful c i (start c i input) rows
     → let run = after_rows c i (start c i input) rows in KeepsRules c (counts_of run) (dropped_of c run) (kept_of c run)
 
--- So do the records of a ring of the log's size that holds the log
+-- So do the records of a ring of the log's size that holds the log of lawful rows
 abbrev pub RingsKeepTheRules : Type 0
 RingsKeepTheRules = (c : RawSettings) (i : Program) (input : List ℕ) (rows : List TurnRow) (ring : Held) → IsSetting c → IsLawful c i (start c i input) rows
     → let run = after_rows c i (start c i input) rows in HoldsLog ring run.stream → ring.size ≡ c.log_size → KeepsRules c (counts_of run) ring.dropped ring.records
@@ -48,7 +48,7 @@ LogsAreContents = (c : RawSettings) (i : Program) (elf input b : List ℕ) → I
 abbrev pub StreamsAreInOrder : Type 0
 StreamsAreInOrder = (c : RawSettings) (i : Program) (elf input b : List ℕ) → IsRecording c i elf input b → broken_by c 0 (run_of c i input b).stream ≡ None
 
--- Its file, in either version, says just this: it is read, and has no cause for a refusal
+-- The file of a recording, in either version, says just what was kept: it is read, and has no cause for a refusal
 abbrev pub FilesAreRead : Type 0
 FilesAreRead = (c : RawSettings) (i : Program) (elf input b : List ℕ) → IsRecording c i elf input b
     → Reads (file_of c i (sha256 elf) input b) (Ok (content_of c (sha256 elf) (run_of c i input b)))
@@ -64,8 +64,8 @@ FilesSuffice = (c : RawSettings) (i : Program) (elf input b : List ℕ) → IsRe
     → (d : Content) → IsContent d → IsSpelled (file_of c i (sha256 elf) input b) d
     → (h n : ℕ) (v : Interval) → interval_of h n d.records ≡ Some v → replayed i d.records h n ≡ record { rows = rows_in c i (start c i input) b h n; outcome = Done }
 
--- So does what is salvaged of a file, if the blocks that are kept are the last of a recording's. The log of these has the run's
--- last records, and each interval of a hart whose Header it has is replayed from it as it was recorded
+-- What is salvaged of a file suffices too, if the blocks that are kept are the last of a recording's. The log of these has
+-- the run's last records, and each interval of a hart whose Header it has is replayed from it as it was recorded
 abbrev pub SalvagedFilesSuffice : Type 0
 SalvagedFilesSuffice = (c : RawSettings) (i : Program) (elf input b : List ℕ) → IsRecording c i elf input b
     → (front : List Block) (p : Block) (back : List Block) → blocks_of (dropped_of c (run_of c i input b)) (kept_of c (run_of c i input b)) ≡ front ++ p ∷ back
@@ -78,7 +78,7 @@ abbrev pub LogsOfRowsAreContents : Type 0
 LogsOfRowsAreContents = (c : RawSettings) (i : Program) (input digest : List ℕ) (rows : List TurnRow) (ring : Held) → HoldsLogOfRows c i input rows ring → length digest ≡ 32
     → IsContent (ring_content c digest ring)
 
--- Its file says it, and has no cause for a refusal
+-- The file of such a ring says what the ring holds, and has no cause for a refusal
 abbrev pub FilesOfRowsAreRead : Type 0
 FilesOfRowsAreRead = (c : RawSettings) (i : Program) (input digest : List ℕ) (rows : List TurnRow) (ring : Held) → HoldsLogOfRows c i input rows ring → length digest ≡ 32
     → Reads (saved_bytes (ring_content c digest ring)) (Ok (ring_content c digest ring))

@@ -47,8 +47,8 @@ pub fn kept_records_keep_their_rules()
     kept_records_keep_the_rules();
 }
 
-/// So do, at all times, the records of a ring of the log's size that holds the log of lawful rows,
-/// whoever made their asks.
+/// At all times the records of a ring of the log's size keep the rules of single records, if it holds the
+/// log of lawful rows, whoever made their asks.
 pub fn rings_keep_their_rules()
     ensures { RingsKeepTheRules }
 {
@@ -191,7 +191,7 @@ pub fn logs_of_rows_are_contents()
     early_edges_are_not_late();
 }
 
-/// The file of such a ring is read: it has no cause for a refusal.
+/// The file of a ring is read, if the ring holds lawful rows of orderly asks that leave no hart live.
 pub fn files_of_rows_are_read()
     ensures { FilesOfRowsAreRead }
 {

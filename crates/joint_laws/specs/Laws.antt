@@ -45,7 +45,7 @@ KeepsOrder r records w = (word m n y : ℕ) (c : AtPlaces (MeetAt word) (points_
 abbrev pub GoesOn : Recording → List Record → Walk → Type 0
 GoesOn r records w = choice w.now ≡ NoneReady → ⊥
 
--- and the step of a ready hart is not refused
+-- The step of a ready hart is not refused
 abbrev pub IsNotRefused : Recording → List Record → Walk → Type 0
 IsNotRefused r records w = (h : ℕ) → readiness w.now h ≡ Ready → (x : Item × Joining) × (next_step w.now h ≡ Some (Ok x))
 
@@ -53,7 +53,7 @@ IsNotRefused r records w = (h : ℕ) → readiness w.now h ≡ Ready → (x : It
 abbrev pub HasFirstRows : Recording → List Record → Walk → Type 0
 HasFirstRows r records w = (h : ℕ) → h < r.settings.harts → (rest : List Row) × (rows_done h w.taken ++ rest ≡ retained_rows r records h)
 
--- and each of them was done from the state that the run had before it
+-- Each row so far was done from the state that the run had before it
 abbrev pub HasStates : Recording → List Record → Walk → Type 0
 HasStates r records w = (x : ℕ) (t : Taken) (before : HartState) (row : Row) → slice_get w.taken x ≡ Some t → t.item ≡ Doing before row
     → IsRowOfTurn r.settings r.program r.input r.turns t.hart before row
@@ -152,7 +152,7 @@ pub record IsFileOf (r : Recording) (d : Content) : Type 0 where
   pub content : IsContent d
   pub bytes : IsSpelled (file_of r.settings r.program (sha256 r.elf) r.input r.turns) d
 
--- So does that of what the recording's file says
+-- The joint replay of what the recording's file says, says the run
 abbrev pub JointFilesSayTheRun : Type 0
 JointFilesSayTheRun = (r : Recording) (d : Content) → IsRecorded r → IsFileOf r d → SaysTheRun r d.records (run_all (fresh r.program d.head.settings.harts d.records))
 
@@ -166,6 +166,6 @@ pub record SaysSoFar (r : Recording) (j : Joining) (w : Walk) : Type 0 where
   pub states : (h : ℕ) (s : HartState) → state_at j h ≡ Some s → IsStateOfRun r h s
   pub words : (a word : ℕ) → word_in j.memory a ≡ Some word → IsRecordedWord r w a word
 
--- So it is with each joint replay that an allowed order led to, also if memory ran out since
+-- Each joint replay that an allowed order led to says the run so far, even if memory ran out since
 abbrev pub ReachedSayTheRun : Type 0
 ReachedSayTheRun = (r : Recording) (j : Joining) → IsLogOf r j.records → j.program ≡ r.program → (reached : IsReached r.settings.harts j) → SaysSoFar r j reached.walk

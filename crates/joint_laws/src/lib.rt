@@ -182,7 +182,7 @@ pub fn joint_replays_say_the_run()
     the_rows_are_recorded();
 }
 
-/// So it is of what a log says whose bytes are those of the recording's file.
+/// The joint replay of what a log file says, whose bytes are those of the recording's file, says the run.
 pub fn files_say_the_run_jointly()
     ensures { JointFilesSayTheRun }
 {
@@ -191,8 +191,8 @@ pub fn files_say_the_run_jointly()
     files_say_the_run();
 }
 
-/// So it is at any time with each joint replay that an allowed order led to, as its type says of it
-/// (`joint_replay`'s `Joint::reached`): the states and the words that it shows are the run's.
+/// At any time a joint replay that an allowed order led to says the run: the states and the words that it
+/// shows are the run's. That an order led to it is what its type says (`joint_replay`'s `Joint::reached`).
 pub fn reached_joint_replays_say_the_run()
     ensures { ReachedSayTheRun }
 {

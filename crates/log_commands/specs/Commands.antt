@@ -82,7 +82,8 @@ abbrev pub replay_same : Bool → FileNames → (hart interval : ℕ) → List �
 replay_same true names hart interval elf d = replay_loaded names hart interval d (image_of elf d.head.settings)
 replay_same false names hart interval elf d = refused names (ProgramDiffers d.head.digest (sha256 elf))
 
--- the same with a program file: its digest is compared with the log's, and it is loaded with the log's settings
+-- the replay of an interval of a log with a program file: its digest is compared with the log's, and it is loaded with the
+-- log's settings
 abbrev pub replay_of : FileNames → (hart interval : ℕ) → List ℕ → Content → Told
 replay_of names hart interval elf d = replay_same (bytes_eq (sha256 elf) d.head.digest) names hart interval elf d
 

@@ -152,7 +152,8 @@ pub record Prints (names : FileNames) (what : Told) (status : ℕ) (k : Call) : 
   pub write : status ≡ 13 → WriteRose k
   pub later : NoWriteFell k
 
--- the same of an answer that may have to be saved: the store fails only if its count rose
+-- an answer is saved and printed, or it was stopped: not by words or what it reads, and by the store or a write only if one
+-- failed
 pub record Acts (names : FileNames) (what : Told) (status : ℕ) (k : Call) : Type 0 where
   pub told : Tells names what status k
   pub words : status ≢ 2

@@ -17,7 +17,7 @@ use Rattle.log_commands.specs.declared.pairs.JointReading.{JointReading}
 use Rattle.log_commands.specs.declared.refusal.Refusal.{Refusal}
 use Rattle.log_commands.specs.declared.refusal.Refusal.TheVariants.{OutOfMemory, LogRefused, ElfRefused, ProgramDiffers}
 
--- the same with what was made of it, if it isn't refused
+-- what is made next of what was made; a refusal stays
 abbrev pub on_ok : {A B : Type 0} → (A → Result B Refusal) → Result A Refusal → Result B Refusal
 on_ok go (Err refusal) = Err refusal
 on_ok go (Ok made) = go made

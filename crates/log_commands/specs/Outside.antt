@@ -74,7 +74,7 @@ told_of_reading names r = replay_with names r.hart r.interval r.log r.image
 abbrev pub saved_new : List ℕ → Saved
 saved_new file = record { log = file; book = None }
 
--- and then the line of its log is told
+-- a log that was made of another is saved, and then the line of its log is told
 abbrev pub told_of_new : NewLog → Told
 told_of_new n = record { status = 0; out = check_line n.counts; err = []; saved = Some (saved_new n.file.items) }
 

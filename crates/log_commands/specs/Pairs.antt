@@ -32,7 +32,7 @@ abbrev pub pair_same : Bool → ByPair → FileNames → List ℕ → Content �
 pair_same true go names elf d = pair_loaded go names d (image_of elf d.head.settings)
 pair_same false go names elf d = refused names (ProgramDiffers d.head.digest (sha256 elf))
 
--- the same with a program file: its digest is compared with the log's, and it is loaded with the log's settings
+-- what a log comes to with a program file: its digest is compared with the log's, and it is loaded with the log's settings
 abbrev pub pair_of : ByPair → FileNames → List ℕ → Content → Told
 pair_of go names elf d = pair_same (bytes_eq (sha256 elf) d.head.digest) go names elf d
 

@@ -11,7 +11,7 @@ abbrev pub saves_after : (lean : Bool) → ℕ → ℕ
 saves_after true before = counted before
 saves_after false before = counted (counted before)
 
--- so many saves, or fewer
+-- a command saves as often as it has to, or less often
 abbrev pub AtMostSaves : (lean : Bool) → ℕ → ℕ → Type 0
 AtMostSaves true before after = (after ≡ before) ⊎ (after ≡ counted before)
 AtMostSaves false before after = (after ≡ before) ⊎ ((after ≡ counted before) ⊎ (after ≡ counted (counted before)))

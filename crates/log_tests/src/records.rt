@@ -98,7 +98,7 @@ fn is_known(reason: u8) -> bool {
     }
 }
 
-// Which of them may have a value other than 0.
+// Which reasons may have a value other than 0.
 fn is_valued(reason: u8) -> bool {
     match reason {
         2..=4 | 17 | 19..=25 => true,

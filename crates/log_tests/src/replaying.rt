@@ -41,7 +41,7 @@ pub(crate) fn end(ic: u8, reason: u8, value: u8) -> [u8; 15] {
     [6, 0, ic, 0, 0, 0, 0, 0, 0, 0, reason, value, 0, 0, 0]
 }
 
-// These bytes, one part after another.
+// The parts of bytes, one after another.
 fn joined(alloc: Global, parts: &[&[u8]]) -> Result<Vec<u8>, AllocError> {
     let mut bytes = Vec::new(alloc);
     for part in parts {

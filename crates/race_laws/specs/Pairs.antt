@@ -38,7 +38,7 @@ pub record IsEdgeAt (run : List Point) (hart count hart_to count_to : ℕ) : Typ
 abbrev pub EdgeAmong : List Record → ℕ → ℕ → ℕ → ℕ → Type 0
 EdgeAmong rs hart count hart_to count_to = Contains rs (Edge hart_to count_to hart count)
 
--- so it is, and it is another than this one
+-- the Edge from the one to the other is among the records, and is another than this one
 abbrev pub OtherEdge : List Record → Record → ℕ → ℕ → ℕ → ℕ → Type 0
 OtherEdge rs edge hart count hart_to count_to = EdgeAmong rs hart count hart_to count_to × (Edge hart_to count_to hart count ≢ edge)
 

@@ -43,8 +43,8 @@ pub fn points_are_in_order()
     turns_are_lawful();
 }
 
-/// So places represent instructions by hart and count. The edges are those of Netzer's rule over all
-/// instructions, even those that access nothing.
+/// Places represent instructions by hart and count. The edges over places are those of Netzer's rule over
+/// all instructions, even those that access nothing.
 pub fn edges_are_by_count()
     ensures turns { OfLists HasEdgesByCount }
     ensures rows { OfRows HasEdgesByCount }
@@ -180,8 +180,8 @@ pub fn allowed_orders_keep_words()
     some_hart_goes_on();
 }
 
-/// No such order gets stuck: as long as its beginning isn't whole, some hart's next point has the sources
-/// of all kept Edges into it before it.
+/// No order that merges the harts' lists and respects the kept Edges gets stuck. As long as its beginning
+/// isn't whole, some hart's next point has the sources of all kept Edges into it before it.
 pub fn beginnings_go_on()
     ensures { BeginningsGoOn }
 {

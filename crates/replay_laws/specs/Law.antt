@@ -27,7 +27,7 @@ EndsSuffice = (c : RawSettings) (i : Program) (input b : List ℕ) (h n : ℕ) �
     → (v : Interval) → interval_of h n rs ≡ Some v
     → replayed i rs h n ≡ record { rows = rows_in c i (start c i input) b h n; outcome = Done }
 
--- so it is of what the log keeps, which is one such end
+-- each interval whose Header a log keeps is replayed from the log as it was recorded
 abbrev pub LogSuffices : Type 0
 LogSuffices = (c : RawSettings) (i : Program) (input b : List ℕ) (h n : ℕ) → c.limit < 2 ^ 63 → IsWhole c i input b
     → (v : Interval) → interval_of h n (kept_of c (run_of c i input b)) ≡ Some v

@@ -29,7 +29,8 @@ pub fn ends_suffice()
     exits_alone_end();
 }
 
-/// So it is of what the log keeps, which is such an end.
+/// Log sufficiency of a log: the replay of each interval whose Header it keeps gives exactly the recorded
+/// rows.
 pub fn the_log_suffices()
     ensures { LogSuffices }
 {

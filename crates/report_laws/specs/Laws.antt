@@ -41,7 +41,7 @@ pub record SayTheRun (r : Recording) (records : List Record) (races : List Race)
 abbrev pub RacesSayTheRun : Type 0
 RacesSayTheRun = (r : Recording) (records : List Record) → IsLogOf r records → SayTheRun r records (races_of r.settings.harts (replayed_points r records))
 
--- So does each report of what a log says whose bytes are those of the recording's file
+-- The races of a report say the run, if the bytes of its log are those of the recording's file
 abbrev pub ReportsSayTheRun : Type 0
 ReportsSayTheRun = (r : Recording) (d : Content) → IsRecorded r → IsFileOf r d → (most : ℕ) (races : List Race)
     → IsReport d.head.settings.harts most (joint_of r.program d) (Ok races) → SayTheRun r d.records races

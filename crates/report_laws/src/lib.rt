@@ -67,7 +67,8 @@ pub fn races_say_the_run()
     rows_tell_runs();
 }
 
-/// So are those that a report lists, if the log's bytes are those of the recording's file.
+/// The races that a report lists are those of the retained points as they stand in the run, if the log's
+/// bytes are those of the recording's file.
 pub fn reports_say_the_run()
     ensures { ReportsSayTheRun }
 {

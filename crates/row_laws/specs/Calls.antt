@@ -28,7 +28,7 @@ pub record AddsCall (c : RawSettings) (i : Program) (run : Run) (h address n ic 
   pub adds : Adds c i run h (access_point h ic run.turns (aligned address) (word_count address n) mode)
   pub within : address + n ≤ i.memory
 
--- and so over a run
+-- the run has the point of a row's call: it accesses the words in which n bytes lie
 pub record HasCall (c : RawSettings) (i : Program) (input b : List ℕ) (h : ℕ) (r : Row) (address n : ℕ) (mode : Mode) : Type 0 where
   pub place : ℕ
   pub point : Point

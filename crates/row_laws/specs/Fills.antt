@@ -40,7 +40,7 @@ pub record HasByte (address n a : ℕ) : Type 0 where
   pub from : aligned address ≤ a
   pub to : a < address + n
 
--- such a row fills bytes of the aligned word at a: some of those from the address in a1 on
+-- a read call's row fills bytes of the aligned word at a: some of those from the address in a1 on
 pub record Fills (before : HartState) (r : Row) (a : ℕ) : Type 0 where
   pub count : ℕ
   pub row : IsFillRow before r count
@@ -71,7 +71,7 @@ pub record HasWriter (c : RawSettings) (i : Program) (run : Run) (h : ℕ) (p : 
   pub turn_is : p.turn ≡ run.turns
   pub writes : (at_address a row.store None ≡ Some ((turn c i run h).machine.memory a)) ⊎ Fills before row a
 
--- and so over a run
+-- a point of the run that writes the word at a has a row: it stores the word that memory then has, or it fills bytes of it
 pub record HasWriterRow (c : RawSettings) (i : Program) (input b : List ℕ) (p : Point) (a : ℕ) : Type 0 where
   pub before : HartState
   pub row : Row

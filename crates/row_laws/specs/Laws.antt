@@ -46,7 +46,7 @@ abbrev pub RowsAreOfTurns : Type 0
 RowsAreOfTurns = (c : RawSettings) (i : Program) (input b : List ℕ) (h : ℕ) (before : HartState) (r : Row) → IsSetting c → legal_from c i (start c i input) b ≡ true
     → RunHasRow c i input b h before r → IsRowOfTurn c i input b h before r
 
--- and back
+-- A row of a turn is a row of the run, with the same state before it
 abbrev pub TurnRowsAreRows : Type 0
 TurnRowsAreRows = (c : RawSettings) (i : Program) (input b : List ℕ) (h : ℕ) (before : HartState) (r : Row) → IsSetting c → legal_from c i (start c i input) b ≡ true
     → IsRowOfTurn c i input b h before r → RunHasRow c i input b h before r
@@ -56,8 +56,8 @@ abbrev pub BeginningsTellStates : Type 0
 BeginningsTellStates = (c : RawSettings) (i : Program) (input b : List ℕ) (h n : ℕ) (v : Interval) (x : BeginsIn c i input b h n v)
     → state_after i ((run_of c i input x.past).harts h).state x.before ≡ v.start
 
--- So it is of the rows of an interval whose Header stands in an end of the records, from the Header's state on. The state that
--- a replay of the interval has before each row is the run's
+-- Take an interval whose Header stands in an end of the records. From the Header's state on, each of its rows is that of a
+-- turn. So the state that a replay of the interval has before each row is the run's
 abbrev pub IntervalRowsAreOfTurns : Type 0
 IntervalRowsAreOfTurns = (c : RawSettings) (i : Program) (input b : List ℕ) (h n : ℕ) → IsSetting c → IsWhole c i input b
     → (rs : List Record) → IsEndOf (run_of c i input b).stream rs → (v : Interval) → interval_of h n rs ≡ Some v
@@ -72,12 +72,12 @@ RowsTellWords = (c : RawSettings) (i : Program) (run : Run) (h : ℕ) (before : 
     → TurnHasRow c i run h before r → word_told r a ≡ Some word
     → ((turn c i run h).machine.memory a ≡ word) × Adds c i run h (word_point h run.turns r a)
 
--- and so over a run
+-- If a row of the run tells a word, memory has it after that turn, and the run has the point that accesses it
 abbrev pub RunRowsTellWords : Type 0
 RunRowsTellWords = (c : RawSettings) (i : Program) (input b : List ℕ) (h : ℕ) (before : HartState) (r : Row) (a word : ℕ) → IsSetting c → legal_from c i (start c i input) b ≡ true
     → IsRowOfTurn c i input b h before r → word_told r a ≡ Some word → HasWord c i input b h r a word
 
--- Such a row is of no fault
+-- A row that tells a word is of no fault
 abbrev pub RowsThatTellHaveNoFault : Type 0
 RowsThatTellHaveNoFault = (c : RawSettings) (i : Program) (run : Run) (h : ℕ) (before : HartState) (r : Row) (a word : ℕ)
     → TurnHasRow c i run h before r → word_told r a ≡ Some word → r.fault ≡ None
@@ -94,7 +94,7 @@ abbrev pub WritersHaveRows : Type 0
 WritersHaveRows = (c : RawSettings) (i : Program) (run : Run) (h : ℕ) (p : Point) (a : ℕ) → HasCodeWords i → AsksOrderly c i run h
     → Adds c i run h p → Writes a p → HasWriter c i run h p a
 
--- and so over a run
+-- Each point of a run that writes a word has a row that stores the word, or fills bytes of it
 abbrev pub RunWritersHaveRows : Type 0
 RunWritersHaveRows = (c : RawSettings) (i : Program) (input b : List ℕ) (m : ℕ) (p : Point) (a : ℕ) → IsSetting c → HasCodeWords i → legal_from c i (start c i input) b ≡ true
     → slice_get (run_of c i input b).points m ≡ Some p → Writes a p → HasWriterRow c i input b p a
@@ -110,7 +110,7 @@ abbrev pub FillRowsFill : Type 0
 FillRowsFill = (c : RawSettings) (i : Program) (run : Run) (h : ℕ) (before : HartState) (r : Row) (n : ℕ) → AsksOrderly c i run h
     → TurnHasRow c i run h before r → IsFillRow before r n → IsFill c i run h (slice_index before.x 11) n r.ic
 
--- and so over a run
+-- The run has the point of each row of a read call that gives bytes, and it writes their words
 abbrev pub RunFillRowsFill : Type 0
 RunFillRowsFill = (c : RawSettings) (i : Program) (input b : List ℕ) (h : ℕ) (before : HartState) (r : Row) (n : ℕ) → IsSetting c → legal_from c i (start c i input) b ≡ true
     → IsRowOfTurn c i input b h before r → IsFillRow before r n → HasFill c i input b h r (slice_index before.x 11) n

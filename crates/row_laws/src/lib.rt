@@ -73,7 +73,7 @@ pub fn rows_tell_words()
     ensures { RowsTellWords }
 {}
 
-/// The run has the point of such a row, and memory right after that turn has the word.
+/// The run has the point of a row that tells a word, and memory right after that turn has the word.
 pub fn run_rows_tell_words()
     ensures { RunRowsTellWords }
 {
@@ -103,7 +103,8 @@ pub fn writers_have_rows()
     tests_decide();
 }
 
-/// So has each point of a run that writes a word.
+/// Each point of a run that writes a word has a row of its hart and count: it stores the word, or is that
+/// of a read call that fills bytes of it.
 pub fn run_writers_have_rows()
     ensures { RunWritersHaveRows }
 {

@@ -24,7 +24,7 @@ abbrev pub TurnsAreLawful : Type 0
 TurnsAreLawful = (c : RawSettings) (i : Program) (input b : List ℕ) → legal_from c i (start c i input) b ≡ true
     → IsLawful c i (start c i input) (rows_from c i (start c i input) b) × (after_rows c i (start c i input) (rows_from c i (start c i input) b) ≡ run_of c i input b)
 
--- each hart's rows of it are the hart's own
+-- each hart's rows of a legal list are the hart's own
 abbrev pub TurnsAreOwn : Type 0
 TurnsAreOwn = (c : RawSettings) (i : Program) (input b : List ℕ) (h : ℕ) → IsSetting c → legal_from c i (start c i input) b ≡ true
     → IsOwn c i h (place_of (start_hart h (start_state c i h))) (rows_by h (rows_from c i (start c i input) b))
@@ -70,7 +70,7 @@ pub record AreTurns (c : RawSettings) (i : Program) (run : Run) (rows : List Tur
 abbrev pub OwnRowsGoOn : Type 0
 OwnRowsGoOn = (c : RawSettings) (i : Program) (run : Run) (rows : List TurnRow) → IsSetting c → ((j : ℕ) → IsRested c (run.harts j)) → IsLawful c i run rows → AreOwn c i run rows → AreTurns c i run rows
 
--- so are they from the start
+-- lawful rows from the start, of which each hart's are its own, are those of the turns of their harts
 abbrev pub OwnRowsAreTurns : Type 0
 OwnRowsAreTurns = (c : RawSettings) (i : Program) (input : List ℕ) (rows : List TurnRow) → IsSetting c → IsLawful c i (start c i input) rows
     → AreOwn c i (start c i input) rows → AreTurns c i (start c i input) rows
@@ -102,7 +102,7 @@ pub record AreJoined (c : RawSettings) (i : Program) (input : List ℕ) (rows : 
   pub lawful : IsLawful c i (start c i input) (rows ++ rows_from c i (after_rows c i (start c i input) rows) more)
   pub own : AreOwn c i (start c i input) (rows ++ rows_from c i (after_rows c i (start c i input) rows) more)
 
--- so it is with lawful rows, each hart's own, and a list that is legal after them
+-- lawful rows, each hart's own, and a list that is legal after them, are joined so
 abbrev pub OwnRowsAreJoined : Type 0
 OwnRowsAreJoined = (c : RawSettings) (i : Program) (input : List ℕ) (rows : List TurnRow) (more : List ℕ) → IsSetting c → IsLawful c i (start c i input) rows → AreOwn c i (start c i input) rows
     → legal_from c i (after_rows c i (start c i input) rows) more ≡ true → AreJoined c i input rows more
@@ -119,7 +119,7 @@ abbrev pub LastEndsAreMarks : Type 0
 LastEndsAreMarks = (c : RawSettings) (i : Program) (input : List ℕ) (rows : List TurnRow) (h : ℕ) → h < c.harts
     → let run = after_rows c i (start c i input) rows in last_end h run.stream ≡ (run.harts h).mark
 
--- So is that of its last End at the end of the stream, if it has one there
+-- If a hart has an End at the end of the stream, which a log keeps, its last mark is that of the last one
 abbrev pub KeptEndsAreMarks : Type 0
 KeptEndsAreMarks = (c : RawSettings) (i : Program) (input : List ℕ) (rows : List TurnRow) (rs : List Record) (h : ℕ) (m : EndMark) → h < c.harts
     → let run = after_rows c i (start c i input) rows in IsEndOf run.stream rs → last_end h rs ≡ Some m → (run.harts h).mark ≡ Some m

@@ -34,7 +34,7 @@ pub record HasHeader (k number begun : ℕ) (rs : List Record) : Type 0 where
   pub x : List ℕ
   pub parts : rs ≡ front ++ Header k number begun pc x ∷ back
 
--- and the hart's last End after it has that mark
+-- a hart's interval has its Header among the records, and the hart's last End after it has that mark
 pub record HasEnded (k number begun : ℕ) (m : EndMark) (rs : List Record) : Type 0 where
   pub header : HasHeader k number begun rs
   pub end : last_end k header.back ≡ Some m
@@ -55,7 +55,7 @@ pub record CountsFromHeader (run : Run) (k : ℕ) : Type 0 where
   pub latest : AllByRecursion (λ (r : Record). is_header_of k r ≡ false) header.back
   pub bytes : bytes_since run k ≡ total (Header k (run.harts k).number (run.harts k).begun header.pc header.x ∷ header.back)
 
--- So the guard counts for each hart, after the turns of any legal list
+-- The guard counts each hart's bytes from its Header, after the turns of any legal list
 abbrev pub GuardCountsFromHeaders : Type 0
 GuardCountsFromHeaders = (c : RawSettings) (i : Program) (input b : List ℕ) (k : ℕ) → IsSetting c → legal_from c i (start c i input) b ≡ true → k < c.harts → CountsFromHeader (run_of c i input b) k
 

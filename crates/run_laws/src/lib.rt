@@ -101,8 +101,8 @@ pub fn lists_go_on()
     ensures { ListsGoOn }
 {}
 
-/// Such rows, with those of the turns of a list after them, are the rows of one legal list, lawful and each
-/// hart's own.
+/// Lawful rows from the start, each hart's its own, and after them those of the turns of a list, are the
+/// rows of one legal list. All of them are lawful and each hart's own.
 pub fn own_rows_are_joined()
     ensures { OwnRowsAreJoined }
 {
@@ -118,14 +118,14 @@ pub fn replies_fit()
     ensures { RepliesFit }
 {}
 
-/// Each hart's last mark is that of its last End in the stream, after any rows, whoever made their asks;
-/// a hart that has no mark has no End.
+/// Each hart's last mark is that of its last End in the stream, after any rows, whoever made their asks. A
+/// hart without a mark has no End.
 #[tactic(auto, using(crate::proofs::LastEnds::ends_are_marks))]
 pub fn last_ends_are_marks()
     ensures { LastEndsAreMarks }
 {}
 
-/// So is that of the last End that a hart has at the end of the stream, which is what a log keeps.
+/// A log keeps an end of the stream. If a hart has an End there, its last mark is that of the last one.
 #[tactic(auto, using(crate::proofs::LastEnds::kept_ends_are_marks))]
 pub fn kept_ends_are_marks()
     ensures { KeptEndsAreMarks }

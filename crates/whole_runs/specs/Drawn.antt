@@ -63,7 +63,7 @@ drawn_from m c i run d (suc n) = elim (any_live c.harts run.harts) [
 abbrev pub drawn_list : Manner → RawSettings → Program → List ℕ → ℕ → List ℕ
 drawn_list m c i input number = drawn_from m c i (start c i input) (record { hart = 0; left = 0; number = number }) (most_turns c)
 
--- ... of what a run begins with
+-- the list of a number, of what a run begins with
 abbrev pub drawn_of : Manner → Began → ℕ → List ℕ
 drawn_of m b number = drawn_list m b.settings b.image b.input number
 

@@ -12,11 +12,11 @@ abbrev pub legal_prefix_from : RawSettings → Program → Run → List ℕ → 
 legal_prefix_from c i run [] = []
 legal_prefix_from c i run (k ∷ ks) = elim (is_live c run k) [ true ↦ k ∷ legal_prefix_from c i (turn c i run k) ks | false ↦ [] ]
 
--- ... from what a run begins with
+-- the turns of a list up to the first whose hart isn't live then, from what a run begins with
 abbrev pub legal_prefix : Began → List ℕ → List ℕ
 legal_prefix b list = legal_prefix_from b.settings b.image (first_run b) list
 
--- these turns, and then those of seed 0
+-- the turns of a list up to the first whose hart isn't live then, and after them those of seed 0
 abbrev pub followed : Began → List ℕ → List ℕ
 followed b list = legal_prefix b list ++ seeded_after b (legal_prefix b list) 0
 

@@ -57,7 +57,7 @@ pub record IsLed (answers : ℕ → Ask → Reply × Bool → Type 0) (c : RawSe
   pub place_is : now ≡ place_over c first rows
   pub answered : AllByRecursion (λ (r : TurnRow). answers r.hart r.ask (r.reply, r.guarded)) rows
 
--- and so to this state
+-- turns of its own led hart h from its first place to this state
 abbrev pub IsLedTo : (answers : ℕ → Ask → Reply × Bool → Type 0) → RawSettings → Program → ℕ → Place → HartState → Type 0
 IsLedTo answers c i h first state = (begun : ℕ) × IsLed answers c i h first (record { state = state; begun = begun })
 

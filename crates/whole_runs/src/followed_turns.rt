@@ -37,7 +37,8 @@ fn take_legal<B: Book>(
     Ok(list.len())
 }
 
-// These turns, and then those of seed 0, until no hart is live. What is given is their list.
+// Takes the turns of a list up to the first whose hart isn't live then, and then those of seed 0, until no
+// hart is live. What is given is the list of all of them.
 fn take_followed<B: Book>(
     alloc: Global,
     code: &DecodedImage,
