@@ -1,4 +1,4 @@
-//! The turns of harts on the caller's thread. A recording spends its time in these loops.
+//! The turns of harts on the caller's thread.
 ghost use Rattle.std.specs.Prelude.{◌≡◌, ◌+◌, ◌<◌, ◌∷◌, ◌++◌, [], ℕ, true, false, List, Some, OnOk, IfOk, IfErr, ◌⊎◌};
 ghost use Rattle.whole_runs.specs.Lists.{HasTaken, is_finished, seeded_after, list_run, error_of};
 ghost use Rattle.bn_outside.specs.declared.turn_row.TurnRow.{TurnRow};
