@@ -72,7 +72,7 @@ many_after every p n j copies due size d (inl e) = ap (λ (b : Bool). length (wi
 many_after every p n j copies due size d (inr e) =
     ap (λ (b : Bool). length (with_copy b j copies)) (d ∙ due_there every p n e.0 e.1) ∙ length-append copies (j ∷ []) ∙ ap (λ k. k + 1) (size ∙ e.0)
 
--- ---- which of them stand where
+-- ---- their places
 
 abbrev pub AreCopies : ℕ → Joining → List Entry → List Joining → Type 0
 AreCopies every start entries copies = (i : ℕ) (c : Joining) → slice_get copies i ≡ Some c → LeadsBy start (take (i * every) entries) c

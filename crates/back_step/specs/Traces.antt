@@ -31,7 +31,7 @@ entries_of (t ∷ ts) = entries_of ts ++ entry_of t.hart t.item ∷ []
 abbrev pub harts_of : List Entry → List ℕ
 harts_of entries = map (λ (e : Entry). e.hart) entries
 
--- a joint replay: what it began as, the steps from there, the first first, and the point where it stands
+-- a joint replay: what it began as, the steps from there, the first first, and its present state
 pub record Trace : Type 0 where
   pub start : Joining
   pub entries : List Entry

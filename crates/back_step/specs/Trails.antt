@@ -53,8 +53,8 @@ HasCopies every position copies = (copies ≡ position / every + 1) ⊎ ((copies
 abbrev pub trailed : ℕ → Joining → List Entry → Joining → Trailed
 trailed every start entries now = record { every = every; trace = record { start = start; entries = entries; now = now } }
 
--- what a trail has by its type: steps of ready harts lead from its start to the point where it stands, and to each copy. There is a copy
--- at each multiple of `every` up to its position; the copy of the position itself may be still to be made
+-- what a trail has by its type: steps of ready harts lead from its start to its present state, and to each copy. There is a
+-- copy at each multiple of `every` up to its position; the copy of the position itself may be still to be made
 pub record IsTrail (every : ℕ) (start : Joining) (entries : List Entry) (now : Joining) (copies : List Joining) : Type 0 where
   pub some : 0 < every
   pub calm : start.refused ≡ None

@@ -7,7 +7,7 @@ use bn_base::HartId;
 use joint_replay::Joint;
 use std::alloc::AllocError;
 
-/// Whether a copy is to be made at a position, where so many were made.
+/// Whether a copy is to be made at a position, after so many were made.
 pub(crate) fn is_due(every: u64, position: u64, copies: u64) -> bool
     requires { 0 < every }
     ensures { result ≡ (position % every == 0 && (position / every == copies)) }

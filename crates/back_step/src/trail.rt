@@ -84,7 +84,7 @@ impl<'a> Trail<'a> {
         self.entries.len() as u64
     }
 
-    /// The step from a position; `None` where that isn't below the present one.
+    /// The step from a position; `None` if that isn't below the present one.
     pub fn entry(&self, position: u64) -> Option<Entry>
         ensures { result ≡ slice_get self.now.trace.entries position }
     {

@@ -6,7 +6,7 @@ use Rattle.bn_base.specs.declared.settings.RawSettings.{RawSettings}
 use Rattle.bn_base.specs.declared.settings.BadSetting.{BadSetting}
 use Rattle.bn_base.specs.Ranges.{is_between, is_small_power, is_memory_size, most_harts, bad_or, first_bad, IsSetting}
 
--- where nothing is bad, the first test holds and nothing later is bad
+-- if nothing is bad, the first test holds and nothing later is bad
 pub none_bad : (test : Bool) (bad : BadSetting) (later : Option BadSetting) → bad_or test bad later ≡ None → (test ≡ true) × (later ≡ None)
 none_bad true bad later h = (refl, h)
 none_bad false bad later h = Prim.grind arith

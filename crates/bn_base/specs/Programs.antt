@@ -9,7 +9,7 @@ pub record Part : Type 0 where
   pub executable : Bool
   pub writable : Bool
 
--- a program: its parts by ascending address, the place where every hart starts, the size of the address space, and the number of harts that run it
+-- a program: its parts by ascending address, the entry of every hart, the size of the address space, and the number of harts that run it
 pub record Program : Type 0 where
   pub parts : List Part
   pub entry : ℕ

@@ -39,7 +39,7 @@ impl Registers {
         self.contents
     }
 
-    /// The contents of x1 to x31, x1 first: x0 needs no place where registers are stored.
+    /// The contents of x1 to x31, x1 first: files don't store x0.
     pub fn others(&self) -> &[u32]
         ensures value { result.now ≡ drop 1 self.now }
         ensures count { length result.now ≡ 31 }

@@ -74,7 +74,7 @@ fn gather(bytes: &mut Vec<u8>, piece: &[u8], expected: usize) -> Result<(), Allo
     bytes.extend_from_slice(piece)
 }
 
-// Puts a piece behind what was read, where both are at most `limit` together.
+// Puts a piece after what was read, if both are at most `limit` together.
 fn gather_within(
     bytes: &mut Vec<u8>,
     piece: &[u8],

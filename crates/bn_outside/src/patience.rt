@@ -30,7 +30,7 @@ impl Patience {
         self.ran_out.load(Ordering::SeqCst)
     }
 
-    /// Yields until the test holds. It runs out where the test doesn't hold after the last yield.
+    /// Yields until the test holds. It runs out if the test doesn't hold after the last yield.
     /// Once one wait ran out, none yields any more.
     pub fn wait<F: Fn() -> bool>(&self, holds: F)
         requires { F.IsAlwaysCallable holds }

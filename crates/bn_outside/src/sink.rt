@@ -7,7 +7,7 @@ use crate::Failed;
 
 /// Bytes that go out.
 pub trait Sink {
-    /// The bytes written so far, where the sink tells them.
+    /// The bytes written so far, if contracts can name them.
     ghost written: { Self → Option (List ℕ) };
 
     /// How often a write has failed.

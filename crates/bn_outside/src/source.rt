@@ -8,7 +8,7 @@ use crate::Failed;
 
 /// Bytes that come in.
 pub trait Source {
-    /// The bytes that are left, where the source tells them.
+    /// The bytes that are left, if contracts can name them.
     ghost left: { Self → Option (List ℕ) };
 
     /// How often a read has failed.

@@ -92,7 +92,7 @@ impl Memory {
     }
 
     /// Makes the pages of `count` words from an aligned address on, which changes no word. It
-    /// needs no memory where all of them are made. On `Err` nothing has changed.
+    /// needs no memory if all of them are made. On `Err` nothing has changed.
     pub fn room(&mut self, addr: Addr, count: u32) -> Result<(), AllocError>
         requires aligned { addr % 4 ≡ 0 }
         requires mapped { addr + 4 * count ≤ 4 * length self.old.words }

@@ -13,7 +13,7 @@ use Rattle.elf_loader.specs.Headers.{table}
 use Rattle.elf_loader.specs.Segments.{file_end, segments}
 use Rattle.elf_loader.specs.Loaded.{is_cut_off, is_outside, touching, when, unless, starts_outside, is_interpreter, header_refusal, segment_refusal, program_of, refusal, image_of}
 
--- a choice of two is none where both are
+-- a choice of two is none if both are
 pub cond_none : {X : Type 0} (b : Bool) (x : X) (r : Option X) → cond b (Some x) r ≡ None → (b ≡ false) × (r ≡ None)
 cond_none true x r e = absurd cc
 cond_none false x r e = (refl, e)
@@ -26,7 +26,7 @@ pub or_both : {X : Type 0} (o r : Option X) → option_or o r ≡ None → (o �
 or_both None r e = (refl, e)
 or_both (Some x) r e = absurd cc
 
--- where none is found each fails the test
+-- if none is found, each fails the test
 pub all_fail : (p : ProgramHeader → Bool) (hs : List ProgramHeader) → find p hs ≡ None → All (λ h. p h ≡ false) hs
 all_fail p [] e = All-nil (λ h. p h ≡ false)
 all_fail p (h ∷ hs) e = let both = cond_none (p h) h (find p hs) e in All-cons (λ x. p x ≡ false) h hs both.0 (all_fail p hs both.1)

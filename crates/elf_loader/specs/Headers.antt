@@ -33,7 +33,7 @@ header_at bytes at place = record {
   flags = number_at 4 (at + 24) bytes;
 }
 
--- the place where the program header table ends in the file: it has `phnum` headers of 32 bytes
+-- the offset after the program header table in the file: it has `phnum` headers of 32 bytes
 abbrev pub table_end : FileHeader → ℕ
 table_end f = f.phoff + 32 * f.phnum
 

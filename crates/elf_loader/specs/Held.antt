@@ -16,7 +16,7 @@ pub record HoldsNothing (p : Program) (addr : ℕ) : Type 0 where
   pub code : code_at p addr ≡ None
   pub store : may_store p addr ≡ may_load p addr
 
--- the place where the highest of several segments ends
+-- the address after the highest of several segments
 abbrev pub highest : List ProgramHeader → ℕ
 highest [] = 0
 highest (h ∷ hs) = max (memory_end h) (highest hs)

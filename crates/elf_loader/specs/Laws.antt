@@ -15,12 +15,12 @@ abbrev pub SegmentsTouchTheirWords : Type 0
 SegmentsTouchTheirWords = (h : ProgramHeader) (addr : ℕ) → is_segment h ≡ true
     → (touches h addr ≡ true) ↔ ((byte : ℕ) × (h.vaddr ≤ byte) × (byte < memory_end h) × (byte / 4 ≡ addr / 4))
 
--- two segments share a word exactly if both touch it
+-- two segments share a word if and only if there is one that both touch
 abbrev pub SegmentsShareWords : Type 0
 SegmentsShareWords = (g h : ProgramHeader) → is_segment g ≡ true → is_segment h ≡ true
     → (share g h ≡ true) ↔ ((addr : ℕ) × (touches g addr ≡ true) × (touches h addr ≡ true))
 
--- each segment of a file that is loaded stands in memory at the place where its header says
+-- each segment of a file that is loaded is in memory at the address that its header says
 abbrev pub MemoryHoldsSegments : Type 0
 MemoryHoldsSegments = (bytes : List ℕ) (s : RawSettings) (p : Program) (h : ProgramHeader) (addr : ℕ) → IsSetting s → image_of bytes s ≡ Ok p
     → Contains (segments bytes) h → touches h addr ≡ true → HoldsSegment bytes h p addr

@@ -19,11 +19,11 @@ is_segment h = (h.kind == 1) && nat_lt 0 h.memsz
 unfoldable pub segments : List ℕ → List ProgramHeader
 segments bytes = filter is_segment (table bytes)
 
--- the place where a segment's bytes end in the file
+-- the offset after a segment's bytes in the file
 abbrev pub file_end : ProgramHeader → ℕ
 file_end h = h.offset + h.filesz
 
--- the place where a segment ends in memory
+-- the address after a segment in memory
 abbrev pub memory_end : ProgramHeader → ℕ
 memory_end h = h.vaddr + h.memsz
 

@@ -13,7 +13,7 @@ pub fn segments_share_words_that_both_touch()
     ensures { SegmentsShareWords }
 {}
 
-/// Each segment of a file that is loaded stands in memory where its header says.
+/// Each segment of a file that is loaded is in memory at the address that its header says.
 pub fn memory_holds_each_segment()
     ensures { MemoryHoldsSegments }
 {}

@@ -9,7 +9,7 @@ pub struct Way {
     pub line: u32,
     /// One bit for each of the line's words, at most 16, the lowest bit for the first word.
     pub mask: u16,
-    /// The number of the touch that put the line here last, among touches and clears; 0 where the way is empty.
+    /// The number of the touch that put the line here last, among touches and clears; 0 if the way is empty.
     pub age: u64,
     /// Which clear came before the mask was made: it counts only until the next.
     pub generation: u64,
@@ -29,7 +29,7 @@ pub(crate) fn has_other(way: &Way, line: u32) -> bool
     way.age != 0 && way.line != line
 }
 
-// The bits of a way's line, none set where its mask is of an older generation.
+// The bits of a way's line, none set if its mask is of an older generation.
 pub(crate) fn bits(way: &Way, generation: u64) -> u16
     ensures { result ≡ (line_in generation way.now).bits }
 {

@@ -22,7 +22,7 @@ heads x y xs ys e = cc
 tails : {A : Type 0} (x y : A) (xs ys : List A) → x ∷ xs ≡ y ∷ ys → xs ≡ ys
 tails x y xs ys e = cc
 
--- where the first values are the same, so is each of them
+-- if the first values are the same, so is each of them
 same_at : {A : Type 0} (f g : ℕ → A) (n k : ℕ) → k < n → listed f n ≡ listed g n → f k ≡ g k
 same_at f g zero k h e = absurd (omega (arith, h))
 same_at f g (suc n) zero h e = heads _ _ _ _ e

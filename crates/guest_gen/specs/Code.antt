@@ -64,7 +64,7 @@ chosen choice k =
 abbrev pub slot : ℕ → Instruction
 slot r = chosen (r % 8) (r / 8 % 64)
 
--- before the slots: s0 is 00020000, the place where the words of all harts lie, and s1 is 256 bytes a hart further
+-- before the slots: s0 is 00020000, the address of the words of all harts, and s1 is 256 bytes a hart further
 unfoldable pub opening : List Instruction
 opening = with_immediate Lui s0 0 131072 ∷ with_immediate Slli s1 a0 8 ∷ of_registers Add s1 s1 s0 ∷ []
 

@@ -108,7 +108,7 @@ own_number p n e = ap (λ (x : Bool). elim x as (λ y. Option Frame) [ true ↦ 
 pub other_number : (p : TaggedPage) (n : ℕ) → p.number ≢ n → page_in (Some p) n ≡ None
 other_number p n h = ap (λ (x : Bool). elim x as (λ y. Option Frame) [ true ↦ Some p.page | false ↦ None ]) (unequal p.number n h)
 
--- where the page of a number doesn't stand, none is found
+-- if there is no page of a number, none is found
 pub not_standing : (o : Option TaggedPage) (n : ℕ) → is_of o n ≡ false → page_in o n ≡ None
 not_standing None n h = refl
 not_standing (Some p) n h = ap (λ (x : Bool). elim x as (λ y. Option Frame) [ true ↦ Some p.page | false ↦ None ]) h

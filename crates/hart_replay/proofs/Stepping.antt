@@ -57,14 +57,14 @@ stop_only : (i : Program) (h n : ℕ) (v : Interval) (x : Next) (o : Outcome) �
     → elim x as (λ u. Replayed) [ On q ↦ with_rows (take 1 q.rows) (to_come i h v n q) | Stop p ↦ record { rows = []; outcome = p } ] ≡ record { rows = []; outcome = o }
 stop_only i h n v x o e = ap (λ (y : Next). elim y as (λ u. Replayed) [ On q ↦ with_rows (take 1 q.rows) (to_come i h v n q) | Stop p ↦ record { rows = []; outcome = p } ]) e
 
--- where the definition stops, the outcome alone is to come
+-- if the definition stops, the outcome alone is to come
 pub stopped : (i : Program) (h : ℕ) (m : EndMark) (s : HartState) (c : Bool) (a : Side) (o : Outcome) → s.ic < m.ic
     → one_step i h (interval_at s m a) (position_at s c a) ≡ Stop o → side_to_come i h m s c a ≡ record { rows = []; outcome = o }
 stopped i h m s c a o lt e =
     let count : m.ic - s.ic ≡ suc (m.ic - s.ic - 1) = omega (arith, lt) in
     ap (λ n. to_come i h (interval_at s m a) n (position_at s c a)) count ∙ stop_only i h (m.ic - s.ic - 1) (interval_at s m a) _ o e
 
--- where the next row tells a word, the first row that is to come does
+-- if the next row tells a word, the first row that is to come does
 keeps_first : (i : Program) (h n : ℕ) (v : Interval) (x : Next) → KeepsWord x
     → a_word_comes (elim x as (λ u. Replayed) [ On q ↦ with_rows (take 1 q.rows) (to_come i h v n q) | Stop o ↦ record { rows = []; outcome = o } ]).rows ≡ true
 keeps_first i h n v (Stop o) tells = absurd tells

@@ -97,8 +97,8 @@ or_else (Some x) y = Some x
 
 -- ---- the instructions, one by one
 
--- the point where a replay stands: the hart's state, how many loading accesses and store-conditionals it did, its rows, latest
--- first, and whether its last instruction was the system call that ends the interval
+-- the state of a replay: the hart's state, how many loading accesses and store-conditionals it did, its rows, latest first,
+-- and whether its last instruction was the system call that ends the interval
 pub record Position : Type 0 where
   pub state : HartState
   pub loads : ℕ
@@ -219,7 +219,7 @@ abbrev pub steps : Program → ℕ → Interval → ℕ → Position → Replaye
 steps i h v zero p = ended i h v p
 steps i h v (suc n) p = elim (one_step i h v p) [ On q ↦ steps i h v n q | Stop o ↦ finish p.rows o ]
 
--- the point where the replay of an interval begins
+-- the position in which the replay of an interval begins
 abbrev pub first : Interval → Position
 first v = record { state = v.start; loads = 0; conditionals = 0; rows = []; called = false }
 

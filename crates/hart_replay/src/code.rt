@@ -47,7 +47,7 @@ impl<'a> Model for Code<'a> {
 }
 
 impl Lookup {
-    // That there is no word at an address where none can be.
+    // That there is no word at an address that can have none.
     fn none() -> Lookup
         ensures { (i : Program) → IsLookup i result }
     {
@@ -132,7 +132,7 @@ impl<'a> Code<'a> {
     }
 
     /// Does the instruction at the pc of a state, as [`quiet_run_in_place`] with a budget of 1. It need
-    /// not be decoded again where its look-up is kept, as after a `fetch` there.
+    /// not be decoded again if its look-up is kept, as after a `fetch` there.
     #[inline(always)]
     pub(crate) fn step(&self, state: &mut HartState) -> Want
         ensures { record { state = state.new; want = result } ≡ ask_of self.now.now 1 state.old }

@@ -487,7 +487,7 @@ impl<'a> IntervalCursor<'a> {
         }
     }
 
-    // The mark that is found where the interval ends otherwise than its log says.
+    // The mark that is found if the interval ends otherwise than its log says.
     fn end_here(&self) -> EndMark
         ensures { result ≡ found self.now.state.ic 1 0 }
     {
@@ -516,7 +516,7 @@ impl<'a> IntervalCursor<'a> {
         }
     }
 
-    /// A cursor that stands where this one does.
+    /// An equal cursor.
     pub(crate) fn copy(&self) -> Result<IntervalCursor<'a>, AllocError>
         ensures words { IfOk result (λ c. c.words.pages ≡ self.now.words.pages) }
         ensures rest { IfOk result (λ c. c ≡ record self.now { words = c.words }) }

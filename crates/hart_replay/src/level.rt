@@ -121,7 +121,7 @@ impl RadixLevel {
         }
     }
 
-    /// The place that a node has for one of its parts; 0 where the node isn't that of `part`.
+    /// The place that a node has for one of its parts; 0 if the node isn't that of `part`.
     pub(crate) fn place(&self, node: usize, part: u32, at: u32) -> usize
         requires { at < 256 }
         ensures { result ≡ place_at self.now.branches node part at }

@@ -56,7 +56,7 @@ impl<'a> Replayer<'a> {
         Replayer::begin_from(alloc, image, log, hart, interval, 0)
     }
 
-    /// As `begin`, where the Header isn't among the first records: it is looked for from a place on.
+    /// As `begin`, for a Header that isn't among the first records: it is looked for from a place on.
     pub fn begin_from(
         alloc: Global,
         image: &'a Image,
@@ -107,7 +107,7 @@ impl<'a> Replayer<'a> {
         }
     }
 
-    /// As `step`, with the row written to `row`; `false` where `step` gives none.
+    /// As `step`, with the row written to `row`; `false` if `step` gives none.
     pub fn advance(&mut self, row: &mut Row) -> Result<bool, ReplayError>
         ensures { Stepped self.old (given result row.new) self.new }
     {

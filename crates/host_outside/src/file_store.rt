@@ -119,7 +119,7 @@ fn load_file<R: Files>(
 }
 
 // Whether the system lets this process make a file so long. A write past its limit would end the process by a
-// signal that nothing here can ignore, so none is begun; where something else than a file has the name there is no
+// signal that nothing here can ignore, so none is begun. If something else than a file has the name, there is no
 // limit.
 fn has_room<R: Files>(rt: &R, name: &str, length: usize) -> bool {
     if length as u64 <= most_bytes(rt) {

@@ -140,7 +140,7 @@ fn is_replaceable<R: Files, F>(rt: &R, open: &Opened<F>, name: &str) -> bool {
     }
 }
 
-/// Makes a new file to replace an open one, whose name this is; none where that one is to be written in place.
+/// Makes a new file to replace an open one, whose name this is; none if that one is to be written in place.
 pub fn make_like<R: Files>(
     rt: &R,
     alloc: Global,
@@ -214,7 +214,7 @@ pub fn put<R: Files>(
     result
 }
 
-/// The same, where another file has the name, which is then gone: so it must be none that is spared.
+/// The same, if another file has the name, which is then gone: so it must be none that is spared.
 pub fn put_over<R: Files>(
     rt: &R,
     fresh: Fresh<R::File>,

@@ -27,7 +27,7 @@ fn refusal<S: Store>(alloc: Global, store: &mut S, name: &str, limit: usize) -> 
     store.load(alloc, name, limit).err()
 }
 
-// Whether these bytes are saved, and loaded where the limit is their length, and no shorter.
+// Whether these bytes are saved, and loaded if the limit is their length, but not with a lower one.
 fn is_kept<S: Store>(alloc: Global, store: &mut S, name: &str, bytes: &[u8]) -> bool
     requires { 0 < length bytes.now }
 {

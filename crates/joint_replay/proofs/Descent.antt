@@ -169,7 +169,7 @@ module _ (records : List Record) (lanes : List Lane) where
       by None i f = absurd cc
       by (Some c) i f = (0, l, c, refl, i)
 
-  -- where none is chosen, no hart is ready, and some has something to come
+  -- if none is chosen, no hart is ready, and some has something to come
   pub all_wait : (h : ℕ) (ls : List Lane) (waiting : Bool) → is_none (choice_from records lanes h ls waiting) ≡ true → NotReady h ls × ((waiting ≡ true) ⊎ Comes ls)
   all_wait h [] true e = (λ k n lane f g. absurd (no_lane [] refl k lane g), inl refl)
   all_wait h [] false e = absurd cc

@@ -36,7 +36,7 @@ exits_count false true k over = refl
 exits_count false false k over = let f : true ≡ false = over in absurd cc
 
 module _ (i : Program) (h : ℕ) (v : Interval) (p : Position) where
-  -- the state after a row without a fault, where this is asked
+  -- the state after a row without a fault, if this is asked
   reply_told : (k : Want) (row : Row) → row.fault ≡ None → step i p.state ≡ Asks k → after_row i p.state row ≡ absorbed (record { state = p.state; want = k }) (reply_in row k)
   reply_told k row none e =
       ap (λ f. elim f as (λ x. HartState) [ None ↦ elim (step i p.state) as (λ x. HartState) [ Quiet t ↦ t | Asks j ↦ absorbed (record { state = p.state; want = j }) (reply_in row j) ] | Some f ↦ p.state ]) none

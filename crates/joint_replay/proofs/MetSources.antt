@@ -46,7 +46,7 @@ pub more_passed : (lanes : List Lane) (n : ℕ) (ss : List IncomingEdge) (d : In
     → ArePassed lanes (take (n + 1) ss)
 more_passed lanes n ss d low p e = let up : suc n ≡ n + 1 = omega arith in subst (λ k. ArePassed lanes (take k ss)) up (one_passed lanes n ss d low p e)
 
--- where all are passed, so are as many as one likes
+-- if all are passed, so are as many as one likes
 pub all_passed : (lanes : List Lane) (n m : ℕ) (ss : List IncomingEdge) → length ss ≤ n → ArePassed lanes (take n ss) → ArePassed lanes (take m ss)
 all_passed lanes n zero ss low p = tt
 all_passed lanes n (suc m) [] low p = tt

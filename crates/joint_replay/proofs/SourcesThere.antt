@@ -48,7 +48,7 @@ header_last (Awaiting next begin) n ic old m ss last final t e = e
 header_last (Open next since) n ic old m ss last final t e = cc
 header_last Done n ic old m ss last final t e = cc
 
--- where other records may stand, the count so far says nothing
+-- in phases that take other records, the count so far says nothing
 free_last : (p : Phase) (m : EndMark) (ss : List Span) (a b final : Option ℕ) → takes_other p ≡ true → LastIs p m ss a final → LastIs p m ss b final
 free_last Unknown m [] a b final t e = tt
 free_last Unknown m (s ∷ ss) a b final t e = e

@@ -40,7 +40,7 @@ pub record IsHalted (old new : Joining) : Type 0 where
   pub memory : new.memory ≡ old.memory
   pub refused : new.refused ≡ Some replay.OutOfMemory
 
--- an allowed order led to the point where a joint replay stands; a refusal changes nothing of what it shows
+-- an allowed order led to the state of a joint replay; a refusal changes nothing of what it shows
 pub record IsReached (harts : ℕ) (j : Joining) : Type 0 where
   pub order : List ℕ
   pub walk : Walk

@@ -1,4 +1,4 @@
--- The places where the Edges into a hart of a log in order lead.
+-- The targets of the Edges into a hart of a log in order.
 use Rattle.std.specs.Prelude.{◌⊎◌, ℕ, ◌<◌, ◌≤◌, List, [], ◌∷◌}
 use Rattle.bn_base.specs.declared.end_mark.EndMark.{EndMark}
 use Rattle.log_order.specs.declared.view.Phase.{Phase}

@@ -103,7 +103,7 @@ pub record Taken : Type 0 where
   pub hart : ℕ
   pub item : Item
 
--- steps, latest first, and the point where the joint replay stands after them
+-- steps, latest first, and the joint replay after them
 pub record Walk : Type 0 where
   pub taken : List Taken
   pub now : Joining

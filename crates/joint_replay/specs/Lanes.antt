@@ -26,7 +26,7 @@ pub record Lane : Type 0 where
   pub points : List ℕ
   pub cursors : List Cursor
 
--- an interval before its first row, where its Header is there
+-- an interval before its first row, if its Header is there
 abbrev pub with_cursor : Option Interval → ℕ → Replayed → List Cursor → List Cursor
 with_cursor None n left cursors = cursors
 with_cursor (Some v) n left cursors = record { number = n; mark = v.mark; state = v.start; left = left; faulted = false } ∷ cursors

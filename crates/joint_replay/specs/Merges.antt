@@ -150,7 +150,7 @@ pub record Admits (i : Program) (harts : ℕ) (records : List Record) (steps : L
   pub ready : (h : ℕ) → IsReadyThere i harts records steps j h
   pub next : IsChosenThere i harts records steps j
 
--- the walk that led to the point where a joint replay stands is a beginning of such a merge; until a refusal it tells which harts
+-- the walk that led to the state of a joint replay is a prefix of such a merge; until a refusal it determines which harts
 -- are ready
 pub record IsAtMerge (harts : ℕ) (j : Joining) : Type 0 where
   pub reached : IsReached harts j

@@ -72,7 +72,7 @@ Runs old result new out_old out_new = RanToEnd old result new out_old out_new �
 
 -- ---- a run is its first step, and the run after it
 
--- a run is its first step and the run from there on: in its text, the point where it ends and why
+-- a run is its first step and the run from there on: in its text, its last state, and why it ends
 pub record IsFirstTaken (j : Joining) (t : Taken) (next : Joining) : Type 0 where
   pub text : steps_text (run_all j).walk.taken ≡ item_text t.hart t.item ++ steps_text (run_all next).walk.taken
   pub now : (run_all j).walk.now ≡ (run_all next).walk.now

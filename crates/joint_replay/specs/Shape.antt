@@ -24,7 +24,7 @@ spans h [] = []
 spans h (Header k n ic pc x ∷ rs) = elim (k == h) [ true ↦ record { number = n; begin = ic; mark = mark_of h rs } ∷ spans h rs | false ↦ spans h rs ]
 spans h (r ∷ rs) = spans h rs
 
--- intervals one after another: numbers rise by one, and each begins at the point where the one before it ended
+-- intervals one after another: numbers rise by one, and each begins at the end of the one before it
 abbrev pub AreSpans : ℕ → Option ℕ → ℕ → List Span → Type 0
 AreSpans limit next begin [] = Unit {0}
 AreSpans limit next begin (s ∷ ss) = (is_number next s.number ≡ true) × (s.begin ≡ begin) × (s.begin ≤ s.mark.ic) × (s.mark.ic ≤ limit) × AreSpans limit (Some (s.number + 1)) s.mark.ic ss
@@ -37,7 +37,7 @@ Fits limit (Awaiting next begin) m ss = AreSpans limit next begin ss
 Fits limit (Open next since) m ss = (since ≤ m.ic) × (m.ic ≤ limit) × AreSpans limit (Some next) m.ic ss
 Fits limit Done m ss = ss ≡ []
 
--- whether the records so far tell the point where the hart is
+-- whether the records so far tell the count that the hart has
 abbrev pub is_known : Phase → Bool
 is_known Unknown = false
 is_known (Awaiting next begin) = true

@@ -29,8 +29,8 @@ ArePoints [] cs = Unit {0}
 ArePoints (p ∷ []) cs = IsBelow p cs
 ArePoints (p ∷ q ∷ qs) cs = (p < q) × ArePoints (q ∷ qs) cs
 
--- what a hart of a log in order has: its ordering points ascend, below its intervals, and each interval begins where the one
--- before it ends
+-- what a hart of a log in order has: its ordering points ascend, below its intervals, and each interval begins at the end of
+-- the one before it
 pub record IsLane (i : Program) (lane : Lane) : Type 0 where
   pub points : ArePoints lane.points lane.cursors
   pub cursors : AreCursors i lane.cursors

@@ -168,8 +168,8 @@ impl<'a> Joint<'a> {
         self.met[hart as usize] = place;
     }
 
-    // The place of the first Edge into a hart whose source isn't passed, where those before a place are.
-    // It is that place, where the source there is of another hart than the one that moved.
+    // The place of the first Edge into a hart whose source isn't passed, if those before a place are. It is
+    // that place if the source there is of another hart than the one that moved.
     fn first_unpassed(&self, hart: HartId, met: usize, moved: HartId) -> usize
         requires there { hart < length self.now.lanes }
         requires before { ArePassed self.now.lanes (take met (edges_into hart self.now.records)) }
@@ -316,8 +316,8 @@ impl<'a> Joint<'a> {
         Readiness::Ready
     }
 
-    /// Whether a hart can take its next step: where that is at a point, the sources of all kept Edges
-    /// into it have to be passed; `Waits` names the first in log order that isn't.
+    /// Whether a hart can take its next step. If that is at a point, the sources of all kept Edges into it
+    /// have to be passed; `Waits` names the first in log order that isn't.
     #[inline(always)]
     pub fn ready(&self, hart: HartId) -> Readiness
         requires { hart < length self.now.lanes }
@@ -375,7 +375,7 @@ impl<'a> Joint<'a> {
     }
 }
 
-// Puts a hart that stands where another does behind some.
+// Puts a copy of a hart after others.
 fn push_copy<'a>(lane: &Lane<'a>, copies: &mut Vec<Lane<'a>>) -> Result<(), AllocError>
     ensures { OnOk result (copies.new.items ≡ copies.old.items ++ lane.now ∷ []) }
 {

@@ -128,7 +128,7 @@ impl<'a> HartCursor<'a> {
 }
 
 impl<'a> HartCursor<'a> {
-    /// Writes the next row; `false` where the interval ended as its log says.
+    /// Writes the next row; `false` if the interval ended as its log says.
     #[inline(always)]
     fn step(&mut self, did: &mut Did) -> Result<bool, ReplayError>
         ensures { CursorSteps self.old (given result did.new) self.new }
@@ -331,7 +331,7 @@ impl<'a> Lane<'a> {
         }
     }
 
-    /// A hart that stands where this one does.
+    /// An equal hart.
     pub(crate) fn copy(&self) -> Result<Lane<'a>, AllocError>
         ensures { IfOk result (λ l. l ≡ self.now) }
     {
@@ -410,8 +410,8 @@ fn next_cursor<'a>(
     }
 }
 
-// Begins the next one of the hart's intervals in the place of the one that ended. Room for an interval would be zeroed
-// in each step where the step itself took it from one place to the other.
+// Begins the next one of the hart's intervals in the place of the one that ended. If the step itself moved it there,
+// room for an interval would be zeroed in each step.
 #[cold]
 #[inline(never)]
 fn begin_next<'a>(

@@ -34,7 +34,7 @@ pub fn chains_are_kept()
     steps_pass_their_points();
 }
 
-/// No order gets stuck where instructions have times that the Edges follow.
+/// No order gets stuck if instructions have times that the Edges follow.
 #[tactic(auto, using(crate::proofs::Descent::never_stuck))]
 pub fn no_order_gets_stuck()
     ensures { NeverStuck }

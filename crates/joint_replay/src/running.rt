@@ -83,8 +83,8 @@ impl<'a> Joint<'a> {
 
     /// Takes all steps, the lowest ready hart's first, and appends their lines, which `lines` writes.
     ///
-    /// It ends where all harts are done. The errors are those of `advance`: the lines before them stand,
-    /// and a further call appends nothing and answers the same.
+    /// It ends when all harts are done. The errors are those of `advance`: the lines before them stay, and
+    /// a further call appends nothing and answers the same.
     pub fn run_all(&mut self, lines: &mut RowLines, out: &mut Text) -> Result<(), JointError>
         ensures { Runs self.old result self.new out.old out.new }
     {

@@ -16,7 +16,7 @@ pub fn written_numbers_are_read()
 {}
 
 /// Bytes that are read are the bytes of the number that they give, and the number fits its width.
-/// It says what fields were written where only their bytes are known.
+/// It says what fields were written if only their bytes are known.
 pub fn read_numbers_are_written()
     ensures bytes { AreWritten }
     ensures fit { Fit }

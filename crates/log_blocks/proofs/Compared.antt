@@ -16,7 +16,7 @@ use Rattle.log_blocks.specs.Walks.{AreLaid}
 use Rattle.log_blocks.proofs.Bytes.{told_by_length, same_rest}
 use Rattle.log_blocks.proofs.Left.{AreLeft, step, all_left, none_left}
 
--- so many of some pieces are left, and the records that are to be in them, up to where all was equal
+-- so many of some pieces are left, and the records that are to be in them; up to there all was equal
 pub record ComparedTo (format : ℕ) (bytes sizes : List ℕ) (rs : List Record) (pieces : List Piece) (dropped start at left before : ℕ) (rest : List ℕ) : Type 0 where
   pub records : List Record
   pub ps : List Piece

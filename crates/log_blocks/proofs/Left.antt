@@ -78,7 +78,7 @@ none_left bytes sizes at left (p ∷ ps) is l =
 pub gathered_all : (bytes sizes out : List ℕ) (at left : ℕ) (pieces : List Piece) → left ≡ 0 → GatheredTo bytes sizes out at left pieces → out ≡ gathered pieces
 gathered_all bytes sizes out at left pieces is g = sym (g.parts ∙ ap (λ (t : List Piece). out ++ gathered t) (none_left bytes sizes at left g.ps is g.state) ∙ append-nil out)
 
--- where the next of them ends
+-- the end of the next of them
 pub within : (bytes sizes : List ℕ) (at left more size : ℕ) (ps : List Piece) → left + 1 ≡ more → left < length sizes → size ≡ get_or sizes left size → AreLeft bytes sizes at more ps → at + size + 48 ≤ length bytes
 within bytes sizes at left more size ps one lt is l =
     let s = step bytes sizes at left more ps one lt l in

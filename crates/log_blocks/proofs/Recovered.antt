@@ -131,7 +131,7 @@ walked_for read long tell c is =
 
 -- ---- records
 
--- no place in the bytes of records is one where nothing begins
+-- no place in the bytes of records is one at which nothing begins
 pub no_stop : BeginNoOther → (format : ℕ) (rs before : List Record) (rest : List ℕ) → AllByRecursion (Fits format) rs → AllByRecursion (Fits format) before → flat_map bytes_of rs ≡ flat_map bytes_of before ++ rest → 0 < length rest
     → ((r : Record) (y : List ℕ) → Fits format r → rest ≡ bytes_of r ++ y → ⊥) → ⊥
 no_stop alone format [] [] rest fr fb e more none = omega (arith, more, ap length e)

@@ -66,7 +66,7 @@ told_by (Some bad) raw s e known = absurd cc
 pub told : (raw s : RawSettings) → checked raw ≡ Ok s → s ≡ raw
 told raw s known = (told_by (first_bad raw) raw s refl known).0
 
--- where the tests of the settings hold, and those before, the fault is one behind them
+-- if the tests of the settings hold, and those before, the fault is one after them
 pub fault_behind : (bytes : List ℕ) (s : RawSettings) → 136 ≤ length bytes → bytes_eq (take 8 bytes) magic ≡ true → number_at 4 8 bytes ≡ 2 → checked (settings_in bytes) ≡ Ok s → head_fault bytes ≡ later_fault bytes s.log_size
 unfolding head_fault
 fault_behind bytes s long begins version known =

@@ -22,7 +22,7 @@ pub record IsNext (format : ℕ) (records : List Record) (count size : ℕ) : Ty
 abbrev pub is_block : Block → Piece → Bool
 is_block b p = bytes_eq p.bytes (flat_map bytes_of b.records) && (p.before == b.before % 2 ^ 64)
 
--- the place where a piece ends that begins at a place
+-- the end of a piece that begins at a place
 abbrev pub piece_end : ℕ → Piece → ℕ
 piece_end start p = start + length p.bytes + 48
 

@@ -5,7 +5,7 @@ use Rattle.bn_base.specs.declared.settings.RawSettings.{RawSettings}
 use Rattle.le_numbers.specs.Numbers.{number_at}
 use Rattle.log_record.specs.declared.head.Head.{Head}
 
--- the settings: at the place where version 1 has them, and behind them the format and the second level
+-- the settings: at the places that version 1 gives them, and after them the format and the second level
 abbrev pub settings_in : List ℕ → RawSettings
 settings_in bytes = record {
   harts = number_at 4 12 bytes;

@@ -33,7 +33,7 @@ IsSplitError format bytes (File (BadRecord place)) = NoRecord format bytes place
 IsSplitError format bytes (File (BadOrder place rule)) = ⊥
 IsSplitError format bytes (File OutOfMemory) = Unit {0}
 
--- the blocks hold records, of which the first place where they are cut otherwise, or counted otherwise, is the end of this block
+-- the blocks hold records, and the first place at which they are cut otherwise, or counted otherwise, is the end of this block
 pub record CutOtherwise (head : Head) (dropped start : ℕ) (pieces : List Piece) (place : ℕ) : Type 0 where
   pub records : List Record
   pub fit : AllByRecursion (Fits head.settings.format) records

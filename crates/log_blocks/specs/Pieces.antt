@@ -46,7 +46,7 @@ left_in bytes = number_at 4 (length bytes - 40) bytes
 abbrev pub before_in : List ℕ → ℕ
 before_in bytes = number_at 8 (length bytes - 48) bytes
 
--- the place where it begins
+-- the place of its first byte
 abbrev pub start_in : List ℕ → ℕ
 start_in bytes = length bytes - 48 - len_in bytes
 

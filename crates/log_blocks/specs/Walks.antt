@@ -1,4 +1,4 @@
--- What a walk back leaves: the place where the blocks stand that it kept, and how long they are.
+-- What a walk back leaves: the place of the blocks that it kept, and how long they are.
 use Rattle.std.specs.Prelude.{◌≡◌, ◌≤◌, ℕ, ◌+◌, List, [], ◌∷◌, ◌++◌, take, drop, length, Option}
 use Rattle.std.specs.List.{flat_map, AllByRecursion}
 use Rattle.le_numbers.specs.Numbers.{number_at}

@@ -58,7 +58,7 @@ pub fn counts_of(log: &KeptLog) -> LogCounts
 }
 
 /// What is counted of the records of the blocks that a walk back over the bytes behind a head kept,
-/// where these are the records' bytes.
+/// given the records' bytes.
 pub(crate) fn counts_along(
     head: &Head,
     dropped: u64,

@@ -80,7 +80,7 @@ pub fn is_second(bytes: &[u8]) -> bool
     bytes.len() >= LEAST_SIZE && same(front(bytes, 8), MAGIC) && read_u32(bytes, 8) == VERSION
 }
 
-/// The settings that a file's head has, where nothing is wrong with it. The error is the first fault.
+/// The settings that a file's head has, if nothing is wrong with it. The error is the first fault.
 #[tactic(auto, unfolding(crate::specs::Faults::head_fault, log_file::specs::Layout::magic))]
 pub(crate) fn checked_settings(bytes: &[u8]) -> Result<Settings, FileError>
     ensures ok { IfOk result (λ s. (s ≡ settings_in bytes.now) × (head_fault bytes.now ≡ None)) }

@@ -11,7 +11,7 @@ use log_file::splitting::count;
 use log_record::{RecordList, read_as};
 use std::alloc::Global;
 
-/// The records of a log of this format whose bytes these are. The error tells the first place where
+/// The records of a log of this format whose bytes these are. The error has the first place at which
 /// a record should begin and none does.
 pub(crate) fn split(alloc: Global, format: u8, bytes: &[u8]) -> Result<RecordList, Damage>
     ensures fit { IfOk result (λ v. AllByRecursion (Fits format) v) }

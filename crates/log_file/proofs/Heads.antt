@@ -106,7 +106,7 @@ told_by : (o : Option BadSetting) (raw s : RawSettings) → first_bad raw ≡ o 
 told_by None raw s e known = (same_settings raw s known, e)
 told_by (Some bad) raw s e known = absurd cc
 
--- where all tests hold, there is no fault
+-- if all tests hold, there is no fault
 pub fault_none : (signed kept : List ℕ) (s : RawSettings) → bytes_eq (take 8 signed) magic ≡ true → number_at 4 8 signed ≡ 1 → checked (settings_in signed) ≡ Ok s → later_fault signed kept s.log_size ≡ None
     → (s ≡ settings_in signed) × (head_fault signed kept ≡ None)
 unfolding head_fault

@@ -8,7 +8,7 @@ pub record ArePrefixFree {X : Type 0} (spell : X → List ℕ) (Fit : X → Type
   pub some : (r : X) → Fit r → 0 < length (spell r)
   pub one : (r s : X) (x y : List ℕ) → Fit r → Fit s → spell r ++ x ≡ spell s ++ y → (r ≡ s) × (x ≡ y)
 
--- no place in a row is one where nothing begins
+-- no place in a row is one at which nothing begins
 pub no_stop : {X : Type 0} (spell : X → List ℕ) (Fit : X → Type 0) → ArePrefixFree spell Fit → (rs before : List X) (rest : List ℕ)
     → AllByRecursion Fit rs → AllByRecursion Fit before → flat_map spell rs ≡ flat_map spell before ++ rest → 0 < length rest
     → ((r : X) (y : List ℕ) → Fit r → rest ≡ spell r ++ y → ⊥) → ⊥
@@ -33,7 +33,7 @@ one_row {X = X} spell Fit free (r ∷ rs) (s ∷ ss) fr fs e =
     let o = free.one r s (flat_map spell rs) (flat_map spell ss) fr.0 fs.0 (sym (flat_map-cons spell r rs) ∙ e ∙ flat_map-cons spell s ss) in
     ap (λ (x : X). x ∷ rs) o.0 ∙ ap (λ (xs : List X). s ∷ xs) (one_row spell Fit free rs ss fr.1 fs.1 o.1)
 
--- where two rows end at places where nothing begins, they are one
+-- if two rows end at places at which nothing begins, they are one
 pub one_stop : {X : Type 0} (spell : X → List ℕ) (Fit : X → Type 0) → ArePrefixFree spell Fit → (ls bs : List X) (x y : List ℕ)
     → AllByRecursion Fit ls → AllByRecursion Fit bs → flat_map spell ls ++ x ≡ flat_map spell bs ++ y
     → ((r : X) (z : List ℕ) → Fit r → x ≡ spell r ++ z → ⊥) → ((r : X) (z : List ℕ) → Fit r → y ≡ spell r ++ z → ⊥) → ls ≡ bs

@@ -47,7 +47,7 @@ fit_more : (format : ℕ) (rs : List Record) (r : Record) → AllByRecursion (Fi
 fit_more format [] r fit one = (one, tt)
 fit_more format (x ∷ rs) r fit one = (fit.0, fit_more format rs r fit.1 one)
 
--- the records of the second part are taken where those of the first were
+-- the records of the second part are taken after those of the first
 then_one : (t : OrderLimits) (q place : ℕ) (fs : List Record) (r : Record) (ran : Ran)
     → ((next : Harts) → after_all t q next (fs ++ r ∷ []) ≡ (after_all t q next fs >>= λ m. after_all t place m (r ∷ [])))
     → (ran >>= λ next. after_all t q next (fs ++ r ∷ [])) ≡ ((ran >>= λ next. after_all t q next fs) >>= λ m. after_all t place m (r ∷ []))
@@ -194,7 +194,7 @@ breaks_by_rule all harts rs ran found is = rw is refl
 pub breaks_at_end : (all : Bool) (harts : Harts) (rs : List Record) (ran : Ran) (result : Option OrderBreak) → Walks ran None harts → result ≡ ended all harts rs → result ≡ broken_in all rs ran
 breaks_at_end all harts rs ran result is ends = rw is ends
 
--- the first break of the order, where the harts began as in a log with so many dropped
+-- the first break of the order, if the harts began as in a log with so many dropped
 pub break_is : (s : RawSettings) (dropped count : ℕ) (all : Bool) (t : OrderLimits) (v : HartView) (start harts : Harts) (rs : List Record) (found result : Option OrderBreak)
     → count ≤ 16 → count ≡ s.harts → all ≡ (dropped == 0) → t ≡ order_limits_of s → v ≡ fresh all → start ≡ take count (replicate 16 v)
     → Walks (after_all t 0 start rs) found harts → ((ran : Ran) → Walks ran found harts → result ≡ broken_in all rs ran) → result ≡ broken_by s dropped rs

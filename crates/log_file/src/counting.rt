@@ -92,7 +92,7 @@ fn advance(
 }
 
 // Walks along the records of a log of this version whose bytes these are. The error is the first place
-// where a record should begin and none does.
+// at which a record should begin and none does.
 fn walk(
     format: u8,
     terms: &OrderLimits,
@@ -165,8 +165,8 @@ fn late_edge(format: u8, harts: &[HartView], bytes: &[u8]) -> Option<u64>
     None
 }
 
-// The first break of the two rules about the end, where these harts are left by the records of a log
-// of this version whose bytes these are.
+// The first break of the two rules about the end. The bytes are those of the records of a log of this
+// version, and `harts` are the views after them.
 fn ended(format: u8, all: bool, harts: &[HartView], bytes: &[u8]) -> Option<OrderBreak>
     ensures { (rs : List Record) → AllByRecursion (Fits format) rs → bytes.now ≡ flat_map bytes_of rs → result ≡ ended all harts.now rs }
 {
@@ -221,8 +221,8 @@ pub fn tally_of(format: u8, settings: &Settings, dropped: u64, bytes: &[u8]) -> 
     Ok(Tally { counts, broken })
 }
 
-// What the records of a log of version 1 are that has this head and dropped so many: how many, where
-// their bytes are these, or what is wrong with them.
+// What is counted of the records with these bytes, of a log of version 1 that has this head and
+// dropped so many. The error is what is wrong with them.
 fn counted(head: &Head, dropped: u64, bytes: &[u8]) -> Result<LogCounts, FileError>
     ensures counted { IfOk result (IsCounted head.now dropped bytes.now) }
     ensures refused { IfErr result (λ e. IsRecordsFault head.now dropped bytes.now e) }

@@ -112,8 +112,8 @@ fn later_fault(signed: &[u8], kept: &[u8], settings: &Settings) -> Option<FileEr
     None
 }
 
-/// The settings that a file's head has, where nothing is wrong with it: `signed` are all bytes of
-/// the file but the last 32, which are `kept`. The error is the first fault.
+/// The settings that a file's head has, if nothing is wrong with it: `signed` are all bytes of the
+/// file but the last 32, which are `kept`. The error is the first fault.
 #[tactic(auto, unfolding(crate::specs::Faults::head_fault, crate::specs::Layout::magic))]
 pub fn checked_settings(signed: &[u8], kept: &[u8]) -> Result<Settings, FileError>
     requires signed { 92 ≤ length signed.now }

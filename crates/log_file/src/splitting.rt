@@ -30,7 +30,7 @@ pub fn count(bytes: &[u8]) -> usize
     count
 }
 
-/// The records of a log of version 1 whose bytes these are. The error tells the first place where a record should begin
+/// The records of a log of version 1 whose bytes these are. The error has the first place at which a record should begin
 /// and none does.
 pub fn split(alloc: Global, bytes: &[u8]) -> Result<RecordList, FileError>
     ensures fit { IfOk result (λ v. AllByRecursion (Fits 1) v) }

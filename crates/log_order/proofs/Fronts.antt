@@ -75,7 +75,7 @@ by_get t ws vs us r (Some v) k q e =
     let source : has_source (length ws) r ≡ true = subst (λ (n : ℕ). has_source n r ≡ true) (weak_length ws vs k) c.0 in
     (s.0, rw (g.1, source) s.1, s.2)
 
--- a record that may follow may also follow where less is known
+-- a record that may follow may also follow if less is known
 pub weak_step : (t : OrderLimits) (ws vs us : Harts) (r : Record) → AreWeak ws vs → step t vs r ≡ Ok us → Steps2 (step t ws r) us
 unfolding step
 weak_step t ws vs us r k e = by_get t ws vs us r (slice_get vs (hart_of r)) k refl e

@@ -1,4 +1,4 @@
--- What may follow where more is known may follow where less is.
+-- What may follow if more is known may follow if less is.
 use Rattle.std.proofs.Common.{◌≡◌, ℕ, ◌+◌, ◌≤◌, ◌^◌, max, Bool, true, false, not, ◌&&◌, Option, Some, None, Result, Ok, Err, refl, subst, arith}
 use Rattle.std.specs.Prelude.{nat_lt, nat_le, ◌==◌, if◌then◌else◌}
 use Rattle.bn_base.specs.declared.end_mark.EndMark.{EndMark}

@@ -59,7 +59,7 @@ next_number Done = None
 abbrev pub goes_on : ℕ → Bool
 goes_on reason = reason == 1 || reason == 2 || reason == 6
 
--- the place where an End leaves its hart: after such a reason it awaits a Header, else it is done
+-- the phase in which an End leaves its hart: after such a reason it awaits a Header, else it is done
 abbrev pub phase_after : Phase → EndMark → Phase
 phase_after phase mark = if goes_on mark.reason then Awaiting (next_number phase) mark.ic else Done
 

@@ -20,7 +20,7 @@ pub struct OrderLimits {
 pub enum Phase {
     /// No Header or End of it came, and records before these are gone.
     Unknown,
-    /// A Header comes next: with this count, and with this interval number where that is known.
+    /// A Header comes next: with this count, and with this interval number if that is known.
     Awaiting { next: Option<u64>, ic: Ic },
     /// It is in an interval that began at count `since`; the interval after it has number `next`.
     Open { next: u64, since: Ic },
@@ -270,8 +270,8 @@ impl HartView {
         }
     }
 
-    /// Tells whether it has to be done by the last record and isn't: each hart, where all records
-    /// are kept, and each that has a record.
+    /// Whether it has to be done by the last record and isn't. If all records are kept, each hart has
+    /// to; else each that has a record.
     pub fn is_unfinished(&self, all: bool) -> bool
         ensures { result ≡ is_unfinished all self.now }
     {

@@ -82,8 +82,8 @@ fn after_all(
     Ok(())
 }
 
-/// Tells whether a hart has to be done by the last record and isn't, where all records are kept or
-/// some were dropped.
+/// Whether some hart has to be done by the last record and isn't; `all` says that all records are
+/// kept.
 pub fn any_unfinished(all: bool, harts: &[HartView]) -> bool
     ensures { result ≡ list_any (is_unfinished all) harts.now }
 {

@@ -30,7 +30,7 @@ module _ (written : AreWritten) (fit : Fit) where
   words_at-small zero at bytes are = tt
   words_at-small (suc count) at bytes are = (fit 4 at bytes are, words_at-small count (at + 4) bytes are)
 
--- words are read where their bytes stand
+-- words are read at the place of their bytes
 pub words_at-written : AreRead → (words : List ℕ) (at : ℕ) (bytes rest : List ℕ) → AllByRecursion (λ w. w < 2 ^ 32) words → drop at bytes ≡ flat_map (number_bytes 4) words ++ rest
     → words_at (length words) at bytes ≡ words
 unfolding words_at

@@ -16,7 +16,7 @@ const BREAKPOINT: u8 = FAULT + 2;
 // The reason of the last fault, a store to a read-only word.
 const LAST_FAULT: u8 = FAULT + 9;
 
-/// How many bytes a record has that begins with this byte, its tag; `None` where none begins so.
+/// How many bytes a record has that begins with this byte, its tag; `None` if none begins so.
 #[inline(always)]
 pub fn size(tag: u8) -> Option<usize>
     ensures value { result ≡ size_of tag }

@@ -48,7 +48,7 @@ still_holds old new r gone latest dropped count size appended holds = record {
   counted = omega (arith, holds.counted, length-append appended (r ∷ []));
 }
 
--- the bytes and the capacity behind an append, where m records went
+-- the bytes and the capacity after an append by which m records went
 pub record Pushed (old : Held) (r : Record) (b : Buffer ℕ) (m : ℕ) : Type 0 where
   pub whole : IsWhole b.items
   pub capacity : b.capacity ≡ old.size

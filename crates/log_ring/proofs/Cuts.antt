@@ -85,7 +85,7 @@ module _ (tell : TellTheirSize) (read : AreRead) where
   pub first_in : (bytes : List ℕ) → 0 < length bytes → IsWhole bytes → First bytes
   first_in bytes some whole = first_of bytes (records_in bytes) some refl whole.fit whole.joined
 
-  -- the tag in front is known, and tells where the next record begins
+  -- the first tag is known, and tells where the next record begins
   pub tag_known : {A : Type 0} (bytes : List ℕ) (tag : ℕ) → 0 < length bytes → IsWhole bytes → slice_get bytes 0 ≡ some tag → none ℕ ≡ size_of tag → A
   tag_known bytes tag long whole e unknown =
       let f = first_in bytes long whole in

@@ -97,7 +97,7 @@ module _ (Program Conflicts : ℕ → ℕ → Type 0) (rises : Rises Program) (c
       among a b (inl p) = inl p
       among a b (inr e) = inr (are a b e)
 
-  -- where the edges are the conflicts with no third point, a chain of them and program order leads along each conflict
+  -- if the edges are the conflicts with no third point, a chain of them and program order leads along each conflict
   module _ (Edge : ℕ → ℕ → Type 0)
       (edge_or_third : (m n : ℕ) → Conflicts m n
       → Edge m n ⊎ ((k : ℕ) × Chain (Either Program Conflicts) m k × Chain (Either Program Conflicts) k n)) where

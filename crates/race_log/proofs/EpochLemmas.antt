@@ -114,7 +114,7 @@ mark_stays table place i s low e t = elim (cases_eq i place) [
   | inr apart ↦ ap is_marked (get_there table place i s apart) ∙ t
 ]
 
--- the same where the next one is given by another number
+-- the same with the next one given by another number
 pub settled_grown : (table news : List Epoch) (next later i : ℕ) → next ≡ length table → later ≡ next → IsTrue (is_settled table next i) → IsTrue (is_settled news later i)
 settled_grown table news next later i full same t = subst (λ n. IsTrue (is_settled news n i)) (sym same) (settled_full table news next i full t)
 

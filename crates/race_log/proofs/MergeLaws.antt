@@ -221,7 +221,7 @@ module _ (kept : ℕ → Bool) (run : List Point) (Pair : ℕ → ℕ → Type 0
       through m q j k (inr a) (inl c) far = let e = ap (place order) c in omega arith
       through m q j k (inr a) (inr c) far = omega arith
 
-  -- kept points that conflict stand in recorded order, where the pairs have all edges that end after some place
+  -- kept points that conflict are in recorded order, if the pairs have all edges that end after some place
   pub conflicts_stand : (first : ℕ) → ((a c : ℕ) → EndingAfter first (IsEdge run) a c → Pair a c) → (m n : ℕ) → first ≤ m
       → Conflict run m n → kept m ≡ true → kept n ≡ true → Precedes order m n
   unfolding Along

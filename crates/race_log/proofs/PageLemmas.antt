@@ -270,7 +270,7 @@ word_counts counts news harts page at same = ap₂ (λ xs ys. xs ++ ys) (go (sli
     go None e = refl
     go (Some s) e = here_counts counts news Write s.hart s (same at s e)
 
--- ---- where words have their slots
+-- ---- the places of words' slots
 
 pub places_apart : (a b n : ℕ) → a < b → a * (n + 1) + n < b * (n + 1)
 places_apart a b n low =

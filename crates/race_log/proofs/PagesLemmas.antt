@@ -162,7 +162,7 @@ slot_low (p ∷ pages) (suc n) at s e = let low = slot_low pages n at s e in ome
 
 -- ---- pages that are swept
 
--- where the words of a page have their slots
+-- the places of the slots of a page's words
 pub kept_word : (counts : ℕ → ℕ → ℕ) (harts : ℕ) (pages : List (Vec Slot Global)) (n i : ℕ) → i < 64
     → cond (4 * (64 * n + i) % 4 == 0) (word_in counts harts (slots_of (slice_get pages (4 * (64 * n + i) / 256))) (place_of harts (4 * (64 * n + i)))) []
     ≡ word_in counts harts (slots_of (slice_get pages n)) (i * (harts + 1))

@@ -93,6 +93,6 @@ both_have a b hart = go (bit_at a hart) (bit_at b hart) (bit_at (bit_and a b) ha
         let other : suc y ≡ 1 = omega (arith, ly) in
         ap (λ n. n == 1) (e ∙ ap₂ min one other) ∙ sym (ap₂ (λ s t. s && t) (eq-eqb (suc x) 1 one) (eq-eqb (suc y) 1 other))
 
--- where all bits are set, each hart has its own
+-- if all bits are set, each hart has its own
 pub all_have : (hart : ℕ) → hart < 16 → has_bit 65535 hart ≡ true
 all_have hart low = eq-eqb (bit_at 65535 hart) 1 (bit_at_ones 16 hart low)

@@ -29,7 +29,7 @@ abbrev pub kept_by : (ℕ → ℕ → ℕ) → Mode → (hart turn after epoch :
 kept_by counts mode hart turn after epoch =
     record { turn = turn; hart = hart; ic = after - 1; mode = mode; times = counts_past (counts epoch) hart after }
 
--- what a slot keeps, as an access of the hart: nothing where the count after it is 0
+-- what a slot keeps, as an access of the hart: nothing if the count after it is 0
 abbrev pub kept_here : (ℕ → ℕ → ℕ) → Mode → ℕ → Slot → List Kept
 kept_here counts mode hart s = cond (s.after == 0) [] (kept_by counts mode hart s.turn s.after s.epoch ∷ [])
 

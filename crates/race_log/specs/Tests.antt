@@ -69,7 +69,7 @@ unfoldable pub greatest_first : (ℕ → Bool) → ℕ → List ℕ
 greatest_first test zero = []
 greatest_first test (suc n) = cond (test n) (n ∷ greatest_first test n) (greatest_first test n)
 
--- the places where the edges into place n come from, the latest first
+-- the sources of the edges into place n, the latest first
 unfoldable pub edges_into : List Point → ℕ → List ℕ
 edges_into run n = greatest_first (λ m. edge run m n) n
 

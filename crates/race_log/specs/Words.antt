@@ -39,7 +39,7 @@ has_epoch s = nat_lt s.next (length s.table.items) && not (is_marked (slice_get 
 abbrev pub AreAllUsed : Epochs → Type 0
 AreAllUsed s = (i : ℕ) → s.next ≤ i → i < length s.table.items → IsTrue (is_marked (slice_get s.table.items i))
 
--- the place where the slots of an address's word begin in their page
+-- the index in their page at which the slots of an address's word begin
 abbrev pub place_of : (harts word : ℕ) → ℕ
 place_of harts word = word / 4 % 64 * (harts + 1)
 

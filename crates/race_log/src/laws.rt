@@ -97,8 +97,8 @@ pub fn points_stand_by_counts()
     ensures { StandByCounts }
 {}
 
-/// Chains and edges over places are those over instructions by hart and count, where also instructions between a hart's
-/// points, which access nothing, count as third ones.
+/// Chains and edges over places are those over instructions by hart and count. There, instructions between a hart's points,
+/// which access nothing, count as third ones too.
 pub fn places_stand_for_counts()
     ensures before { ChainsStandForCounts }
     ensures edge { EdgesStandForCounts }

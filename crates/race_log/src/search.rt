@@ -23,7 +23,7 @@ fn is_newer(best: &Option<FoundAccess>, turn: u64) -> bool
     }
 }
 
-// What the slot keeps, as an access of the hart `other`, where that is a later source than the best one;
+// What the slot keeps, as an access of the hart `other`, if that is a later source than the best one;
 // else the best one.
 fn later_of(
     best: Option<FoundAccess>,

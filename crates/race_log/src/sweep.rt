@@ -19,7 +19,7 @@ pub fn has_bit(set: u16, hart: HartId) -> bool
     (set >> hart) % 2 == 1
 }
 
-/// The times, with each hart's lower count of others where these count too.
+/// The times, with each hart's lower count of the two if the other times count too.
 pub fn least_with(least: Option<Times>, times: &Times, counts: bool) -> Option<Times>
     ensures { (hart count : ℕ) → is_covered result hart count ≡ (is_covered least hart count && (not counts || nat_lt count (count_of times.now hart))) }
 {

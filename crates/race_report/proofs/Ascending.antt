@@ -36,7 +36,7 @@ module _ (harts : ℕ) (run : List Accessing) (counted : AreCounted harts run) (
     pub first_is : r.first ≡ first.row
     pub second_is : r.second ≡ second.row
 
-  -- ---- what is found where
+  -- ---- the places of what is found
 
   found_if : (m g : ℕ) (x : Meeting) (r : Race) → In (race_if run m g x) r → (f : IsFound m r) × (f.second.hart ≡ g) × (f.place ≡ x.second)
   found_if m g x r i = by (slice_get run m) (slice_get run x.second) refl refl i

@@ -155,7 +155,7 @@ pub filter_same : (test other : ℕ → Bool) (ws : List ℕ) → ((w : ℕ) →
 filter_same test other [] e = refl
 filter_same test other (w ∷ ws) e = ap (λ (b : Bool). cond b (w ∷ filter test ws) (filter test ws)) (e w) ∙ ap (λ (us : List ℕ). cond (other w) (w ∷ us) us) (filter_same test other ws e)
 
--- the least of the words that pass, where all of them wait for the same
+-- the least of the words that pass, if all of them wait for the same
 pub least_if : (here there covered : Bool) (test : ℕ → Bool) (ws : List ℕ) → here ≡ true
     → least_from None (filter (λ w. here && (not there && (test w && not covered))) ws) ≡ cond (not there && not covered) (least_from None (filter test ws)) None
 least_if true true covered test ws e = ap (least_from None) (filter_none (λ w. false) ws (λ w. refl))

@@ -46,7 +46,7 @@ impl Gathered {
         self.rows.get(place).copied()
     }
 
-    // The race of a place with a later one, where that one is of this hart.
+    // The race of a place with a later one, if that one is of this hart.
     fn race_with(&self, first: usize, hart: HartId, meeting: Meeting) -> Option<Race>
         ensures { (harts : ℕ) (run : List Accessing) → IsGathered harts run self.now → race_if run first hart meeting ≡ option_to_list result }
     {
@@ -86,7 +86,7 @@ impl Gathered {
         Ok(())
     }
 
-    // Appends the races whose first point is at a place, where that is of this hart.
+    // Appends the races whose first point is at a place, if that is of this hart.
     fn push_if(&self, first: usize, hart: HartId, out: &mut Vec<Race>) -> Result<(), AllocError>
         requires { first < length (lists_of self.now.found) }
         ensures { OnOk result ((harts : ℕ) (run : List Accessing) → IsGathered harts run self.now → out.new.items ≡ out.old.items ++ cond (is_at run first hart) (races_by_second run first harts) []) }

@@ -75,7 +75,7 @@ impl RaceLists {
     }
 }
 
-// The word of the last of some races, where that is with this place.
+// The word of the last of some races, if that is with this place.
 fn last_with(list: &[Meeting], second: u32) -> Option<Addr>
     ensures { result ≡ last_meets second list.now }
 {

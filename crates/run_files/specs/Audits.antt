@@ -39,13 +39,13 @@ FilesNumberTheirVersion = (d : Content) → (is_version2 (file_bytes2 d) ≡ tru
 
 -- ---- the verdict
 
--- the first place where two lists of bytes differ, or the place where one of the two ends: up to there they are the same, and what
--- stands there isn't
+-- the first place at which two lists of bytes differ, or one of the two ends: up to there they are the same, and there they
+-- aren't
 pub record DifferFirst (xs ys : List ℕ) (place : ℕ) : Type 0 where
   pub before : take place xs ≡ take place ys
   pub there : slice_get xs place ≢ slice_get ys place
 
--- the log is the file, or the verdict is the place where they differ first
+-- the log is the file, or the verdict is the first place at which they differ
 abbrev pub IsVerdict : (file log : List ℕ) → Verdict → Type 0
 IsVerdict file log Agree = log ≡ file
 IsVerdict file log (Differ place) = DifferFirst log file place

@@ -36,7 +36,7 @@ fn follow(code: &DecodedImage, plain: &mut Plain, list: &[u8]) -> Result<(), Tur
     Ok(())
 }
 
-// What is wrong where some hart is live: the lowest such hart.
+// What is wrong if some hart is live: the lowest such hart.
 fn unfinished(plain: &Plain) -> Option<TurnError>
     ensures { (run : Run) → IsRun (parts plain.now) run → result ≡ unfinished (live_harts 0 (parts plain.now).start.settings.harts run.harts) }
 {

@@ -1,4 +1,4 @@
--- What is traced while a hart's orderly ask is answered, its next interval begun where the guard asks for it.
+-- What is traced while a hart's orderly ask is answered, its next interval begun if the guard asks for it.
 use Rattle.std.proofs.Common.{◌≡◌, ◌≢◌, ℕ, zero, suc, ◌+◌, ◌-◌, ◌*◌, ◌^◌, ◌<◌, ◌≤◌, ◌==◌, Bool, true, false, length, sym, ◌∙◌, ap, subst, arith, refl, inl, inr}
 use Rattle.std.specs.Prelude.{IsTrue, if◌then◌else◌, Option, Some, None, []}
 use Rattle.std.proofs.lemmas.Bool.Decides.{eqb_tells}

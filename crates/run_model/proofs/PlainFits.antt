@@ -135,7 +135,7 @@ own_at j k next own f e = ap (λ (b : Bool). elim b as (λ x. Hart) [ true ↦ o
 other_at : (j k : ℕ) (next : TurnEnd) (own : Hart) (f : ℕ → Hart) → (j == k) ≡ false → harts_after next k own f j ≡ other_after next (f j)
 other_at j k next own f e = ap (λ (b : Bool). elim b as (λ x. Hart) [ true ↦ own | false ↦ other_after next (f j) ]) e
 
--- the turn moves on, where the call and the reply are these
+-- the turn moves on, if the call and the reply are these
 moves_as : (c : RawSettings) (i : Program) (m : Machine) (h : Hart) (k : ℕ) (ask : Ask) (call : Option Plan) (reply : Reply) → call ≡ call_of i m ask.want → reply ≡ (answer c call m k ask).reply → AskMovesOn c i m h k ask
     → MovesOn c h ask.state.ic (absorbed ask reply).ic (next_of c call h ask.want reply (absorbed ask reply).ic) (span_of call ask.want reply) (loading ask.want)
 moves_as c i m h k ask call reply ec er on =

@@ -30,8 +30,8 @@ pub six_lists : (a e l s n o : List Record) → a ++ e ++ l ++ s ++ n ++ o ≡ a
 six_lists a e l s n o =
     append_assoc (a ++ e ++ l ++ s) n o ∙ append_assoc (a ++ e ++ l) s (n ++ o) ∙ append_assoc (a ++ e) l (s ++ (n ++ o)) ∙ append_assoc a e (l ++ (s ++ (n ++ o)))
 
--- what the steps leave of the trace, where the turn's number, the number of harts, the hart before and after the access,
--- how its loaded word was, that word and the reply are these
+-- what the steps leave of the trace, by the turn's number, the number of harts, the hart before and after the access,
+-- whether its loaded word was warm, that word and the reply
 pub record Traced (c : RawSettings) (run : Run) (k : ℕ) (ask : Ask) (call : Option Plan) (turns n : ℕ) (g h : Hart) (load : Option Warm) (word : ℕ) (reply : Reply) (t : Trace) : Type 0 where
   pub harts : AreHarts t.harts.items (harts_after (next_of c call h ask.want reply (absorbed ask reply).ic) k (hart_after (next_of c call h ask.want reply (absorbed ask reply).ic) (absorbed ask reply) (skipped_after load h.skipped) t.log.bytes h) run.harts)
   pub caches : AreCaches c t.caches (events_after (next_of c call h ask.want reply (absorbed ask reply).ic) k call (span_of call ask.want reply) run.events)

@@ -359,7 +359,7 @@ impl Machine {
         Reply::Word(word)
     }
 
-    // Stores where the hart has reserved that word, and ends the reservation.
+    // Stores if the hart has reserved that word, and ends the reservation.
     fn store_conditional(&mut self, hart: HartId, addr: Addr, value: u32) -> Reply
         requires hart { hart < HARTS }
         requires word { IsSpanReady self.old.memory (span addr 1 Write) }

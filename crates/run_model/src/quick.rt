@@ -49,7 +49,7 @@ use race_log::Mode;
 use rv_meaning::{DecodedImage, Reply, Want};
 use std::mem::swap;
 
-// As `take_turn`, where the hart's own state is the one that it asks in, and no call is planned.
+// As `take_turn`, if the hart's own state is the one that it asks in, and no call is planned.
 #[inline(always)]
 fn take_turn_here(
     settings: &Settings,
@@ -105,7 +105,7 @@ impl Trace {
         swap(&mut own.ic, ic);
     }
 
-    // As `finish`, where the hart's own state is the one that it asks in, and no call is planned.
+    // As `finish`, if the hart's own state is the one that it asks in, and no call is planned.
     #[inline(always)]
     pub(crate) fn finish_here(
         &mut self,

@@ -86,7 +86,7 @@ fn append_first_load(log: &mut Log, hart: HartId, skipped: u32, word: u32)
     log.ring.append_first_load(hart, skipped, word);
 }
 
-/// Appends a FirstLoad, where the word of a loading access wasn't warm.
+/// Appends a FirstLoad, if the word of a loading access wasn't warm.
 #[inline(always)]
 pub fn append_load(log: &mut Log, load: Option<Warm>, hart: HartId, skipped: u32, word: u32)
     requires room { taken log.old.ring + 1 < 2 ^ 56 }
@@ -98,7 +98,7 @@ pub fn append_load(log: &mut Log, load: Option<Warm>, hart: HartId, skipped: u32
     }
 }
 
-/// Appends how an SC went, where the reply is one to an SC.
+/// Appends how an SC went, if the reply is one to an SC.
 pub fn append_conditional(log: &mut Log, reply: Reply, hart: HartId)
     requires room { taken log.old.ring + 1 < 2 ^ 56 }
     ensures holds { (rs : List Record) → IsLog log.old rs → IsLog log.new (rs ++ sc_record reply hart) }

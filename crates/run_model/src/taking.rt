@@ -66,8 +66,8 @@ impl Plain {
         self.take_in_parts(hart, pc, &x, ic, &want)
     }
 
-    // As `take_asked`, by the parts of the ask. It is made here, since room for it would be zeroed in each turn where its
-    // caller made it, also in those that are done in their hart's own place.
+    // As `take_asked`, by the parts of the ask. It is made here: if its caller made it, room for it would be zeroed in
+    // each turn, also in those that are done in their hart's own place.
     #[inline(never)]
     fn take_in_parts(
         &mut self,

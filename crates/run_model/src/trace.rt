@@ -47,7 +47,7 @@ pub struct Trace {
     pub log: Log,
 }
 
-// How the word of a loading access was, where that of an access was so.
+// Whether the word of a loading access was warm, from what the cache answered for the access.
 fn where_loading(want: &Want, touched: Option<Warm>) -> Option<Warm>
     ensures { result ≡ where_loading (loading want.now) touched }
 {

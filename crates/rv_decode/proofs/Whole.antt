@@ -236,7 +236,7 @@ spelled_word (Some r) w d f h e =
 word_or_fence : (w : ℕ) (d : Instruction) → w < 2 ^ 32 → decoded w ≡ Some d → (encoded d ≡ w) ⊎ (d ≡ fence)
 word_or_fence w d h e = spelled_word (row_in table w) w d (λ x p. found table w x each_placed refl p) h e
 
--- a word is the only one that decodes to what it decodes to, where that isn't a fence
+-- a word is the only one that decodes to what it decodes to, unless that is a fence
 pub encoded_word : (w : ℕ) (d : Instruction) → w < 2 ^ 32 → decoded w ≡ Some d → d.name ≢ Fence → encoded d ≡ w
 encoded_word w d h e k = elim (word_or_fence w d h e) [ inl p ↦ p | inr p ↦ absurd (k (ap (λ (x : Instruction). x.name) p)) ]
 

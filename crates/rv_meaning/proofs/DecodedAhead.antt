@@ -46,7 +46,7 @@ rotated x below =
     let high : x * 2 ^ 30 % 2 ^ 32 ≡ x % 4 * 2 ^ 30 = omega arith in
     ap (bit_or (x / 4)) high ∙ (or_comm (x / 4) (x % 4 * 2 ^ 30) ∙ or_shifted (x % 4) 30 (x / 4) (omega (arith, below)))
 
--- where the rotated distance from the first address is a place of the list, it is that of the address
+-- if the rotated distance from the first address is a place of the list, it is that of the address
 place_of : (a pc x k n : ℕ) → a < 2 ^ 32 → pc < 2 ^ 32 → x ≡ (pc + (2 ^ 32 - a)) % 2 ^ 32 → k ≡ x % 4 * 2 ^ 30 + x / 4 → k < n → a + 4 * n < 2 ^ 32 + 4 → a + 4 * k ≡ pc
 place_of a pc x k n p q e f below end = omega (arith, p, q, e, f, below, end)
 
@@ -119,7 +119,7 @@ leads_still i b pc c p q x y z leads same =
 pub asks_here : (i : Program) (left : ℕ) (s : HartState) (w : Want) → 0 < left → Asking true i (instruction_at i s) s.x w → record { state = s; want = w } ≡ ask_of i left s
 asks_here i left s w some asking = let all : left - 0 ≡ left = omega arith in ask_at i left 0 s w some (asking.2 s.pc s.ic ∙ ahead_step i s asking.0 asking.1) ∙ ap (λ (n : ℕ). ask_of i n s) all
 
--- where words from an address on are decoded, and one more is code, the first is
+-- if words from an address on are decoded, and one more is code, the first is
 pub first_code : (i : Program) (a addr w n : ℕ) → addr ≡ a + 4 * n → Some w ≡ code_at i addr → (0 < n → is_some (code_at i a) ≡ true) → is_some (code_at i a) ≡ true
 first_code i a addr w zero place e more =
     let here : addr ≡ a = omega (arith, place) in ap (λ (k : ℕ). is_some (code_at i k)) (sym here) ∙ sym (ap (λ (o : Option ℕ). is_some o) e)

@@ -7,7 +7,7 @@ use Rattle.rv_meaning.specs.Execute.{ask_of}
 abbrev pub LeadsTo : Program → (b pc : ℕ) → (x : List ℕ) → (c p : ℕ) → (y : List ℕ) → Type 0
 LeadsTo i b pc x c p y = (ic : ℕ) → ic < 2 ^ 64 → ask_of i c (record { pc = p; x = y; ic = min (ic + (b - c)) (2 ^ 64 - 1) }) ≡ ask_of i b (record { pc = pc; x = x; ic = ic })
 
--- the place where the segment that a program starts in begins; 0 if it starts in none
+-- the first address of the segment that a program starts in; 0 if it starts in none
 abbrev pub start_of : Option Part → ℕ
 start_of None = 0
 start_of (Some p) = p.first

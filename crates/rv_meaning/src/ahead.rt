@@ -200,7 +200,7 @@ impl<'a> DecodedImage<'a> {
         quiet_run_in_place(self.image, state, left)
     }
 
-    /// As [`quiet_run_in_place`] of its program, and faster where the code is decoded. The state is
+    /// As [`quiet_run_in_place`] of its program, and faster if the code is decoded. The state is
     /// changed in place, up to the instruction that asks; the reply to the want goes to
     /// [`absorb_in_place`](crate::absorb_in_place).
     pub fn quiet_run_in_place(&self, state: &mut HartState, budget: u64) -> Want

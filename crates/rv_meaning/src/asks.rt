@@ -30,7 +30,7 @@ pub enum Want {
         addr: Addr,
         rd: Register,
     },
-    /// SC.W, which stores where the hart has a reservation of this word.
+    /// SC.W, which stores if the hart has a reservation of this word.
     StoreConditional {
         addr: Addr,
         rd: Register,

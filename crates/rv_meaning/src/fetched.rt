@@ -16,7 +16,7 @@ pub struct Fetched {
     /// The number of instructions that the hart had done before it.
     pub ic: Ic,
     pub pc: u32,
-    /// The code word; `None` where the pc is at none.
+    /// The code word; `None` if the pc is at none.
     pub word: Option<u32>,
     /// The destination register, if there is one other than x0.
     pub rd: Option<Register>,

@@ -33,7 +33,7 @@ fn write_point(hart: HartId, ic: Ic, pc: Addr, text: &mut Text) -> Result<(), Al
     write_spaced(pc, text)
 }
 
-/// The word to show: none where the fetch faulted.
+/// The word to show: none if the fetch faulted.
 fn shown_word(fault: Option<(Fault, u32)>, word: Option<u32>) -> Option<u32>
     ensures { result ≡ shown_word fault word }
 {
@@ -43,7 +43,7 @@ fn shown_word(fault: Option<(Fault, u32)>, word: Option<u32>) -> Option<u32>
     }
 }
 
-/// The instruction to show: none where the word is illegal.
+/// The instruction to show: none if the word is illegal.
 fn shown_instruction(fault: Option<(Fault, u32)>, word: u32) -> Option<Instr>
     ensures { option_map seen result ≡ shown_instruction fault word }
 {

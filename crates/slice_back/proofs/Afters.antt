@@ -146,7 +146,7 @@ pub row_loads : (i : Program) (h : ℕ) (v : Interval) (p q : Position) (row : R
 row_loads i h v p q row c (quiet e r n) = n ∙ (let z : p.loads ≡ p.loads + 0 = omega arith in z) ∙ ap (λ o. p.loads + ask_count o) (sym (quiet_uses i h p q row r))
 row_loads i h v p q row c (asked k b x e a u r w n) = n ∙ ap (λ m. p.loads + m) (counts k ∙ ap ask_count (sym (row_uses i h v p q row c k b x a e r)))
 
--- ---- where its word comes from
+-- ---- the source of its word
 
 -- the word of a loading access is the first load's that it took, or the one that the rows know
 abbrev pub Source : Option ℕ → List Row → ℕ → ℕ → Type 0

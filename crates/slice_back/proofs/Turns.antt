@@ -30,7 +30,7 @@ IsAsk (System n args) = Unit {0}
 IsAsk Cut = ⊥
 IsAsk (Faulted f y) = ⊥
 
--- the reply to an ask, where x is the word of a loading access and b tells whether a store-conditional succeeded
+-- the reply to an ask; x is the word of a loading access, and b tells whether a store-conditional succeeded
 abbrev pub reply_for : EndMark → Want → Bool → ℕ → Reply
 reply_for m (Load a w g rd) b x = Word x
 reply_for m (LoadReserved a rd) b x = Word x

@@ -14,8 +14,8 @@ pub fn slices_are_least()
     ensures words { WordsAreTaken }
 {}
 
-/// A slice is enough: where two intervals of one program agree row by row, and on the registers and
-/// words that the slice of a row says it took, the slices have the same rows.
+/// A slice is enough. If two intervals of one program agree row by row, and on the registers and words
+/// that the slice of a row says it took, the slices have the same rows.
 pub fn slices_suffice()
     ensures { SliceSuffices }
 {

@@ -56,7 +56,7 @@ impl<'a> RowTrace<'a> {
         }
     }
 
-    // Notes a row, where the last one isn't met.
+    // Notes a row, if the last one isn't met.
     fn add(&mut self, row: Row) -> Result<(), AllocError>
         requires { self.old.found ≡ false }
         ensures { OnOk result ((rows : List RowOf) → reached self.new rows ≡ reached self.old (row ∷ rows)) }

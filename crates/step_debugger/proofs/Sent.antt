@@ -187,7 +187,7 @@ goes_no_further first breaks start j new text now_text ending s t =
     let is : go_on true breaks start ≡ ended t.0 new ending = sym s ∙ (go_opened first breaks j ∙ t.2 (λ i. go_for (steps_left j.now.lanes) false breaks i)) in
     (t.1 ∙ ap (λ (m : Moves). text ++ m.text) (sym is), ap (λ (m : Moves). m.now) (sym is), ap (λ (m : Moves). m.ends) (sym is))
 
--- ---- where harts are
+-- ---- the places of harts
 
 pub next_place : (j : Joining) (h count : ℕ) (text more all : List ℕ) → h < count → more ≡ text ++ hart_place j h → text ++ places_from j h (count - h) ≡ all → more ++ places_from j (h + 1) (count - (h + 1)) ≡ all
 next_place j h count text more all low e s =

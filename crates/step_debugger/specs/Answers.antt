@@ -97,7 +97,7 @@ places_from j h (suc n) = hart_place j h ++ places_from j (h + 1) n
 
 -- ---- steps
 
--- steps of a joint replay: what they print, the point where it stands then and how it came there, and how they end
+-- steps of a joint replay: what they print, its state then with the steps that led there, and how they end
 pub record Moves : Type 0 where
   pub text : List ℕ
   pub now : Trace
@@ -211,7 +211,7 @@ back_to_stop breaks t = back_to t (stop_below breaks t.entries (length t.entries
 
 -- ---- a session
 
--- the point where a session stands: its joint replay, with the way that it came; the chosen hart; and the breakpoints
+-- the state of a session: its joint replay, with the steps that led there; the chosen hart; and the breakpoints
 pub record Session : Type 0 where
   pub trace : Trace
   pub hart : ℕ
@@ -225,7 +225,7 @@ begin_at t = record { trace = t; hart = 0; breaks = [] }
 abbrev pub begin : Joining → Session
 begin j = begin_at (at_start j)
 
--- what a command prints, the point where the session stands after it, and whether it ends then
+-- what a command prints, the session after it, and whether it ends then
 pub record Answer : Type 0 where
   pub text : List ℕ
   pub session : Session

@@ -46,7 +46,7 @@ result_by GoesOn (Some e) = Err e
 result_by Quits refused = Ok (tt {0})
 result_by (Refused e) refused = Err (why.Joint e)
 
--- a session from the point where a joint replay stands, with the way that it came, and these commands
+-- a session from the state of a joint replay, with the steps that led there, and these commands
 abbrev pub transcript_from : Trace → Input → Told
 transcript_from t input = let a : Answer = answers (lines_in input) (begin_at t) in record { text = a.text; result = result_by a.ends input.refused }
 

@@ -26,7 +26,7 @@ pub(crate) fn back(trail: &mut Trail, count: u32, text: &mut Text) -> Result<End
     }
 }
 
-// The stop before a step, where its row is at a breakpoint.
+// The stop before a step, if its row is at a breakpoint.
 fn stop_before(breaks: &[Addr], position: u64, entry: Option<Entry>) -> Option<Stop>
     ensures stop { result ≡ stop_before breaks.now position entry }
     ensures place { IfSome result (λ s. s.position ≡ position) }

@@ -26,7 +26,7 @@ all_false test a (suc n) b low high e =
     step (inl same) later = ap (λ t. t && all_bytes test (a + 1) n) (ap test same ∙ e)
     step (inr less) later = and_false (test a) (all_bytes test (a + 1) n) (later less)
 
--- a range that isn't empty and begins in the mapped addresses is mapped where its end is
+-- a range that isn't empty and begins in the mapped addresses is mapped if and only if its end is
 pub all_mapped : (i : Program) (a n : ℕ) → 4096 ≤ a → 0 < n → leb (a + n) i.memory ≡ all_bytes (may_load i) a n
 all_mapped i a n low some = at (cases_lt i.memory (a + n))
   where

@@ -4,7 +4,7 @@ use bn_base::Addr;
 /// The part of the machine's state that system calls depend on.
 #[derive(Clone, Copy, Drop)]
 pub struct Kernel {
-    /// The present break, where the heap ends.
+    /// The present break, the end of the heap.
     pub brk: Addr,
     /// How many bytes of the input are left.
     pub input_left: u64,
