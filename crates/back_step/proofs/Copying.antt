@@ -125,7 +125,7 @@ front_at [] (suc n) i c e = absurd cc
 front_at (x ∷ cs) (suc n) zero c e = (e, omega arith)
 front_at (x ∷ cs) (suc n) (suc i) c e = let r = front_at cs n i c e in (r.0, let low = r.1 in omega (arith, low))
 
--- of fewer entries, with those that aren't behind them
+-- of fewer entries, with those that aren't after them
 pub copies_cut : (every : ℕ) (start : Joining) (entries : List Entry) (to : ℕ) (copies : List Joining) → AreCopies every start entries copies → AreCopies every start (take to entries) (take (to / every + 1) copies)
 copies_cut every start entries to copies are i c at =
     let f = front_at copies (to / every + 1) i c at in

@@ -61,7 +61,7 @@ pub record IsStateAfter (start : Joining) (harts : List ℕ) (j : Joining) (w : 
   pub words : (a : ℕ) → word_in j.memory a ≡ word_in w.now.memory a
   pub whole : j.refused ≡ None → j ≡ w.now
 
--- a trace stands at the state at its entries' harts, and its entries are those of the steps that led there
+-- the present state of a trace is that after steps of its entries' harts, and its entries are those of these steps
 pub record IsGoneBack (t : Trace) : Type 0 where
   pub walk : Walk
   pub stands : IsStateAfter t.start (harts_of t.entries) t.now walk

@@ -31,7 +31,7 @@ LeadsBy j (e ∷ es) k = (x : Item × Joining) × (ready_step j e.hart ≡ Some 
 abbrev pub CanTake : Joining → List Entry → Type 0
 CanTake j es = (k : Joining) × LeadsBy j es k
 
--- a joint replay stands there, but that it may repeat a refusal, and then nothing is known of what is left of its replays
+-- a joint replay has that state, but it may repeat a refusal, and then nothing is known of what is left of its replays
 pub record IsBackAt (there now : Joining) : Type 0 where
   pub program : now.program ≡ there.program
   pub records : now.records ≡ there.records

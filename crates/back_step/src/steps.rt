@@ -15,7 +15,7 @@ pub(crate) fn is_due(every: u64, position: u64, copies: u64) -> bool
     position % every == 0 && position / every == copies
 }
 
-// Puts a copy behind others.
+// Appends a copy.
 fn push_copy<'a>(joint: &Joint<'a>, copies: &mut Vec<Joint<'a>>) -> Result<(), AllocError>
     ensures ok { OnOk result (copies.new.items ≡ copies.old.items ++ joint.now ∷ []) }
     ensures err { OnErr result (copies.new.items ≡ copies.old.items) }
@@ -30,7 +30,7 @@ fn push_copy<'a>(joint: &Joint<'a>, copies: &mut Vec<Joint<'a>>) -> Result<(), A
     }
 }
 
-/// Puts a copy after others, if one is due.
+/// Appends a copy, if one is due.
 pub(crate) fn keep_copy<'a>(
     joint: &Joint<'a>,
     copies: &mut Vec<Joint<'a>>,
@@ -46,7 +46,7 @@ pub(crate) fn keep_copy<'a>(
     }
 }
 
-/// Puts an entry after others, if there is room for it.
+/// Appends an entry, if there is room for it.
 pub(crate) fn put(entries: &mut Vec<Entry>, entry: Entry)
     requires { vec_len entries.old < vec_capacity entries.old }
     ensures { entries.new.items ≡ entries.old.items ++ entry ∷ [] }

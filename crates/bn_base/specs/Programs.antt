@@ -31,7 +31,7 @@ abbrev pub AreApart : ℕ → ℕ → List Part → Type 0
 AreApart low high [] = low ≤ high
 AreApart low high (p ∷ ps) = (low ≤ p.first) × AreApart (end_of p) high ps
 
--- a program's parts stand apart in the mapped addresses, 4,096 to the memory's size
+-- a program's parts lie apart in the mapped addresses, 4,096 to the memory's size
 pub record IsProgram (i : Program) : Type 0 where
   pub apart : AreApart 4096 i.memory i.parts
   pub memory_low : 65536 ≤ i.memory

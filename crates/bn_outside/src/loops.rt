@@ -61,7 +61,7 @@ pub fn send_all<K: Sink>(sink: &mut K, text: &[u8]) -> Result<(), Failed>
     Ok(())
 }
 
-// Puts a piece behind what was read, for all of which room is made with the first piece.
+// Appends a piece to what was read, for all of which room is made with the first piece.
 // Room is made only once bytes have come: so an empty file needs no memory, and a file that says a wrong size,
 // or none, is read all the same.
 fn gather(bytes: &mut Vec<u8>, piece: &[u8], expected: usize) -> Result<(), AllocError>
@@ -74,7 +74,7 @@ fn gather(bytes: &mut Vec<u8>, piece: &[u8], expected: usize) -> Result<(), Allo
     bytes.extend_from_slice(piece)
 }
 
-// Puts a piece after what was read, if both are at most `limit` together.
+// Appends a piece to what was read, if both are at most `limit` together.
 fn gather_within(
     bytes: &mut Vec<u8>,
     piece: &[u8],

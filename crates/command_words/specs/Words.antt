@@ -51,7 +51,7 @@ pub data Line : Type 0 where
   -- seed
   DemoLine : ℕ → Line
 
--- what a contract sees of a recording: the texts behind its references
+-- what a contract sees of a recording: the texts that its references point to
 abbrev pub seen_recording : RecordOptions → RecordingLine
 seen_recording r = record {
   settings = r.settings;

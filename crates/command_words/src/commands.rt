@@ -66,7 +66,7 @@ pub enum Command<'a> {
         elf: &'a str,
         max: u64,
     },
-    /// List the rows of an interval that the row of a count stands on, with the program's file. The
+    /// List the rows of an interval that the row of a count depends on, with the program's file. The
     /// numbers are as they were given: the log may have no such hart or interval, or the interval no
     /// such row.
     Slice {

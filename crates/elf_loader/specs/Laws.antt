@@ -39,7 +39,7 @@ HeapIsAfterSegments = (bytes : List ℕ) (s : RawSettings) (p : Program) → IsS
 abbrev pub HasWords : Part → Type 0
 HasWords p = AllByRecursion (λ w. w < 2 ^ 32) p.words
 
--- what a program has by its type: parts that stand apart in the mapped addresses, each aligned, with words of 32 bits;
+-- what a program has by its type: parts that lie apart in the mapped addresses, each aligned, with words of 32 bits;
 -- and its entry is the address of a code word
 pub record IsImage (i : Program) : Type 0 where
   pub program : IsProgram i

@@ -1,4 +1,4 @@
--- A second drop of a line right behind the first changes nothing.
+-- A second drop of a line right after the first changes nothing.
 use Rattle.std.proofs.Common.{◌≡◌, ℕ, Bool, true, false, ◌==◌, List, [], ◌∷◌, refl, sym, ◌∙◌, ap, inl, inr}
 use Rattle.std.proofs.lemmas.Bool.Decides.{eqb_tells}
 use Rattle.first_load_bits.specs.Events.{Geometry, Event, Drop, line_of, set_of, second_of}

@@ -115,7 +115,7 @@ gathered g l w (Drop a ∷ es) ls h = let k = line_of g a in elim (tells g l k) 
 ]
 gathered g l w (Clear ∷ es) ls h = let i = gathered g l w es ls h in more g l Clear es ls ls (λ x. x) (λ x. x) i i.all (now g l es ls i)
 
--- a line that is listed has fewer lines behind it than there is room for
+-- a line that is listed has fewer lines after it than there is room for
 pub later_fits : (g : Geometry) (l : ℕ) (es : List Event) (ls : List ℕ) → 0 < g.ways → later_lines g l es ≡ Some ls → length ls < g.ways
 later_fits g l es ls w e = now g l es ls (gathered g l w es ls e)
 

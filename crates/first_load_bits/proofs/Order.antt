@@ -109,7 +109,7 @@ in_front-put_near n l x xs e d = let k = x.number in
 
 -- ---- the law
 
--- a line that is listed stands in its set's list, behind those that were touched later
+-- a line that is listed stands in its set's list, after those that were touched later
 abbrev pub Agrees : Geometry → (ℕ → List Line) → List Event → Type 0
 Agrees g ls es = (l : ℕ) → in_front l (ls (set_of g l)) ≡ later_lines g l es
 

@@ -31,7 +31,7 @@ take-set (suc n) (suc i) (y ∷ ys) x = ap (λ zs. y ∷ zs) (take-set n i ys x)
 part_of_set : {X : Type 0} (n f i : ℕ) (xs : List X) (x : X) → take n (drop f (set xs (f + i) x)) ≡ set (take n (drop f xs)) i x
 part_of_set n f i xs x = ap (take n) (drop-set-add f xs i x) ∙ take-set n i (drop f xs) x
 
--- a part behind or ahead of the place
+-- a part after or ahead of the place
 part_behind : {X : Type 0} (n f at : ℕ) (xs : List X) (x : X) → at < f → take n (drop f (set xs at x)) ≡ take n (drop f xs)
 part_behind n f at xs x h = ap (take n) (drop-set-lt f xs at x h)
 

@@ -23,7 +23,7 @@ abbrev pub all_but : ℕ → List Line → List Line
 all_but l [] = []
 all_but l (x ∷ xs) = elim (x.number == l) [ true ↦ all_but l xs | false ↦ x ∷ all_but l xs ]
 
--- k and the lines behind it
+-- k and the lines after it
 abbrev pub behind : ℕ → Option (List ℕ) → Option (List ℕ)
 behind k None = None
 behind k (Some ls) = Some (k ∷ ls)

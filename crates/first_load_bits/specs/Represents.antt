@@ -42,7 +42,7 @@ pub record Contents : Type 0 where
   pub ways : List Way
   pub ways_below : List Way
 
--- what stands if there is no cache
+-- the value that a look-up gives if there is no cache
 abbrev pub no_contents : Contents
 no_contents = record { geometry = record { sets = 0; ways = 0; line = 0; sets2 = 0; ways2 = 0 }; steps = 0; generation = 0; ways = []; ways_below = [] }
 

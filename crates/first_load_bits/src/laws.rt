@@ -34,8 +34,8 @@ pub fn only_a_touch_warms()
     ensures clear { (g : Geometry) (a : ℕ) (es : List Event) → ¬ IsTrue (warm g a (Clear ∷ es)) }
 {}
 
-/// A second drop of a line right behind the first changes nothing. So whoever drops several words one after another need
-/// drop each line once.
+/// A second drop of a line right after the first changes nothing. So a recorder that drops several words one after another
+/// has to drop each line only once.
 pub fn a_second_drop_changes_nothing()
     ensures { (c : Contents) (a b : ℕ) (es : List Event) → line_of c.geometry a ≡ line_of c.geometry b →
         RepresentsEvents c (Drop b ∷ es) → RepresentsEvents c (Drop a ∷ Drop b ∷ es) }

@@ -28,7 +28,7 @@ none = refl
 single : (i : Instruction) → code_bytes (i ∷ []) ≡ word_of i
 single i = one_more i [] ∙ ap (λ t. word_of i ++ t) none ∙ append-nil (word_of i)
 
--- three words behind what there is
+-- three words after what there is
 pub three : (o a b c : List ℕ) (x y z i j k : Instruction) → x ≡ i → y ≡ j → z ≡ k → a ≡ o ++ word_of x → b ≡ a ++ word_of y → c ≡ b ++ word_of z → c ≡ o ++ code_bytes (i ∷ j ∷ k ∷ [])
 three o a b c x y z i j k d e f p q r =
     r ∙ ap (λ u. b ++ word_of u) f ∙ ap (λ t. t ++ word_of k) (q ∙ ap (λ u. a ++ word_of u) e ∙ ap (λ t. t ++ word_of j) (p ∙ ap (λ u. o ++ word_of u) d))

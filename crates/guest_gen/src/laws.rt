@@ -25,7 +25,7 @@ pub fn first_draws()
     ensures drawn { draws 1 0 ≡ 167951807 ∷ [] }
 {}
 
-/// The words before and behind the slots, and one of each choice with its number 5.
+/// The words before and after the slots, and one of each choice with its number 5.
 #[tactic(auto, unfolding(crate::specs::Code::opening))]
 pub fn words_worked_out()
     ensures opening { map encoded opening ≡ 0x00020437 ∷ 0x00851493 ∷ 0x008484b3 ∷ [] }

@@ -48,7 +48,7 @@ abbrev pub page_in : Option TaggedPage → ℕ → Option Frame
 page_in None n = None
 page_in (Some p) n = elim (p.number == n) [ true ↦ Some p.page | false ↦ None ]
 
--- whether the page of a number stands at a place
+-- whether the page of a number is at a place
 abbrev pub is_of : Option TaggedPage → ℕ → Bool
 is_of None n = false
 is_of (Some p) n = p.number == n

@@ -40,7 +40,7 @@ impl Clone for TaggedPage {
     }
 }
 
-// Whether the page of a number stands at a place.
+// Whether the page of a number is at a place.
 fn stands_at(pages: &[TaggedPage], place: usize, number: u32) -> bool
     ensures { result ≡ stands_at pages.now place number }
 {

@@ -61,7 +61,7 @@ module _ (i : Program) where
   above p (q ∷ qs) cs k a (inl e) = omega (arith, a.0, e)
   above p (q ∷ qs) cs k a (inr h) = let later = above q qs cs k a.1 h in omega (arith, a.0, later)
 
-  -- what is on the way behind the first point isn't passed with it
+  -- what is on the way after the first point isn't passed with it
   not_yet : (p : ℕ) (ps : List ℕ) (cs : List Cursor) (k : ℕ) → ArePoints (p ∷ ps) cs → AreCursors i cs → is_passed (Some (record { points = ps; cursors = cs })) k ≡ true → Has ps k ⊎ InCursors cs k → ⊥
   not_yet p [] [] k a s e (inl h) = absurd h
   not_yet p [] [] k a s e (inr h) = absurd h

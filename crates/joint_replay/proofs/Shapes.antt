@@ -230,7 +230,7 @@ module _ (t : OrderLimits) (all : Bool) (h : ℕ) (w : HartView) (over : is_unfi
       unfinished false e f = cc
   at_nothing Done met k e = refl
 
-  -- what a record leaves is what the records behind it have
+  -- what a record leaves is what the records after it have
   same_fits : (v u : HartView) (r : Record) (rs : List Record) → u.phase ≡ v.phase → Same h r rs → Fit u rs → Fit v (r ∷ rs)
   same_fits v u r rs phase same f =
       subst (λ m. Fits t.limit v.phase m (spans h (r ∷ rs))) (sym same.0)

@@ -51,7 +51,7 @@ module _ (lanes : List Lane) (ic : ℕ) (all : List (ℕ × ℕ)) (s : IncomingE
       by true c false p g = ap (first_waited lanes) (head_is true c) ∙ ap (λ x. elim x as (λ y. Option (ℕ × ℕ)) [ true ↦ first_waited lanes (sources_at ic rest) | false ↦ Some (s.hart, s.ic) ]) p
       by false c q p g = absurd cc
 
-  -- it leads past the instruction, and so do those behind it
+  -- it leads past the instruction, and so do those after it
   pub is_past : ic < s.target → IsLeft lanes ic all (s ∷ rest) → is.Ready ≡ waits_for (first_waited lanes all)
   is_past lt l = ap waits_for (ap (first_waited lanes) (sym (head_is false (ne_eqb s.target ic (λ e. absurd (omega (arith, e, lt)))) ∙ none_higher ic (s.target + 1) rest (omega (arith, lt)) l.order.1.1)) ∙ l.waited)
 

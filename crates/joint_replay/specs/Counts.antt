@@ -6,7 +6,7 @@ use Rattle.bn_base.specs.declared.state.HartState.{HartState}
 use Rattle.hart_replay.specs.Replay.{Outcome, Done}
 use Rattle.hart_replay.specs.Coming.{after_row}
 
--- rows from a state on, up to a count: each has the count of the state before it and counts one more; behind the last
+-- rows from a state on, up to a count: each has the count of the state before it and counts one more; after the last
 -- instruction there may be the row of a fault
 abbrev pub RowsFrom : Program → ℕ → Outcome → HartState → List Row → Type 0
 RowsFrom i last o s [] = o ≡ Done → last ≤ s.ic

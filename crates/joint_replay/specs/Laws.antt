@@ -34,7 +34,7 @@ StepsPass = (i : Program) (lane : Lane) → IsLane i lane → PassesIf i lane (l
 
 -- ---- logs in order
 
--- the intervals of each hart stand one after another
+-- the intervals of each hart come one after another
 abbrev pub OrderedLogsHaveShape : Type 0
 OrderedLogsHaveShape = (t : OrderLimits) (all : Bool) (place : ℕ) (harts ends : List HartView) (rs : List Record) → after_all t place harts rs ≡ Ok ends
     → (h : ℕ) (v : HartView) → slice_get harts h ≡ Some v → (is_known v.phase ≡ true → (all || v.met) ≡ true)

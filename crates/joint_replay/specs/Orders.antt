@@ -1,4 +1,4 @@
--- Allowed orders. An order is a list of harts: the first time that a hart stands there is for its first step, the second
+-- Allowed orders. An order is a list of harts: the first time that a hart is named is for its first step, the second
 -- time for its second, and so on. So each order is a merge of beginnings of the harts' lists of steps.
 -- `Merges` says which merges these are without a joint replay.
 use Rattle.std.specs.Prelude.{◌≡◌, ℕ, List, [], ◌∷◌, Option, Some, None, Ok, Err}

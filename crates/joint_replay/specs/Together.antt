@@ -17,7 +17,7 @@ lanes_of harts = map (λ (l : HartLane). l.lane) harts
 abbrev pub joining : Program → List Record → List HartLane → List (ℕ × ℕ) → Option ReplayError → Joining
 joining i records harts memory refused = record { program = i; records = records; lanes = lanes_of harts; memory = memory; refused = refused }
 
--- the harts stand by their numbers, from one on, each with the program and the records
+-- the harts by their numbers, from one on, each with the program and the records
 abbrev pub AreHarts : Program → List Record → ℕ → List HartLane → Type 0
 AreHarts i records h [] = Unit {0}
 AreHarts i records h (l ∷ ls) = (l.program ≡ i) × (l.records ≡ records) × (l.hart ≡ h) × AreHarts i records (h + 1) ls

@@ -375,7 +375,7 @@ impl<'a> Joint<'a> {
     }
 }
 
-// Puts a copy of a hart after others.
+// Appends a copy of a hart.
 fn push_copy<'a>(lane: &Lane<'a>, copies: &mut Vec<Lane<'a>>) -> Result<(), AllocError>
     ensures { OnOk result (copies.new.items ≡ copies.old.items ++ lane.now ∷ []) }
 {
@@ -407,7 +407,7 @@ fn none_met(alloc: Global, harts: usize) -> Result<Vec<usize>, AllocError>
     vec![in alloc; 0; harts]
 }
 
-// Puts a hart before its first step behind some.
+// Appends a hart before its first step.
 fn push_begun<'a>(
     alloc: Global,
     image: &'a Image,

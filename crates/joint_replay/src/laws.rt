@@ -50,7 +50,7 @@ pub fn runs_end()
     ensures { RunsEnd }
 {}
 
-/// The intervals of a hart in a log in order stand one after another.
+/// The intervals of a hart in a log in order come one after another.
 pub fn ordered_logs_have_shape()
     ensures { OrderedLogsHaveShape }
 {}
@@ -67,7 +67,7 @@ pub fn edges_lead_into_intervals()
     ensures { EdgesAreInside }
 {}
 
-/// The Edges into a hart stand by ascending targets.
+/// The Edges into a hart have ascending targets.
 #[tactic(auto, using(crate::proofs::Ascents::edges_ascend))]
 pub fn edges_ascend()
     ensures { EdgesAscend }

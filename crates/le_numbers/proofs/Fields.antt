@@ -12,7 +12,7 @@ pub length-number_bytes : (width n : ℕ) → length (number_bytes width n) ≡ 
 unfolding number_bytes
 length-number_bytes width n = length-bytes_low_first 0 width n
 
--- the bytes behind the first are those of the number without its least significant byte
+-- the bytes after the first are those of the number without its least significant byte
 bytes_behind : (width place n : ℕ) → bytes_low_first (suc place) width n ≡ bytes_low_first place width (n / 256)
 bytes_behind zero place n = refl
 bytes_behind (suc width) place n = ap₂ (λ (b : ℕ) (bs : List ℕ). b ∷ bs) (first place) (bytes_behind width (suc place) n)

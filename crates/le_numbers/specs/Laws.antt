@@ -6,7 +6,7 @@ use Rattle.le_numbers.specs.Numbers.{number_at, number_bytes, AreBytes}
 abbrev pub HaveTheirWidth : Type 0
 HaveTheirWidth = (width n : ℕ) → length (number_bytes width n) ≡ width
 
--- if a number's bytes stand at a place, the number is read there, and what follows comes after it
+-- if a number's bytes are at a place, the number is read there, and what follows comes after it
 abbrev pub AreRead : Type 0
 AreRead = (width at n : ℕ) (bytes rest : List ℕ) → n < 256 ^ width → drop at bytes ≡ number_bytes width n ++ rest → (number_at width at bytes ≡ n) × (drop (at + width) bytes ≡ rest)
 

@@ -1,8 +1,8 @@
--- Numbers that stand in bytes, the least significant byte first (little-endian).
+-- Numbers in bytes, the least significant byte first (little-endian).
 use Rattle.std.specs.Prelude.{ℕ, ◌<◌, List, drop, slice_index}
 use Rattle.byteorder.specs.Endian.{little_number, little_bytes}
 
--- the number that stands in the `width` bytes from place `at` on
+-- the number that the `width` bytes from place `at` on spell
 unfoldable pub number_at : ℕ → ℕ → List ℕ → ℕ
 number_at width at bytes = little_number width (drop at bytes)
 

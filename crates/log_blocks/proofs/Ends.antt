@@ -30,7 +30,7 @@ joined_cut (r ∷ rs) block used =
     let size = length (bytes_of r) in
     joined_by (nat_le (used + size) block_size) block rs r _ _ (joined_cut rs (block ++ r ∷ []) (used + size)) (joined_cut rs (r ∷ []) size)
 
--- the parts behind the first are those into which their records are cut
+-- the parts after the first are those into which their records are cut
 Again : List (List Record) → Type 0
 Again rest = cut_from [] 0 (joined rest) ≡ rest
 

@@ -85,7 +85,7 @@ piece_is written long digest n left bytes are g =
 
 -- ---- the walk
 
--- each of several pieces has some bytes, and knows how many are behind it
+-- each of several pieces has some bytes, and knows how many are after it
 unfoldable pub Lefts : List Piece → Type 0
 Lefts [] = Unit {0}
 Lefts (p ∷ ps) = (1 ≤ length p.bytes) × ((p.left ≡ length (gathered ps)) × Lefts ps)

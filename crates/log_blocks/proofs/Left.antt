@@ -10,7 +10,7 @@ pub record AreLeft (bytes sizes : List ℕ) (at left : ℕ) (ps : List Piece) : 
   pub at_is : AreAt bytes at ps
   pub sizes_are : take left sizes ≡ sizes_of ps
 
--- the first of them, and those behind it
+-- the first of them, and those after it
 pub record Step (bytes sizes : List ℕ) (at left : ℕ) (ps : List Piece) : Type 0 where
   pub first : Piece
   pub rest : List Piece
@@ -84,7 +84,7 @@ within bytes sizes at left more size ps one lt is l =
     let s = step bytes sizes at left more ps one lt l in
     omega (arith, s.here.within, is, s.size_is size)
 
--- what is left behind the next of them
+-- what is left after the next of them
 pub behind_it : (bytes sizes : List ℕ) (at next left more size : ℕ) (ps : List Piece) → left + 1 ≡ more → left < length sizes → size ≡ get_or sizes left size → next ≡ at + (size + 48) → AreLeft bytes sizes at more ps
     → (x : List Piece) × AreLeft bytes sizes next left x
 behind_it bytes sizes at next left more size ps one lt is then l =

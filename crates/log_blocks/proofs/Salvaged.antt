@@ -104,7 +104,7 @@ pub read_ok : (bytes digest body : List ℕ) (n rest size : ℕ) (sizes : List �
 read_ok bytes digest body n rest size sizes head dropped (Ok c) b w none all hi di says = read_is bytes digest body n rest size sizes head dropped c b w none all hi di (says w.pieces w.laid)
 read_ok bytes digest body n rest size sizes head dropped (Err e) b w none all hi di says = refused_is bytes digest body n rest size sizes head dropped e b w none all hi di (says w.pieces w.laid)
 
--- the walk over the bytes behind a head is one over those of the file
+-- the walk over the bytes after a head is one over those of the file
 pub walked_behind : (bytes digest body : List ℕ) (n rest size : ℕ) (sizes : List ℕ) → Behind bytes digest body n → HasWalked digest n body rest size sizes → HasWalked (head_digest bytes) (size_in bytes) (blocks_in bytes) rest size sizes
 walked_behind bytes digest body n rest size sizes b w =
     subst (λ (t : List ℕ). HasWalked (head_digest bytes) (size_in bytes) t rest size sizes) b.body_is

@@ -19,7 +19,7 @@ pub record IsSound (n left : ℕ) (p : Piece) : Type 0 where
   pub few : left + length p.bytes ≤ n
   pub before_fits : p.before < 2 ^ 64
 
--- each is, by those behind it and those kept before
+-- each is, by those after it and those kept before
 unfoldable pub AreSound : ℕ → List Piece → List Piece → Type 0
 AreSound n kept [] = Unit {0}
 AreSound n kept (p ∷ ps) = IsSound n (length (gathered (ps ++ kept))) p × AreSound n kept ps

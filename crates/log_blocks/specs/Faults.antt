@@ -13,7 +13,7 @@ use Rattle.log_blocks.specs.Fields.{settings_in, size_in, kept_digest, head_dige
 abbrev pub is_second : List ℕ → Bool
 is_second bytes = nat_le 124 (length bytes) && bytes_eq (take 8 bytes) magic && (number_at 4 8 bytes == 2)
 
--- what is wrong behind the settings, of which one is the most bytes that the records may have
+-- what is wrong after the settings, of which one is the most bytes that the records may have
 abbrev pub later_fault : List ℕ → ℕ → Option FileError
 later_fault bytes log_size =
     if nat_lt log_size (size_in bytes) then Some (BadHead 9 (size_in bytes)) else

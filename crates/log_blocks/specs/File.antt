@@ -95,7 +95,7 @@ abbrev pub IsHeadFault : List ℕ → Damage → Type 0
 IsHeadFault bytes (File e) = head_fault bytes ≡ Some e
 IsHeadFault bytes (BadBlock at) = ⊥
 
--- what is wrong behind a head without a fault, by what the walk back left ahead of the blocks that it kept: a bad block, another number of bytes than the head's, or the records
+-- what is wrong after a head without a fault, by what the walk back left ahead of the blocks that it kept: a bad block, another number of bytes than the head's, or the records
 abbrev pub IsWalkFault : List ℕ → List ℕ → List Piece → Damage → Type 0
 IsWalkFault bytes rest pieces e =
     ((0 < length rest) × (e ≡ BadBlock (136 + length rest)))

@@ -57,7 +57,7 @@ piece_in bytes = piece (take (len_in bytes) (drop (start_in bytes) bytes)) (befo
 abbrev pub is_sized : (len said left n whole : ℕ) → Bool
 is_sized len said left n whole = nat_le 1 len && nat_le len block_size && nat_le (len + 48) whole && (said == left) && nat_le (left + len) n
 
--- the bytes end with a good block, behind which there are so many bytes of records
+-- the bytes end with a good block, after which there are so many bytes of records
 unfoldable pub is_good : (digest : List ℕ) → (n left : ℕ) → List ℕ → Bool
 is_good digest n left bytes =
     if nat_lt (length bytes) 48 then false else
@@ -72,7 +72,7 @@ Walked digest n zero bytes kept rest pieces = (is_good digest n (length (gathere
 Walked digest n (suc count) bytes kept rest pieces =
     (is_good digest n (length (gathered kept)) bytes ≡ true) × Walked digest n count (take (start_in bytes) bytes) (piece_in bytes ∷ kept) rest pieces
 
--- the bytes behind a head are the rest and these blocks, from the last back to the first before which there is no good one
+-- the bytes after a head are the rest and these blocks, from the last back to the first before which there is no good one
 pub record IsWalk (digest : List ℕ) (n : ℕ) (bytes rest : List ℕ) (pieces : List Piece) : Type 0 where
   pub count : ℕ
   pub walked : Walked digest n count bytes [] rest pieces

@@ -26,7 +26,7 @@ abbrev pub AreAt : List ℕ → ℕ → List Piece → Type 0
 AreAt bytes at [] = at ≡ length bytes
 AreAt bytes at (p ∷ ps) = IsAt bytes at p × AreAt bytes (at + length p.bytes + 48) ps
 
--- the pieces stand in the bytes, so many bytes behind their start
+-- the pieces stand in the bytes, so many bytes after their start
 pub record AreLaid (bytes : List ℕ) (rest size : ℕ) (sizes : List ℕ) (pieces : List Piece) : Type 0 where
   pub at : AreAt bytes rest pieces
   pub size_is : size ≡ length (gathered pieces)

@@ -57,7 +57,7 @@ pub fn counts_of(log: &KeptLog) -> LogCounts
     counts_in(log.dropped(), log.records())
 }
 
-/// What is counted of the records of the blocks that a walk back over the bytes behind a head kept,
+/// What is counted of the records of the blocks that a walk back over the bytes after a head kept,
 /// given the records' bytes.
 pub(crate) fn counts_along(
     head: &Head,
@@ -88,7 +88,7 @@ pub(crate) fn counts_along(
     }
 }
 
-// What is counted of the records of the blocks that a walk back over the bytes behind a head kept.
+// What is counted of the records of the blocks that a walk back over the bytes after a head kept.
 fn counts_within(
     alloc: Global,
     head: Head,

@@ -20,7 +20,7 @@ pub fn a_block_is_full_at_4096_bytes()
     ensures more { cut_from [] 0 (full_block ++ ScOk 0 ∷ []) ≡ full_block ∷ (ScOk 0 ∷ []) ∷ [] }
 {}
 
-/// A block has 1 to 4,096 bytes of records, and its number of bytes behind it is the right one.
+/// A block has 1 to 4,096 bytes of records, and its number of bytes after it is the right one.
 pub fn a_block_has_its_size()
     ensures full { is_sized 4096 0 0 4096 4144 ≡ true }
     ensures over { is_sized 4097 0 0 4097 4145 ≡ false }

@@ -12,7 +12,7 @@ use log_file::head::{DIGEST_SIZE, MAGIC, copied, digest_of, same, settings_in as
 /// How many bytes a head has that a digest follows.
 pub const SIGNED_SIZE: usize = 104;
 
-/// How many bytes stand before the blocks: the head and its digest.
+/// How many bytes come before the blocks: the head and its digest.
 pub const HEAD_SIZE: usize = 136;
 
 /// How many bytes a file of either version has at least.
@@ -49,7 +49,7 @@ pub(crate) fn head_digest(bytes: &[u8]) -> [u8; 32]
     digest_of(front(bytes, SIGNED_SIZE))
 }
 
-// What is wrong behind the settings: how many bytes the records may have, or the head's digest.
+// What is wrong after the settings: how many bytes the records may have, or the head's digest.
 fn later_fault(bytes: &[u8], settings: &Settings) -> Option<FileError>
     requires { 136 ≤ length bytes.now }
     ensures { result ≡ later_fault bytes.now settings.now.log_size }

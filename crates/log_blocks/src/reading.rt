@@ -46,7 +46,7 @@ fn in_order(head: Head, dropped: u64, records: RecordList) -> Result<KeptLog, Da
     }
 }
 
-/// What the blocks say that a walk back over the bytes behind a head kept.
+/// What the blocks say that a walk back over the bytes after a head kept.
 pub(crate) fn content_of(
     alloc: Global,
     head: Head,

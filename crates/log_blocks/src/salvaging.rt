@@ -102,7 +102,7 @@ fn salvage_in(alloc: Global, bytes: &[u8], settings: Settings) -> Result<KeptLog
     }
 }
 
-// The file of version 2 of the blocks that a walk back over the bytes behind a head kept, with its counts.
+// The file of version 2 of the blocks that a walk back over the bytes after a head kept, with its counts.
 fn new_of(
     alloc: Global,
     head: Head,

@@ -5,7 +5,7 @@ ghost use Rattle.sha2.specs.Sha256.{sha256};
 use log_file::head::tail;
 use sha2::{Digest, Sha256};
 
-/// How many bytes a block has behind its records: three numbers and a digest.
+/// How many bytes a block has after its records: three numbers and a digest.
 pub const SEAL_SIZE: usize = 48;
 
 /// The most bytes of records in a block.
@@ -27,7 +27,7 @@ pub(crate) fn part(bytes: &[u8], at: usize, size: usize) -> &[u8]
     &tail(bytes, at)[..size]
 }
 
-/// The SHA-256 digest (FIPS 180-4) of a digest and of bytes behind it.
+/// The SHA-256 digest (FIPS 180-4) of a digest and of bytes after it.
 pub(crate) fn seal_of(digest: &[u8; 32], body: &[u8]) -> [u8; 32]
     ensures { result ≡ sha256 (digest.now ++ body.now) }
 {

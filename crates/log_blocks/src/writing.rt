@@ -41,7 +41,7 @@ fn push_head(out: &mut Vec<u8>, head: &Head, dropped: u64, size: u32) -> Result<
     push_counts(out, &head.digest, dropped, size)
 }
 
-// Appends a block: its records' bytes, how many records are before it, how many bytes behind it, and
+// Appends a block: its records' bytes, how many records are before it, how many bytes after it, and
 // its seal.
 fn push_block(
     out: &mut Vec<u8>,

@@ -68,7 +68,7 @@ pub record IsCounted (head : Head) (dropped : ℕ) (bytes : List ℕ) (n : LogCo
   pub order : broken_by head.settings dropped records ≡ None
   pub counts : n ≡ counts_in dropped records
 
--- these are the counts of a log that has what stands at the places of the fields
+-- these are the counts of a log that has what the fields say
 pub record CountsFields (signed : List ℕ) (n : LogCounts) : Type 0 where
   pub log : Content
   pub content : IsVersion1 log

@@ -9,12 +9,12 @@ use Rattle.log_file.specs.declared.error.FileError.{FileError}
 use Rattle.log_file.specs.declared.error.FileError.TheVariants.{Short, BadMagic, BadVersion, BadHead, LengthDiffers, DigestDiffers}
 use Rattle.log_file.specs.Layout.{magic, settings_in, size_in}
 
--- a setting that is out of range, or what is wrong behind the settings
+-- a setting that is out of range, or what is wrong after the settings
 abbrev pub setting_fault : Option BadSetting → Option FileError → Option FileError
 setting_fault (Some bad) later = Some (BadHead bad.field bad.value)
 setting_fault None later = later
 
--- what is wrong behind the settings, of which one is the most bytes that the records may have
+-- what is wrong after the settings, of which one is the most bytes that the records may have
 abbrev pub later_fault : List ℕ → List ℕ → ℕ → Option FileError
 later_fault signed kept log_size =
     if nat_lt log_size (size_in signed) then Some (BadHead 9 (size_in signed)) else

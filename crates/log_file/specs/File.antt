@@ -11,7 +11,7 @@ use Rattle.log_file.specs.declared.error.FileError.TheVariants.{Short, BadMagic,
 use Rattle.log_file.specs.Layout.{head_in, dropped_in}
 use Rattle.log_file.specs.Faults.{signed_of, file_fault}
 
--- what stands at the places of the fields is what the log says
+-- the fields have what the log says
 pub record HasFields (signed : List ℕ) (c : Content) : Type 0 where
   pub head : c.head ≡ head_in signed
   pub dropped : c.dropped ≡ dropped_in signed

@@ -16,7 +16,7 @@ pub const MAGIC: &[u8; 8] = b"BUGNETLG";
 /// The version of the format.
 pub const VERSION: u32 = 1;
 
-/// How many bytes stand before the records.
+/// How many bytes come before the records.
 pub const HEAD_SIZE: usize = 92;
 
 /// How many bytes a digest has.
@@ -82,7 +82,7 @@ pub fn digest_of(bytes: &[u8]) -> [u8; 32]
     Sha256::digest(bytes)
 }
 
-// What is wrong behind the settings: how many bytes the records have, or the last digest.
+// What is wrong after the settings: how many bytes the records have, or the last digest.
 fn later_fault(signed: &[u8], kept: &[u8], settings: &Settings) -> Option<FileError>
     requires signed { 92 ≤ length signed.now }
     requires kept { length kept.now ≡ 32 }

@@ -59,7 +59,7 @@ pub fn push_counts(
     push_u32(out, size)
 }
 
-// Appends what stands between the settings and the last digest.
+// Appends what comes between the settings and the last digest.
 fn push_rest(
     out: &mut Vec<u8>,
     head: &Head,

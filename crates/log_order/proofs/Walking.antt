@@ -10,7 +10,7 @@ use Rattle.log_order.specs.declared.walk.OrderBreak.{OrderBreak}
 use Rattle.log_order.specs.Order.{step, order_break, after_all, is_late, late_edge, ended, broken}
 use Rattle.log_order.specs.Rules.{fresh}
 
--- the k-th record, as a loop has it, and those behind it
+-- the k-th record, as a loop has it, and those after it
 pub left : (records : List Record) (k : ℕ) (x : Record) → k < length records → x ≡ get_or records k x → drop k records ≡ x ∷ drop (k + 1) records
 left records k x lt is = rw add-one (drop-cons records k x lt) ∙ ap (λ (y : Record). y ∷ drop (k + 1) records) (sym is)
 

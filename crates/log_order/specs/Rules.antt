@@ -8,14 +8,14 @@ use Rattle.log_order.specs.declared.view.Phase.{Phase}
 use Rattle.log_order.specs.declared.view.Phase.TheVariants.{Unknown, Awaiting, Open, Done}
 use Rattle.log_order.specs.declared.view.HartView.{HartView}
 
--- a Header may stand there
+-- a Header may come in this phase
 abbrev pub takes_header : Phase → Bool
 takes_header Unknown = true
 takes_header (Awaiting next ic) = true
 takes_header (Open next since) = false
 takes_header Done = false
 
--- another record may stand there
+-- another record may come in this phase
 abbrev pub takes_other : Phase → Bool
 takes_other Unknown = true
 takes_other (Awaiting next ic) = false

@@ -14,7 +14,7 @@ use Rattle.log_record.specs.Laws.{TellTheirSize, AreRead, AreWritten, BeginNoOth
 use Rattle.log_record.specs.Reading.{words_at, header_in, first_load_in, edge_in, end_in, record_in}
 use Rattle.log_record.proofs.Words.{drop-words_at, length-words_at, words_at-small, words_at-written}
 
--- a byte, and the bytes behind it
+-- a byte, and the bytes after it
 pub drop-byte : (at : ℕ) (bytes : List ℕ) → at + 1 ≤ length bytes → drop at bytes ≡ slice_index bytes at ∷ drop (at + 1) bytes
 drop-byte zero [] within = absurd (omega arith)
 drop-byte zero (b ∷ bytes) within = refl

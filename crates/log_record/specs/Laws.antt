@@ -9,7 +9,7 @@ use Rattle.log_record.specs.Reading.{record_in}
 abbrev pub TellTheirSize : Type 0
 TellTheirSize = (r : Record) (rest : List ℕ) → FitsFields r → size_of (slice_index (bytes_of r ++ rest) 0) ≡ Some (length (bytes_of r))
 
--- if a record's bytes stand in front, their fields make the record, whatever follows
+-- if a record's bytes come first, their fields make the record, whatever follows
 abbrev pub AreRead : Type 0
 AreRead = (r : Record) (rest : List ℕ) → FitsFields r → record_in (bytes_of r ++ rest) ≡ r
 

@@ -10,7 +10,7 @@ use std::marker::Model;
 
 /// A list of records. Contracts see the records in their order.
 ///
-/// It takes 24 bytes of memory for each record, and 144 more for each Header, whose state stands
+/// It takes 24 bytes of memory for each record, and 144 more for each Header, whose state is kept
 /// apart.
 #[derive(Drop)]
 pub struct RecordList {

@@ -158,9 +158,9 @@ fn record_in(bytes: &[u8], size: usize) -> Record
 /// more reason of an End, the guard's.
 #[inline(always)]
 pub fn read_as(format: u8, bytes: &[u8]) -> Option<(Record, usize)>
-    // What is read stands there.
+    // What is read is there.
     ensures found { IfSome result (λ x. BeginsWith format bytes.now x.0 x.1) }
-    // What stands there is read, whatever follows it.
+    // What is there is read, whatever follows it.
     ensures only { (r : Record) (rest : List ℕ) → Fits format r → bytes.now ≡ bytes_of r ++ rest → result ≡ Some (r, length (bytes_of r)) }
 {
     tags_tell_sizes();

@@ -20,7 +20,7 @@ pub record IsWhole (bytes : List ℕ) : Type 0 where
   pub fit : AllByRecursion (Fits 2) (records_in bytes)
   pub joined : flat_map bytes_of (records_in bytes) ≡ bytes
 
--- the first of them has so many bytes, and behind them are whole records too
+-- the first of them has so many bytes, and after them are whole records too
 pub record Oldest (bytes : List ℕ) (size : ℕ) : Type 0 where
   pub first : Record
   pub within : size ≤ length bytes

@@ -125,7 +125,7 @@ impl Ring {
         self.bytes.is_empty()
     }
 
-    /// The bytes of its records, the oldest first: those before a cut, and those behind it.
+    /// The bytes of its records, the oldest first: those before a cut, and those after it.
     pub fn pieces(&self) -> (&[u8], &[u8])
         ensures bytes { result.0.now ++ result.1.now ≡ flat_map bytes_of self.now.records }
         ensures fit { AllByRecursion (Fits 2) self.now.records }

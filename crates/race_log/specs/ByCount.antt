@@ -7,7 +7,7 @@ pub record IsInOrder (run : List Point) : Type 0 where
   pub turns : AllPairs (λ p q. p.turn < q.turn) run
   pub counts : AllPairs (λ p q. p.hart ≡ q.hart → p.count < q.count) run
 
--- in a run whose points are in order a hart's points stand by their counts, and all points by their turns
+-- in a run whose points are in order, a hart's points ascend by their counts, and all points by their turns
 pub record StandByCounts : Type 0 where
   pub counts : (run : List Point) → IsInOrder run → (m n : ℕ) (p q : Point) → slice_get run m ≡ Some p → slice_get run n ≡ Some q → p.hart ≡ q.hart
       → (m < n) ↔ (p.count < q.count)

@@ -1,4 +1,4 @@
--- How the kept accesses of a word stand in slots.
+-- How the kept accesses of a word are stored in slots.
 use Rattle.std.specs.Prelude.{◌≡◌, ℕ, zero, suc, ◌+◌, ◌-◌, ◌*◌, ◌<◌, ◌==◌, nat_lt, Bool, false, ◌||◌, cond, IsTrue, if◌then◌else◌}
 use Rattle.std.specs.Prelude.{List, [], ◌∷◌, ◌++◌, length, filter, slice_get, slice_index, Option, Some, None, Vec}
 use Rattle.std.specs.Global.{Global}

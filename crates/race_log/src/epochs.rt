@@ -18,7 +18,7 @@ pub struct Epoch {
 }
 
 /// The epochs that a kept access names or that are a hart's present one. So the times of a point
-/// stand once for all its words, and once for all points that share them.
+/// are there once for all its words, and once for all points that share them.
 // A table of times for each point was measured to be slower. Counts of who names an epoch, in place of marks,
 // took more proof.
 #[derive(Drop)]

@@ -92,7 +92,7 @@ pub fn some_hart_goes_on()
     ensures next { NextPointsRespect }
 {}
 
-/// In a run whose points are in order a hart's points stand by their counts, and all points by their turns.
+/// In a run whose points are in order, a hart's points ascend by their counts, and all points by their turns.
 pub fn points_stand_by_counts()
     ensures { StandByCounts }
 {}
@@ -114,7 +114,7 @@ pub fn known_accesses_may_go()
     ensures { KnownAccessesMayGo }
 {}
 
-/// What a shadow notes decides for which runs it stands.
+/// What a shadow notes determines which runs it represents.
 pub fn notes_decide()
     ensures { NotesDecide }
 {}

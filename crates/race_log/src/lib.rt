@@ -8,8 +8,8 @@
 //!
 //! `Times` are vector times: for each hart, how many of its points come before a point of the run.
 //! `Shadow` takes in the accesses of a run one by one and answers the edges into each. The laws say what the edges are
-//! good for; each is the contract of a function that does nothing. Small runs with their edges worked out stand as
-//! contracts too.
+//! good for; each is the contract of a function that does nothing. Small runs with their edges worked out are contracts
+//! too.
 #![tactic(auto)]
 
 mod edges;

@@ -59,7 +59,7 @@ one_twice : (n w : ℕ) (x : Meeting) (b : Bool) → (x.second == n) ≡ b → m
 one_twice n w x true f = ap (λ (b : Bool). one_met n w (meeting n (min x.word w)) b) (same_is n) ∙ ap (λ (u : ℕ). meeting n u ∷ []) (twice_least x.word w)
 one_twice n w x false f = ap (λ (zs : List Meeting). x ∷ zs) (last_twice n w)
 
--- behind another one
+-- after another one
 more_twice : (n w : ℕ) (x y : Meeting) (b : Bool) → (y.second == n) ≡ b → met n w (x ∷ one_met n w y b) ≡ x ∷ one_met n w y b
 more_twice n w x y true f = ap (λ (zs : List Meeting). x ∷ zs) (one_twice n w y true f)
 more_twice n w x y false f = ap (λ (zs : List Meeting). x ∷ zs) (one_twice n w y false f)

@@ -76,7 +76,7 @@ ReportsAscend = (i : Program) (s : RawSettings) (dropped : ℕ) (records : List 
 
 -- ---- other orders of the same points
 
--- two lists have the same points, and two that conflict stand in the other list as they do in this one
+-- two lists have the same points, and two that conflict have the same order in both
 pub record AreAlike (run other : List Accessing) : Type 0 where
   pub there : (m : ℕ) (p : Accessing) → slice_get run m ≡ Some p → (j : ℕ) × (slice_get other j ≡ Some p)
   pub back : (j : ℕ) (p : Accessing) → slice_get other j ≡ Some p → (m : ℕ) × (slice_get run m ≡ Some p)

@@ -53,7 +53,7 @@ pub fn reports_ascend()
     races_ascend();
 }
 
-/// Two orders of the same points in which conflicting points stand alike have the same list of races.
+/// Two orders of the same points with the same order of conflicting points have the same list of races.
 pub fn races_go_by_conflicts()
     ensures { RacesGoByConflicts }
 {

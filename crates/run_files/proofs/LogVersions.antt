@@ -14,7 +14,7 @@ record Begins (version : ℕ) (bytes : List ℕ) : Type 0 where
 alone : (version : ℕ) → Begins version (magic ++ number_bytes 4 version)
 alone version = record { rest = []; parts = ap (λ (bytes : List ℕ). magic ++ bytes) (sym (append-nil (number_bytes 4 version))) }
 
--- and so they do with more bytes behind them
+-- and so they do with more bytes after them
 more : (version : ℕ) (bytes behind : List ℕ) → Begins version bytes → Begins version (bytes ++ behind)
 more version bytes behind b = record {
   rest = b.rest ++ behind;

@@ -4,7 +4,7 @@ use Rattle.first_load_bits.specs.Events.{Event, Drop, line_of}
 use Rattle.first_load_bits.specs.Represents.{Contents, RepresentsEvents}
 use Rattle.run_model.specs.Turn.{drops}
 
--- a second drop of a line right behind the first changes nothing
+-- a second drop of a line right after the first changes nothing
 abbrev pub DropsOnce : Type 0
 DropsOnce = (c : Contents) (a b : ℕ) (es : List Event) → line_of c.geometry a ≡ line_of c.geometry b → RepresentsEvents c (Drop b ∷ es) → RepresentsEvents c (Drop a ∷ Drop b ∷ es)
 

@@ -25,7 +25,7 @@ use Rattle.run_model.specs.Represents.Harts.{AreHarts}
 use Rattle.run_model.specs.Represents.Plain.{IsTrace, IsRaceReady, everyone}
 use Rattle.run_model.proofs.Bytes.{total_append}
 
--- five lists behind a first one
+-- five lists after a first one
 pub six_lists : (a e l s n o : List Record) → a ++ e ++ l ++ s ++ n ++ o ≡ a ++ (e ++ (l ++ (s ++ (n ++ o))))
 six_lists a e l s n o =
     append_assoc (a ++ e ++ l ++ s) n o ∙ append_assoc (a ++ e ++ l) s (n ++ o) ∙ append_assoc (a ++ e) l (s ++ (n ++ o)) ∙ append_assoc a e (l ++ (s ++ (n ++ o)))

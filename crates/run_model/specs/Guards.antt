@@ -1,4 +1,4 @@
--- What a guard stands on, and that format 1 has none.
+-- What a guard depends on, and that format 1 has none.
 use Rattle.std.specs.Prelude.{◌≡◌, ◌==◌, ℕ, false, List}
 use Rattle.bn_base.specs.Programs.{Program}
 use Rattle.bn_base.specs.declared.settings.RawSettings.{RawSettings}

@@ -57,7 +57,7 @@ abbrev pub bytes_in : (ℕ → ℕ) → ℕ → ℕ → List ℕ
 bytes_in memory a zero = []
 bytes_in memory a (suc n) = bytes_at (a % 4) 1 (memory (aligned a)) ∷ bytes_in memory (a + 1) n
 
--- how many aligned words n bytes from an address on lie in
+-- how many aligned words have some of n bytes from an address on
 abbrev pub word_count : ℕ → ℕ → ℕ
 word_count a n = (a + n + 3) / 4 - a / 4
 

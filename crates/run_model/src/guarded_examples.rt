@@ -6,8 +6,8 @@ ghost use Rattle.log_record.specs.declared.record.Record.TheVariants.{FirstLoad}
 ghost use Rattle.run_model.specs.Examples.{recorded, is_whole, first_header, end, Begins, Ends, marked, marks_of_two_ends_a_turn, a_guarded_load, an_unguarded_load, a_late_fault, two_ends_a_turn};
 ghost use Rattle.run_model.specs.Examples.{a_guarded_first_fault, kept_records, counts_in, bytes_after_the_load, a_write_by_hart_1};
 
-/// Once more than half of the log's bytes stand from the Header on, the next load is guarded: its interval
-/// ends ahead of it, and its own record stands in the next one.
+/// Once more than half of the log's bytes are from the Header on, the next load is guarded: its interval
+/// ends ahead of it, and its own record is in the next one.
 pub fn a_load_is_guarded()
     ensures marks { marked (recorded a_guarded_load).stream ≡ Begins 0 0 0 ∷ Ends 0 10 6 0 ∷ Begins 0 1 10 ∷ Ends 0 12 7 0 ∷ [] }
     ensures size { total (recorded a_guarded_load).stream ≡ 362 }
@@ -53,7 +53,7 @@ pub fn a_number_can_pass_twice_the_count()
 {}
 
 /// Two runs with the same machine, harts, caches and bytes can have other bytes after the same turn, since
-/// their points differ: what the guard looks at stands on the points too.
+/// their points differ: what the guard looks at depends on the points too.
 #[tactic(auto, unfolding(crate::specs::Turn::serve), using(crate::proofs::GuardsWorked::edges_move_the_guard_without, crate::proofs::GuardsWorked::edges_move_the_guard_with))]
 pub fn edges_move_the_guard()
     ensures without { bytes_after_the_load [] ≡ 302 }

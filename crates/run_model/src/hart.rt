@@ -27,7 +27,7 @@ pub struct Hart {
     pub number: u64,
     /// How many instructions it had done when that interval began.
     pub begun: Ic,
-    /// How many bytes the log had taken once that interval's Header stood.
+    /// How many bytes the log had taken, up to that interval's Header and with it.
     pub headed: u64,
     /// How many loading accesses of the interval were skipped since the last logged one.
     pub skipped: u32,

@@ -16,7 +16,7 @@ pub struct Span {
     pub mode: Mode,
 }
 
-/// How many aligned words `len` bytes from an address on lie in.
+/// How many aligned words have some of `len` bytes from an address on.
 pub(crate) fn word_count(addr: Addr, len: u32) -> u32
     ensures { result ≡ word_count addr len }
 {

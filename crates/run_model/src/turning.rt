@@ -60,7 +60,7 @@ impl Plain {
         ask.is_orderly(&self.start.image, own.state.ic, budget)
     }
 
-    /// Whether a hart's orderly ask is guarded: more than half of the log's bytes stand from the Header of
+    /// Whether a hart's orderly ask is guarded: more than half of the log's bytes are from the Header of
     /// its interval on, so that the interval ends ahead of it. A cut isn't, and with format 1 no ask is.
     pub fn is_guarded(&self, hart: HartId, ask: &Ask) -> bool
         requires { hart < self.now.start.settings.harts }

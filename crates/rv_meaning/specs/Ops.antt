@@ -34,7 +34,7 @@ abbrev pub IsAhead : Program → ℕ → List Op → Type 0
 IsAhead i a [] = ⊤
 IsAhead i a (op ∷ ops) = Says op (instruction_in (code_at i a)) × IsAhead i (a + 4) ops
 
--- the last word of such a list stands below 2 ^ 32
+-- the last word of such a list has an address below 2 ^ 32
 abbrev pub IsBelowEnd : ℕ → List Op → Type 0
 IsBelowEnd a ops = a + 4 * length ops < 2 ^ 32 + 4
 

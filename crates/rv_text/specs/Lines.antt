@@ -18,7 +18,7 @@ place_text pc word = codes " " ++ hex8 pc ++ word_text pc word (decoded word)
 abbrev pub NoneOrText : ℕ → ℕ → List ℕ → Type 0
 NoneOrText pc word text = 0 < length text → text ≡ place_text pc word
 
--- an access behind its label: its address and the whole word
+-- an access after its label: its address and the whole word
 unfoldable pub labelled : List ℕ → Option (ℕ × ℕ) → List ℕ
 labelled label None = []
 labelled label (Some access) = label ++ hex8 access.0 ++ codes "=" ++ hex8 access.1
@@ -31,7 +31,7 @@ changes_text reg load store = register_text reg ++ labelled (codes " | load ") l
 abbrev pub NoneOrCount : ℕ → ℕ → List ℕ → Type 0
 NoneOrCount hart ic text = 0 < length text → text ≡ count_text hart ic
 
--- a register's name behind ` | ` with `=` behind it
+-- a register's name between ` | ` and `=`
 unfoldable pub label_text : ℕ → List ℕ
 label_text register = codes " | " ++ register_name register ++ codes "="
 

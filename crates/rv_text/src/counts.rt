@@ -35,7 +35,7 @@ fn write_count(hart: HartId, ic: Ic, text: &mut Text) -> Result<(), AllocError>
     text.push_decimal(ic)
 }
 
-// Bytes and a digit behind them. It may stop in the middle.
+// Bytes and a digit after them. It may stop in the middle.
 fn write_last(bytes: &[u8], digit: u64, text: &mut Text) -> Result<(), AllocError>
     requires { digit < 10 }
     ensures ok { OnOk result (text.new ≡ text.old ++ (bytes.now ++ ((48 + digit) ∷ []))) }

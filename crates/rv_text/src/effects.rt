@@ -8,7 +8,7 @@ use crate::Text;
 use bn_base::{Addr, Register, Row};
 use std::alloc::AllocError;
 
-// The name of a register, behind ` | ` and with `=` behind it.
+// The name of a register between ` | ` and `=`.
 #[tactic(auto, unfolding(crate::specs::Names::register_name, crate::specs::Lines::label_text))]
 fn label_of(register: u8) -> &'static str
     requires { register < 32 }
@@ -65,7 +65,7 @@ fn write_register(reg: Option<(Register, u32)>, text: &mut Text) -> Result<(), A
     }
 }
 
-// An access behind its label: the address and the whole word. It may stop in the middle.
+// An access after its label: the address and the whole word. It may stop in the middle.
 #[tactic(auto, unfolding(crate::specs::Lines::labelled))]
 fn write_access(label: &str, access: Option<(Addr, u32)>, text: &mut Text) -> Result<(), AllocError>
     ensures ok { OnOk result (text.new ≡ text.old ++ labelled label.now access) }

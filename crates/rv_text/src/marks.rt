@@ -31,7 +31,7 @@ fn write_place(hart: u64, interval: u64, text: &mut Text) -> Result<(), AllocErr
     text.push_decimal(interval)
 }
 
-/// A mark behind a space, and the end of the line.
+/// A mark after a space, and the end of the line.
 fn write_rest(mark: &EndMark, text: &mut Text) -> Result<(), AllocError>
     ensures ok { OnOk result (text.new ≡ text.old ++ (codes " " ++ mark_text mark.now ++ codes "\n")) }
     ensures begins { BeginsWith text.old text.new }

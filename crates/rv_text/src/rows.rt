@@ -12,7 +12,7 @@ use bn_base::{Addr, Fault, HartId, Ic, Register, Row};
 use rv_decode::{Instr, decode};
 use std::alloc::AllocError;
 
-/// A number behind a space.
+/// A number after a space.
 pub(crate) fn write_spaced(number: u32, text: &mut Text) -> Result<(), AllocError>
     ensures ok { OnOk result (text.new ≡ text.old ++ (codes " " ++ hex8 number)) }
     ensures begins { BeginsWith text.old text.new }
@@ -87,7 +87,7 @@ fn write_code(row: &Row, text: &mut Text) -> Result<(), AllocError>
     }
 }
 
-/// A value behind its sign of equality.
+/// A value after its sign of equality.
 fn write_value(value: u32, text: &mut Text) -> Result<(), AllocError>
     ensures ok { OnOk result (text.new ≡ text.old ++ (codes "=" ++ hex8 value)) }
     ensures begins { BeginsWith text.old text.new }
@@ -96,7 +96,7 @@ fn write_value(value: u32, text: &mut Text) -> Result<(), AllocError>
     text.push_hex8(value)
 }
 
-/// A word behind a bar.
+/// A word after a bar.
 fn write_barred(word: &str, text: &mut Text) -> Result<(), AllocError>
     ensures ok { OnOk result (text.new ≡ text.old ++ (codes " | " ++ word.now)) }
     ensures begins { BeginsWith text.old text.new }

@@ -115,7 +115,7 @@ pub record Alongside (v w : Interval) (p o : Position) (pend rest : Pending) (es
   pub value : v.mark.value ≡ w.mark.value
   pub agree : Agreeing (live es) p o
 
--- the rows behind the last are none
+-- the rows after the last are none
 none_behind : (later laters : List Noted) → AllAlike later laters → later ≡ [] → laters ≡ []
 none_behind [] [] a e = refl
 none_behind [] (f ∷ fs) a e = absurd a

@@ -1,4 +1,4 @@
-//! The backward slice of a row of an interval: the rows that it stands on, and what of it came from
+//! The backward slice of a row of an interval: the rows that it depends on, and what of it came from
 //! before.
 #![tactic(auto)]
 

@@ -1,7 +1,7 @@
 // A backward slice.
 use bn_base::{Addr, Ic, List, Register, Row};
 
-/// The backward slice of a row: what it stands on, within its interval.
+/// The backward slice of a row: what it depends on, within its interval.
 ///
 /// All lists ascend, without repeats.
 #[derive(Drop)]

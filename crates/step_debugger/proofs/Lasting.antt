@@ -223,7 +223,7 @@ module _ (j : Trace) (s : Session) (old new : Reading) (left now_left next_left 
   taken_all : Consumes left next_left all
   taken_all = Consumes-trans left now_left next_left t.gone n.gone t.taken n.taken
 
-  -- what the bytes hold: this line, perhaps an empty one behind it, and no refusal
+  -- what the bytes hold: this line, perhaps an empty one after it, and no refusal
   heard : (w : Bool) (n : NextLine old now_left next_left before after (Ok w) new) → (lines : List (List ℕ)) × (transcript_from j (input_of (t.gone ++ n.gone)) ≡ told_of (behind t.text (goes_on_by answered.ends answered (λ u. answers lines u))) None)
   heard true n =
       let is : input_from old.count [] n.gone ≡ with_line new.line (ends_in [] None) = ap (input_from old.count []) (sym (append-nil n.gone)) ∙ n.read.2 [] in
@@ -353,7 +353,7 @@ module _ (j : Trace) (s : Session) (old new : Reading) (left now_left next_left 
     unfolding refused
     refused_counted e on h = record { session = refused e on h; count = counts }
 
--- the last line, behind which there is none
+-- the last line, after which there is none
 pub ends : (j : Trace) (s : Session) (old new : Reading) (left now_left next_left written now_written next_written : Option (List ℕ)) (start before after write_start write_after : ℕ)
     → SessionAt j s old.count left now_left written now_written → NextLine old now_left next_left before after (Ok false) new → (answer s (command_of new.line)).ends ≡ GoesOn → Appends now_written next_written (answer s (command_of new.line)).text
     → Debugged j left next_left start after written next_written write_start write_after (Ok (tt {0}))

@@ -182,7 +182,7 @@ at_text position = codes "at " ++ decimal position ++ codes "\n"
 abbrev pub goes_back : Trace → ℕ → List ℕ → Moves
 goes_back t to text = stays (cut t to) text
 
--- so many steps back, but not behind the first
+-- so many steps back, but no further than the beginning
 abbrev pub back_by : ℕ → Trace → Moves
 back_by k t = goes_back t (length t.entries - k) (at_text (length t.entries - k))
 

@@ -129,12 +129,12 @@ Goes breaks old result new text now_text = MovesBy (go_on true breaks old) resul
 
 -- ---- commands
 
--- what a hart's steps print is put behind a text
+-- what a hart's steps print is appended to a text
 abbrev pub TellsSteps : ℕ → ℕ → (old new : Trace) → (text now_text : List ℕ) → (written now_written : Option (List ℕ)) → (before now : ℕ) → Result Ending DebugError → Type 0
 TellsSteps h count old new text now_text written now_written before now result =
     let m : Moves = step_up_to h count old in Gathers (text ++ m.text) (λ ending. (new ≡ m.now) × (ending ≡ m.ends)) written now_written before now now_text result
 
--- the answer of a command is put behind a text
+-- the answer of a command is appended to a text
 abbrev pub Performs : DebugCommand → (old new : Session) → (text now_text : List ℕ) → (written now_written : Option (List ℕ)) → (before now : ℕ) → Result Ending DebugError → Type 0
 Performs command old new text now_text written now_written before now result =
     let a : Answer = answer old command in Gathers (text ++ a.text) (λ ending. (new ≡ a.session) × (ending ≡ a.ends)) written now_written before now now_text result

@@ -14,7 +14,7 @@ line_limit = 256
 abbrev pub input_limit : ℕ
 input_limit = 2 ^ 24
 
--- lines that end with LF, given without it; the bytes behind the last LF; and why no more is read, if it is so
+-- lines that end with LF, given without it; the bytes after the last LF; and why no more is read, if it is so
 pub record Input : Type 0 where
   pub lines : List (List ℕ)
   pub last : List ℕ

@@ -15,11 +15,11 @@ use Rattle.step_debugger.specs.Lines.{Input, input_of, EndsTooMany}
 use Rattle.step_debugger.specs.Answers.{Session, Answer, begin_at, says, answer}
 use Rattle.step_debugger.specs.Goings.{SendsPart}
 
--- the answer behind another
+-- the answer after another
 abbrev pub behind : List ℕ → Answer → Answer
 behind text a = record a { text = text ++ a.text }
 
--- how it continues behind an answer
+-- how it continues after an answer
 abbrev pub goes_on_by : Ending → Answer → (Session → Answer) → Answer
 goes_on_by GoesOn a go = behind a.text (go a.session)
 goes_on_by Quits a go = a
@@ -56,7 +56,7 @@ transcript j input = transcript_from (at_start j) input
 
 -- ---- what a session does
 
--- the bytes end with the line that ended the session: none of those behind it is gone, not even one that is too many
+-- the bytes end with the line that ended the session: none of those after it is gone, not even one that is too many
 pub record EndsThere (t : Trace) (gone : List ℕ) (e : Ending) : Type 0 where
   pub front : List (List ℕ)
   pub line : List ℕ

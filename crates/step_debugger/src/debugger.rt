@@ -45,7 +45,7 @@ fn answer_next<I: Source, O: Sink>(
 /// Reads commands from `input`, a line each, does them on a joint replay with its trail, and writes their answers
 /// to `out`, each as soon as its command is done.
 ///
-/// It is `Ok` after the command `quit`, of which nothing behind is read, and at the end of the input.
+/// It is `Ok` after the command `quit`, after which nothing is read, and at the end of the input.
 /// The source is read once for each byte that is gone. A further read is made only if it finds the end or fails.
 ///
 /// It fails if a read or a write does, if a line has more than 256 bytes or all commands have more

@@ -16,7 +16,7 @@ const LINE_LIMIT: usize = 256;
 // The most bytes of all commands.
 const INPUT_LIMIT: u64 = 1 << 24;
 
-/// Reads lines. It takes one byte after another, so that nothing behind a line is taken with it.
+/// Reads lines. It takes one byte after another, so that nothing after a line is taken with it.
 /// Contracts see how many bytes came, and the line that was read last.
 #[derive(Drop)]
 pub(crate) struct LineReader {

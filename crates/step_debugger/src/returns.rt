@@ -11,7 +11,7 @@ use back_step::{Entry, Trail};
 use bn_base::Addr;
 use rv_text::Text;
 
-/// So many steps back, but not behind the first.
+/// So many steps back, but no further than the beginning.
 pub(crate) fn back(trail: &mut Trail, count: u32, text: &mut Text) -> Result<Ending, DebugError>
     ensures told { MovesBy (back_by count trail.old.trace) result trail.new.trace text.old text.new }
     ensures apart { TellsApart trail.old.trace result trail.new.trace }

@@ -190,7 +190,7 @@ fn done(written: Result<(), AllocError>) -> Result<Ending, DebugError>
     }
 }
 
-// Does a command. Its answer is put behind what waits of the text.
+// Does a command. Its answer is appended to what waits of the text.
 fn perform<O: Sink>(
     trail: &mut Trail,
     focus: &mut Focus,

@@ -1,4 +1,4 @@
-//! System calls of a guest program, by the conventions of Linux on RISC-V: the number stands in a7,
+//! System calls of a guest program, by the conventions of Linux on RISC-V: the number is in a7,
 //! the arguments in a0, a1 and a2, and the answer comes in a0.
 #![tactic(auto)]
 

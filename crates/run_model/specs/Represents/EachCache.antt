@@ -8,7 +8,7 @@ use Rattle.first_load_bits.specs.declared.warm.Warm.{Warm}
 use Rattle.system_calls.specs.declared.effect.Plan.{Plan}
 use Rattle.run_model.specs.declared.span.Span.{Span}
 
--- what stands if there is no cache
+-- the value that a look-up gives if there is no cache
 abbrev pub no_cache : Contents
 no_cache = no_contents
 

@@ -1,4 +1,4 @@
--- What a turn leaves behind it, in what is traced of a run.
+-- What a turn changes in what is traced of a run.
 use Rattle.std.specs.Prelude.{ℕ, ◌+◌, ◌==◌, ◌≡◌, ◌≢◌, List, ◌++◌, length, Option, if◌then◌else◌}
 use Rattle.bn_base.specs.Programs.{Program}
 use Rattle.bn_base.specs.declared.settings.RawSettings.{RawSettings}

@@ -2,7 +2,7 @@ use Rattle.std.proofs.Common.{◌≡◌, ◌+◌, ◌≤◌, drop, length}
 use Rattle.hart_replay.specs.Scans.{loads_in}
 use Rattle.hart_replay.proofs.scan.count_loads.Given as goal
 
--- those counted and those behind make all
+-- those counted and those after make all
 abbrev pub invariant-loop-place : goal.invariant-loop-place
 invariant-loop-place l = record {
   value : l.count + length (loads_in l.hart (drop l.place l.records)) ≡ length (loads_in l.hart (drop l.from l.records));

@@ -5,7 +5,7 @@ use Rattle.le_numbers.specs.Numbers.{number_bytes}
 use Rattle.log_record.proofs.Words.{are_registers}
 use Rattle.log_record.proofs.writing.put_registers.Goals as goal
 
--- the part of the contents behind x0
+-- the part of the contents after x0
 others : (contents x : List ℕ) → contents ≡ x → length x ≡ 32 → take 31 (drop 1 contents) ≡ drop 1 x
 others contents x e count = take_all 31 (drop 1 contents) (omega (arith, length-drop 1 contents, ap length e)) ∙ ap (drop 1) e
 

@@ -6,7 +6,7 @@ use Rattle.hart_replay.specs.Replay.{Logged, put, puts, nothing}
 use Rattle.hart_replay.specs.Scans.{loads_in, scanned}
 use Rattle.slice_back.proofs.first_loads.loads_from.Goals as goal
 
--- the loads from a place on, by those behind it
+-- the loads from a place on, by those after it
 from_place : (h : ℕ) (rs : List Record) (k : ℕ) (r : Record) (o : Option (Option (ℕ × ℕ))) → k < length rs → r ≡ get_or rs k r → ((l : Logged) → (put h r l).loads ≡ scanned o l.loads)
     → loads_in h (drop k rs) ≡ scanned o (loads_in h (drop (k + 1) rs))
 from_place h rs k r o below is tells =
