@@ -14,7 +14,6 @@ from .instruction import JUMP, RA
 from .rows import LOADS, STORES, Trace
 
 LOWEST, NEAR, LARGEST = 4096, 1024, 1 << 16
-OFTEN = 3
 MOST_JUMPS = 500000         # so many of the latest calls and returns are looked at, which bounds the memory
 HEADER = 4                  # bytes before a block that are surely its allocator's
 STEPS = 600                 # so many rows are looked at for the block that a pointer came from
@@ -52,9 +51,23 @@ class Blocks:
         self.by_address: dict[int, list[Block]] = {}
         self.arguments: dict[int, list[CallWith]] = {}
         self.writers: dict[int, list[Block]] = {}
+        self.taker: dict[int, int] = {}
         self.first = max(0, len(trace.jumps) - MOST_JUMPS)
         found = self.matched()
         givers = self.givers(found)
+        self.collect(found, givers)
+        # What a function that takes memory back leaves in its result's register is no memory that it gives out.
+        untrue = {taker for giver, taker in self.taker.items() if self.spread(giver) > self.spread(taker) > 0}
+        if untrue:
+            givers -= untrue
+            self.collect(found, givers)
+        self.own = self.allocators([given.block for given in found if given.block.giver in givers])
+        self.leads = {ins.pc: ins.leads for ins in trace.codes if ins.kind == JUMP}
+        self.own_nodes: dict[int, bool] = {}
+
+    def collect(self, found: list[Given], givers: set[int]) -> None:
+        """The blocks of these givers, and the calls with them."""
+        self.by_address, self.arguments, self.writers = {}, {}, {}
         for given in found:
             if given.block.giver in givers:
                 self.add(given.block)
@@ -62,9 +75,10 @@ class Blocks:
         self.addresses = sorted(self.by_address)
         self.collect_arguments()
         self.taker = self.takers()
-        self.own = self.allocators([given.block for given in found if given.block.giver in givers])
-        self.leads = {ins.pc: ins.leads for ins in trace.codes if ins.kind == JUMP}
-        self.own_nodes: dict[int, bool] = {}
+
+    def spread(self, giver: int) -> int:
+        """How many addresses a function gave out."""
+        return sum(any(block.giver == giver for block in blocks) for blocks in self.by_address.values())
 
     def add(self, block: Block) -> None:
         """A block replaces those that were given out within its call at the same address, as malloc's are in calloc."""
@@ -132,10 +146,7 @@ class Blocks:
                 kind = again if between else alone
                 kind[block.giver] = kind.get(block.giver, 0) + 1
             latest[key] = block.back
-        addresses = Counter(giver for giver, _ in latest)
-        # One address again and again is what a register held, as that of a lock.
-        return {giver for giver, _ in latest if alone.get(giver, 0) <= again.get(giver, 0) and
-                (addresses[giver] > 1 or again.get(giver, 0) < OFTEN)}
+        return {giver for giver, _ in latest if alone.get(giver, 0) <= again.get(giver, 0)}
 
     def collect_arguments(self) -> None:
         trace = self.trace

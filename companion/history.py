@@ -22,6 +22,7 @@ CONTROL, OUTPUT_CONTROL, NEXT_CONTROL = 12, 8, 4    # the branch that decided of
 MOST_CONTROL, MOST_KEPT, MOST_FILLED = 2000, 400, 4  # how often it is asked what decided of a row
 DEAREST_CONTROL, DEAREST_FILLED, KEPT_ROWS = 40, 6, 50
 AWAITED, NEAR_LOOP = 4, 3   # the branch by which another hart didn't store what a loop waits for
+WIDENS = "srai", "srli"     # the second of two shifts that widen a value
 STORES_ANOTHER = "amoswap", "sc."       # atomics whose stored word owes nothing to the loaded one
 FAR = 1000                  # a store so many rows before its load is far
 NO_REGISTER = 0                         # memory
@@ -147,12 +148,21 @@ class History:
             self.step(trace.d2[n], price + 1, n, "value")
             self.step(trace.d1[n], price + self.address, n, "address")
         elif ins.kind not in (CALL, JUMP):      # a call's result comes from outside, a return address is a constant
+            self.step(self.unchanged(n), price, n, "value")
             price += 0 if ins.move else 1
             self.step(trace.before_counting(n), price, n, "value")
             self.step(trace.d2[n], price, n, "value")
             for register, writer in ((ins.rs1, trace.d1[n]), (ins.rs2, trace.d2[n])):
                 if register and not writer:
                     self.leave(n, price, register)
+
+    def unchanged(self, n: int) -> int:
+        """The row of the value that two shifts widened and left as it was, or 0."""
+        trace, source = self.trace, self.trace.d1[n]
+        if not source or trace.code_of(n).name not in WIDENS or trace.code_of(source).name != "slli":
+            return 0
+        before = trace.d1[source]
+        return before if before and trace.result_of(before) == trace.result_of(n) else 0
 
     def leave(self, n: int, price: int, register: int) -> None:
         """A row uses what isn't known: memory, or a register."""

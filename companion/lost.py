@@ -15,7 +15,8 @@ SMALL = 1 << 16             # how far below zero a difference may be
 MASKS = {(1 << width) - 1: width for width in range(4, 12)}
 ZEROED, DIVIDED = ("mul", "sll", "slli", "srli"), ("div", "divu", "rem", "remu")
 ALIGNMENT, SUMS, CONSTANTS = 10, ("add", "addi", "sub", "or", "ori"), ("lui", "auipc")
-ODD_COST = 2 * ADDRESS
+FIRST_ODD, MOST_ODD, MOST_VALUES = 14, 3, 3000
+PARTS = "slli", "srli", "srai", "or", "and", "andi"     # what puts the parts of a word together
 STEPS = 14                  # rows of a compared value that are looked at
 
 
@@ -122,23 +123,21 @@ def lost_alignment(facts: Facts, history: History) -> list[Suspect]:
         return []
     width = 4 if fault.name.startswith("Target") else fault.instruction.width
     found: dict[str, Suspect] = {}
-    for n in sorted(history.cost, key=lambda row: (history.cost[row], -row)):
-        if history.cost[n] >= ODD_COST:
-            break
-        if facts.line(n) in found:
+    for n in value_rows(trace, facts.start):
+        if facts.line(n) in found or n not in history.cost:
             continue
         before, after = trace.result_of(trace.d1[n]), trace.result_of(n)
         second = trace.result_of(trace.d2[n]) or 0
         if trace.code_of(n).name in SUMS and before and after and after % width and not before % width and not second % width:
             if trace.code_of(trace.d1[n]).name in CONSTANTS:
                 continue
-            suspect = found[facts.line(n)] = Suspect("odd", n, n, history.cost[n])
+            suspect = found[facts.line(n)] = Suspect("odd", n, n, min(ADDRESS, history.cost[n]))
             suspect.sign(ALIGNMENT, f"{before:08x}, a multiple of {width}, became {after:08x}")
             add_store(facts, history, suspect)
         elif is_first_odd(trace, n, width):
-            suspect = found[facts.line(n)] = Suspect("odd", n, n, history.cost[n])
-            suspect.sign(ALIGNMENT, f"the word held a multiple of {width} until then")
-    return list(found.values())
+            suspect = found[facts.line(n)] = Suspect("odd", n, n, min(ADDRESS, history.cost[n]))
+            suspect.sign(FIRST_ODD, f"the word held a multiple of {width} until then")
+    return list(found.values())[:MOST_ODD]
 
 
 def is_first_odd(trace: Trace, n: int, width: int) -> bool:
@@ -146,12 +145,39 @@ def is_first_odd(trace: Trace, n: int, width: int) -> bool:
     ins, value, old = trace.code_of(n), trace.result_of(trace.d2[n]), trace.dm[n]
     if ins.kind != STORE or ins.width == 1 or not old or value is None or value % width == 0:
         return False
-    source = trace.d2[n]
-    while source and trace.code_of(source).move:
-        source = trace.d1[source]
     told = trace.store_of(old)
     before = told.value >> 8 * (trace.flags[n] & OFFSET) & (1 << 8 * ins.width) - 1 if told else 1
-    return not trace.flags[source] & LOADS and before % width == 0
+    return before % width == 0 and not is_copied(trace, trace.d2[n])
+
+
+def is_copied(trace: Trace, row: int) -> bool:
+    """Whether a value was loaded, and at most put together from its parts."""
+    todo, seen = [row], {0}
+    for n in todo:
+        if n in seen or trace.flags[n] & LOADS:
+            continue
+        seen.add(n)
+        ins = trace.code_of(n)
+        if not (ins.move or ins.name in PARTS + CONSTANTS or ins.counts and trace.code_of(trace.d1[n]).name in CONSTANTS):
+            return False
+        todo += [trace.d1[n], trace.d2[n]]
+    return True
+
+
+def value_rows(trace: Trace, start: int) -> list[int]:
+    """The rows that a fault's address came from by values alone, nearest first."""
+    todo, seen = [trace.d1[start]], {0}
+    for n in todo:
+        if n in seen or len(seen) > MOST_VALUES:
+            continue
+        seen.add(n)
+        if trace.flags[n] & LOADS:
+            todo += trace.writers(n).rows
+        elif trace.flags[n] & STORES:
+            todo.append(trace.d2[n])
+        elif trace.code_of(n).kind == ALU:
+            todo += [trace.d1[n], trace.d2[n]]
+    return [n for n in todo if n]
 
 
 class Cut(NamedTuple):
