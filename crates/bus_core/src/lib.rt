@@ -1,6 +1,6 @@
 //! The bus: one served ask at a time, by a type that knows its history.
 //!
-//! It stands on the laws of log files, since a closed bus promises a ring whose records are a file's content.
+//! It stands on the laws of log files, since `close` promises records in the order that such a file needs.
 #![tactic(auto)]
 
 mod bus;
