@@ -6,3 +6,4 @@ pub mod Closed
 pub mod Laws
 pub mod HartTurns
 pub mod Taking
+pub mod Examples
