@@ -30,9 +30,9 @@ least() { # STATUS WORD..
     shift
     for ((run = 0; run < runs; run++)); do
         status=0
-        { TIMEFORMAT=%R; time "$@" >out 2>err; } 2>time || status=$?
+        { TIMEFORMAT=%R && time "$@" >out 2>err; } 2>seconds || status=$?
         [ "$status" -eq "$wanted" ] || { echo "'$*' ended with $status, and not with $wanted:" >&2; cat err >&2; exit 1; }
-        times+=("$(cat time)")
+        times+=("$(cat seconds)")
     done
     printf '%s\n' "${times[@]}" | sort -g | head -n 1
 }
@@ -42,7 +42,7 @@ emulate() { # WORD..
     timeout 600 qemu-system-riscv32 -M virt -m 64M -display none -monitor none -serial none -bios none -kernel bare.elf "$@"
 }
 
-states=(-drive file=states.qcow2,if=none,id=states)
+states=(-drive "file=states.qcow2,if=none,id=states")
 
 # Leads QEMU's replay to the fault, and one instruction back: prints the seconds of each.
 walk() {
@@ -88,4 +88,4 @@ say "the same, without a record" "$(least 0 emulate -icount shift=1)"
 say "the same, an instruction at a time" "$(least 0 emulate -icount shift=1 -singlestep)"
 for ((run = 0; run < runs; run++)); do walk; done | sort -k 1,1r -k 2,2g |
     awk '!seen[$1]++ { printf "%-44s %8.3f s, at %s\n", "qemu-system-riscv32 rr=replay, " ($1 == "to" ? "to the fault" : "a step back"), $2, $3 }'
-ls -l log rr.log | awk '{ print $NF ":", $5, "bytes" }'
+stat -c '%n: %s bytes' log rr.log
