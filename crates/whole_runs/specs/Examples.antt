@@ -1,0 +1,14 @@
+-- Schedules that a number draws, worked out by hand.
+use Rattle.std.specs.Prelude.{ℕ, List, [], ◌∷◌}
+use Rattle.bn_base.specs.Ranges.{default_settings}
+use Rattle.bn_outside.specs.declared.schedule.Manner.{Manner}
+use Rattle.run_model.specs.Examples.{Recording, program_of}
+use Rattle.whole_runs.specs.Drawn.{drawn_list}
+
+-- three harts, each of which takes three turns of one instruction: jal zero to itself, up to the limit
+abbrev pub three_turns_each : Recording
+three_turns_each = record { words = 0x0000006f ∷ []; settings = record default_settings { harts = 3; interval = 1; limit = 3 }; input = []; turns = [] }
+
+-- the hart of each of its turns, as a number draws them
+abbrev pub takers : Manner → ℕ → List ℕ
+takers m number = drawn_list m three_turns_each.settings (program_of three_turns_each) [] number
