@@ -1,12 +1,15 @@
 -- What serving an ask comes to.
 use Rattle.std.proofs.Common.{◌≡◌, ℕ, ◌+◌, refl, Bool, true, false, ◌||◌, sym, ◌∙◌, ap}
-use Rattle.std.specs.Prelude.{Option, Result, Ok, Err, OnErr}
+use Rattle.std.specs.Prelude.{Option, Result, Ok, Err, OnErr, IsErrAnd}
 use Rattle.bn_base.specs.Programs.{Program}
 use Rattle.bn_base.specs.declared.settings.RawSettings.{RawSettings}
 use Rattle.rv_meaning.specs.declared.asks.Ask.{Ask}
+use Rattle.rv_meaning.specs.declared.asks.Reply.{Reply}
 use Rattle.system_calls.specs.declared.effect.Plan.{Plan}
 use Rattle.run_model.specs.Machine.{call_of}
+use Rattle.run_model.specs.Represents.Plain.{PlainParts, IsRun}
 use Rattle.run_model.specs.Turn.{Run, serve, serve_call, serve_disorderly, served_if, is_orderly, is_guarded}
+use Rattle.bus_core.specs.Bus.{AnswersAsk}
 
 pub served_orderly : (c : RawSettings) (i : Program) (run : Run) (k : ℕ) (ask : Ask) (call : Option Plan) → call ≡ call_of i run.machine ask.want → is_orderly c i (run.harts k) ask ≡ true → serve_call c run k ask (is_guarded c run k ask.want) call ≡ serve c i run k ask
 unfolding serve
@@ -15,6 +18,11 @@ served_orderly c i run k ask call ec o = ap (λ (x : Option Plan). serve_call c 
 pub served_disorderly : (c : RawSettings) (i : Program) (run : Run) (k : ℕ) (ask : Ask) → is_orderly c i (run.harts k) ask ≡ false → serve_disorderly run ≡ serve c i run k ask
 unfolding serve
 served_disorderly c i run k ask o = sym (ap (λ (b : Bool). served_if b c i run k ask) o)
+
+-- memory runs out, and the machine represents the same run
+pub kept_on_err : {E : Type 0} {p q : PlainParts} {k : ℕ} {ask : Ask} (P : E → Type 0) (r : Result (Reply × Bool) E) → IsErrAnd r P → q.start ≡ p.start → ((run : Run) → IsRun p run → IsRun q run) → AnswersAsk p q k ask r
+kept_on_err P (Ok x) h same stays = absurd h
+kept_on_err P (Err e) h same stays = record { start = same; served = stays }
 
 -- what holds in any case holds on an error
 pub on_err : {A E : Type 0} (r : Result A E) (P : Type 0) → P → OnErr r P

@@ -1,5 +1,5 @@
 -- What a bus keeps, and the rows that led to it.
-use Rattle.std.specs.Prelude.{◌≡◌, ℕ, zero, suc, ◌+◌, Bool, true, false, not, List, [], ◌∷◌, slice_get, Option}
+use Rattle.std.specs.Prelude.{◌≡◌, ℕ, zero, suc, ◌+◌, Bool, true, false, not, List, [], ◌∷◌, ◌++◌, slice_get, Option, Result, Ok, Err}
 use Rattle.bn_base.specs.Programs.{Program}
 use Rattle.bn_base.specs.declared.end_mark.EndMark.{EndMark}
 use Rattle.bn_base.specs.declared.settings.RawSettings.{RawSettings}
@@ -19,7 +19,7 @@ use Rattle.run_model.specs.Represents.Parts.{MachineParts, IsMachine}
 use Rattle.first_load_bits.specs.Represents.{Contents}
 use Rattle.run_model.specs.Represents.EachCache.{AreCaches}
 use Rattle.run_model.specs.Represents.Harts.{AreHarts, is_live_hart}
-use Rattle.run_model.specs.Turn.{Run, halted, serve, turn}
+use Rattle.run_model.specs.Turn.{Run, Served, halted, serve, turn}
 use Rattle.run_model.specs.Runs.{start}
 use Rattle.run_laws.specs.History.{after_rows, are_orderly, row_at, IsLawful}
 use Rattle.file_laws.specs.Recorded.{counts_of, KeepsRules}
@@ -83,6 +83,19 @@ pub record IsState (s : Seen) (run : Run) : Type 0 where
   pub bytes : s.bytes ≡ run.bytes
   pub turns : s.turns ≡ run.turns
 
+-- ---- an ask
+
+-- the machine after an answer
+abbrev pub IsServed : {E : Type 0} → PlainParts → Run → Served → Result (Reply × Bool) E → Type 0
+IsServed new run s (Ok (reply, guarded)) = (reply ≡ s.reply) × (guarded ≡ s.guarded) × IsRun new s.run
+IsServed new run s (Err e) = IsRun new run
+
+-- From any run that the machine represents, the reply to an ask, whether it was guarded, and the machine after it are those of
+-- the definition. If memory runs out, the machine still represents that run. What the run began with stays
+pub record AnswersAsk {E : Type 0} (old new : PlainParts) (hart : ℕ) (ask : Ask) (answer : Result (Reply × Bool) E) : Type 0 where
+  pub start : new.start ≡ old.start
+  pub served : (run : Run) → IsRun old run → IsServed new run (serve old.start.settings old.start.image run hart ask) answer
+
 -- ---- runs of a bus
 
 -- the run before the first turn
@@ -112,6 +125,11 @@ served_guarded b run hart ask = (serve b.settings b.image run hart ask).guarded
 
 abbrev pub row : ℕ → Ask → Reply → Bool → TurnRow
 row hart ask reply guarded = record { hart = hart; ask = ask; reply = reply; guarded = guarded }
+
+-- the rows of a book after an answer: if it tells, the answer's comes last; if memory ran out, they are the same
+abbrev pub AddsRow : {E : Type 0} → Bool → List TurnRow → List TurnRow → ℕ → Ask → Result (Reply × Bool) E → Type 0
+AddsRow tells old new hart ask (Ok (reply, guarded)) = tells ≡ true → new ≡ old ++ row hart ask reply guarded ∷ []
+AddsRow tells old new hart ask (Err e) = new ≡ old
 
 -- the run after a hart's turn, in which it asks what it asks next, and the row of that turn
 abbrev pub turned_run : Began → Run → ℕ → Run

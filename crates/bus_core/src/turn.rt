@@ -1,10 +1,10 @@
 //! One served ask: the machine's turn, then the book's row. All memory is found before either changes.
-ghost use Rattle.std.specs.Prelude.{◌≡◌, ◌<◌, ◌∷◌, ◌++◌, [], Bool, true, false, not, IsTrue, IfOk, OnOk, OnErr};
-ghost use Rattle.run_model.specs.Turn.{Run, serve, is_orderly};
+ghost use Rattle.std.specs.Prelude.{◌≡◌, ◌<◌, true, false, IsTrue, OnOk};
+ghost use Rattle.run_model.specs.Turn.{Run, is_orderly};
 ghost use Rattle.run_model.specs.Represents.Harts.{hart_in};
 ghost use Rattle.run_model.specs.Represents.Plain.{IsRun};
 ghost use Rattle.run_model.specs.Represents.Turning.{parts, is_live};
-ghost use Rattle.bus_core.specs.Bus.{row};
+ghost use Rattle.bus_core.specs.Bus.{AnswersAsk, AddsRow};
 
 use bn_base::HartId;
 use bn_outside::{Book, TurnRow};
@@ -23,11 +23,7 @@ pub fn answer_orderly<B: Book>(
     requires live { is_live (parts plain.old) hart ≡ true }
     requires orderly { IsTrue (is_orderly (parts plain.old).start.settings (parts plain.old).start.image (hart_in (parts plain.old).trace.harts.items hart) ask.now) }
     requires meant { (run : Run) → IsRun (parts plain.old) run → is_orderly (parts plain.old).start.settings (parts plain.old).start.image (run.harts hart) ask.now ≡ true }
-    ensures reply { IfOk result (λ r. (run : Run) → IsRun (parts plain.old) run → r.0 ≡ (serve (parts plain.old).start.settings (parts plain.old).start.image run hart ask.now).reply) }
-    ensures guarded { IfOk result (λ r. (run : Run) → IsRun (parts plain.old) run → r.1 ≡ (serve (parts plain.old).start.settings (parts plain.old).start.image run hart ask.now).guarded) }
-    ensures run { OnOk result ((run : Run) → IsRun (parts plain.old) run → IsRun (parts plain.new) (serve (parts plain.old).start.settings (parts plain.old).start.image run hart ask.now).run) }
-    ensures refused { OnErr result ((run : Run) → IsRun (parts plain.old) run → IsRun (parts plain.new) run) }
-    ensures start { (parts plain.new).start ≡ (parts plain.old).start }
+    ensures answers { AnswersAsk (parts plain.old) (parts plain.new) hart ask.now result }
     ensures rows { B.told book.new ≡ B.told book.old }
     ensures room { OnOk result (0 < B.spare book.new) }
 {
@@ -47,13 +43,8 @@ fn take_orderly<B: Book>(
     requires live { is_live (parts plain.old) hart ≡ true }
     requires orderly { IsTrue (is_orderly (parts plain.old).start.settings (parts plain.old).start.image (hart_in (parts plain.old).trace.harts.items hart) ask.now) }
     requires meant { (run : Run) → IsRun (parts plain.old) run → is_orderly (parts plain.old).start.settings (parts plain.old).start.image (run.harts hart) ask.now ≡ true }
-    ensures reply { IfOk result (λ r. (run : Run) → IsRun (parts plain.old) run → r.0 ≡ (serve (parts plain.old).start.settings (parts plain.old).start.image run hart ask.now).reply) }
-    ensures guarded { IfOk result (λ r. (run : Run) → IsRun (parts plain.old) run → r.1 ≡ (serve (parts plain.old).start.settings (parts plain.old).start.image run hart ask.now).guarded) }
-    ensures run { OnOk result ((run : Run) → IsRun (parts plain.old) run → IsRun (parts plain.new) (serve (parts plain.old).start.settings (parts plain.old).start.image run hart ask.now).run) }
-    ensures refused { OnErr result ((run : Run) → IsRun (parts plain.old) run → IsRun (parts plain.new) run) }
-    ensures start { (parts plain.new).start ≡ (parts plain.old).start }
-    ensures told { IfOk result (λ r. B.tells ≡ true → B.told book.new ≡ B.told book.old ++ row hart ask.now r.0 r.1 ∷ []) }
-    ensures kept { OnErr result (B.told book.new ≡ B.told book.old) }
+    ensures answers { AnswersAsk (parts plain.old) (parts plain.new) hart ask.now result }
+    ensures rows { AddsRow B.tells (B.told book.old) (B.told book.new) hart ask.now result }
 {
     let (reply, guarded) = answer_orderly(plain, book, hart, ask)?;
     book.note(TurnRow {
@@ -74,13 +65,8 @@ fn take_disorderly<B: Book>(
 ) -> Result<(Reply, bool), AllocError>
     requires live { is_live (parts plain.old) hart ≡ true }
     requires meant { (run : Run) → IsRun (parts plain.old) run → is_orderly (parts plain.old).start.settings (parts plain.old).start.image (run.harts hart) ask.now ≡ false }
-    ensures reply { IfOk result (λ r. (run : Run) → IsRun (parts plain.old) run → r.0 ≡ (serve (parts plain.old).start.settings (parts plain.old).start.image run hart ask.now).reply) }
-    ensures guarded { IfOk result (λ r. (run : Run) → IsRun (parts plain.old) run → r.1 ≡ (serve (parts plain.old).start.settings (parts plain.old).start.image run hart ask.now).guarded) }
-    ensures run { OnOk result ((run : Run) → IsRun (parts plain.old) run → IsRun (parts plain.new) (serve (parts plain.old).start.settings (parts plain.old).start.image run hart ask.now).run) }
-    ensures refused { OnErr result ((run : Run) → IsRun (parts plain.old) run → IsRun (parts plain.new) run) }
-    ensures start { (parts plain.new).start ≡ (parts plain.old).start }
-    ensures told { IfOk result (λ r. B.tells ≡ true → B.told book.new ≡ B.told book.old ++ row hart ask.now r.0 r.1 ∷ []) }
-    ensures kept { OnErr result (B.told book.new ≡ B.told book.old) }
+    ensures answers { AnswersAsk (parts plain.old) (parts plain.new) hart ask.now result }
+    ensures rows { AddsRow B.tells (B.told book.old) (B.told book.new) hart ask.now result }
 {
     book.room()?;
     plain.end_all(hart);
@@ -106,13 +92,8 @@ pub fn take<B: Book>(
     requires live { is_live (parts plain.old) hart ≡ true }
     requires orderly { orderly ≡ is_orderly (parts plain.old).start.settings (parts plain.old).start.image (hart_in (parts plain.old).trace.harts.items hart) ask.now }
     requires meant { (run : Run) → IsRun (parts plain.old) run → orderly ≡ is_orderly (parts plain.old).start.settings (parts plain.old).start.image (run.harts hart) ask.now }
-    ensures reply { IfOk result (λ r. (run : Run) → IsRun (parts plain.old) run → r.0 ≡ (serve (parts plain.old).start.settings (parts plain.old).start.image run hart ask.now).reply) }
-    ensures guarded { IfOk result (λ r. (run : Run) → IsRun (parts plain.old) run → r.1 ≡ (serve (parts plain.old).start.settings (parts plain.old).start.image run hart ask.now).guarded) }
-    ensures run { OnOk result ((run : Run) → IsRun (parts plain.old) run → IsRun (parts plain.new) (serve (parts plain.old).start.settings (parts plain.old).start.image run hart ask.now).run) }
-    ensures refused { OnErr result ((run : Run) → IsRun (parts plain.old) run → IsRun (parts plain.new) run) }
-    ensures start { (parts plain.new).start ≡ (parts plain.old).start }
-    ensures told { IfOk result (λ r. B.tells ≡ true → B.told book.new ≡ B.told book.old ++ row hart ask.now r.0 r.1 ∷ []) }
-    ensures kept { OnErr result (B.told book.new ≡ B.told book.old) }
+    ensures answers { AnswersAsk (parts plain.old) (parts plain.new) hart ask.now result }
+    ensures rows { AddsRow B.tells (B.told book.old) (B.told book.new) hart ask.now result }
 {
     if orderly {
         take_orderly(plain, book, hart, ask)

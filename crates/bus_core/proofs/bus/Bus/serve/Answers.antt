@@ -18,8 +18,8 @@ invariant_of-self g c =
     let e = c.in_err-served.ensures in
     let s = c.self.invariant.some in
     record {
-      told = λ t. subst (λ (rs : List TurnRow). IsHistory q b.halted b.disordered rs) (sym e.kept) (history_same p q b.halted b.disordered (g.B.Book.told b.book) c.take.ensures.start e.refused (c.self.invariant.told t));
-      some = (s.0, history_same p q b.halted b.disordered s.0 c.take.ensures.start e.refused s.1);
+      told = λ t. subst (λ (rs : List TurnRow). IsHistory q b.halted b.disordered rs) (sym e.rows) (history_same p q b.halted b.disordered (g.B.Book.told b.book) e.answers.start e.answers.served (c.self.invariant.told t));
+      some = (s.0, history_same p q b.halted b.disordered s.0 e.answers.start e.answers.served s.1);
     }
 
 pub returns-in_err-served-clause-refused : goal.returns-in_err-served-clause-refused
@@ -28,10 +28,10 @@ returns-in_err-served-clause-refused g c =
     let p = parts b.plain in let q = parts c.take.new.plain in let told = g.B.Book.told b.book in
     on_err c.from_residual.result _ (λ run is.
     let at : IsState (seen p b.halted b.disordered told) run = subst (λ (x : Seen). IsState x run) (sym c.self.view_is) is in
-    state_is q b.halted b.disordered (g.B.Book.told c.take.new.book) run (c.in_err-served.ensures.refused run (run_is c.notes_decide.ensures p b.halted b.disordered told run at)))
+    state_is q b.halted b.disordered (g.B.Book.told c.take.new.book) run (c.in_err-served.ensures.answers.served run (run_is c.notes_decide.ensures p b.halted b.disordered told run at)))
 
 pub returns-in_err-served-clause-kept : goal.returns-in_err-served-clause-kept
-returns-in_err-served-clause-kept g c = on_err c.from_residual.result _ (c.in_err-served.ensures.kept ∙ ap (λ (x : Seen). x.rows) c.self.view_is, ap (λ (x : Seen). x.disordered) c.self.view_is)
+returns-in_err-served-clause-kept g c = on_err c.from_residual.result _ (c.in_err-served.ensures.rows ∙ ap (λ (x : Seen). x.rows) c.self.view_is, ap (λ (x : Seen). x.disordered) c.self.view_is)
 
 pub invariant_of-self-2 : goal.invariant_of-self-2
 invariant_of-self-2 g c =
@@ -42,9 +42,9 @@ invariant_of-self-2 g c =
     let s = c.self.invariant.some in
     let live = subst (λ (x : Seen). is_live x k ≡ true) (sym c.self.view_is) c.requires in
     let d : c.if-self.self ≡ (b.disordered || not o) = elim c.if-self.branch [ then-self w ↦ or_first b.disordered c.if-self.self (not o) w.self-is w.if-self.true | else-self w ↦ or_second b.disordered c.if-self.self (not o) w.self-is w.if-self.false ] in
-    let serves : Serves p q k ask o c.in_ok-served.served.0 c.in_ok-served.served.1 = record { same = c.take.ensures.start; replies = e.reply; flags = e.guarded; runs = e.run; asks = c.is_orderly-orderly.ensures.run } in
+    let serves : Serves p q k ask o c.in_ok-served.served.0 c.in_ok-served.served.1 = record { same = e.answers.start; replies = λ r is. (e.answers.served r is).0; flags = λ r is. (e.answers.served r is).1; runs = λ r is. (e.answers.served r is).2; asks = c.is_orderly-orderly.ensures.run } in
     record {
-      told = λ t. subst (λ (rs : List TurnRow). IsHistory q b.halted c.if-self.self rs) (sym (e.told t)) (history_more p q b.halted b.disordered c.if-self.self o (g.B.Book.told b.book) k ask c.in_ok-served.served.0 c.in_ok-served.served.1 b.plain.fits.harts live serves d (c.self.invariant.told t));
+      told = λ t. subst (λ (rs : List TurnRow). IsHistory q b.halted c.if-self.self rs) (sym (e.rows t)) (history_more p q b.halted b.disordered c.if-self.self o (g.B.Book.told b.book) k ask c.in_ok-served.served.0 c.in_ok-served.served.1 b.plain.fits.harts live serves d (c.self.invariant.told t));
       some = (s.0 ++ row k ask c.in_ok-served.served.0 c.in_ok-served.served.1 ∷ [], history_more p q b.halted b.disordered c.if-self.self o s.0 k ask c.in_ok-served.served.0 c.in_ok-served.served.1 b.plain.fits.harts live serves d s.1);
     }
 
@@ -53,7 +53,7 @@ returns-clause-reply g c run is =
     let b = c.self.inside in
     let p = parts b.plain in let told = g.B.Book.told b.book in
     let at : IsState (seen p b.halted b.disordered told) run = subst (λ (x : Seen). IsState x run) (sym c.self.view_is) is in
-    c.in_ok-served.ensures.reply run (run_is c.notes_decide.ensures p b.halted b.disordered told run at)
+    (c.in_ok-served.ensures.answers.served run (run_is c.notes_decide.ensures p b.halted b.disordered told run at)).0
     ∙ ap (λ (x : Seen). (serve x.began.settings x.began.image run c.args.hart c.args.ask.now).reply) c.self.view_is
 
 pub returns-clause-guarded : goal.returns-clause-guarded
@@ -61,7 +61,7 @@ returns-clause-guarded g c run is =
     let b = c.self.inside in
     let p = parts b.plain in let told = g.B.Book.told b.book in
     let at : IsState (seen p b.halted b.disordered told) run = subst (λ (x : Seen). IsState x run) (sym c.self.view_is) is in
-    c.in_ok-served.ensures.guarded run (run_is c.notes_decide.ensures p b.halted b.disordered told run at)
+    (c.in_ok-served.ensures.answers.served run (run_is c.notes_decide.ensures p b.halted b.disordered told run at)).1
     ∙ ap (λ (x : Seen). (serve x.began.settings x.began.image run c.args.hart c.args.ask.now).guarded) c.self.view_is
 
 pub returns-clause-state : goal.returns-clause-state
@@ -72,10 +72,10 @@ returns-clause-state g c run is =
     let at : IsState (seen p b.halted b.disordered told) run = subst (λ (x : Seen). IsState x run) (sym c.self.view_is) is in
     let now : Seen = seen q b.halted c.if-self.self (g.B.Book.told c.take.new.book) in
     subst (λ (x : Seen). IsState now (serve x.began.settings x.began.image run k ask).run) c.self.view_is
-    (state_is q b.halted c.if-self.self (g.B.Book.told c.take.new.book) (serve p.start.settings p.start.image run k ask).run (c.in_ok-served.ensures.run run (run_is c.notes_decide.ensures p b.halted b.disordered told run at)))
+    (state_is q b.halted c.if-self.self (g.B.Book.told c.take.new.book) (serve p.start.settings p.start.image run k ask).run (c.in_ok-served.ensures.answers.served run (run_is c.notes_decide.ensures p b.halted b.disordered told run at)).2)
 
 pub returns-clause-told : goal.returns-clause-told
-returns-clause-told g c t = c.in_ok-served.ensures.told t ∙ ap (λ (x : Seen). x.rows ++ row c.args.hart c.args.ask.now c.in_ok-served.served.0 c.in_ok-served.served.1 ∷ []) c.self.view_is
+returns-clause-told g c t = c.in_ok-served.ensures.rows t ∙ ap (λ (x : Seen). x.rows ++ row c.args.hart c.args.ask.now c.in_ok-served.served.0 c.in_ok-served.served.1 ∷ []) c.self.view_is
 
 pub returns-clause-disordered : goal.returns-clause-disordered
 returns-clause-disordered g c run is =
@@ -93,7 +93,7 @@ returns-clause-turns g c =
     let p = parts b.plain in
     let s = c.self.invariant.some in
     let run = run_after (began_of p.start) b.halted s.0 in
-    (c.in_ok-served.ensures.run run s.1.run).turns ∙ served_turns p.start.settings p.start.image run c.args.hart c.args.ask.now
+    (c.in_ok-served.ensures.answers.served run s.1.run).2.turns ∙ served_turns p.start.settings p.start.image run c.args.hart c.args.ask.now
     ∙ ap (λ (n : ℕ). n + 1) (sym s.1.run.turns ∙ ap (λ (x : Seen). x.turns) c.self.view_is)
 
 pub returns-clause-fits : goal.returns-clause-fits
@@ -102,4 +102,4 @@ returns-clause-fits g c =
     let s = c.self.invariant.some in
     let run = run_after (began_of p.start) c.self.inside.halted s.0 in
     let ask = c.args.ask.now in
-    subst (λ (r : Reply). IsTrue (is_reply_to ask.want r)) (sym (c.in_ok-served.ensures.reply run s.1.run)) (c.replies_fit.ensures p.start.settings p.start.image run c.args.hart ask)
+    subst (λ (r : Reply). IsTrue (is_reply_to ask.want r)) (sym (c.in_ok-served.ensures.answers.served run s.1.run).0) (c.replies_fit.ensures p.start.settings p.start.image run c.args.hart ask)

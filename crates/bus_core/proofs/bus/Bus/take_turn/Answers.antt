@@ -42,8 +42,8 @@ pub invariant_of-self : goal.invariant_of-self
 invariant_of-self g c =
     let b = c.self.inside in
     let p = parts b.plain in let q = parts c.answer_orderly.new.plain in
-    let same = c.answer_orderly.ensures.start in
-    let stays = c.in_err-reply.ensures.refused in
+    let same = c.in_err-reply.ensures.answers.start in
+    let stays = c.in_err-reply.ensures.answers.served in
     let s = c.self.invariant.some in
     record {
       told = λ t. subst (λ (rs : List TurnRow). IsHistory q b.halted b.disordered rs) (sym c.answer_orderly.ensures.rows) (history_same p q b.halted b.disordered (g.B.Book.told b.book) same stays (c.self.invariant.told t));
@@ -54,7 +54,7 @@ pub returns-in_err-reply-clause-kept : goal.returns-in_err-reply-clause-kept
 returns-in_err-reply-clause-kept g c = on_err c.from_residual.result _ (c.answer_orderly.ensures.rows ∙ ap (λ (x : Seen). x.rows) c.self.view_is)
 
 pub returns-in_err-reply-clause-began : goal.returns-in_err-reply-clause-began
-returns-in_err-reply-clause-began g c = ap (λ (t : Start). began_of t) c.answer_orderly.ensures.start ∙ ap (λ (x : Seen). x.began) c.self.view_is
+returns-in_err-reply-clause-began g c = ap (λ (t : Start). began_of t) c.answer_orderly.ensures.answers.start ∙ ap (λ (x : Seen). x.began) c.self.view_is
 
 pub returns-in_err-reply-clause-halted : goal.returns-in_err-reply-clause-halted
 returns-in_err-reply-clause-halted g c = ap (λ (x : Seen). x.halted) c.self.view_is
@@ -66,7 +66,7 @@ pub note-requires : goal.note-requires
 note-requires g c = c.in_ok-reply.ensures.room
 
 pub returns-clause-began : goal.returns-clause-began
-returns-clause-began g c = ap (λ (t : Start). began_of t) c.answer_orderly.ensures.start ∙ ap (λ (x : Seen). x.began) c.self.view_is
+returns-clause-began g c = ap (λ (t : Start). began_of t) c.answer_orderly.ensures.answers.start ∙ ap (λ (x : Seen). x.began) c.self.view_is
 
 pub returns-clause-halted : goal.returns-clause-halted
 returns-clause-halted g c = ap (λ (x : Seen). x.halted) c.self.view_is
@@ -80,7 +80,7 @@ returns-in_err-reply-clause-refused g c =
     let p = parts b.plain in let q = parts c.answer_orderly.new.plain in let told = g.B.Book.told b.book in
     on_err c.from_residual.result _ (λ run is.
     let at : IsState (seen p b.halted b.disordered told) run = subst (λ (x : Seen). IsState x run) (sym c.self.view_is) is in
-    state_is q b.halted b.disordered (g.B.Book.told c.answer_orderly.new.book) run (c.in_err-reply.ensures.refused run (run_is c.notes_decide.ensures p b.halted b.disordered told run at)))
+    state_is q b.halted b.disordered (g.B.Book.told c.answer_orderly.new.book) run (c.in_err-reply.ensures.answers.served run (run_is c.notes_decide.ensures p b.halted b.disordered told run at)))
 
 pub invariant_of-self-2 : goal.invariant_of-self-2
 invariant_of-self-2 g c =
@@ -91,7 +91,7 @@ invariant_of-self-2 g c =
     let s = c.self.invariant.some in
     let live = subst (λ (x : Seen). is_live x k ≡ true) (sym c.self.view_is) c.requires.live in
     let told_is = λ (t : g.B.Book.tells ≡ true). c.note.ensures.row t ∙ ap (λ (rs : List TurnRow). rs ++ row k ask r.reply r.guarded ∷ []) c.answer_orderly.ensures.rows in
-    let serves : Serves p q k ask true r.reply r.guarded = record { same = c.answer_orderly.ensures.start; replies = e.reply; flags = e.guarded; runs = e.run; asks = λ run is. own_orderly p run k ask is live c.ask_next.ensures.orderly } in
+    let serves : Serves p q k ask true r.reply r.guarded = record { same = c.answer_orderly.ensures.answers.start; replies = λ r is. (e.answers.served r is).0; flags = λ r is. (e.answers.served r is).1; runs = λ r is. (e.answers.served r is).2; asks = λ run is. own_orderly p run k ask is live c.ask_next.ensures.orderly } in
     record {
       told = λ t. subst (λ (rs : List TurnRow). IsHistory q b.halted b.disordered rs) (sym (told_is t)) (history_more p q b.halted b.disordered b.disordered true (g.B.Book.told b.book) k ask r.reply r.guarded b.plain.fits.harts live serves (or_not_true b.disordered) (c.self.invariant.told t));
       some = (s.0 ++ row k ask r.reply r.guarded ∷ [], history_more p q b.halted b.disordered b.disordered true s.0 k ask r.reply r.guarded b.plain.fits.harts live serves (or_not_true b.disordered) s.1);
@@ -107,7 +107,7 @@ returns-clause-state g c = λ run is.
     let from = run_is c.notes_decide.ensures p b.halted b.disordered told run at in
     let now : Seen = seen q b.halted b.disordered (g.B.Book.told c.note.new.self) in
     let asks = ask_is p run k ask from live c.ask_next.ensures.asks in
-    let served : IsRun q (turned_run (began_of p.start) run k) = subst (λ (a : Ask). IsRun q (serve p.start.settings p.start.image run k a).run) asks (c.in_ok-reply.ensures.run run from) in
+    let served : IsRun q (turned_run (began_of p.start) run k) = subst (λ (a : Ask). IsRun q (serve p.start.settings p.start.image run k a).run) asks (c.in_ok-reply.ensures.answers.served run from).2 in
     subst (λ (x : Seen). IsState now (turned_run x.began run k)) c.self.view_is
     (state_is q b.halted b.disordered (g.B.Book.told c.note.new.self) (turned_run (began_of p.start) run k) served)
 
@@ -122,7 +122,7 @@ returns-clause-told g c = λ t run is.
     let from = run_is c.notes_decide.ensures p b.halted b.disordered told run at in
     let asks = ask_is p run k ask from live c.ask_next.ensures.asks in
     c.note.ensures.row t ∙ ap (λ (rs : List TurnRow). rs ++ row k ask r.reply r.guarded ∷ []) c.answer_orderly.ensures.rows
-    ∙ ap (λ (x : TurnRow). told ++ x ∷ []) (row_is (began_of p.start) run k ask r.reply r.guarded asks (e.reply run from) (e.guarded run from))
+    ∙ ap (λ (x : TurnRow). told ++ x ∷ []) (row_is (began_of p.start) run k ask r.reply r.guarded asks (e.answers.served run from).0 (e.answers.served run from).1)
     ∙ ap (λ (x : Seen). x.rows ++ turn_row x.began run k ∷ []) c.self.view_is
 
 pub returns-clause-turns : goal.returns-clause-turns
@@ -131,5 +131,5 @@ returns-clause-turns g c =
     let p = parts b.plain in
     let s = c.self.invariant.some in
     let run = run_after (began_of p.start) b.halted s.0 in
-    (c.in_ok-reply.ensures.run run s.1.run).turns ∙ served_turns p.start.settings p.start.image run c.args.hart c.ask_next.new.ask
+    (c.in_ok-reply.ensures.answers.served run s.1.run).2.turns ∙ served_turns p.start.settings p.start.image run c.args.hart c.ask_next.new.ask
     ∙ ap (λ (n : ℕ). n + 1) (sym s.1.run.turns ∙ ap (λ (x : Seen). x.turns) c.self.view_is)
