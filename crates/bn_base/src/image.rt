@@ -194,7 +194,6 @@ impl Image {
         self.harts
     }
 
-    // The end of the highest segment.
     fn highest_end(&self) -> u64
         ensures value { result ≡ highest_end self.now.parts }
         ensures bound { result ≤ self.now.memory }

@@ -18,7 +18,6 @@ use std::alloc::{AllocError, Global};
 // refusal of a file waits for memory.
 type Headers = ArrayVec<ProgramHeader, 64>;
 
-// The program header table.
 #[tactic(auto, unfolding(crate::specs::Headers::table))]
 fn read_table(bytes: &[u8], header: FileHeader) -> Headers
     requires own { header ≡ file_header bytes.now }
@@ -34,7 +33,6 @@ fn read_table(bytes: &[u8], header: FileHeader) -> Headers
     headers
 }
 
-// Whether a program interpreter is asked for.
 fn needs_interpreter(headers: &[ProgramHeader]) -> bool
     ensures { result ≡ list_any is_interpreter headers.now }
 {
@@ -69,7 +67,6 @@ fn is_code(segments: &[ProgramHeader], addr: Addr) -> bool
     addr % 4 == 0 && code_segment(segments, addr).is_some()
 }
 
-// Segments by ascending address.
 fn by_address(alloc: Global, headers: &[ProgramHeader]) -> Result<Vec<ProgramHeader>, AllocError>
     requires segments { All (λ h. is_segment h ≡ true) headers.now }
     requires apart { touching headers.now ≡ None }

@@ -273,7 +273,6 @@ impl<'a> Joint<'a> {
         Ok(List::from_vec(found))
     }
 
-    // Whether an instruction of a hart is passed.
     fn is_passed(&self, hart: HartId, ic: Ic) -> bool
         ensures { result ≡ is_passed (slice_get self.now.lanes hart) ic }
     {
@@ -375,7 +374,6 @@ impl<'a> Joint<'a> {
     }
 }
 
-// Appends a copy of a hart.
 fn push_copy<'a>(lane: &Lane<'a>, copies: &mut Vec<Lane<'a>>) -> Result<(), AllocError>
     ensures { OnOk result (copies.new.items ≡ copies.old.items ++ lane.now ∷ []) }
 {
@@ -389,7 +387,6 @@ fn push_copy<'a>(lane: &Lane<'a>, copies: &mut Vec<Lane<'a>>) -> Result<(), Allo
     }
 }
 
-// The same harts.
 fn copy_lanes<'a>(lanes: &Vec<Lane<'a>>) -> Result<Vec<Lane<'a>>, AllocError>
     ensures { IfOk result (λ copies. copies.items ≡ lanes.now.items) }
 {

@@ -354,7 +354,6 @@ impl<'a> Lane<'a> {
     }
 }
 
-// The same ordering points.
 fn copy_points(points: &BTreeSet<Ic>) -> Result<BTreeSet<Ic>, AllocError>
     ensures { IfOk result (λ copy. copy.keys ≡ points.now.keys) }
 {

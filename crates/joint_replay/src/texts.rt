@@ -10,7 +10,7 @@ use bn_base::{Addr, HartId, Ic};
 use rv_text::{RowLines, Text, end_with_decimal, end_with_hex8, write_end, write_row};
 use std::alloc::AllocError;
 
-// The line of an ordering point, which may stop in the middle.
+// The line of an ordering point; an error may leave a part of it.
 #[tactic(auto, unfolding(crate::specs::Texts::pass_text))]
 fn write_pass_parts(hart: HartId, ic: Ic, text: &mut Text) -> Result<(), AllocError>
     ensures ok { OnOk result (text.new ≡ text.old ++ pass_text hart ic) }
@@ -34,7 +34,7 @@ fn write_pass(hart: HartId, ic: Ic, text: &mut Text) -> Result<(), AllocError>
     written
 }
 
-// The line of a known word, which may stop in the middle.
+// The line of a known word; an error may leave a part of it.
 #[tactic(auto, unfolding(crate::specs::Texts::known_text))]
 fn write_known_parts(addr: Addr, word: u32, text: &mut Text) -> Result<(), AllocError>
     ensures ok { OnOk result (text.new ≡ text.old ++ known_text (addr, word)) }

@@ -128,7 +128,7 @@ fn walk(
 // The byte that begins an Edge.
 const EDGE: u8 = 5;
 
-// Whether the record at the front of some bytes is a late Edge.
+// Whether some bytes begin with a late Edge.
 fn late_at(format: u8, harts: &[HartView], bytes: &[u8]) -> bool
     requires { 0 < length bytes.now }
     ensures { (r : Record) (rest : List ℕ) → Fits format r → bytes.now ≡ bytes_of r ++ rest → result ≡ is_late harts.now r }

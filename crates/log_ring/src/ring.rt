@@ -34,7 +34,6 @@ impl Model for Ring {
     ghost invariant = { λ r. IsWhole r.bytes.items × (146 ≤ r.bytes.capacity) };
 }
 
-// The tag of the oldest record.
 fn oldest_tag(bytes: &HeapCircularBuffer<u8>) -> u8
     requires { 0 < length bytes.now.items }
     ensures { slice_get bytes.now.items 0 ≡ Some result }
@@ -45,7 +44,6 @@ fn oldest_tag(bytes: &HeapCircularBuffer<u8>) -> u8
     }
 }
 
-// How many bytes the oldest record has.
 fn oldest_size(bytes: &HeapCircularBuffer<u8>) -> usize
     requires whole { IsWhole bytes.now.items }
     requires some { 0 < length bytes.now.items }
@@ -59,7 +57,6 @@ fn oldest_size(bytes: &HeapCircularBuffer<u8>) -> usize
     }
 }
 
-// Gives up the oldest record.
 fn drop_oldest(bytes: &mut HeapCircularBuffer<u8>)
     requires whole { IsWhole bytes.old.items }
     requires some { 0 < length bytes.old.items }

@@ -205,7 +205,6 @@ impl KeptWords {
         Ok(())
     }
 
-    // Makes the page of a number.
     fn make_page(&mut self, number: usize) -> Result<(), AllocError>
         requires { number < vec_len self.old.pages }
         ensures harts { self.new.harts ≡ self.old.harts }

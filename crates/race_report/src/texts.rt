@@ -8,7 +8,7 @@ use bn_base::Row;
 use rv_text::{Text, end_with_decimal, end_with_hex8, write_row};
 use std::alloc::AllocError;
 
-// A point by its hart and count, which may stop in the middle.
+// A point by its hart and count; an error may leave a part of it.
 #[tactic(auto, unfolding(crate::specs::Texts::place_text))]
 fn write_place(row: &Row, text: &mut Text) -> Result<(), AllocError>
     ensures ok { OnOk result (text.new ≡ text.old ++ place_text row.now) }
@@ -20,7 +20,7 @@ fn write_place(row: &Row, text: &mut Text) -> Result<(), AllocError>
     text.push_decimal(row.ic)
 }
 
-// The harts and counts of the points of a race, which may stop in the middle.
+// The harts and counts of the points of a race; an error may leave a part of it.
 fn write_places(race: &Race, text: &mut Text) -> Result<(), AllocError>
     ensures ok { OnOk result (text.new ≡ text.old ++ (codes "race" ++ place_text race.now.first ++ place_text race.now.second)) }
     ensures begins { BeginsWith text.old text.new }
@@ -30,7 +30,7 @@ fn write_places(race: &Race, text: &mut Text) -> Result<(), AllocError>
     write_place(&race.second, text)
 }
 
-// The lines of a race, which may stop in the middle.
+// The lines of a race; an error may leave a part of it.
 #[tactic(auto, unfolding(crate::specs::Texts::race_text))]
 fn write_race_parts(race: &Race, text: &mut Text) -> Result<(), AllocError>
     ensures ok { OnOk result (text.new ≡ text.old ++ race_text race.now) }
@@ -56,7 +56,7 @@ pub fn write_race(race: &Race, text: &mut Text) -> Result<(), AllocError>
     written
 }
 
-// The line of how many races there are, which may stop in the middle.
+// The line of how many races there are; an error may leave a part of it.
 #[tactic(auto, unfolding(crate::specs::Texts::count_text))]
 fn write_count_parts(count: u64, text: &mut Text) -> Result<(), AllocError>
     ensures ok { OnOk result (text.new ≡ text.old ++ count_text count) }

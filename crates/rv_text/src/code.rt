@@ -39,7 +39,7 @@ fn write_text(pc: Addr, instr: Option<Instr>, text: &mut Text) -> Result<(), All
     }
 }
 
-// A word and its text. It may stop in the middle.
+// A word and its text. An error may leave a part of it.
 #[tactic(auto, unfolding(crate::specs::Rows::word_text))]
 fn write_word(pc: Addr, word: u32, instr: Option<Instr>, text: &mut Text) -> Result<(), AllocError>
     ensures ok { OnOk result (text.new ≡ text.old ++ word_text pc word (option_map seen instr)) }
@@ -51,7 +51,7 @@ fn write_word(pc: Addr, word: u32, instr: Option<Instr>, text: &mut Text) -> Res
     write_text(pc, instr, text)
 }
 
-// A word and the text of what it spells. It may stop in the middle.
+// A word and the text of what it spells. An error may leave a part of it.
 fn write_plain(pc: Addr, word: u32, text: &mut Text) -> Result<(), AllocError>
     ensures ok { OnOk result (text.new ≡ text.old ++ word_text pc word (decoded word)) }
     ensures begins { BeginsWith text.old text.new }
@@ -59,7 +59,7 @@ fn write_plain(pc: Addr, word: u32, text: &mut Text) -> Result<(), AllocError>
     write_word(pc, word, decode(word), text)
 }
 
-/// Appends a pc, the word there and what it spells. It may stop in the middle.
+/// Appends a pc, the word there and what it spells. An error may leave a part of it.
 #[tactic(auto, unfolding(crate::specs::Lines::place_text))]
 pub fn write_place(pc: Addr, word: u32, text: &mut Text) -> Result<(), AllocError>
     ensures ok { OnOk result (text.new ≡ text.old ++ place_text pc word) }
@@ -101,7 +101,7 @@ impl CodeText {
         }
     }
 
-    /// Appends the text of this pc and word, and keeps it. It may stop in the middle.
+    /// Appends the text of this pc and word, and keeps it. An error may leave a part of it.
     pub fn write(&mut self, pc: Addr, word: u32, text: &mut Text) -> Result<(), AllocError>
         ensures ok { OnOk result (text.new ≡ text.old ++ place_text pc word) }
         ensures begins { BeginsWith text.old text.new }

@@ -24,7 +24,7 @@ impl Model for CountText {
     ghost invariant = { λ k. NoneOrCount k.hart k.tens k.text };
 }
 
-// The hart and its count. It may stop in the middle.
+// The hart and its count. An error may leave a part of it.
 #[tactic(auto, unfolding(crate::specs::Lines::count_text))]
 fn write_count(hart: HartId, ic: Ic, text: &mut Text) -> Result<(), AllocError>
     ensures ok { OnOk result (text.new ≡ text.old ++ count_text hart ic) }
@@ -35,7 +35,7 @@ fn write_count(hart: HartId, ic: Ic, text: &mut Text) -> Result<(), AllocError>
     text.push_decimal(ic)
 }
 
-// Bytes and a digit after them. It may stop in the middle.
+// Bytes and a digit after them. An error may leave a part of it.
 fn write_last(bytes: &[u8], digit: u64, text: &mut Text) -> Result<(), AllocError>
     requires { digit < 10 }
     ensures ok { OnOk result (text.new ≡ text.old ++ (bytes.now ++ ((48 + digit) ∷ []))) }
@@ -76,8 +76,8 @@ impl CountText {
         }
     }
 
-    // The text of a hart and a count by its last digit and what stands before that, which is kept. It
-    // may stop in the middle.
+    // The text of a hart and a count, by its last digit and what comes before that, which is kept. An
+    // error may leave a part of it.
     fn write_tens(
         &mut self,
         hart: HartId,
@@ -98,7 +98,7 @@ impl CountText {
         text.push_bytes(&[48 + digit as u8])
     }
 
-    // The text of a hart and a count of two digits or more. It may stop in the middle.
+    // The text of a hart and a count of two digits or more. An error may leave a part of it.
     fn write_long(&mut self, hart: HartId, ic: Ic, text: &mut Text) -> Result<(), AllocError>
         requires { (10 ≤ ic) × (ic < 2 ^ 64) }
         ensures ok { OnOk result (text.new ≡ text.old ++ count_text hart ic) }
@@ -107,8 +107,8 @@ impl CountText {
         self.write_tens(hart, ic / 10, ic % 10, text)
     }
 
-    /// Appends a hart and its count, and keeps what stands before the last digit. It may stop in the
-    /// middle.
+    /// Appends a hart and its count, and keeps what comes before the last digit. An error may leave a
+    /// part of it.
     pub fn write(&mut self, hart: HartId, ic: Ic, text: &mut Text) -> Result<(), AllocError>
         ensures ok { OnOk result (text.new ≡ text.old ++ count_text hart ic) }
         ensures begins { BeginsWith text.old text.new }

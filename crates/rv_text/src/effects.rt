@@ -50,7 +50,7 @@ fn label_of(register: u8) -> &'static str
     }
 }
 
-// The register that was written and its new contents. It may stop in the middle.
+// The register that was written and its new contents. An error may leave a part of it.
 #[tactic(auto, unfolding(crate::specs::Rows::register_text, crate::specs::Lines::label_text))]
 fn write_register(reg: Option<(Register, u32)>, text: &mut Text) -> Result<(), AllocError>
     ensures ok { OnOk result (text.new ≡ text.old ++ register_text reg) }
@@ -65,7 +65,7 @@ fn write_register(reg: Option<(Register, u32)>, text: &mut Text) -> Result<(), A
     }
 }
 
-// An access after its label: the address and the whole word. It may stop in the middle.
+// An access after its label: the address and the whole word. An error may leave a part of it.
 #[tactic(auto, unfolding(crate::specs::Lines::labelled))]
 fn write_access(label: &str, access: Option<(Addr, u32)>, text: &mut Text) -> Result<(), AllocError>
     ensures ok { OnOk result (text.new ≡ text.old ++ labelled label.now access) }
@@ -82,7 +82,7 @@ fn write_access(label: &str, access: Option<(Addr, u32)>, text: &mut Text) -> Re
     }
 }
 
-/// Appends what the instruction of a row changed or read. It may stop in the middle.
+/// Appends what the instruction of a row changed or read. An error may leave a part of it.
 #[tactic(auto, unfolding(crate::specs::Lines::changes_text))]
 pub fn write_changes(row: &Row, text: &mut Text) -> Result<(), AllocError>
     ensures ok { OnOk result (text.new ≡ text.old ++ changes_text row.now.reg row.now.load row.now.store) }

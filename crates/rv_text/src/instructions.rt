@@ -67,7 +67,7 @@ fn write_registers(first: u8, second: u8, text: &mut Text) -> Result<(), AllocEr
     write_register(second, text)
 }
 
-/// The operands of an instruction that stand ahead of its last one: registers.
+/// The operands of an instruction before its last one: registers.
 fn write_leading(format: Format, instr: &Instr, text: &mut Text) -> Result<(), AllocError>
     ensures ok { OnOk result (text.new ≡ text.old ++ leading_operands format (seen instr.now)) }
     ensures begins { BeginsWith text.old text.new }
@@ -108,7 +108,7 @@ fn write_operands(format: Format, instr: &Instr, pc: u32, text: &mut Text) -> Re
     write_last(format, instr, pc, text)
 }
 
-/// The text of an instruction, which may stop in the middle.
+/// The text of an instruction; an error may leave a part of it.
 #[tactic(auto, unfolding(crate::specs::Instructions::instruction_text))]
 pub fn write_instr_parts(instr: &Instr, pc: u32, text: &mut Text) -> Result<(), AllocError>
     ensures ok { OnOk result (text.new ≡ text.old ++ instruction_text pc (seen instr.now)) }

@@ -52,7 +52,7 @@ impl RowLines {
         }
     }
 
-    // The text of a pc and a word, by the table. It may stop in the middle.
+    // The text of a pc and a word, by the table. An error may leave a part of it.
     fn write_code(&mut self, pc: Addr, word: u32, text: &mut Text) -> Result<(), AllocError>
         ensures ok { OnOk result (text.new ≡ text.old ++ place_text pc word) }
         ensures begins { BeginsWith text.old text.new }
@@ -64,7 +64,7 @@ impl RowLines {
         write_place(pc, word, text)
     }
 
-    // The line of a row with this word, in its parts. It may stop in the middle.
+    // The line of a row with this word, in its parts. An error may leave a part of it.
     #[tactic(auto, unfolding(crate::specs::Lines::joined_text))]
     fn write_parts(&mut self, row: &Row, word: u32, text: &mut Text) -> Result<(), AllocError>
         ensures ok { OnOk result (text.new ≡ text.old ++ joined_text row.now word) }
@@ -76,7 +76,7 @@ impl RowLines {
         text.push_str("\n")
     }
 
-    // The line of a row that has this word and no fault. It may stop in the middle.
+    // The line of a row that has this word and no fault. An error may leave a part of it.
     fn write_line(&mut self, row: &Row, word: u32, text: &mut Text) -> Result<(), AllocError>
         requires { (row.now.fault ≡ None) × (row.now.word ≡ Some word) }
         ensures ok { OnOk result (text.new ≡ text.old ++ row_text row.now) }

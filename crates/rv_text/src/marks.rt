@@ -8,7 +8,7 @@ use crate::text::Text;
 use bn_base::EndMark;
 use std::alloc::AllocError;
 
-/// A mark, which may stop in the middle.
+/// A mark; an error may leave a part of it.
 #[tactic(auto, unfolding(crate::specs::Marks::mark_text))]
 fn write_mark_parts(mark: &EndMark, text: &mut Text) -> Result<(), AllocError>
     ensures ok { OnOk result (text.new ≡ text.old ++ mark_text mark.now) }
@@ -41,7 +41,7 @@ fn write_rest(mark: &EndMark, text: &mut Text) -> Result<(), AllocError>
     text.push_str("\n")
 }
 
-/// The line of an end, which may stop in the middle.
+/// The line of an end; an error may leave a part of it.
 #[tactic(auto, unfolding(crate::specs::Marks::end_text))]
 fn write_end_parts(
     hart: u64,

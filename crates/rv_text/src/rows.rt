@@ -163,7 +163,7 @@ fn write_effects(row: &Row, text: &mut Text) -> Result<(), AllocError>
     write_fault(row.fault, text)
 }
 
-/// The line of a row, which may stop in the middle.
+/// The line of a row; an error may leave a part of it.
 #[tactic(auto, unfolding(crate::specs::Rows::row_text))]
 fn write_row_parts(row: &Row, text: &mut Text) -> Result<(), AllocError>
     ensures ok { OnOk result (text.new ≡ text.old ++ row_text row.now) }

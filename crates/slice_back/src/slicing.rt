@@ -81,7 +81,7 @@ impl Slicing {
         }
     }
 
-    // TellsLive the word that a row takes.
+    // Tells the word that a row takes.
     fn tell_word(&mut self, chosen: bool, entry: &Noted) -> Result<(), AllocError>
         ensures words { OnOk result ((l : Live) → Holds self.old.set l → reverse self.new.words.items ≡ word_if entry.now.row.ic (taken chosen l entry.now) (reverse self.old.words.items)) }
         ensures rest { self.new ≡ record self.old { words = self.new.words } }
@@ -95,7 +95,7 @@ impl Slicing {
         }
     }
 
-    // TellsLive a row of the slice, or a branch that isn't in it.
+    // Tells a row of the slice, or a branch that isn't in it.
     fn tell_row(&mut self, chosen: bool, row: &Row) -> Result<(), AllocError>
         ensures rows { OnOk result (reverse self.new.rows.items ≡ row_if chosen row.now (reverse self.old.rows.items)) }
         ensures branches { OnOk result (reverse self.new.branches.items ≡ row_if (not chosen && is_branch row.now) row.now (reverse self.old.branches.items)) }

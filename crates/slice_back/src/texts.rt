@@ -8,7 +8,7 @@ use bn_base::{Addr, Ic, Register, Row};
 use rv_text::{Text, end_with_decimal, end_with_hex8, register_name, write_row};
 use std::alloc::AllocError;
 
-// The first line, which may stop in the middle.
+// The first line; an error may leave a part of it.
 #[tactic(auto, unfolding(crate::specs::Texts::head_text))]
 fn write_head_parts(hart: u64, ic: Ic, text: &mut Text) -> Result<(), AllocError>
     ensures ok { OnOk result (text.new ≡ text.old ++ head_text hart ic) }
@@ -33,7 +33,7 @@ pub fn write_head(hart: u64, ic: Ic, text: &mut Text) -> Result<(), AllocError>
     written
 }
 
-// The line of a register, which may stop in the middle.
+// The line of a register; an error may leave a part of it.
 #[tactic(auto, unfolding(crate::specs::Texts::register_line))]
 fn write_register_parts(register: Register, value: u32, text: &mut Text) -> Result<(), AllocError>
     ensures ok { OnOk result (text.new ≡ text.old ++ register_line (register, value)) }
@@ -77,7 +77,7 @@ fn write_taker(ic: Ic, text: &mut Text) -> Result<(), AllocError>
     text.push_str(" ")
 }
 
-// The line of a word, which may stop in the middle.
+// The line of a word; an error may leave a part of it.
 #[tactic(auto, unfolding(crate::specs::Texts::word_line))]
 fn write_word_parts(ic: Ic, addr: Addr, word: u32, text: &mut Text) -> Result<(), AllocError>
     ensures ok { OnOk result (text.new ≡ text.old ++ word_line (ic, addr, word)) }
@@ -102,7 +102,7 @@ pub fn write_word(ic: Ic, addr: Addr, word: u32, text: &mut Text) -> Result<(), 
     written
 }
 
-// The line of a branch, which may stop in the middle.
+// The line of a branch; an error may leave a part of it.
 #[tactic(auto, unfolding(crate::specs::Texts::branch_line))]
 fn write_branch_parts(row: &Row, text: &mut Text) -> Result<(), AllocError>
     ensures ok { OnOk result (text.new ≡ text.old ++ branch_line row.now) }

@@ -38,7 +38,6 @@ const NO_SPACE: u32 = 28;
 
 const NO_SUCH_CALL: u32 = 38;
 
-// The answer for an error.
 fn error_answer(error: u32) -> Plan
     requires { 1 ≤ error }
     ensures value { result ≡ error_answer error }
