@@ -1,4 +1,4 @@
-// Which calls of an object in memory are to fail.
+//! Which calls of an object in memory are to fail.
 ghost use Rattle.std.specs.Prelude.{◌≡◌, ◌↔◌, IsTrue};
 ghost use Rattle.bn_outside.specs.Calls.{NextFails, after_call, fresh_calls};
 

@@ -1,4 +1,4 @@
-// A gate at which all harts meet.
+//! A gate at which all harts meet.
 ghost use Rattle.std.specs.Prelude.{◌≡◌, ◌↔◌, ◌<◌, ◌≤◌, IsTrue};
 
 use crate::Gate;

@@ -1,4 +1,4 @@
-// The waits of a gate.
+//! The waits of a gate.
 use std::sync::atomic::{AtomicBool, Ordering};
 use std::thread;
 

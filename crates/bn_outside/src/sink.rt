@@ -1,4 +1,4 @@
-// A sink of bytes.
+//! A sink of bytes.
 ghost use Rattle.std.specs.Prelude.{◌≤◌, ◌<◌, ℕ, List, Option, IfOk, OnErr, length, take};
 ghost use Rattle.std.specs.Io.KnownBytes.{Appends, Keeps};
 ghost use Rattle.bn_outside.specs.Counts.{CountsFault, Rose};

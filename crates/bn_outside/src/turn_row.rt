@@ -1,4 +1,4 @@
-// One turn of a run.
+//! One turn of a run.
 use bn_base::HartId;
 use rv_meaning::{Ask, Reply};
 

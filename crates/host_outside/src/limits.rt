@@ -1,4 +1,4 @@
-// The limits that the system sets to the process.
+//! The limits that the system sets to the process.
 use std::fs;
 use std::fs::Files;
 use std::io::Read;

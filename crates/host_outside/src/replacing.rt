@@ -1,9 +1,9 @@
-// Gives a name new bytes.
-//
-// They are written to a new file in the same folder, which then takes the name in one step. So a save that fails, and
-// one whose process or machine ends, leaves the old file whole. If that would change more than the bytes, the file is
-// written in place. So it is if the file isn't regular, has further hard links, belongs to another user or group, or is
-// mounted from elsewhere, or if the folder takes no new file.
+//! Gives a name new bytes.
+//!
+//! They are written to a new file in the same folder, which then takes the name in one step. So a save that fails, and
+//! one whose process or machine ends, leaves the old file whole. If that would change more than the bytes, the file is
+//! written in place. So it is if the file isn't regular, has further hard links, belongs to another user or group, or is
+//! mounted from elsewhere, or if the folder takes no new file.
 ghost use Rattle.std.specs.Prelude.{OnOk, IsFalse};
 ghost use Rattle.std.specs.List.{Contains};
 ghost use Rattle.host_outside.specs.declared.spared_files.FileId.{FileId as AnyFile};

@@ -1,4 +1,4 @@
-// A source over a reader, and a sink over a writer.
+//! A source over a reader, and a sink over a writer.
 ghost use Rattle.std.specs.Prelude.{◌≡◌, [], Some, cond, false};
 
 use crate::until_end::UntilEnd;

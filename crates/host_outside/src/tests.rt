@@ -1,4 +1,4 @@
-// What no clause says: what real files hold, and that each adapter's calls succeed.
+//! What no clause says: what real files hold, and that each adapter's calls succeed.
 ghost use Rattle.std.specs.Prelude.{◌<◌, length};
 
 use crate::file_store::FileStore;

@@ -1,4 +1,4 @@
-// What is counted of a log of either version.
+//! What is counted of a log of either version.
 ghost use Rattle.std.specs.Prelude.{◌≡◌, ◌≤◌, ◌+◌, ◌^◌, List, None, true, length, MatchResult, IfOk, IfErr};
 ghost use Rattle.std.specs.List.{AllByRecursion};
 ghost use Rattle.log_record.specs.Spelling.{bytes_of, total, Fits};

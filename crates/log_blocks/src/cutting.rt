@@ -1,4 +1,4 @@
-// Cutting the bytes of records into blocks.
+//! Cutting the bytes of records into blocks.
 ghost use Rattle.std.specs.Prelude.{◌≡◌, ◌≤◌, List, ℕ, length};
 ghost use Rattle.std.specs.List.{flat_map, AllByRecursion};
 ghost use Rattle.log_record.specs.declared.record.Record.{Record};

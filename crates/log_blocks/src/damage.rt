@@ -1,4 +1,4 @@
-// Why a file is refused, of either version, and why nothing is salvaged of one.
+//! Why a file is refused, of either version, and why nothing is salvaged of one.
 ghost use Rattle.std.specs.Prelude.{◌≡◌};
 ghost use Rattle.log_file.specs.declared.error.FileError.TheVariants.{OutOfMemory};
 ghost use Rattle.log_blocks.specs.declared.damage.Damage.TheVariants.{File};

@@ -1,4 +1,4 @@
-// Blocks that are full, and blocks that are bad.
+//! Blocks that are full, and blocks that are bad.
 ghost use Rattle.std.specs.Prelude.{◌≡◌, ◌<◌, ◌∷◌, ◌++◌, [], ℕ, List, length, true, false, Some, None};
 ghost use Rattle.log_record.specs.declared.record.Record.TheVariants.{ScOk};
 ghost use Rattle.log_record.specs.Spelling.{total};

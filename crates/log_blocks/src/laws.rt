@@ -1,4 +1,4 @@
-// What blocks, files and logs have to do with each other.
+//! What blocks, files and logs have to do with each other.
 ghost use Rattle.log_blocks.specs.Laws.{NameTheirVersion, SayOneThing, AreNotRefused, RefusalsAreUnique, HaveTheirSize, AreFew, SavedHaveTheirLimit};
 ghost use Rattle.log_blocks.specs.Laws.{SalvagedAreUnique, SalvagedAreNotRefused, SalvageRefusalsAreUnique, LastBlocksAreAnEnd, SalvagedAreAnEnd};
 

@@ -1,4 +1,4 @@
-// What bytes are to the reader of logs of either version, and to salvage.
+//! What bytes are to the reader of logs of either version, and to salvage.
 ghost use Rattle.log_blocks.specs.Readings.{ReadingsAreUnique, SalvagesAreUnique, FilesAreRead, AreReadOrRefused, AreSalvagedOrRefused, WholeAreSalvaged};
 
 use crate::laws::{

@@ -1,4 +1,4 @@
-// Parts of bytes, and digests of two parts.
+//! Parts of bytes, and digests of two parts.
 ghost use Rattle.std.specs.Prelude.{◌≡◌, ◌≤◌, ◌+◌, ◌-◌, ◌++◌, length, take, drop};
 ghost use Rattle.sha2.specs.Sha256.{sha256};
 

@@ -1,4 +1,4 @@
-// The walk over the blocks of a file, from its end back.
+//! The walk over the blocks of a file, from its end back.
 ghost use Rattle.std.specs.Prelude.{◌≡◌, ◌<◌, ◌≤◌, ◌+◌, ◌^◌, true, false, length, IfOk, IfSome, IfNone};
 ghost use Rattle.log_blocks.specs.Pieces.{len_in, left_in, is_sized, is_good};
 ghost use Rattle.log_blocks.specs.Walks.{HasWalked};

@@ -1,4 +1,4 @@
-// The later places that some place races with.
+//! The later places that some place races with.
 use bn_base::Addr;
 
 /// A later place that is a race with some place, and the race's word.

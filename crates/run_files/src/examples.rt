@@ -1,4 +1,4 @@
-// Small lists and files that are audited, worked out by hand.
+//! Small lists and files that are audited, worked out by hand.
 ghost use Rattle.std.specs.Prelude.{◌≡◌, ◌∷◌, [], Some, None};
 ghost use Rattle.run_model.specs.declared.error.TurnError.TheVariants.{IllegalTurn, NotFinished};
 ghost use Rattle.run_model.specs.Examples.{an_exit, a_line_lost};

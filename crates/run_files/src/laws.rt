@@ -1,4 +1,4 @@
-// Laws of log files and of what an audit finds.
+//! Laws of log files and of what an audit finds.
 ghost use Rattle.run_files.specs.Audits.{FilesNumberTheirVersion, VerdictsAreUnique};
 ghost use Rattle.run_files.specs.Files.{FormatOneIsVersionOne};
 

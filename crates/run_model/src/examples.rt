@@ -1,4 +1,4 @@
-// Small recordings, worked out by hand.
+//! Small recordings, worked out by hand.
 ghost use Rattle.std.specs.Prelude.{◌≡◌, ◌∷◌, [], map};
 ghost use Rattle.log_record.specs.Spelling.{tag_of};
 ghost use Rattle.log_record.specs.declared.record.Record.TheVariants.{FirstLoad, ScOk, ScFailed, Edge};

@@ -1,5 +1,5 @@
-// Small recordings of format 2, worked out by hand, in logs that are smaller than those of settings in
-// range: these are of the definitions alone.
+//! Small recordings of format 2, worked out by hand, in logs that are smaller than those of settings in
+//! range: these are of the definitions alone.
 ghost use Rattle.std.specs.Prelude.{◌≡◌, ◌∷◌, [], map};
 ghost use Rattle.log_record.specs.Spelling.{total, tag_of};
 ghost use Rattle.log_record.specs.declared.record.Record.TheVariants.{FirstLoad};

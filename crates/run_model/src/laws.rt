@@ -1,4 +1,4 @@
-// Laws of turns.
+//! Laws of turns.
 ghost use Rattle.run_model.specs.Counts.{EachTurnMovesOn, EachTurnFits, OthersStayFit, GuardedAsksFit};
 ghost use Rattle.run_model.specs.Guards.{FormatOneIsUnguarded, RecordsDecideNothing};
 

@@ -1,4 +1,4 @@
-// The records of a turn, and the log that takes them.
+//! The records of a turn, and the log that takes them.
 ghost use Rattle.std.specs.Prelude.{◌≡◌, ◌≤◌, ◌<◌, ◌+◌, ◌*◌, ◌^◌, ◌∷◌, ◌++◌, [], ℕ, List, length, take, IsTrue, IfOk};
 ghost use Rattle.log_record.specs.declared.record.Record.{Record};
 ghost use Rattle.log_record.specs.declared.record.Record.TheVariants.{End, FirstLoad};

@@ -1,4 +1,4 @@
-// What a recording begins with.
+//! What a recording begins with.
 ghost use Rattle.std.specs.Prelude.{◌≡◌, IfOk};
 ghost use Rattle.std.specs.Bool.{Decides};
 

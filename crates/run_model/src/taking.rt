@@ -1,4 +1,4 @@
-// A turn of a plain machine, from a hart's quiet instructions on.
+//! A turn of a plain machine, from a hart's quiet instructions on.
 ghost use Rattle.std.specs.Prelude.{◌≡◌, true, OnOk, OnErr};
 ghost use Rattle.rv_meaning.specs.declared.asks.Ask.{Ask};
 ghost use Rattle.run_model.specs.Turn.{Run, turn, ask_at};

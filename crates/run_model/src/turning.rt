@@ -1,4 +1,4 @@
-// The turns of a plain machine.
+//! The turns of a plain machine.
 ghost use Rattle.std.specs.Prelude.{◌≡◌, ◌<◌, ◌≤◌, ◌*◌, ◌^◌, ℕ, true, false, length, IsTrue, IfOk, MatchOption};
 ghost use Rattle.rv_meaning.specs.Orderly.{is_cut, passes};
 ghost use Rattle.rv_meaning.specs.declared.asks.Reply.{Reply};

@@ -1,4 +1,4 @@
-// Why a slice can't be told.
+//! Why a slice can't be told.
 use bn_base::Ic;
 use hart_replay::ReplayError;
 use thiserror::Error;

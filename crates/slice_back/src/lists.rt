@@ -1,4 +1,4 @@
-// A backward slice.
+//! A backward slice.
 use bn_base::{Addr, Ic, List, Register, Row};
 
 /// The backward slice of a row: what it depends on, within its interval.

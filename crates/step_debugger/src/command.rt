@@ -1,4 +1,4 @@
-// The commands of the debugger.
+//! The commands of the debugger.
 use bn_base::Addr;
 
 /// What a line asks for.
