@@ -1,4 +1,4 @@
-//! A small example.
+//! A small trail, gone back twice.
 ghost use Rattle.std.specs.Prelude.{◌≡◌, [], length, IfOk, OnOk};
 
 use crate::trail::Trail;

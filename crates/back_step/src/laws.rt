@@ -1,4 +1,4 @@
-//! What going back does to a trail.
+//! What going back does to a trail: the state is the one that was there.
 ghost use Rattle.std.specs.Prelude.{◌≡◌, ◌<◌, length, None, OnOk};
 ghost use Rattle.joint_replay.specs.declared.kinds.Readiness.TheVariants.{Ready};
 ghost use Rattle.joint_replay.specs.Joining.{readiness};

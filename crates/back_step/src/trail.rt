@@ -1,4 +1,4 @@
-//! A joint replay with the way that it came.
+//! A joint replay with the steps that led to its state, so that a debugger can go back.
 ghost use Rattle.std.specs.Prelude.{◌≡◌, ◌≤◌, ◌<◌, ◌%◌, [], length, slice_get, None, IfOk, IfErr, OnOk, OnErr};
 ghost use Rattle.joint_replay.specs.declared.kinds.Readiness.TheVariants.{Ready};
 ghost use Rattle.joint_replay.specs.declared.error.JointError.TheVariants.{OutOfMemory};

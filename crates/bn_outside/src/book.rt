@@ -1,4 +1,4 @@
-//! A book of turns.
+//! Books, the journals of turns: the trait by which a recording notes its schedule.
 ghost use Rattle.std.specs.Prelude.{◌≡◌, ◌+◌, ◌<◌, ◌≤◌, [], ◌∷◌, ◌++◌, true, is_some, IfSome, OnOk, OnErr};
 
 use crate::TurnRow;

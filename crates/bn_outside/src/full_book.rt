@@ -1,4 +1,4 @@
-//! A book that tells its rows.
+//! A book that keeps its rows, so that contracts can name them.
 ghost use Rattle.std.specs.Prelude.{◌≡◌, ◌+◌, ◌<◌, ◌≤◌, [], ◌∷◌, ◌++◌, true, IsSomeAnd, OnOk, OnErr, length};
 ghost use Rattle.bn_outside.specs.Books.{empty_book};
 

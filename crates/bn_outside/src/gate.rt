@@ -1,4 +1,4 @@
-//! A gate between the turns of harts that run side by side.
+//! Gates, the scheduler hooks between the turns of harts in threads. Tests order turns by them; recordings have none.
 use crate::schedule::Schedule;
 use bn_base::HartId;
 

@@ -1,4 +1,4 @@
-//! A book that tells nothing.
+//! A book that keeps nothing, for recordings without a saved schedule.
 ghost use Rattle.std.specs.Prelude.{[], false, IsOk};
 
 use crate::{Book, TurnRow};

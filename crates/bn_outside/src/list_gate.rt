@@ -1,4 +1,4 @@
-//! A gate that gives the order of turns.
+//! A gate for tests that lets turns pass in the order of a list.
 ghost use Rattle.std.specs.Prelude.{◌≡◌, ◌↔◌, IfOk, IsTrue};
 ghost use Rattle.bn_outside.specs.Gates.{IsNext, MayPass};
 

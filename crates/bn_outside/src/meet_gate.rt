@@ -1,4 +1,4 @@
-//! A gate at which all harts meet.
+//! A gate for tests at which all harts meet, so that they are known to run side by side.
 ghost use Rattle.std.specs.Prelude.{◌≡◌, ◌↔◌, ◌<◌, ◌≤◌, IsTrue};
 
 use crate::Gate;

@@ -1,4 +1,4 @@
-//! A sink in memory.
+//! A sink in memory, for tests: contracts can name what was written, and chosen writes fail.
 ghost use Rattle.std.specs.Prelude.{◌≡◌, ◌≤◌, ◌<◌, ◌++◌, ◌⊎◌, take, min, Some, IfOk, IsErr, OnErr, length};
 ghost use Rattle.bn_outside.specs.Counts.{CountsFault, Rose, counted};
 ghost use Rattle.bn_outside.specs.Calls.{NextFails, after_call};

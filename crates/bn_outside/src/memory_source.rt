@@ -1,4 +1,4 @@
-//! A source in memory.
+//! A source in memory, for tests: contracts can name what is left, and chosen reads fail.
 ghost use Rattle.std.specs.Prelude.{◌≡◌, ◌≤◌, ◌<◌, ◌↔◌, ◌++◌, take, drop, min, Some, IfOk, IsErr, OnErr, length};
 ghost use Rattle.bn_outside.specs.Counts.{CountsFault, Rose, counted};
 ghost use Rattle.bn_outside.specs.Calls.{NextFails, after_call};

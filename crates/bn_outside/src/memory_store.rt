@@ -1,4 +1,4 @@
-//! A store in memory.
+//! A store in memory, for tests: contracts can name its files, and chosen calls fail.
 ghost use Rattle.std.specs.Prelude.{◌≡◌, ◌≤◌, ◌↔◌, Some, Err, IfOk, IsTrue, OnOk, OnErr, option_map, vec_len};
 ghost use Rattle.bn_outside.specs.Counts.{NoneFell, LoadCause, SaveCause, counted};
 ghost use Rattle.bn_outside.specs.Calls.{NextFails, after_call};

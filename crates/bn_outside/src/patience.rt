@@ -1,4 +1,4 @@
-//! The waits of a gate.
+//! The waits of a gate, which run out so that no test hangs.
 use std::sync::atomic::{AtomicBool, Ordering};
 use std::thread;
 

@@ -1,4 +1,4 @@
-//! A sink of bytes.
+//! Sinks of bytes: the trait by which the program writes its outputs.
 ghost use Rattle.std.specs.Prelude.{◌≤◌, ◌<◌, ℕ, List, Option, IfOk, OnErr, length, take};
 ghost use Rattle.std.specs.Io.KnownBytes.{Appends, Keeps};
 ghost use Rattle.bn_outside.specs.Counts.{CountsFault, Rose};

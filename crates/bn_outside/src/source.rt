@@ -1,4 +1,4 @@
-//! A source of bytes.
+//! Sources of bytes: the trait by which the program reads its inputs.
 ghost use Rattle.std.specs.Prelude.{◌≡◌, ◌≤◌, ℕ, List, Option, IfOk, OnErr, length, take};
 ghost use Rattle.std.specs.Io.KnownBytes.{Consumes, Keeps};
 ghost use Rattle.bn_outside.specs.Counts.{CountsFault, Rose, counted};

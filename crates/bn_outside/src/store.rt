@@ -1,4 +1,4 @@
-//! A store of named files.
+//! Stores of named files: the trait by which the program loads and saves. Contracts speak of files by it alone.
 ghost use Rattle.std.specs.Prelude.{◌≡◌, ◌≤◌, ℕ, Option, IfOk, IfSome, OnOk, Some, vec_len};
 ghost use Rattle.bn_outside.specs.Counts.{Counts, counted, NoneFell, LoadCause, SaveCause};
 ghost use Rattle.bn_outside.specs.Files.{Files, LoadTells, SameElsewhere, WhereTold};

@@ -1,4 +1,4 @@
-//! One turn of a run.
+//! One turn of a run, as a book keeps it.
 use bn_base::HartId;
 use rv_meaning::{Ask, Reply};
 

@@ -1,4 +1,4 @@
-//! The files of the system as a store.
+//! The files of the system as a store. No clause says what real files hold; tests do.
 ghost use Rattle.std.specs.Prelude.{◌≡◌, ◌≤◌, ◌↔◌, None, IfOk, IsFalse, vec_len};
 ghost use Rattle.std.specs.List.{Contains};
 ghost use Rattle.host_outside.specs.Answers.{FileTells};

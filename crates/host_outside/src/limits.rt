@@ -1,4 +1,4 @@
-//! The limits that the system sets to the process.
+//! The limit that the system sets to the size of files: a write past it would end the process.
 use std::fs;
 use std::fs::Files;
 use std::io::Read;

@@ -1,4 +1,4 @@
-//! Files that are open.
+//! Open files, and what they are.
 ghost use Rattle.std.specs.Prelude.{◌↔◌, IfOk, IsFalse, IsTrue, OnOk};
 ghost use Rattle.std.specs.Fs.{asks_truncate};
 ghost use Rattle.std.specs.List.{Contains};

@@ -1,4 +1,4 @@
-//! Which files no save may replace.
+//! Which files no save may replace: those loaded or saved before, so that no command destroys its own input.
 ghost use Rattle.std.specs.Prelude.{◌≡◌, ◌↔◌, ◌++◌, ◌∷◌, [], IsTrue, List, OnErr, OnOk};
 ghost use Rattle.std.specs.List.{Contains};
 ghost use Rattle.host_outside.specs.declared.spared_files.FileId.{FileId};

@@ -1,4 +1,4 @@
-//! A reader that isn't read again once it has said that it ended.
+//! A reader that isn't read again once it has said that it ended: a terminal could continue.
 ghost use Rattle.std.specs.Prelude.{◌≡◌, ◌<◌, [], Some, Ok, IfOk, IsTrue, cond, false, length};
 ghost use Rattle.std.specs.Io.{ReadsAtMost};
 ghost use Rattle.std.specs.Io.KnownBytes.{ReadConsumes};

@@ -1,4 +1,4 @@
-//! The words of the command line.
+//! The words of the command line, as the system passes them.
 use std::alloc::AllocError;
 use std::env;
 use std::env::Env;

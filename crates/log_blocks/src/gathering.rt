@@ -1,4 +1,4 @@
-//! The records' bytes of blocks, one block's after another's.
+//! The records' bytes of blocks, in one piece, and whether the blocks are cut as they should be.
 ghost use Rattle.std.specs.Prelude.{◌≡◌, ◌≤◌, ◌+◌, ◌==◌, ◌&&◌, not, List, ℕ, length, take, IfOk};
 ghost use Rattle.le_numbers.specs.Numbers.{number_at};
 ghost use Rattle.std.specs.List.{flat_map, AllByRecursion};

@@ -1,4 +1,4 @@
-//! The head of a file of version 2.
+//! The head of a file of version 2, with its own digest: a damage after it leaves it readable.
 ghost use Rattle.std.specs.Prelude.{◌≡◌, ◌≤◌, Some, None, length, IfOk, IfErr};
 ghost use Rattle.log_blocks.specs.Fields.{settings_in, program_in, head_digest};
 ghost use Rattle.log_blocks.specs.Faults.{is_second, later_fault, head_fault};

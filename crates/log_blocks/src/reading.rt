@@ -1,4 +1,4 @@
-//! Reading a file.
+//! Reading a log file of either version: the log that it says, or the first cause to refuse it.
 ghost use Rattle.std.specs.Prelude.{◌≡◌, ◌≢◌, ◌≤◌, ◌+◌, List, ℕ, Some, None, true, drop, length, take, MatchResult, IfOk, IfErr};
 ghost use Rattle.bn_base.specs.Ranges.{IsSetting};
 ghost use Rattle.std.specs.List.{AllByRecursion};

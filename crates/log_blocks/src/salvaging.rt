@@ -1,4 +1,4 @@
-//! What can be read of a damaged file.
+//! What is salvaged of a damaged file of version 2: the good blocks at its end, a suffix of the log.
 ghost use Rattle.std.specs.Prelude.{◌≡◌, ◌≤◌, ◌+◌, ◌==◌, ◌&&◌, not, false, List, None, length, MatchResult, IfOk, IfErr};
 ghost use Rattle.log_blocks.specs.Fields.{settings_in, size_in, head_digest, blocks_in};
 ghost use Rattle.log_blocks.specs.Faults.{head_fault};

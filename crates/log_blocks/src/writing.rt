@@ -1,4 +1,4 @@
-//! Writing a file of version 2.
+//! Writing a file of version 2: a head, and blocks that are sealed by digests. `specs/` pins each byte.
 ghost use Rattle.std.specs.Prelude.{◌≡◌, ◌<◌, ◌≤◌, ◌++◌, ◌^◌, List, ℕ, length, IfOk, OnOk};
 ghost use Rattle.std.specs.List.{flat_map, AllByRecursion};
 ghost use Rattle.log_record.specs.declared.record.Record.{Record};

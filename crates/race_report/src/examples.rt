@@ -1,4 +1,4 @@
-//! Small logs and their races.
+//! Small logs and their races, worked out by hand.
 ghost use Rattle.std.specs.Prelude.{◌≡◌, ◌∷◌, []};
 ghost use Rattle.joint_replay.specs.Examples.{filled_word};
 ghost use Rattle.race_report.specs.Examples.{relay, passed_message, early_message, reserved_message, missed_message, races_in, count_in};

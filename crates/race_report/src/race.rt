@@ -1,4 +1,4 @@
-//! Races.
+//! Races: pairs of conflicting accesses that no synchronisation orders.
 use bn_base::{Addr, Row};
 
 /// Two instructions of different harts that no synchronisation orders, and that access a common word

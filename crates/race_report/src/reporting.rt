@@ -1,4 +1,4 @@
-//! The race report.
+//! `report`: a joint replay is run to its end, and its rows' races are gathered.
 ghost use Rattle.std.specs.Prelude.{◌≡◌, ◌<◌, [], ℕ, length, None};
 ghost use Rattle.std.specs.Option.{option_map};
 ghost use Rattle.joint_replay.specs.declared.kinds.Next.TheVariants.{Hart, NoneReady};

@@ -1,4 +1,4 @@
-//! The lines of a race report.
+//! The lines of a race report. `specs/` pins each byte.
 ghost use Rattle.std.specs.Prelude.{◌≡◌, ◌++◌, codes, OnOk, OnErr};
 ghost use Rattle.rv_text.specs.Texts.{BeginsWith};
 ghost use Rattle.race_report.specs.Texts.{place_text, race_text, count_text};

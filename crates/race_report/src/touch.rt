@@ -1,4 +1,4 @@
-//! What an instruction accesses.
+//! What an instruction accesses, as a race report reads it off a row.
 ghost use Rattle.std.specs.Prelude.{◌≡◌, IfSome};
 ghost use Rattle.bn_base.specs.declared.state.HartState.{HartState};
 ghost use Rattle.race_report.specs.Points.{asked_by, touch_of, call_touch, loaded_touch, word_with, is_atomic, is_atomic_name, IsTouch};

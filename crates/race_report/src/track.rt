@@ -1,4 +1,4 @@
-//! The accesses of each word by each hart, the latest first.
+//! The accesses of each word by each hart, the latest first: a point is compared with these.
 ghost use Rattle.std.specs.Prelude.{◌≡◌, ◌<◌, ◌/◌, ◌==◌, ◌&&◌, ◌++◌, ◌∷◌, ℕ, List, [], cond, length, slice_get, Some, IfOk, OnOk, OnErr, IfSome};
 ghost use Rattle.race_report.specs.Tracks.{IsTrackedIn, AreBelow, AreLinked, head_at, room_at, NotedOne};
 

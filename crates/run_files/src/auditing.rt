@@ -1,4 +1,4 @@
-//! Whether a log is the file of the run of a list of turns.
+//! Audits: the run of a list of turns is made again, and its file compared with a log.
 ghost use Rattle.std.specs.Prelude.{◌≡◌, ◌⊎◌, ℕ, None, Some, IfOk, IfErr, OnOk};
 ghost use Rattle.run_model.specs.declared.error.TurnError.TheVariants.{OutOfMemory};
 ghost use Rattle.run_model.specs.Turn.{Run};

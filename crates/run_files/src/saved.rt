@@ -1,4 +1,4 @@
-//! The log file that is saved of a recording.
+//! The log file that is saved of a recording, from what its ring keeps.
 ghost use Rattle.std.specs.Prelude.{◌≡◌, IfOk};
 ghost use Rattle.log_order.specs.Content.{content};
 ghost use Rattle.log_file.specs.Layout.{file_bytes, file_bytes2, saved_bytes};

@@ -1,4 +1,4 @@
-//! The caches of the harts.
+//! The caches of the harts: they decide which loads a recording logs.
 ghost use Rattle.std.specs.Prelude.{◌≡◌, ◌≤◌, ◌<◌, ◌+◌, ◌*◌, ◌^◌, ◌==◌, ℕ, List, [], Bool, true, false, length, get_or, IfOk, Option, Some, None, if◌then◌else◌};
 ghost use Rattle.bn_base.specs.Programs.{Program};
 ghost use Rattle.bn_base.specs.declared.settings.RawSettings.{RawSettings};

@@ -1,4 +1,4 @@
-//! What is traced before the first turn.
+//! What is traced before the first turn: each hart's first Header.
 ghost use Rattle.std.specs.Prelude.{◌≡◌, ◌≤◌, ◌<◌, ◌^◌, ◌+◌, ◌∷◌, ◌++◌, [], ℕ, List, length, IfOk};
 ghost use Rattle.run_model.specs.Runs.{start as first_run, start_state};
 ghost use Rattle.run_model.specs.Represents.Plain.{IsTrace, IsTraceFit};

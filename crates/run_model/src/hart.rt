@@ -1,4 +1,4 @@
-//! What a run keeps of a hart.
+//! What a run keeps of a hart: its state, and what its records need of its present interval.
 ghost use Rattle.std.specs.Prelude.{◌≡◌, ◌<◌, ◌-◌, ◌^◌, IsTrue};
 ghost use Rattle.rv_meaning.specs.Execute.{absorbed};
 ghost use Rattle.rv_meaning.specs.Orderly.{is_reply_to};

@@ -1,4 +1,4 @@
-//! The harts of a run, and what a turn leaves of them.
+//! What the end of a run does to all harts: it stops them, and appends their Ends.
 ghost use Rattle.std.specs.Prelude.{◌≡◌, ◌≤◌, ◌<◌, ◌+◌, ◌*◌, ◌^◌, ◌++◌, ℕ, List, length, slice_set, get_or};
 ghost use Rattle.log_record.specs.declared.record.Record.{Record};
 ghost use Rattle.bn_base.specs.declared.settings.TheConstants.{HARTS};

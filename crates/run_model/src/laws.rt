@@ -1,4 +1,4 @@
-//! Laws of turns.
+//! Laws of turns: each moves on within its budget, and records decide nothing. `run_laws` and `bus_core` build on them.
 ghost use Rattle.run_model.specs.Counts.{EachTurnMovesOn, EachTurnFits, OthersStayFit, GuardedAsksFit};
 ghost use Rattle.run_model.specs.Guards.{FormatOneIsUnguarded, RecordsDecideNothing};
 

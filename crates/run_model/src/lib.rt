@@ -1,4 +1,5 @@
-//! What a recording is: its runs, rows, intervals and log, in definitions that compute.
+//! What a recording is: its runs, rows, intervals and log, in definitions that compute (`specs/`), and the machine that is
+//! proved against them (`src/`). The replays and the laws cite the definitions alone; the bus runs this code too.
 #![tactic(auto)]
 
 mod caches;

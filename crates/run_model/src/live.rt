@@ -1,4 +1,4 @@
-//! Which harts of a run are live, as a set.
+//! Which harts of a run are live, as a set of bits: the race log's sweep takes it so.
 ghost use Rattle.std.specs.Prelude.{◌≡◌, ◌<◌, ◌≤◌, ◌+◌, ◌^◌, ℕ, length};
 ghost use Rattle.bn_base.specs.declared.settings.TheConstants.{HARTS};
 ghost use Rattle.race_log.specs.Sweep.{has_bit};

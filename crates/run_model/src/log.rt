@@ -1,4 +1,4 @@
-//! The log of a run, and how many bytes it took.
+//! The log of a run: its ring, and how many bytes it took, by which guards are decided.
 ghost use Rattle.std.specs.Prelude.{◌≤◌, ◌*◌};
 ghost use Rattle.run_model.specs.Represents.Taken.{taken};
 

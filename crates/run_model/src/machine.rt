@@ -1,4 +1,4 @@
-//! The machine that all harts share, as it runs.
+//! The machine that all harts share, as it runs: it answers asks. `specs/Machine.antt` pins the answers.
 ghost use Rattle.std.specs.Prelude.{◌≡◌, ◌≤◌, ◌<◌, ◌+◌, ◌*◌, ◌/◌, ◌^◌, ◌==◌, ℕ, IsTrue, true, List, length, slice_index, vec_len, IfOk, OnOk, Option, None, Some};
 ghost use Rattle.bn_base.specs.Programs.{Program};
 ghost use Rattle.bn_base.specs.declared.settings.TheConstants.{HARTS};

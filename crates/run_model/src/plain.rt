@@ -1,4 +1,4 @@
-//! The plain machine.
+//! The plain machine: a recording without threads. Audits run it, and the bus of threads is made of it.
 ghost use Rattle.std.specs.Prelude.{◌≡◌};
 ghost use Rattle.run_model.specs.Represents.Parts.{size_of};
 ghost use Rattle.run_model.specs.Represents.Plain.{IsTraceFit};

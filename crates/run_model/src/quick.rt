@@ -1,6 +1,6 @@
-//! Turns that are a load or a store, done in the hart's own place: its quiet instructions change its state there, and
-//! no ask is copied. A turn that would need memory for its machine, or that a guard cuts, puts the state back and goes the
-//! way of all other turns.
+//! Turns that are a load or a store, done in the hart's own place: its quiet instructions change its state there, and no
+//! ask is copied. A turn that would need memory for its machine, or that a guard cuts, puts the state back and is then
+//! taken as all other turns are.
 ghost use Rattle.std.specs.Prelude.{is_some, ◌&&◌, nat_lt, ◌≡◌, ◌≤◌, ◌<◌, ◌+◌, ◌-◌, ◌^◌, ◌++◌, ◌==◌, ◌≢◌, ℕ, List, length, IsTrue, true, false, Option, Some, None, ◌*◌, if◌then◌else◌};
 ghost use Rattle.bn_base.specs.declared.settings.RawSettings.{RawSettings};
 ghost use Rattle.bn_base.specs.declared.settings.TheConstants.{HARTS};

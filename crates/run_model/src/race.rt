@@ -1,4 +1,4 @@
-//! The race log's part of a turn.
+//! The race log's part of a turn: which Edges it records, and which accesses it may forget.
 ghost use Rattle.std.specs.Prelude.{◌≡◌, ◌≤◌, ◌<◌, ◌+◌, ◌^◌, ◌++◌, ◌≢◌, ℕ, List, IsTrue, length};
 ghost use Rattle.log_record.specs.declared.record.Record.{Record};
 ghost use Rattle.bn_base.specs.declared.settings.TheConstants.{HARTS};

@@ -1,4 +1,4 @@
-//! The words that an instruction accesses.
+//! The words that an instruction accesses: what caches and race log are told of it.
 ghost use Rattle.std.specs.Prelude.{◌≡◌, ◌/◌, ◌*◌};
 ghost use Rattle.run_model.specs.Machine.{word_count};
 ghost use Rattle.run_model.specs.Turn.{call_span, sc_span, access_span, span_of, loading};

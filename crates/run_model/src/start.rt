@@ -1,4 +1,4 @@
-//! What a recording begins with.
+//! What a recording begins with: program, settings, input. With the schedule it determines the whole recording.
 ghost use Rattle.std.specs.Prelude.{◌≡◌, IfOk};
 ghost use Rattle.std.specs.Bool.{Decides};
 

@@ -1,4 +1,4 @@
-//! A turn of a plain machine, from a hart's quiet instructions on.
+//! A whole turn of a plain machine: a hart's quiet instructions, its ask, and the answer.
 ghost use Rattle.std.specs.Prelude.{◌≡◌, true, OnOk, OnErr};
 ghost use Rattle.rv_meaning.specs.declared.asks.Ask.{Ask};
 ghost use Rattle.run_model.specs.Turn.{Run, turn, ask_at};

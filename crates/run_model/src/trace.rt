@@ -1,4 +1,5 @@
-//! What is traced of a run: its harts, their caches, the race log and the log.
+//! What is traced of a run: its harts, their caches, the race log and the log. All records are appended here.
+//! `specs/Represents` says which runs a trace represents.
 ghost use Rattle.std.specs.Prelude.{◌≡◌, ◌≤◌, ◌<◌, ◌+◌, ◌-◌, ◌*◌, ◌^◌, ◌++◌, ◌==◌, ◌&&◌, ◌≢◌, ℕ, List, length, IsTrue, true, false, is_some, Option, OnOk, if◌then◌else◌};
 ghost use Rattle.bn_base.specs.Programs.{Program};
 ghost use Rattle.bn_base.specs.declared.settings.RawSettings.{RawSettings};

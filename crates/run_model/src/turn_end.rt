@@ -1,4 +1,4 @@
-//! What comes after a turn.
+//! What comes after a turn: whether the hart's interval, the hart or the run ends, and for which reason.
 ghost use Rattle.std.specs.Prelude.{◌≡◌, ◌≤◌};
 ghost use Rattle.run_model.specs.Turn.{counted, after_call, after_access, next_of, by_guard};
 

@@ -1,4 +1,4 @@
-//! The turns of a plain machine.
+//! The steps of a turn of a plain machine, as a bus takes them: it prepares an ask, then applies it.
 ghost use Rattle.std.specs.Prelude.{◌≡◌, ◌<◌, ◌≤◌, ◌*◌, ◌^◌, ℕ, true, false, length, IsTrue, IfOk, MatchOption};
 ghost use Rattle.rv_meaning.specs.Orderly.{is_cut, passes};
 ghost use Rattle.rv_meaning.specs.declared.asks.Reply.{Reply};

@@ -1,4 +1,4 @@
-//! What the accesses to memory give and leave.
+//! What a load gives of a word, and what a store leaves of it, for the machine and for replays.
 ghost use Rattle.std.specs.Prelude.{◌≡◌, ◌<◌, ◌==◌, if◌then◌else◌, IsTrue};
 ghost use Rattle.rv_meaning.specs.Access.{loaded_value, stored_word};
 ghost use Rattle.rv_meaning.specs.Orderly.{is_aligned};

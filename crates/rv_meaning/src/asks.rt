@@ -1,4 +1,4 @@
-//! What a hart asks of the rest of the machine, and the replies.
+//! What a hart asks of the rest of the machine, and the replies: the only way between a hart and what harts share.
 ghost use Rattle.std.specs.Prelude.{◌≡◌};
 ghost use Rattle.rv_meaning.specs.Orderly.{passes_store};
 

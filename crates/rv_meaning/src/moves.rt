@@ -1,4 +1,4 @@
-//! How the state of a hart moves on by one instruction.
+//! Moves of a hart's state by one instruction, of which the others are made.
 ghost use Rattle.std.specs.Prelude.{◌≡◌};
 ghost use Rattle.rv_meaning.specs.Execute.{count_up, next_at, next_with};
 

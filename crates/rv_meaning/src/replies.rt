@@ -1,4 +1,4 @@
-//! The state of a hart after a reply.
+//! The state of a hart after a reply: `absorb`, for recorders and replays alike.
 ghost use Rattle.std.specs.Prelude.{◌≡◌, IsTrue};
 ghost use Rattle.rv_meaning.specs.Execute.{is_exit, after, absorbed};
 ghost use Rattle.rv_meaning.specs.Orderly.{is_reply_to};

@@ -1,4 +1,4 @@
-//! A backward slice.
+//! A backward slice, as its caller gets it.
 use bn_base::{Addr, Ic, List, Register, Row};
 
 /// The backward slice of a row: what it depends on, within its interval.

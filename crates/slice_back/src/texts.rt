@@ -1,4 +1,4 @@
-//! The lines of a slice.
+//! The lines of a slice. `specs/` pins each byte.
 ghost use Rattle.std.specs.Prelude.{◌≡◌, ◌++◌, codes, decimal, OnOk, OnErr};
 ghost use Rattle.rv_text.specs.Instructions.{hex8};
 ghost use Rattle.rv_text.specs.Texts.{BeginsWith};

@@ -1,4 +1,4 @@
-//! The debugger.
+//! The debugger's loop: a line is read, its command done, and its answer sent.
 ghost use Rattle.std.specs.Prelude.{◌≤◌};
 ghost use Rattle.step_debugger.specs.Goings.{session_of, StopsApart};
 ghost use Rattle.step_debugger.specs.Turns.{TakesLine, LineApart};

@@ -1,4 +1,4 @@
-//! Small examples.
+//! Small sessions, worked out by hand.
 ghost use Rattle.std.specs.Prelude.{◌≡◌, ◌+◌, ◌++◌, ◌^◌, [], ◌∷◌, length, Some, None};
 ghost use Rattle.std.specs.Prelude.{replicate};
 ghost use Rattle.step_debugger.specs.declared.command.DebugCommand.TheVariants.{Other};

@@ -1,7 +1,6 @@
-//! What a session keeps beside its joint replay.
+//! What a session keeps beside its joint replay: the chosen hart and the breakpoints.
 use bn_base::{Addr, HartId};
 
-/// The chosen hart, and the breakpoints.
 #[derive(Drop)]
 pub(crate) struct Focus {
     pub(crate) hart: HartId,

@@ -1,4 +1,4 @@
-//! Steps of a joint replay, as commands take them.
+//! Steps forward, as commands take them, up to a breakpoint.
 ghost use Rattle.std.specs.Prelude.{◌≡◌, ◌<◌, true, false, length, Some, None, MatchOption, IfOk};
 ghost use Rattle.joint_replay.specs.declared.kinds.Readiness.TheVariants.{Ready};
 ghost use Rattle.joint_replay.specs.declared.kinds.Next.TheVariants.{Hart};

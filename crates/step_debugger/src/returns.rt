@@ -1,4 +1,4 @@
-//! Ways back, as commands take them.
+//! Steps back, as commands take them, down to a breakpoint.
 ghost use Rattle.std.specs.Prelude.{◌≡◌, ◌≤◌, length, Some, None, IfSome};
 ghost use Rattle.step_debugger.specs.Answers.{stop_before, stop_below, back_by, back_to, back_to_stop};
 ghost use Rattle.step_debugger.specs.Goings.{MovesBy, TellsApart};

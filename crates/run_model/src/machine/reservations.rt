@@ -1,4 +1,4 @@
-//! The words that harts have reserved.
+//! The words that harts have reserved, by LR, and what ends a reservation.
 ghost use Rattle.std.specs.Prelude.{◌≡◌, ◌<◌, ◌+◌, ◌*◌, ◌==◌, ℕ, Option, None, cond};
 ghost use Rattle.bn_base.specs.declared.settings.TheConstants.{HARTS};
 ghost use Rattle.run_model.specs.Machine.{reserving, unless, others_lose, is_among, all_lose, is_reserved};
