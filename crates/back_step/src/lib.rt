@@ -1,4 +1,6 @@
 //! Steps of a joint replay that can be gone back, position by position.
+//!
+//! Files that no `pub` below names may change with this crate's proofs alone.
 #![tactic(auto)]
 
 mod entry;

@@ -5,6 +5,8 @@
 //! files and terminals tell none, the objects in memory tell all of it. Each of them also counts
 //! its refusals in numbers of 64 bits that never fall and stand still at their last value. A
 //! refusal comes only in a call in which its count rose. A count at its last value counts as risen.
+//!
+//! Files that no `pub` below names may change with this crate's proofs alone.
 #![tactic(auto)]
 
 mod book;

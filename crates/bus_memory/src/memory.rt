@@ -1,4 +1,4 @@
-//! Memory in pages.
+//! Memory in pages: room is made before an access, so that the access itself can't fail.
 ghost use Rattle.std.specs.Prelude.{◌≡◌, ◌≤◌, ◌<◌, ◌+◌, ◌*◌, ◌/◌, ◌%◌, ◌||◌, ◌^◌, ℕ, true, length, slice_index, slice_set, vec_len, IfOk, IsOk, OnOk, OnErr};
 ghost use Rattle.bn_base.specs.Programs.{first_at};
 ghost use Rattle.bus_memory.specs.Contents.{HoldsMap, updated, has_page, HasPages, shares_page, is_touched};

@@ -1,4 +1,4 @@
-//! A page of memory.
+//! A page of memory, which takes memory only once it is made.
 ghost use Rattle.std.specs.Prelude.{◌≡◌, ◌<◌, ℕ, true, false, [], length, slice_index, slice_set, vec_len, IsOk, OnOk, OnErr};
 
 use std::alloc::{AllocError, Global};

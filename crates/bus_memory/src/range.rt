@@ -1,4 +1,4 @@
-//! Pages in a row.
+//! Making the pages of a range, in two steps: first memory is found for all, then they are made.
 ghost use Rattle.std.specs.Prelude.{◌≡◌, ◌≤◌, ◌<◌, ◌+◌, ◌*◌, ◌||◌, ◌&&◌, ℕ, true, false, nat_le, nat_lt, length, slice_index_or, IsOk, OnOk};
 ghost use Rattle.bus_memory.specs.Frames.{contents_of, HaveWords, AreMade};
 

@@ -1,4 +1,4 @@
-//! What a command line asks for.
+//! What a command line asks for: one variant for each command, with its arguments.
 use bn_base::RawSettings;
 
 /// What a recording is to be.

@@ -1,4 +1,4 @@
-//! Why words give no command.
+//! Why words give no command: they are refused, or out of memory.
 ghost use Rattle.std.specs.Prelude.{◌≡◌};
 ghost use Rattle.command_words.specs.declared.error.WordsError.TheVariants as words_error;
 

@@ -2,6 +2,8 @@
 //!
 //! The words are read by one command of clap. What is taken is its definition (`specs/App.antt`),
 //! what a taken line says is `command_in` (`specs/Words.antt`).
+//!
+//! Files that no `pub` below names may change with this crate's proofs alone.
 #![tactic(auto)]
 
 mod commands;

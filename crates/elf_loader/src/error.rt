@@ -1,4 +1,4 @@
-//! Why a file is refused.
+//! Why a file is refused, with the texts that users see.
 ghost use Rattle.std.specs.Prelude.{◌≡◌};
 ghost use Rattle.elf_loader.specs.declared.error.ElfError.TheVariants.{OutOfMemory};
 

@@ -1,5 +1,7 @@
 //! Loads programs out of ELF files: static 32-bit RISC-V executables (ELF, and the RISC-V ELF psABI).
 //! `load` gives the image of the file's bytes, or the first of the reasons to refuse it.
+//!
+//! Files that no `pub` below names may change with this crate's proofs alone.
 #![tactic(auto)]
 
 mod checks;

@@ -1,4 +1,4 @@
-//! Program headers, and the segments that they describe.
+//! Program headers, and the aligned words of the segments that they describe.
 ghost use Rattle.std.specs.Prelude.{◌≡◌, ◌≤◌, ◌<◌, ◌+◌, ◌^◌, length, vec_len, IfOk};
 ghost use Rattle.elf_loader.specs.Headers.{header_at};
 ghost use Rattle.elf_loader.specs.Segments.{is_segment, file_end, IsLoadable, words_touched, first_word, word_after, has_code, share, byte_in, word_of, file_words, part_of};

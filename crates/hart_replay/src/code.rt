@@ -1,4 +1,4 @@
-//! The program of a replay, with what its code words decode to.
+//! The program of a replay, with what its code words decode to: a loop is not decoded again at each turn.
 ghost use Rattle.std.specs.Prelude.{◌≡◌, ◌/◌, ◌%◌, option_map};
 ghost use Rattle.bn_base.specs.Programs.{Program};
 ghost use Rattle.rv_decode.specs.Seen.{seen};

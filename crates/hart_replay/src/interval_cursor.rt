@@ -1,4 +1,4 @@
-//! The instructions of an interval, one by one.
+//! The instructions of an interval, one by one: here the log's records are met. `Replayer` adds the end.
 ghost use Rattle.std.specs.Prelude.{◌≡◌, ◌<◌, ◌/◌, ◌==◌, ◌&&◌, ◌||◌, ℕ, true, false, Some, None, if◌then◌else◌, IsTrue, IfOk, IfErr, OnOk};
 ghost use Rattle.rv_meaning.specs.Execute.{after};
 ghost use Rattle.rv_meaning.specs.Orderly.{is_reply_to, is_aligned, is_cut, passes};

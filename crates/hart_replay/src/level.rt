@@ -1,4 +1,4 @@
-//! One level of the directory of pages.
+//! One level of the directory of pages, a radix tree.
 ghost use Rattle.std.specs.Prelude.{◌≡◌, ◌≤◌, ◌<◌, ◌+◌, ℕ, [], true, length, slice_set, Some, OnOk, IfOk, IsOk};
 ghost use Rattle.hart_replay.specs.Directories.{has_part, place_in, place_at, has_branch};
 

@@ -1,5 +1,7 @@
 //! The replay of one checkpoint interval, from its log and the program alone. `specs/Replay.antt` defines its rows and
 //! its outcome, and `Replayer` gives them one by one.
+//!
+//! Files that no `pub` below names may change with this crate's proofs alone.
 #![tactic(auto)]
 
 mod code;

@@ -1,4 +1,4 @@
-//! A page of known words.
+//! A page of 64 words, of which some are known.
 ghost use Rattle.std.specs.Prelude.{◌≡◌, ◌<◌, ◌==◌, ℕ, length, Some, None, if◌then◌else◌};
 ghost use Rattle.hart_replay.specs.Pages.{word_in, marked, cleared};
 

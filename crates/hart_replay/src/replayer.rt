@@ -1,4 +1,4 @@
-//! The replay of one interval, row by row.
+//! The replay of one interval, row by row: the crate's main type.
 ghost use Rattle.std.specs.Prelude.{◌≡◌, None, take, IfOk, IfErr};
 ghost use Rattle.hart_replay.specs.declared.error.ReplayError.TheVariants.{NoInterval};
 ghost use Rattle.hart_replay.specs.Replay.{interval_of};

@@ -3,6 +3,8 @@
 //!
 //! What the host's files, readers and writers hold is told by no clause, since others may change them at any
 //! moment. What is told is how much is loaded at most, what is handed on, and that each failure is counted.
+//!
+//! Files that no `pub` below names may change with this crate's proofs alone.
 #![tactic(auto)]
 
 mod file_store;

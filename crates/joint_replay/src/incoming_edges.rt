@@ -1,4 +1,4 @@
-//! The Edges into a hart.
+//! The kept Edges into a hart, read off the log's records without a copy.
 ghost use Rattle.std.specs.Prelude.{◌≡◌, ◌<◌, IfOk};
 ghost use Rattle.joint_replay.specs.Sources.{source_in, edges_into, AscendFrom};
 

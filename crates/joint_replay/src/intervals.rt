@@ -1,4 +1,4 @@
-//! The retained intervals of a hart.
+//! The retained intervals of a hart, found by their Headers.
 ghost use Rattle.std.specs.Prelude.{◌≡◌, ◌<◌, ◌+◌, length, drop, IfSome, IfOk};
 ghost use Rattle.std.specs.Option.{option_map};
 ghost use Rattle.joint_replay.specs.Intervals.{numbers, AreThere};

@@ -1,4 +1,4 @@
-//! What a hart does next in a joint replay, and what a step did.
+//! What a hart does next in a joint replay, whether it is ready, and what a step did.
 ghost use Rattle.std.specs.Prelude.{◌≡◌};
 ghost use Rattle.joint_replay.specs.Lanes.{count_of};
 

@@ -1,4 +1,7 @@
 //! The replay of all retained intervals together, in any order that the kept Edges allow.
+//!
+//! Files that no `pub` below names may change with this crate's proofs alone, but for `running`, which has methods of
+//! `Joint`.
 #![tactic(auto)]
 
 mod calls;

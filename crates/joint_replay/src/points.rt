@@ -1,4 +1,4 @@
-//! The ordering points of a hart, and its retained intervals.
+//! The ordering points of a hart: accesses of lost intervals that Edges name.
 ghost use Rattle.std.specs.Prelude.{◌≡◌, ◌∷◌, List, None, drop, IfOk, OnOk};
 ghost use Rattle.log_record.specs.declared.record.Record.{Record};
 ghost use Rattle.joint_replay.specs.Points.{is_below, first_count, insert, insert_if, points_below, ordering_points, or_first};

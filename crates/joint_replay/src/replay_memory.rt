@@ -1,4 +1,4 @@
-//! The memory of a joint replay.
+//! The memory of a joint replay: the words that its steps told, and no others.
 ghost use Rattle.std.specs.Prelude.{◌≡◌, ◌≤◌, ◌<◌, ◌+◌, ◌*◌, ◌/◌, ◌^◌, ◌⊎◌, [], ◌∷◌, Some, OnOk, IfOk, MatchOption};
 ghost use Rattle.std.specs.Option.{option_map};
 ghost use Rattle.rv_meaning.specs.Words.{aligned};

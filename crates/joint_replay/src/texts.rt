@@ -1,4 +1,4 @@
-//! The lines of a joint replay.
+//! The lines of a joint replay. `specs/` pins each byte.
 ghost use Rattle.std.specs.Prelude.{◌≡◌, ◌++◌, OnOk, OnErr};
 ghost use Rattle.rv_text.specs.Texts.{BeginsWith};
 ghost use Rattle.joint_replay.specs.Texts.{pass_text, known_text, stepped_text};

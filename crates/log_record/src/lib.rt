@@ -1,5 +1,7 @@
 //! The records of a log, their bytes, and lists of them in little memory. A recorder writes them; files, replays and
 //! reports read them. `specs/Spelling.antt` pins each byte.
+//!
+//! Files that no `pub` below names may change with this crate's proofs alone.
 #![tactic(auto)]
 
 pub mod bytes;

@@ -10,6 +10,8 @@
 //! `Shadow` takes in the accesses of a run one by one and answers the edges into each. The laws say what the edges are
 //! good for; each is the contract of a function that does nothing. Small runs with their edges worked out are contracts
 //! too.
+//!
+//! Files that no `pub` below names may change with this crate's proofs alone.
 #![tactic(auto)]
 
 mod edges;

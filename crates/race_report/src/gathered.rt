@@ -1,4 +1,4 @@
-//! The points of a joint replay so far, and their races.
+//! The points of a joint replay so far, and their races: each new point is compared with those before it.
 ghost use Rattle.std.specs.Prelude.{◌≡◌, ◌<◌, ◌≤◌, ◌++◌, ◌∷◌, [], ℕ, List, length, OnOk, IfOk};
 ghost use Rattle.race_report.specs.Points.{Accessing, IsTouch};
 ghost use Rattle.race_report.specs.Found.{total};

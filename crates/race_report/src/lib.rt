@@ -6,6 +6,8 @@
 //! goes from a point to a later one of its hart, or from a sync point to a later conflicting one. Later
 //! means in the joint replay with the lowest ready hart first. An order by synchronisation in intervals
 //! that were given up isn't seen.
+//!
+//! Files that no `pub` below names may change with this crate's proofs alone.
 #![tactic(auto)]
 
 mod calls;

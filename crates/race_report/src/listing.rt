@@ -1,4 +1,4 @@
-//! The races in their order.
+//! The races in the order of the report, by hart and count.
 ghost use Rattle.std.specs.Prelude.{◌≡◌, ◌<◌, ◌++◌, [], ℕ, List, cond, length, slice_get, OnOk, IfOk};
 ghost use Rattle.std.specs.Option.{option_map, option_to_list};
 ghost use Rattle.race_report.specs.Points.{Accessing};

@@ -1,4 +1,4 @@
-//! The races that were found so far.
+//! The races that were found so far, by the place of their first point.
 ghost use Rattle.std.specs.Prelude.{◌≡◌, ◌<◌, ◌+◌, ◌==◌, ◌++◌, [], ◌∷◌, true, false, min, length, slice_get, Some, None, OnOk, OnErr, IfOk, if◌then◌else◌};
 ghost use Rattle.race_report.specs.Found.{met, met_at, lists_in, total, last_meets};
 

@@ -1,5 +1,8 @@
 //! What a recording is: its runs, rows, intervals and log, in definitions that compute (`specs/`), and the machine that is
 //! proved against them (`src/`). The replays and the laws cite the definitions alone; the bus runs this code too.
+//!
+//! Files that no `pub` below names may change with this crate's proofs alone, but for `records` and `taking`, which have
+//! methods of exported types.
 #![tactic(auto)]
 
 mod caches;

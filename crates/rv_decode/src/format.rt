@@ -1,4 +1,4 @@
-//! The layouts of instruction words.
+//! The layouts of instruction words: a format says which fields a row of the table has.
 
 /// How the fields lie in a word (sections 2.2 and 2.3 of the RISC-V unprivileged specification).
 #[derive(Clone, Copy, Debug, Drop)]

@@ -1,4 +1,4 @@
-//! An instruction and its fields.
+//! An instruction and its fields: what `decode` gives, and what harts do.
 ghost use Rattle.std.specs.Prelude.{◌<◌};
 
 use crate::name::Name;

@@ -1,4 +1,4 @@
-//! The name of an instruction.
+//! The names of instructions: one for each row of the table, with its format.
 
 ghost use Rattle.std.specs.Prelude.{◌≡◌};
 

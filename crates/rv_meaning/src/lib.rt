@@ -1,5 +1,7 @@
 //! The meaning of the instructions of RV32IMA, and the rows of instructions: what each did to the registers
 //! and to memory.
+//!
+//! Files that no `pub` below names may change with this crate's proofs alone.
 #![tactic(auto)]
 
 mod access;

@@ -1,4 +1,4 @@
-//! Hexadecimal digits, eight at once in a word of 64 bits.
+//! Hexadecimal digits, eight at once in a word of 64 bits: each row has many, and one at a time would be slow.
 ghost use Rattle.std.specs.Prelude.{◌≡◌};
 ghost use Rattle.rv_text.specs.Instructions.{hex8};
 

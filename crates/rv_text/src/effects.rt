@@ -1,4 +1,4 @@
-//! What an instruction changed or read.
+//! The text of what an instruction changed or read, for `RowLines`.
 ghost use Rattle.std.specs.Prelude.{◌≡◌, ◌<◌, ◌++◌, OnOk, codes};
 ghost use Rattle.rv_text.specs.Rows.{register_text};
 ghost use Rattle.rv_text.specs.Texts.{BeginsWith};

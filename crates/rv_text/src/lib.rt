@@ -7,6 +7,8 @@
 //!
 //! [`RowLines`] writes the same lines faster: it keeps the texts of the code that it wrote last, so that an
 //! instruction which is done again is not spelled again.
+//!
+//! Files that no `pub` below names may change with this crate's proofs alone.
 #![tactic(auto)]
 
 mod code;

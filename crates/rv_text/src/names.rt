@@ -1,4 +1,4 @@
-//! The names of registers and instructions.
+//! The names of registers and instructions, as assemblers spell them.
 ghost use Rattle.std.specs.Prelude.{◌≡◌, ◌<◌};
 ghost use Rattle.rv_text.specs.Names.{register_name, mnemonic, ordering};
 

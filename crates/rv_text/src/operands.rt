@@ -1,4 +1,4 @@
-//! The operands of an instruction, one after another.
+//! The texts of operands, each as its kind is spelled.
 ghost use Rattle.std.specs.Prelude.{◌≡◌, ◌++◌, ◌<◌, OnOk, codes};
 ghost use Rattle.rv_text.specs.Names.{register_name};
 ghost use Rattle.rv_text.specs.Instructions.{first_operand, register_operand, number_operand, offset_operand, memory_operand, target_operand, upper_operand};

@@ -1,4 +1,4 @@
-//! Text that grows.
+//! Text that grows: replays, reports and the debugger gather their output in it. A failed append changes nothing.
 ghost use Rattle.std.specs.Prelude.{false, ◌≡◌, ◌<◌, ◌++◌, [], ◌==◌, List, ℕ, length, take, OnOk, OnErr, decimal};
 ghost use Rattle.std.specs.Fmt.{signed_decimal, digits};
 ghost use Rattle.rv_text.specs.Instructions.{hex8};

@@ -1,4 +1,4 @@
-//! The backward slice of a row.
+//! `slice`: the interval is replayed, and its rows are gone over from the last back.
 ghost use Rattle.std.specs.Prelude.{◌≡◌, ℕ, List};
 ghost use Rattle.bn_base.specs.Programs.{Program};
 ghost use Rattle.log_record.specs.declared.record.Record.{Record};

@@ -1,4 +1,4 @@
-//! Slices of small logs.
+//! Slices of small logs, worked out by hand.
 ghost use Rattle.std.specs.Prelude.{◌≡◌, ◌∷◌, [], Some, None, Err};
 ghost use Rattle.slice_back.specs.Agreeing.{AllAlike, WordsAgree};
 ghost use Rattle.slice_back.specs.declared.error.SliceError.TheVariants.{NoRow};

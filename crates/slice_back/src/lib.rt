@@ -1,5 +1,7 @@
 //! The backward slice of a row of an interval: the rows that it depends on, and what of it came from
 //! before.
+//!
+//! Files that no `pub` below names may change with this crate's proofs alone.
 #![tactic(auto)]
 
 mod back;

@@ -1,4 +1,4 @@
-//! The registers and words that rows of a slice use.
+//! The live set of the pass back: registers and words that later rows of the slice use.
 ghost use Rattle.std.specs.Prelude.{◌≡◌, ◌<◌, ◌/◌, ◌%◌, ◌*◌, ◌==◌, ◌&&◌, ◌||◌, ℕ, [], true, false, not, OnOk, IfSome};
 ghost use Rattle.rv_meaning.specs.Words.{aligned};
 ghost use Rattle.slice_back.specs.Uses.{is_of, is_word, uses_register, uses_word, stores_word, takes_word, word_of};

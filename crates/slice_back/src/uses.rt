@@ -1,4 +1,4 @@
-//! What a row uses and gives.
+//! What a row uses: registers and words, read off its instruction.
 ghost use Rattle.std.specs.Prelude.{◌≡◌, ◌%◌, IfSome};
 ghost use Rattle.std.specs.Option.{option_map};
 ghost use Rattle.rv_decode.specs.Seen.{seen};

@@ -1,4 +1,6 @@
 //! A debugger for the joint replay of all retained intervals, by commands on lines.
+//!
+//! Files that no `pub` below names may change with this crate's proofs alone.
 #![tactic(auto)]
 
 mod command;

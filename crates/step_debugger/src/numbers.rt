@@ -1,4 +1,4 @@
-//! Numbers in commands.
+//! Numbers in commands, decimal and hexadecimal, of at most eight digits.
 ghost use Rattle.std.specs.Prelude.{◌≡◌, ◌≤◌, ◌<◌, ◌^◌, length, IfSome};
 ghost use Rattle.step_debugger.specs.Numbers.{is_from, digit_value, digit_in, number_in, number_of};
 

@@ -1,4 +1,4 @@
-//! Which line is which command.
+//! Parsing: which line is which command. `specs/Commands.antt` pins it.
 ghost use Rattle.std.specs.Prelude.{◌≡◌, Some, None, MatchOption};
 ghost use Rattle.std.specs.Str.{bytes_eq};
 ghost use Rattle.step_debugger.specs.Commands.{behind, decimal_in, address_in, hart_of, step_of, back_of, break_of, unbreak_of, word_of, numbered, command_of};

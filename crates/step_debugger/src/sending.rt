@@ -1,4 +1,4 @@
-//! How answers are sent.
+//! Sending answers: long ones go out in blocks, so that their text needs little memory.
 ghost use Rattle.std.specs.Prelude.{◌≡◌, ◌≤◌, IfErr};
 ghost use Rattle.step_debugger.specs.Goings.{Sends, Gathers};
 ghost use Rattle.step_debugger.specs.declared.error.DebugError.TheVariants.{WriteFault};

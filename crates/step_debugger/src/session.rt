@@ -1,4 +1,4 @@
-//! A session of the debugger: what each command does.
+//! A session of the debugger: what each command does. A new command's work goes here.
 ghost use Rattle.std.specs.Prelude.{◌≡◌, ◌≤◌, ◌<◌, ◌++◌, ◌==◌, not, length, OnOk};
 ghost use Rattle.std.specs.List.{filter};
 ghost use Rattle.joint_replay.specs.Calls.{state_at};

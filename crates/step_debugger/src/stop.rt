@@ -1,4 +1,4 @@
-//! A stop on the way back.
+//! A stop on the way back: the breakpoint that ends it.
 use bn_base::{Addr, HartId, Ic};
 
 /// The step from a position, whose row is at a breakpoint: its hart, the hart's count, and the pc.

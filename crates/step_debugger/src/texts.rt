@@ -1,4 +1,4 @@
-//! The lines that the debugger prints.
+//! The lines that the debugger prints. `specs/Answers.antt` pins each byte.
 ghost use Rattle.std.specs.Prelude.{◌≡◌, ◌<◌, ◌++◌, OnOk};
 ghost use Rattle.step_debugger.specs.Answers.{point_text, hart_text, waits_text, stop_text, at_text, address_text, word_text, register_text, two_text, four_text, half_text, pc_text, readiness_text, place_text, hart_done_text};
 

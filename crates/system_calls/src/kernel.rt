@@ -1,4 +1,4 @@
-//! What a system call depends on besides its arguments.
+//! What a system call depends on besides its arguments and the program.
 use bn_base::Addr;
 
 /// The part of the machine's state that system calls depend on.

@@ -1,5 +1,7 @@
 //! System calls of a guest program, by the conventions of Linux on RISC-V: the number is in a7,
 //! the arguments in a0, a1 and a2, and the answer comes in a0.
+//!
+//! Files that no `pub` below names may change with this crate's proofs alone.
 #![tactic(auto)]
 
 pub mod effect;

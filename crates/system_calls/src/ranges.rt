@@ -1,4 +1,4 @@
-//! Tests of ranges of bytes.
+//! Whether all bytes of a range are mapped or writable, without a test of each byte.
 ghost use Rattle.std.specs.Prelude.{◌≡◌, ◌≤◌, ◌<◌, ◌+◌, ℕ, true, not};
 ghost use Rattle.bn_base.specs.Programs.{may_load, may_store, is_writable, part_at};
 ghost use Rattle.system_calls.specs.Calls.{all_bytes};
