@@ -16,7 +16,7 @@ entry_of h (Passing ic) = record { hart = h; ic = ic; pc = None }
 entry_of h (Doing before row) = record { hart = h; ic = row.ic; pc = Some row.pc }
 entry_of h (Ending n mark) = record { hart = h; ic = mark.ic; pc = None }
 
--- the same, as a caller is told of the step
+-- the entry of a step, as a caller is told of the step
 abbrev pub entry_told : ℕ → Stepped → Entry
 entry_told h (Passed g ic) = record { hart = h; ic = ic; pc = None }
 entry_told h (Did row) = record { hart = h; ic = row.ic; pc = Some row.pc }
@@ -48,7 +48,7 @@ at_start j = record { start = j; entries = []; now = j }
 
 -- ---- the state at a list of harts
 
--- that of a joint replay that begins so and takes a step of each of them, one after another
+-- a joint replay that begins so and took a step of each of these harts, one after another
 abbrev pub state_after : Joining → List ℕ → Joining
 state_after start harts = elim (walk_on (begun start) harts) [ None ↦ start | Some w ↦ w.now ]
 

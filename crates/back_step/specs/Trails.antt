@@ -18,7 +18,7 @@ use Rattle.back_step.specs.Traces.{entry_of, Trailed, trace_step, refusing}
 abbrev pub CanStep : Joining → ℕ → Type 0
 CanStep j h = (x : Item × Joining) × (ready_step j h ≡ Some x)
 
--- it took that step
+-- the joint replay took that step
 abbrev pub Took : Joining → ℕ → Joining → Type 0
 Took j h k = (item : Item) × (ready_step j h ≡ Some (item, k))
 

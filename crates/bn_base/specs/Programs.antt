@@ -101,6 +101,6 @@ read_only_end (p ∷ ps) = elim p.writable [ true ↦ read_only_end ps | false �
 abbrev pub heap_start : Program → ℕ
 heap_start i = (highest_end i.parts + 4095) / 4096 * 4096
 
--- and may grow up to 65,536 bytes for each hart before the end of memory
+-- the heap may grow up to 65,536 bytes for each hart before the end of memory
 abbrev pub heap_limit : Program → ℕ
 heap_limit i = max (heap_start i) (i.memory - 65536 * i.harts)

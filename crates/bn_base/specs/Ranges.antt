@@ -28,7 +28,7 @@ most_harts s = if s.format == 2 then 16 else 8
 abbrev pub is_second_sets : RawSettings → Bool
 is_second_sets s = s.sets2 == 0 || s.format == 2 && is_small_power 4096 s.sets2
 
--- its ways: none exactly if it has no sets
+-- the ways of a second level: none if and only if it has no sets
 abbrev pub is_second_ways : RawSettings → Bool
 is_second_ways s = if s.sets2 == 0 then s.ways2 == 0 else is_between 1 16 s.ways2
 
@@ -57,7 +57,7 @@ abbrev pub bad_or : Bool → BadSetting → Option BadSetting → Option BadSett
 bad_or true bad later = later
 bad_or false bad later = Some bad
 
--- the first that is out of range
+-- the first of some tested settings that is out of range
 abbrev pub first_bad_of : List (ℕ × ℕ × Bool) → Option BadSetting
 first_bad_of [] = None
 first_bad_of (test ∷ rest) = bad_or test.2 (record { field = test.0; value = test.1 }) (first_bad_of rest)

@@ -16,6 +16,6 @@ plain = record { settings = default_settings; seed = Some 5; lean = false; input
 abbrev pub two_level_words : List Text
 two_level_words = codes "record" ∷ codes "--format=2" ∷ codes "--sets2=4096" ∷ codes "E" ∷ codes "L" ∷ codes "B" ∷ codes "--seed=5" ∷ codes "--ways2=1" ∷ []
 
--- that recording
+-- the recording that these words ask for
 abbrev pub two_levels : RecordingLine
 two_levels = record plain { settings = record default_settings { format = 2; sets2 = 4096; ways2 = 1 } }

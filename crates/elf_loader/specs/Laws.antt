@@ -25,7 +25,7 @@ abbrev pub MemoryHoldsSegments : Type 0
 MemoryHoldsSegments = (bytes : List ℕ) (s : RawSettings) (p : Program) (h : ProgramHeader) (addr : ℕ) → IsSetting s → image_of bytes s ≡ Ok p
     → Contains (segments bytes) h → touches h addr ≡ true → HoldsSegment bytes h p addr
 
--- and nothing else does
+-- at an address of no segment, memory holds nothing of the file
 abbrev pub MemoryHoldsNothingElse : Type 0
 MemoryHoldsNothingElse = (bytes : List ℕ) (s : RawSettings) (p : Program) (addr : ℕ) → IsSetting s → image_of bytes s ≡ Ok p
     → All (λ h. touches h addr ≡ false) (segments bytes) → HoldsNothing p addr

@@ -41,16 +41,16 @@ put n x xs = take n (x ∷ all_but x.number xs)
 abbrev pub lost : ℕ → Line → List Line → List Line
 lost n x xs = drop n (x ∷ all_but x.number xs)
 
--- the lists of a level, one for each set, after a line is put in front of its set
+-- the lists of a level, one for each set, after a line is put first in its set
 abbrev pub put_in : Geometry → Line → (ℕ → List Line) → ℕ → List Line
 put_in g x ls k = elim (set_of g x.number == k) [ true ↦ put g.ways x (ls k) | false ↦ ls k ]
 
--- after the first of some lines, if there is one, is put in front of its set
+-- the lists of a level after the first of some lines, if there is one, is put first in its set
 abbrev pub put_lost : Geometry → List Line → (ℕ → List Line) → ℕ → List Line
 put_lost g [] ls k = ls k
 put_lost g (x ∷ xs) ls k = put_in g x ls k
 
--- and after line l is taken out of its set
+-- the lists of a level after line l is taken out of its set
 abbrev pub taken_out : Geometry → ℕ → (ℕ → List Line) → ℕ → List Line
 taken_out g l ls k = elim (set_of g l == k) [ true ↦ all_but l (ls k) | false ↦ ls k ]
 

@@ -31,7 +31,7 @@ pub record IsListed (c : Contents) (a first i : ℕ) : Type 0 where
 abbrev pub IsBitsBelow : Contents → ℕ → ℕ → Type 0
 IsBitsBelow c l bits = bits ≡ bits_of l (lines_of (second_level c) (set_of (second_of c.geometry) l))
 
--- the same with other ways on one of the levels
+-- a cache with other ways on its first level
 abbrev pub with_ways : Contents → List Way → Contents
 with_ways c ws = record { geometry = c.geometry; steps = c.steps; generation = c.generation; ways = ws; ways_below = c.ways_below }
 

@@ -26,7 +26,7 @@ abbrev pub place_in : Option Branch → (part at : ℕ) → ℕ
 place_in None part at = 0
 place_in (Some b) part at = elim (b.part == part) [ true ↦ slice_index b.places at | false ↦ 0 ]
 
--- the same of the node at a place
+-- the place for one of its parts that the node at a place has, if it is the node of `part`, else 0
 abbrev pub place_at : List Branch → (node part at : ℕ) → ℕ
 place_at bs node part at = place_in (slice_get bs node) part at
 

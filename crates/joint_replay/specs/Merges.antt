@@ -94,7 +94,7 @@ pub record IsMerge (i : Program) (harts : ℕ) (records : List Record) (steps : 
   pub own : (h : ℕ) → IsFront (own h steps) (items_of i harts records h)
   pub after : (y h ic s j : ℕ) → Stands steps y h ic → HasEdge records h ic s j → (x : ℕ) × Stands steps x s j × (x < y)
 
--- it is the whole of such a merge: each hart did all of its list, and no replay is refused
+-- the whole of such a merge: each hart did all of its list, and no replay is refused
 pub record IsWhole (i : Program) (harts : ℕ) (records : List Record) (steps : List Taken) : Type 0 where
   pub merge : IsMerge i harts records steps
   pub all : (h : ℕ) → own h steps ≡ items_of i harts records h
@@ -170,7 +170,7 @@ pub record ArePointsOf (records : List Record) (h : ℕ) : Type 0 where
   pub named : (k : ℕ) → Has (ordering_points h records) k → IsNamed records h k × (is_below (first_count h records) k ≡ true)
   pub all : (k : ℕ) → IsNamed records h k → is_below (first_count h records) k ≡ true → Has (ordering_points h records) k
 
--- so they are in all records
+-- in all records, the ordering points of a hart are those
 abbrev pub PointsAreNamed : Type 0
 PointsAreNamed = (records : List Record) (h : ℕ) → ArePointsOf records h
 
@@ -178,7 +178,7 @@ PointsAreNamed = (records : List Record) (h : ℕ) → ArePointsOf records h
 abbrev pub AreSources : Joining → Type 0
 AreSources j = (h ic s n : ℕ) → HasEdge j.records h ic s n → (lane : Lane) × (slice_get j.lanes s ≡ Some lane) × (Has lane.points n ⊎ InCursors lane.cursors n)
 
--- so it is in each log in order
+-- in each log in order, each source of a kept Edge is there
 abbrev pub SourcesAreThere : Type 0
 SourcesAreThere = (i : Program) (s : RawSettings) (dropped : ℕ) (records : List Record) → s.limit < 2 ^ 64 → broken_by s dropped records ≡ None → AreSources (fresh i s.harts records)
 

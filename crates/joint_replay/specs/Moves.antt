@@ -61,7 +61,7 @@ LaneRefuses old e new = (new ≡ record old { lane = new.lane })
     × (((lane_step old.program old.lane ≡ Some (Err e)) × (new.lane ≡ old.lane))
     ⊎ ((e ≡ OutOfMemory) × (bare new.lane ≡ bare old.lane) × LaneUnrefused old))
 
--- it is done, or refused
+-- a hart's next step is done, or refused
 abbrev pub LaneSteps : HartLane → Result Moved ReplayError → Did → HartLane → Type 0
 LaneSteps old (Ok m) x new = (item : Item) × (lane_step old.program old.lane ≡ Some (Ok (item, new.lane))) × IsMoved item m x × (new ≡ record old { lane = new.lane })
 LaneSteps old (Err e) x new = LaneRefuses old e new

@@ -30,7 +30,7 @@ walk i harts records order = walk_on (begun (fresh i harts records)) order
 pub record IsBegun (i : Program) (harts : ℕ) (records : List Record) (order : List ℕ) (w : Walk) : Type 0 where
   pub allowed : walk i harts records order ≡ Some w
 
--- it is an allowed order: no hart has a step left
+-- the order is an allowed order: no hart has a step left
 pub record IsAllowed (i : Program) (harts : ℕ) (records : List Record) (order : List ℕ) (w : Walk) : Type 0 where
   pub begun : IsBegun i harts records order w
   pub whole : choice w.now ≡ AllDone

@@ -78,7 +78,7 @@ pub record IsFirstTaken (j : Joining) (t : Taken) (next : Joining) : Type 0 wher
   pub now : (run_all j).walk.now ≡ (run_all next).walk.now
   pub stopped : (run_all j).stopped ≡ (run_all next).stopped
 
--- so it is with each run that has a step
+-- each run that has a step is its first step and the run from there on
 abbrev pub RunsGoOn : Type 0
 RunsGoOn = (j : Joining) (t : Taken) (next : Joining) → IsStep j t next → IsFirstTaken j t next
 

@@ -23,7 +23,7 @@ abbrev pub edges_into : ℕ → List Record → List IncomingEdge
 edges_into h [] = []
 edges_into h (r ∷ rs) = source_before (source_in h r) (edges_into h rs)
 
--- their targets ascend; each count is at least one below the first number
+-- the targets of Edges ascend, and none is more than one below the first number
 abbrev pub AscendFrom : ℕ → List IncomingEdge → Type 0
 AscendFrom low [] = Unit {0}
 AscendFrom low (s ∷ ss) = (low ≤ s.target + 1) × AscendFrom (s.target + 1) ss

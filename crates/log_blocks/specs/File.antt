@@ -113,7 +113,7 @@ pub record IsBlocksFault (bytes : List ℕ) (e : Damage) : Type 0 where
 abbrev pub IsSecondRefusal : List ℕ → Damage → Type 0
 IsSecondRefusal bytes e = (e ≡ File OutOfMemory) ⊎ IsHeadFault bytes e ⊎ IsBlocksFault bytes e
 
--- and of a file of version 1
+-- the first refusal of a file of version 1
 abbrev pub IsFirstRefusal : List ℕ → Damage → Type 0
 IsFirstRefusal bytes (File e) = first.IsRefusal bytes e
 IsFirstRefusal bytes (BadBlock at) = ⊥

@@ -55,7 +55,7 @@ AreNotRefused = (c : Content) → IsContent c → (e : Damage) → IsSecondRefus
 abbrev pub FirstAreUnique : Type 0
 FirstAreUnique = (bytes : List ℕ) (e f : FileError) → first.IsRefusal bytes e → first.IsRefusal bytes f → e ≢ OutOfMemory → f ≢ OutOfMemory → e ≡ f
 
--- and so have files of either version
+-- files of either version have at most one first cause for a refusal
 abbrev pub RefusalsAreUnique : Type 0
 RefusalsAreUnique = (bytes : List ℕ) (e f : Damage) → IsRefusal bytes e → IsRefusal bytes f → e ≢ File OutOfMemory → f ≢ File OutOfMemory → e ≡ f
 
@@ -63,11 +63,11 @@ RefusalsAreUnique = (bytes : List ℕ) (e f : Damage) → IsRefusal bytes e → 
 abbrev pub SalvagedAreUnique : Type 0
 SalvagedAreUnique = (bytes : List ℕ) (c d : Content) → IsSalvaged bytes c → IsSalvaged bytes d → c ≡ d
 
--- if one is, there is no cause to refuse that
+-- if a log is salvaged of some bytes, there is no cause why nothing is
 abbrev pub SalvagedAreNotRefused : Type 0
 SalvagedAreNotRefused = (bytes : List ℕ) (c : Content) (e : SalvageError) → IsSalvaged bytes c → IsSalvageRefusal bytes e → e ≡ salvage.OutOfMemory
 
--- and there is at most one cause
+-- bytes have at most one cause why nothing is salvaged
 abbrev pub SalvageRefusalsAreUnique : Type 0
 SalvageRefusalsAreUnique = (bytes : List ℕ) (e f : SalvageError) → IsSalvageRefusal bytes e → IsSalvageRefusal bytes f → e ≢ salvage.OutOfMemory → f ≢ salvage.OutOfMemory → e ≡ f
 

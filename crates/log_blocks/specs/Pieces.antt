@@ -53,7 +53,7 @@ start_in bytes = length bytes - 48 - len_in bytes
 abbrev pub piece_in : List ℕ → Piece
 piece_in bytes = piece (take (len_in bytes) (drop (start_in bytes) bytes)) (before_in bytes) (left_in bytes)
 
--- its length is 1 to 4,096, it lies whole among so many bytes, its number of bytes left is right, and with them it has at most n
+-- a block's length is 1 to 4,096, it lies whole among so many bytes, its number of bytes left is right, and with them it has at most n
 abbrev pub is_sized : (len said left n whole : ℕ) → Bool
 is_sized len said left n whole = nat_le 1 len && nat_le len block_size && nat_le (len + 48) whole && (said == left) && nat_le (left + len) n
 

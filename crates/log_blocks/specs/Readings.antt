@@ -25,7 +25,7 @@ Salvages bytes (Err e) = IsSalvageRefusal bytes e × (e ≢ salvage.OutOfMemory)
 abbrev pub ReadingsAreUnique : Type 0
 ReadingsAreUnique = (bytes : List ℕ) (r s : Result Content Damage) → Reads bytes r → Reads bytes s → r ≡ s
 
--- and salvaged in one way
+-- bytes are salvaged in one way
 abbrev pub SalvagesAreUnique : Type 0
 SalvagesAreUnique = (bytes : List ℕ) (r s : Result Content SalvageError) → Salvages bytes r → Salvages bytes s → r ≡ s
 
@@ -43,6 +43,6 @@ pub record FilesAreRead : Type 0 where
   pub second : (c : Content) → IsContent c → Reads (file_bytes2 c) (Ok c)
   pub saved : (c : Content) → IsContent c → Reads (saved_bytes c) (Ok c)
 
--- and of that of version 2 this very log is salvaged
+-- of a log's file of version 2 this very log is salvaged
 abbrev pub WholeAreSalvaged : Type 0
 WholeAreSalvaged = (c : Content) → IsContent c → Salvages (file_bytes2 c) (Ok c)

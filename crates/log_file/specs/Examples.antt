@@ -18,6 +18,6 @@ head_of s = record { settings = s; digest = no_digest }
 abbrev pub signed : ℕ → List ℕ
 signed harts = signed_bytes (head_of (record default_settings { harts = harts })) 0 []
 
--- and of one that names another version
+-- the bytes up to the last digest of a log that names another version
 abbrev pub signed_as : ℕ → List ℕ
 signed_as version = settings_bytes version default_settings ++ no_digest ++ number_bytes 8 0 ++ number_bytes 4 0

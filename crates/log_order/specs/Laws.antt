@@ -15,12 +15,12 @@ use Rattle.log_order.specs.Suffix.{Keeps}
 
 -- ---- kept records
 
--- they keep the rules of single records, if each hart begins as it does in a log with so many dropped
+-- kept records keep the rules of single records, if each hart begins as it does in a log with so many dropped
 abbrev pub SuffixesKeepTheRules : Type 0
 SuffixesKeepTheRules = (t : OrderLimits) (count dropped : ℕ) (kept : List Record) (harts : List HartView) → Keeps t count dropped kept harts
     → (weaker : List HartView) × (after_all t 0 (replicate count (fresh (dropped == 0))) kept ≡ Ok weaker) × AreWeak weaker harts
 
--- in the end, if each hart is done and no Edge is late, they are in order
+-- in the end, if each hart is done and no Edge is late, kept records are in order
 abbrev pub SuffixesAreInOrder : Type 0
 SuffixesAreInOrder = (t : OrderLimits) (count dropped : ℕ) (kept : List Record) (harts : List HartView) → Keeps t count dropped kept harts
     → AllByRecursion (λ v. is_over v.phase ≡ true) harts → late_edge harts 0 kept ≡ None → broken t count (dropped == 0) kept ≡ None

@@ -72,7 +72,7 @@ pub record AreRegisters (x : List ℕ) : Type 0 where
   pub count : length others ≡ 31
   pub are_words : AllByRecursion (λ w. w < 2 ^ 32) others
 
--- its numbers fit their fields
+-- a record's numbers fit their fields
 abbrev pub FitsFields : Record → Type 0
 FitsFields (Header h n ic pc x) = (h < 256) × (n < 2 ^ 64) × (ic < 2 ^ 64) × (pc < 2 ^ 32) × AreRegisters x
 FitsFields (FirstLoad h skip value) = (h < 256) × (skip < 2 ^ 32) × (value < 2 ^ 32)

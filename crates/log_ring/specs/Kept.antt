@@ -15,7 +15,7 @@ pub record Held : Type 0 where
   pub dropped : ℕ
   pub size : ℕ
 
--- the same as one value
+-- a `Held` of these three fields
 abbrev pub held : List Record → ℕ → ℕ → Held
 held records dropped size = record { records = records; dropped = dropped; size = size }
 

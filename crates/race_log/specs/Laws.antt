@@ -21,7 +21,7 @@ AreConflicts run Pair = (m n : ℕ) → Pair m n → Conflict run m n
 abbrev pub OrderConflicts : List Point → (ℕ → ℕ → Type 0) → Type 0
 OrderConflicts run Pair = (m n : ℕ) → Conflict run m n → Chain (Either (ProgramOrder run) Pair) m n
 
--- of sets of pairs, each with a name, every such one has each edge
+-- every set of pairs that are conflicts, and that with program order orders all conflicts, has each edge; sets are given by names
 abbrev pub EdgesAreNeeded : (Name : Type 0) → (Name → ℕ → ℕ → Type 0) → Type 0
 EdgesAreNeeded Name Pair = (run : List Point) (of : Name) → AreConflicts run (Pair of) → OrderConflicts run (Pair of) → (m n : ℕ) → IsEdge run m n → Pair of m n
 
@@ -43,7 +43,7 @@ AreSources run b sources = (h i : ℕ) → Contains sources (h, i) ↔ ((p : Poi
 abbrev pub MergesKeepConflicts : Type 0
 MergesKeepConflicts = (run : List Point) (order : List ℕ) → IsMerge all_kept run order → Respects (IsEdge run) order → (m n : ℕ) → Conflict run m n → Precedes order m n
 
--- so it has a word's writes as recorded, and its reads between the same writes
+-- a merge that respects the edges has a word's writes as recorded, and its reads between the same writes
 abbrev pub MergesKeepWords : Type 0
 MergesKeepWords = (run : List Point) (order : List ℕ) → IsMerge all_kept run order → Respects (IsEdge run) order
     → (word m n : ℕ) → AtPlaces (MeetAt word) run m n → Precedes order m n
@@ -59,7 +59,7 @@ LateEdgesKeepConflicts = (kept : ℕ → Bool) (run : List Point) (edges : ℕ �
     → AreKeptEdges kept run edges → IsMerge kept run order → Respects (Chosen edges) order → (first : ℕ) → HasLateEdges run edges first
     → (m n : ℕ) → first ≤ m → Conflict run m n → IsTrue (kept m) → IsTrue (kept n) → Precedes order m n
 
--- and so the accesses of each word
+-- such a merge keeps the recorded order of two accesses of a word from there on, if one of them writes it
 abbrev pub LateEdgesKeepWords : Type 0
 LateEdgesKeepWords = (kept : ℕ → Bool) (run : List Point) (edges : ℕ → ℕ → Bool) (order : List ℕ)
     → AreKeptEdges kept run edges → IsMerge kept run order → Respects (Chosen edges) order → (first : ℕ) → HasLateEdges run edges first
@@ -103,7 +103,7 @@ TimesCoverInstructions = (run : List Point) → IsInOrder run → (n : ℕ) (q :
 abbrev pub AreAllKnown : List Point → (still : ℕ → Bool) → ℕ → List Kept → (goes : Kept → Bool) → Type 0
 AreAllKnown run still word kept goes = (k : Kept) (m : ℕ) → In kept k → KeptAt run word m k → IsTrue (goes k) → AllKnow run still m
 
--- such accesses may go, and harts may end: what is left suffices for those that are still live
+-- accesses that all live harts know of may go, and harts may end: what is left suffices for those that are still live
 abbrev pub KnownAccessesMayGo : Type 0
 KnownAccessesMayGo = (run : List Point) (live still : ℕ → Bool) (word : ℕ) (kept : List Kept) (goes : Kept → Bool)
     → ((hart : ℕ) → IsTrue (still hart) → IsTrue (live hart)) → AreAllKnown run still word kept goes

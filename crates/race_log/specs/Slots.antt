@@ -16,7 +16,7 @@ abbrev pub counts_of : Option Epoch → ℕ → ℕ
 counts_of None hart = 0
 counts_of (Some s) hart = count_of s.times hart
 
--- the same by the epoch's number
+-- the counts of an epoch's other harts, by its number
 abbrev pub counts_in : List Epoch → ℕ → ℕ → ℕ
 counts_in table epoch = counts_of (slice_get table epoch)
 

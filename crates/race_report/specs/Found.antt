@@ -31,13 +31,13 @@ met n w [] = meeting n w ∷ []
 met n w (x ∷ []) = elim (x.second == n) [ true ↦ meeting n (min x.word w) ∷ [] | false ↦ x ∷ meeting n w ∷ [] ]
 met n w (x ∷ y ∷ ys) = x ∷ met n w (y ∷ ys)
 
--- so of the list of a place
+-- the lists of races, after one more race of the place m with place n
 abbrev pub met_at : ℕ → ℕ → ℕ → List (List Meeting) → List (List Meeting)
 met_at n w m [] = []
 met_at n w zero (l ∷ ls) = met n w l ∷ ls
 met_at n w (suc m) (l ∷ ls) = l ∷ met_at n w m ls
 
--- so of several places
+-- the lists after one more race with place n of each of several places
 abbrev pub met_all : ℕ → ℕ → List ℕ → List (List Meeting) → List (List Meeting)
 met_all n w [] ls = ls
 met_all n w (m ∷ ms) ls = met_all n w ms (met_at n w m ls)
@@ -47,12 +47,12 @@ abbrev pub uncovered : ℕ → List ℕ → List ℕ
 uncovered count [] = []
 uncovered count (m ∷ ms) = cond (nat_lt m count) [] (m ∷ uncovered count ms)
 
--- so of the accesses of a word by all harts but h, as far as the counts don't cover them
+-- the lists after the races with place n of a word's accesses by all harts but h, as far as the counts don't cover them
 abbrev pub met_harts : ℕ → ℕ → ℕ → (ℕ → ℕ) → (ℕ → List ℕ) → ℕ → List (List Meeting) → List (List Meeting)
 met_harts n w h counts places zero ls = ls
 met_harts n w h counts places (suc g) ls = cond (g == h) (met_harts n w h counts places g ls) (met_all n w (uncovered (counts g) (places g)) (met_harts n w h counts places g ls))
 
--- so of several words
+-- the lists after the races with place n of the accesses of several words
 abbrev pub met_words : ℕ → ℕ → (ℕ → ℕ) → (ℕ → ℕ → List ℕ) → ℕ → List ℕ → List (List Meeting) → List (List Meeting)
 met_words n h counts places harts [] ls = ls
 met_words n h counts places harts (w ∷ ws) ls = met_words n h counts places harts ws (met_harts n w h counts (λ g. places g w) harts ls)

@@ -41,7 +41,7 @@ AreFalling [] = Unit {0}
 AreFalling (m ∷ []) = Unit {0}
 AreFalling (m ∷ k ∷ ks) = (k ≤ m) × AreFalling (k ∷ ks)
 
--- they are the places of the points that pass, the latest first
+-- these are the places of the points that pass, the latest first
 pub record ArePlaces (run : List Accessing) (test : Accessing → Bool) (ps : List ℕ) : Type 0 where
   pub falling : AreFalling ps
   pub members : (m : ℕ) → list_any (λ k. k == m) ps ≡ passes test (slice_get run m)

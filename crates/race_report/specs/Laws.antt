@@ -21,7 +21,7 @@ pub record AreCounted (harts : ℕ) (run : List Accessing) : Type 0 where
   pub harts_below : (m : ℕ) (p : Accessing) → slice_get run m ≡ Some p → p.hart < harts
   pub rise : (m n : ℕ) (p q : Accessing) → slice_get run m ≡ Some p → slice_get run n ≡ Some q → p.hart ≡ q.hart → m < n → p.row.ic < q.row.ic
 
--- so it is with the points of the joint replay of each log in order
+-- the points of the joint replay of each log in order are counted so
 abbrev pub PointsAreCounted : Type 0
 PointsAreCounted = (i : Program) (s : RawSettings) (dropped : ℕ) (records : List Record) → s.limit < 2 ^ 64
     → broken_by s dropped records ≡ None → AreCounted s.harts (points_of (run_all (fresh i s.harts records)).walk.taken)
@@ -48,28 +48,28 @@ RacesAreListed = (harts : ℕ) (run : List Accessing) → AreCounted harts run �
 abbrev pub HaveOwnRows : List Accessing → Type 0
 HaveOwnRows run = (m : ℕ) (p : Accessing) → slice_get run m ≡ Some p → p.row.hart ≡ p.hart
 
--- so it is with the points of the joint replay of each log, a forged one too
+-- in the joint replay of each log, a forged one too, the row of each point is its hart's
 abbrev pub PointsHaveOwnRows : Type 0
 PointsHaveOwnRows = (i : Program) (s : RawSettings) (records : List Record) → HaveOwnRows (points_of (run_all (fresh i s.harts records)).walk.taken)
 
--- by hart and then by count
+-- the order of rows: by hart and then by count
 abbrev pub IsRowBefore : Row → Row → Type 0
 IsRowBefore r s = (r.hart < s.hart) ⊎ ((r.hart ≡ s.hart) × (r.ic < s.ic))
 
--- by the first row, and if these agree by the second
+-- the order of races: by the first row, and if these agree by the second
 abbrev pub IsRaceBefore : Race → Race → Type 0
 IsRaceBefore x y = IsRowBefore x.first y.first ⊎ ((x.first.hart ≡ y.first.hart) × (x.first.ic ≡ y.first.ic) × IsRowBefore x.second y.second)
 
--- each race comes before all that come after it; so none stands there twice
+-- each race is below all that follow it; so none is there twice
 abbrev pub Ascend : List Race → Type 0
 Ascend [] = Unit {0}
 Ascend (x ∷ xs) = ((y : Race) → In xs y → IsRaceBefore x y) × Ascend xs
 
--- so it is with the list of all races
+-- the list of all races ascends
 abbrev pub RacesAscend : Type 0
 RacesAscend = (harts : ℕ) (run : List Accessing) → AreCounted harts run → HaveOwnRows run → Ascend (races_of harts run)
 
--- so the report of each log in order has each race once, by hart and count of the first and then of the second
+-- the report of each log in order has each race once, by hart and count of the first and then of the second
 abbrev pub ReportsAscend : Type 0
 ReportsAscend = (i : Program) (s : RawSettings) (dropped : ℕ) (records : List Record) → s.limit < 2 ^ 64 → broken_by s dropped records ≡ None
     → Ascend (races_of s.harts (points_of (run_all (fresh i s.harts records)).walk.taken))
@@ -83,7 +83,7 @@ pub record AreAlike (run other : List Accessing) : Type 0 where
   pub order : (m n j k : ℕ) (p q : Accessing) → slice_get run m ≡ Some p → slice_get run n ≡ Some q → slice_get other j ≡ Some p → slice_get other k ≡ Some q
       → IsConflict (whole_point m p) (whole_point n q) → m < n → j < k
 
--- such lists have the same races: they depend on the order of conflicting points alone
+-- two such lists have the same races: these depend on the order of conflicting points alone
 abbrev pub RacesGoByConflicts : Type 0
 RacesGoByConflicts = (harts : ℕ) (run other : List Accessing) → AreCounted harts run → AreCounted harts other → HaveOwnRows run → AreAlike run other
     → races_of harts run ≡ races_of harts other

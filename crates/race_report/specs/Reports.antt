@@ -21,7 +21,7 @@ use Rattle.race_report.specs.Gathering.{IsState}
 abbrev pub joint_of : Program → Content → Ran
 joint_of i log = run_all (fresh i log.head.settings.harts log.records)
 
--- its points, in the order in which it does them
+-- the points of a joint replay, in the order in which it does them
 abbrev pub points_in : Ran → List Accessing
 points_in r = points_of r.walk.taken
 
@@ -80,7 +80,7 @@ Gathers harts most r (Err (Joint e)) = (r.stopped ≡ Some e) × (e ≢ why.OutO
 Gathers harts most r (Err (TooMany max)) = ⊥
 Gathers harts most r (Err OutOfMemory) = Unit {0}
 
--- the same of the steps that are left, from wherever the way began
+-- all points of the steps that are left are taken in, or why the joint replay stops, from wherever it began
 abbrev pub GathersRest : ℕ → Joining → Gathered → Result (Unit {0}) RaceError → Gathered → Type 0
 GathersRest most now g (Ok u) next = (harts : ℕ) (first : Joining) → IsOnTheWay harts most first now g → Gathers harts most (run_all first) (Ok next)
 GathersRest most now g (Err e) next = (harts : ℕ) (first : Joining) → IsOnTheWay harts most first now g → Gathers harts most (run_all first) (Err e)

@@ -46,7 +46,7 @@ abbrev pub NotedOne : (hart place word : ℕ) → (old_heads : List Known) → (
 NotedOne hart place word old_heads old_entries heads entries =
     (h w : ℕ) (ps : List ℕ) → IsTrackedIn old_heads old_entries h w ps → IsTrackedIn heads entries h w (noted_one h w hart place word ps)
 
--- so with those of several words
+-- the places of a hart and word, after an access of several words was added
 abbrev pub noted : (h w g n : ℕ) → List ℕ → List ℕ → List ℕ
 noted h w g n [] ps = ps
 noted h w g n (word ∷ words) ps = noted h w g n words (noted_one h w g n word ps)

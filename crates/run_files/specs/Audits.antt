@@ -50,7 +50,7 @@ abbrev pub IsVerdict : (file log : List ℕ) → Verdict → Type 0
 IsVerdict file log Agree = log ≡ file
 IsVerdict file log (Differ place) = DifferFirst log file place
 
--- the same as a function of the bytes from a place on
+-- the verdict as a function of the bytes from a place on
 abbrev pub verdict_from : ℕ → (file log : List ℕ) → Verdict
 verdict_from place [] [] = Agree
 verdict_from place [] (y ∷ ys) = Differ place

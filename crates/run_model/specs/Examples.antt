@@ -162,7 +162,7 @@ records_of_a_filled_word =
     first_header a_filled_word 0 ∷ first_header a_filled_word 1 ∷ FirstLoad 0 0 0 ∷ Edge 1 6 0 2 ∷ end 1 7 2 4 ∷ header_after_the_call
     ∷ Edge 0 3 1 6 ∷ FirstLoad 0 0 2054781047 ∷ end 0 6 3 0 ∷ end 1 9 3 4 ∷ []
 
--- and those of the relay
+-- the records of the relay
 abbrev pub records_of_a_relay : List Record
 records_of_a_relay =
     first_header a_relay 0 ∷ first_header a_relay 1 ∷ first_header a_relay 2 ∷ Edge 1 3 0 4 ∷ FirstLoad 1 0 3
@@ -191,7 +191,7 @@ marked (r ∷ rs) = marked rs
 abbrev pub a_guarded_load : Recording
 a_guarded_load = record { words = 0x00020437 ∷ 0x00042283 ∷ 0x00440413 ∷ 0xff9ff06f ∷ []; settings = record default_settings { format = 2; log_size = 340; limit = 12 }; input = []; turns = 0 ∷ 0 ∷ 0 ∷ 0 ∷ 0 ∷ [] }
 
--- the same with format 1
+-- the recording of the guarded load, with format 1
 abbrev pub an_unguarded_load : Recording
 an_unguarded_load = record a_guarded_load { settings = record a_guarded_load.settings { format = 1 } }
 
@@ -213,7 +213,7 @@ a_late_fault_unguarded = record a_late_fault { settings = record a_late_fault.se
 abbrev pub two_ends_a_turn : Recording
 two_ends_a_turn = record { words = 0x00020437 ∷ 0x00042283 ∷ 0x05d00893 ∷ 0x00000073 ∷ []; settings = record default_settings { format = 2; interval = 1; log_size = 200 }; input = []; turns = 0 ∷ 0 ∷ 0 ∷ 0 ∷ [] }
 
--- its marks: each turn ends the interval before its ask, by the guard, and the ask's own
+-- the marks of that recording: each turn ends the interval before its ask, by the guard, and the ask's own
 abbrev pub marks_of_two_ends_a_turn : List Mark
 marks_of_two_ends_a_turn =
     Begins 0 0 0 ∷ Ends 0 1 1 0 ∷ Begins 0 1 1 ∷ Ends 0 1 6 0 ∷ Begins 0 2 1 ∷ Ends 0 2 1 0

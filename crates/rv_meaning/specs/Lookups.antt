@@ -32,10 +32,10 @@ fetched h i before = record {
 abbrev pub done_row : Fetched → (x : List ℕ) → (load store : Option (ℕ × ℕ)) → Row
 done_row f x load store = record { hart = f.hart; ic = f.ic; pc = f.pc; word = f.word; reg = written_to f.rd x; load = load; store = store; fault = None }
 
--- its row as a system call, by the register that the call wrote
+-- the row of what was looked up, as a system call, by the register that the call wrote
 abbrev pub called_row : Fetched → (reg : Option (ℕ × ℕ)) → Row
 called_row f reg = record { hart = f.hart; ic = f.ic; pc = f.pc; word = f.word; reg = reg; load = None; store = None; fault = None }
 
--- its row if it faults
+-- the row of what was looked up, if it faults
 abbrev pub faulted_row : Fetched → Fault → ℕ → Row
 faulted_row f kind value = record { hart = f.hart; ic = f.ic; pc = f.pc; word = f.word; reg = None; load = None; store = None; fault = Some (kind, value) }

@@ -47,7 +47,7 @@ abbrev pub Done : Bool → (pc : ℕ) → (x : List ℕ) → (p : ℕ) → (y : 
 Done true pc x p y does = (ic : ℕ) → Quiet (record { pc = p; x = y; ic = count_up ic }) ≡ does (record { pc = pc; x = x; ic = ic })
 Done false pc x p y does = (p ≡ pc) × (y ≡ x)
 
--- the same of the step that a decoded word is: a quiet one is of an instruction
+-- the step of a decoded word was quiet and of an instruction, and led to others; or it was neither, and they are unchanged
 abbrev pub Quietly : Bool → Program → Option Instruction → (pc : ℕ) → (x : List ℕ) → (p : ℕ) → (y : List ℕ) → Type 0
 Quietly true i o pc x p y = (d : Instruction) × (o ≡ Some d) × Done true pc x p y (meaning d.name i d)
 Quietly false i o pc x p y = (p ≡ pc) × (y ≡ x)

@@ -14,7 +14,7 @@ abbrev pub count_after : Bool → ℕ → ℕ
 count_after true n = count_up n
 count_after false n = n
 
--- the same of a step from each state with this pc and these registers, which become p and y
+-- what is told of a step from each state with this pc and these registers, which become p and y
 abbrev pub ToldParts : Bool → (pc : ℕ) → (x : List ℕ) → (p : ℕ) → (y : List ℕ) → Want → (HartState → Step) → Type 0
 ToldParts quiet pc x p y w does =
     (ic : ℕ) → Told quiet (record { pc = pc; x = x; ic = ic }) (record { pc = p; x = y; ic = count_after quiet ic }) w (does (record { pc = pc; x = x; ic = ic }))

@@ -58,7 +58,7 @@ pub record RowsUpTo (i : Program) (records : List Record) (h c ic : ℕ) (v : In
   pub registers : AreRegisters v.start.x
   pub rows : up_to ic (noted v.loads (replayed i records h c).rows) ≡ Some es
 
--- their slices have the same rows, hart and counts aside
+-- the slices of two intervals that agree have the same rows, hart and counts aside
 abbrev pub SliceSuffices : Type 0
 SliceSuffices = (i : Program) (records others : List Record) (h c ic g d jc : ℕ) (v w : Interval) (es fs : List Noted)
     → RowsUpTo i records h c ic v es → RowsUpTo i others g d jc w fs → Agree v w es fs → map bare (slice_rows es) ≡ map bare (slice_rows fs)

@@ -18,7 +18,7 @@ pub record Ascends (s : Slice) : Type 0 where
   pub words : AreRising 0 (map (λ w. w.0) s.words)
   pub branches : AreRising 0 (map (λ r. r.ic) s.branches)
 
--- So it is with each slice of an interval whose End's count is one
+-- each slice of an interval whose End's count is below 2 ^ 64 ascends
 abbrev pub SlicesAscend : Type 0
 SlicesAscend = (i : Program) (records : List Record) (h c ic : ℕ) (s : Slice) → ((v : Interval) → interval_of h c records ≡ Some v → v.mark.ic < 2 ^ 64)
     → sliced i records h c ic ≡ Ok s → Ascends s

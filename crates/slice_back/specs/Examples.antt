@@ -101,7 +101,7 @@ call = of_exit (0x00000513 ∷ []) [] 2
 abbrev pub apart_words : List ℕ
 apart_words = 0x00020437 ∷ 0x00042283 ∷ 0x00442303 ∷ 0x05d00893 ∷ 0x00000073 ∷ []
 
--- its rows up to the second load
+-- the rows of that program up to the second load
 abbrev pub apart_rows : ℕ → List Noted
 apart_rows value = take 3 (noted ((0, value) ∷ (0, 7) ∷ []) (replayed (code apart_words) (kept ((0, value) ∷ (0, 7) ∷ []) 5 3 0) 0 0).rows)
 

@@ -38,6 +38,6 @@ abbrev pub text_of : ℕ → ℕ → Result Slice SliceError → Result (List �
 text_of hart ic (Ok s) = Ok (slice_text hart ic s)
 text_of hart ic (Err e) = Err e
 
--- so is the answer; it may run out of memory instead, but not if the log doesn't keep the interval
+-- the answer is that text; it may run out of memory instead, but not if the log doesn't keep the interval
 abbrev pub IsTextAnswer : Program → List Record → ℕ → ℕ → ℕ → Result (List ℕ) SliceError → Type 0
 IsTextAnswer i records h c ic answer = (answer ≡ text_of h ic (sliced i records h c ic)) ⊎ ((answer ≡ Err OutOfMemory) × IsSome (interval_of h c records))

@@ -44,7 +44,7 @@ leaving = fresh (code 1 (0x00500513 ∷ 0x05d00893 ∷ 0x00000073 ∷ [])) 1 (
     Header 0 0 0 0x10054 (0 ∷ 0 ∷ 1048576 ∷ 0 ∷ 0 ∷ 0 ∷ 0 ∷ 0 ∷ 0 ∷ 0 ∷ 0 ∷ 1 ∷ 0 ∷ 0 ∷ 0 ∷ 0 ∷ 0 ∷ 0 ∷ 0 ∷ 0 ∷ 0 ∷ 0 ∷ 0 ∷ 0 ∷ 0 ∷ 0 ∷ 0 ∷ 0 ∷ 0 ∷ 0 ∷ 0 ∷ 0 ∷ [])
     ∷ end 0 3 3 5 ∷ [])
 
--- its session up to a breakpoint, and to its end
+-- the session of that hart up to a breakpoint, and to its end
 abbrev pub leaving_told : Told
 leaving_told = record {
   text = codes "0 0 00010054 00500513 addi a0,zero,5 | a0=00000005\n"

@@ -66,19 +66,19 @@ EndsApart old GoesOn new = StaysUnrefused old new
 EndsApart old Quits new = StaysUnrefused old new
 EndsApart old (Refused e) new = IsRefusal e
 
--- the same, and also of a command that an error stops
+-- what a command tells as a refusal isn't out of memory, also if an error stops the command
 abbrev pub TellsApart : Trace → Result Ending DebugError → Trace → Type 0
 TellsApart old (Ok ending) new = EndsApart old ending new
 TellsApart old (Err OutOfMemory) new = StaysUnrefused old new
 TellsApart old (Err e) new = Unit {0}
 
--- the same of one step, after which others may follow
+-- what one step tells as a refusal isn't out of memory; other steps may follow it
 abbrev pub StepsApart : Trace → Result (Option Ending) DebugError → Trace → Type 0
 StepsApart old (Ok None) new = StaysUnrefused old new
 StepsApart old (Ok (Some ending)) new = EndsApart old ending new
 StepsApart old (Err e) new = StaysUnrefused old new
 
--- the same of a whole session
+-- what a session tells as a refusal isn't out of memory
 abbrev pub StopsApart : Trace → Result (Unit {0}) DebugError → Trace → Type 0
 StopsApart old (Ok u) new = StaysUnrefused old new
 StopsApart old (Err (Joint e)) new = IsRefusal e

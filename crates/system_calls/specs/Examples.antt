@@ -7,6 +7,6 @@ use Rattle.system_calls.specs.declared.kernel.Kernel.{Kernel}
 abbrev pub a_program : Program
 a_program = record { parts = record { first = 65620; words = 115 ∷ []; count = 1; executable = true; writable = false } ∷ []; entry = 65620; memory = 1048576; harts = 1 }
 
--- its heap is empty, so many bytes are left of the input, and so many are in each stream
+-- the state before a call: the heap is empty, so many bytes are left of the input, and so many are in each stream
 abbrev pub kernel : ℕ → ℕ → Kernel
 kernel left len = record { brk = 69632; input_left = left; out_len = len; err_len = len }

@@ -50,7 +50,7 @@ pub record IsMachine (input : List ℕ) (p : MachineParts) (m : Machine) : Type 
 abbrev pub kernel_in : List ℕ → MachineParts → Kernel
 kernel_in input p = record { brk = p.brk; input_left = length input - p.taken; out_len = length p.out; err_len = length p.err }
 
--- the same but for what memory was found: pages that are made, and room in the streams
+-- the same machine, but for what memory was found: pages that are made, and room in the streams
 pub record IsSameMachine (old new : MachineParts) : Type 0 where
   pub words : new.memory.words ≡ old.memory.words
   pub reserved : new.reserved ≡ old.reserved
