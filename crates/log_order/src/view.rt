@@ -62,6 +62,7 @@ impl Phase {
         }
     }
 
+    // Whether a Header begins where the last End left the hart, as far as that is known.
     fn is_awaited(self, number: u64, count: Ic) -> bool
         ensures { result ≡ is_awaited self number count }
     {
@@ -75,6 +76,7 @@ impl Phase {
         }
     }
 
+    // Whether an Edge leads to an instruction of the interval, if the interval's start is known.
     fn has_edge(self, interval: u64, count: Ic) -> bool
         ensures { result ≡ has_edge interval self count }
     {
@@ -84,6 +86,7 @@ impl Phase {
         }
     }
 
+    // Whether an End leaves its interval no longer than the settings allow; one of reason length, just as long.
     fn has_end(self, interval: u64, reason: u8, count: Ic) -> bool
         ensures { result ≡ has_end interval self reason count }
     {
@@ -155,6 +158,7 @@ impl HartView {
         }
     }
 
+    // Here and below, rules are tested by ascending number, so that the error is the lowest that is broken.
     #[tactic(auto, unfolding(crate::specs::Rules::after_header))]
     fn after_header(self, terms: &OrderLimits, number: u64, count: Ic) -> Result<HartView, u8>
         ensures { result ≡ after_header terms.now self number count }

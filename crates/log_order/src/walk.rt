@@ -31,6 +31,7 @@ impl OrderLimits {
     }
 }
 
+// Whether an Edge comes from another hart of the log; other records pass.
 fn has_source(harts: usize, entry: &Record) -> bool
     ensures { result ≡ has_source harts entry.now }
 {
@@ -133,6 +134,7 @@ fn total(records: &RecordList) -> u64
     size
 }
 
+// The rules that only the end of the records can break: a hart that isn't done, and a late Edge.
 #[tactic(auto, unfolding(crate::specs::Order::ended))]
 fn ended(all: bool, harts: &[HartView], records: &RecordList) -> Option<OrderBreak>
     requires { total records.now < 2 ^ 63 }

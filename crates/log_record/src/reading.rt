@@ -33,6 +33,7 @@ pub fn size(tag: u8) -> Option<usize>
     }
 }
 
+// Whether an End of this reason has a value of its own.
 fn has_value(reason: u8) -> bool
     ensures { result ≡ has_value reason }
 {
@@ -43,6 +44,7 @@ fn has_value(reason: u8) -> bool
     }
 }
 
+// Whether it is a reason of this format whose value has to be 0.
 fn has_no_value(format: u8, reason: u8) -> bool
     ensures { result ≡ has_no_value format reason }
 {

@@ -31,6 +31,7 @@ fn is_part_store(name: Name) -> bool
     matches!(name, Name::Sb | Name::Sh)
 }
 
+// Whether data decide at which pc the hart continues. Rows of these that aren't in the slice are listed beside it.
 fn is_choice(name: Name) -> bool
     ensures { result ≡ is_choice name }
 {
