@@ -187,12 +187,12 @@ SourcesAreThere = (i : Program) (s : RawSettings) (dropped : ℕ) (records : Lis
 abbrev pub WalksAreMerges : Type 0
 WalksAreMerges = (i : Program) (s : RawSettings) (dropped : ℕ) (records : List Record) → s.limit < 2 ^ 64 → broken_by s dropped records ≡ None → AreMerges i s.harts records
 
--- after each walk the harts that are ready are those whose next item such a merge admits
+-- after each walk the harts that are ready are those whose next item a merge that respects the Edges admits
 abbrev pub ReadyIsAdmitted : Type 0
 ReadyIsAdmitted = (i : Program) (s : RawSettings) (dropped : ℕ) (records : List Record) → s.limit < 2 ^ 64 → broken_by s dropped records ≡ None
     → (order : List ℕ) (w : Walk) → IsBegun i s.harts records order w → Admits i s.harts records (steps_of w) w.now
 
--- in such a merge the source of a kept Edge stands if and only if it is passed
+-- in a merge that respects the Edges, the source of a kept Edge stands if and only if it is passed
 abbrev pub PassedIsStanding : Type 0
 PassedIsStanding = (i : Program) (b : RawSettings) (dropped : ℕ) (records : List Record) → b.limit < 2 ^ 64 → broken_by b dropped records ≡ None
     → (steps : List Taken) → IsMerge i b.harts records steps → (h ic s j : ℕ) → HasEdge records h ic s j → ((x : ℕ) × Stands steps x s j) ↔ IsPassed records steps s j

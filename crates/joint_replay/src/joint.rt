@@ -78,8 +78,8 @@ impl<'a> Joint<'a> {
 
     /// Takes the next step of a hart that is ready.
     ///
-    /// The replay of the hart's interval may be refused there, and memory may be wanting. After that
-    /// each step answers the same, and all else stays.
+    /// The replay of the hart's interval may be refused there, or run out of memory. After that each
+    /// step answers the same, and all else stays.
     pub fn step(&mut self, hart: HartId) -> Result<Stepped, JointError>
         requires there { hart < length self.old.lanes }
         requires ready { readiness self.old hart ≡ Ready }

@@ -115,7 +115,7 @@ pub fn walks_are_merges()
     sources_are_there();
 }
 
-/// The harts that are ready are those whose next item such a merge admits.
+/// The harts that are ready are those whose next item a merge that respects the Edges admits.
 pub fn ready_harts_are_admitted()
     ensures { ReadyIsAdmitted }
 {
@@ -124,7 +124,7 @@ pub fn ready_harts_are_admitted()
     sources_are_there();
 }
 
-/// In such a merge the source of a kept Edge stands if and only if it is passed.
+/// In a merge that respects the Edges, the source of a kept Edge stands if and only if it is passed.
 pub fn passed_sources_stand()
     ensures { PassedIsStanding }
 {

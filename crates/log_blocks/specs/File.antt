@@ -20,7 +20,7 @@ use Rattle.log_blocks.specs.Faults.{is_second, head_fault}
 use Rattle.log_blocks.specs.Pieces.{Piece, gathered, IsWalk}
 use Rattle.log_blocks.specs.Cuts.{first_wrong}
 
--- no record begins somewhere in bytes that should be those of records, or memory is wanted
+-- no record begins somewhere in bytes that should be those of records, or memory ran out
 abbrev pub IsSplitError : ℕ → List ℕ → Damage → Type 0
 IsSplitError format bytes (BadBlock at) = ⊥
 IsSplitError format bytes (File (Short length)) = ⊥

@@ -52,7 +52,7 @@ pub enum SalvageError {
     /// There should be records, and the last block is bad.
     #[error("nothing left")]
     NothingLeft,
-    /// Memory was wanted and not there.
+    /// Memory ran out.
     #[error("out of memory")]
     OutOfMemory,
 }

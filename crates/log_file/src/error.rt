@@ -34,7 +34,7 @@ pub enum FileError {
     /// The first break of the order of records, in bytes from the first record, and its rule.
     #[error("order broken at {at}, rule {rule}")]
     BadOrder { at: u64, rule: u64 },
-    /// Memory was needed and not there.
+    /// Memory ran out.
     #[error("out of memory")]
     OutOfMemory,
 }

@@ -59,7 +59,8 @@ LateEdgesKeepConflicts = (kept : ℕ → Bool) (run : List Point) (edges : ℕ �
     → AreKeptEdges kept run edges → IsMerge kept run order → Respects (Chosen edges) order → (first : ℕ) → HasLateEdges run edges first
     → (m n : ℕ) → first ≤ m → Conflict run m n → IsTrue (kept m) → IsTrue (kept n) → Precedes order m n
 
--- such a merge keeps the recorded order of two accesses of a word from there on, if one of them writes it
+-- a merge of kept points that respects kept edges, with all that end after a place, keeps the recorded order of two accesses
+-- of a word from there on, if one of them writes it
 abbrev pub LateEdgesKeepWords : Type 0
 LateEdgesKeepWords = (kept : ℕ → Bool) (run : List Point) (edges : ℕ → ℕ → Bool) (order : List ℕ)
     → AreKeptEdges kept run edges → IsMerge kept run order → Respects (Chosen edges) order → (first : ℕ) → HasLateEdges run edges first

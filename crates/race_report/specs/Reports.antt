@@ -26,7 +26,7 @@ abbrev pub points_in : Ran → List Accessing
 points_in r = points_of r.walk.taken
 
 -- the report of a joint replay of so many harts: if it stops, why it does; else if there are more than `most` races, that
--- there are; else all races. Memory may be wanting at any time
+-- there are; else all races. It may run out of memory at any time
 abbrev pub IsReport : ℕ → ℕ → Ran → Result (List Race) RaceError → Type 0
 IsReport harts most r (Ok races) = (r.stopped ≡ None) × (race_count (points_in r) ≤ most) × (races ≡ races_of harts (points_in r))
 IsReport harts most r (Err (Joint e)) = (r.stopped ≡ Some e) × (e ≢ why.OutOfMemory)
