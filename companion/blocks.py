@@ -16,6 +16,7 @@ from .rows import LOADS, STORES, Trace
 LOWEST, NEAR, LARGEST = 4096, 1024, 1 << 16
 MOST_JUMPS = 500000         # so many of the latest calls and returns are looked at, which bounds the memory
 HEADER = 4                  # bytes before a block that are surely its allocator's
+MOST_OTHERS = 50            # blocks behind one that are looked at
 STEPS = 600                 # so many rows are looked at for the block that a pointer came from
 
 
@@ -233,12 +234,14 @@ class Blocks:
 
     def is_over(self, block: Block, address: int, row: int) -> bool:
         """Whether an address that a row accessed is in another block, handed out behind this one, or in its header."""
-        place = bisect.bisect_right(self.addresses, block.address)
-        if place == len(self.addresses) or self.addresses[place] - HEADER > address:
-            return False
-        others = [other for other in self.by_address[self.addresses[place]]
-                  if other.back < row and other.giver == block.giver]
-        return bool(others) and not self.given_back(others[-1], others[-1].back, row)
+        first = bisect.bisect_right(self.addresses, block.address)
+        behind = bisect.bisect_right(self.addresses, address + HEADER, first)
+        return any(self.is_out(other, block.giver, row) for other in self.addresses[first:min(behind, first + MOST_OTHERS)])
+
+    def is_out(self, address: int, giver: int, row: int) -> bool:
+        """Whether a block of a giver is out at a row."""
+        blocks = [block for block in self.by_address[address] if block.back < row and block.giver == giver]
+        return bool(blocks) and not self.given_back(blocks[-1], blocks[-1].back, row)
 
     def sources(self, n: int) -> list[int]:
         """The rows that a row's value comes from."""

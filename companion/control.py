@@ -4,7 +4,7 @@ A row depends on the nearest branch before it, in its function or in those that 
 function can end without coming to the row's place. The code is read from the ELF file as far as it can be reached."""
 from __future__ import annotations
 
-from typing import Optional
+from typing import Callable, Optional
 
 from .elf import Elf
 from .instruction import BRANCH, JUMP, Instruction
@@ -93,18 +93,37 @@ class Control:
     def kept(self, load: int, store: int) -> int:
         """The latest branch between a store and the load that got it which went past the store's place: had it gone the
         other way, the word would have been stored again. Or 0."""
-        return self.passed(store, load) if self.trace.hart[store] == self.trace.hart[load] else 0
+        return self.passed(store, load, self.is_past) if self.trace.hart[store] == self.trace.hart[load] else 0
 
-    def passed(self, store: int, end: int) -> int:
-        """The latest branch of a store's hart, before a row of it, which went past the store's place. Or 0."""
+    def left(self, store: int) -> int:
+        """The latest branch of a store's hart from which it could have come to the store again, and can't since. Or 0."""
+        return self.passed(store, self.trace.last[self.trace.hart[store]], self.is_left)
+
+    def passed(self, store: int, end: int, has_passed: Callable[[int, int, int], bool]) -> int:
         trace, hart = self.trace, self.trace.hart[store]
         place, after = trace.code_of(store).pc, end
         for n in range(end - 1, max(store, end - MOST_ROWS), -1):
             if trace.hart[n] == hart:
-                if trace.code_of(n).kind == BRANCH and self.is_past(n, trace.code_of(after).pc, place):
+                if trace.code_of(n).kind == BRANCH and has_passed(n, trace.code_of(after).pc, place):
                     return n
                 after = n
         return 0
+
+    def is_left(self, n: int, went: int, place: int) -> bool:
+        other = other_side(self.trace.code_of(n), went)
+        return other is not None and self.can_reach(other, place) and not self.can_reach(went, place)
+
+    def can_reach(self, start: int, place: int) -> bool:
+        """Whether a function can come from `start` to `place`."""
+        seen, todo = {start}, [start]
+        while todo and len(seen) < MOST_PLACES:
+            at = todo.pop()
+            if at == place:
+                return True
+            following = self.following(at)
+            todo += [other for other in following if other not in seen]
+            seen.update(following)
+        return False
 
     def is_past(self, n: int, went: int, place: int) -> bool:
         """Whether a branch could have gone on to a place that its way doesn't come to. A way back is a loop's."""

@@ -214,7 +214,7 @@ class History:
         """What a hart waits for is stored by another one: the branch by which that one didn't store it again."""
         trace = self.trace
         if self.control and self.hangs and price <= NEAR_LOOP and trace.hart[load] != trace.hart[store]:
-            branch = self.control.passed(store, trace.last[trace.hart[store]])
+            branch = self.control.left(store)
             self.decide(branch, Decided(price + AWAITED, load, "awaited"))
 
     def is_far(self, load: int, store: int) -> bool:

@@ -8,6 +8,7 @@ from .history import ADDRESS, History
 from .instruction import ALU, STORE, Instruction
 from .rows import LOADS, OFFSET, STORES, Trace
 from .suspect import Extra, Suspect
+from .text import as_text
 
 MOST = 300                  # rows that are looked at, nearest to the fault first
 BECAME_ZERO, WAS_CUT, MASKED, BELOW_ZERO = 12, 6, 2, 14
@@ -119,7 +120,7 @@ def loss(trace: Trace, rows: Narrowing) -> Optional[Loss]:
 def lost_alignment(facts: Facts, history: History) -> list[Suspect]:
     """The rows at which the address of a misaligned access stopped being a multiple of its width: the nearest of each line."""
     trace, fault = facts.trace, facts.trace.fault
-    if not facts.faulted or not fault or not fault.name.endswith("Misaligned"):
+    if not facts.faulted or not fault or not fault.name.endswith("Misaligned") or as_text(fault.value):
         return []
     width = 4 if fault.name.startswith("Target") else fault.instruction.width
     found: dict[str, Suspect] = {}

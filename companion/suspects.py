@@ -22,6 +22,7 @@ from .suspect import Suspect, rank
 from .text import counted, number
 
 OTHER_HART, NARROW, RACE, OTHER_FUNCTION, RARITY = 8, 12, 6, 3, 5
+COMMON, COMMON_ROWS = 4, 8   # what a near store is worth less that a load always got, if it ran so often
 CLOSES, CLOSE = 8, 3        # the store that closed a circle, and how near to the loop its load is
 CONSTANT = 2                # what a constant is worth less
 SYMPTOM = 8                 # a stack that has grown into data is a consequence of its depth
@@ -114,6 +115,8 @@ class Ranking:
         whole = self.loads.get(trace.pc[item.load], 1)
         if whole >= 4 and times * 10 <= whole:
             item.sign(RARITY * math.log10(whole / times), f"rare here: {number(times)} of {number(whole)} loads")
+        elif whole >= COMMON_ROWS and times == whole and not self.history.is_far(item.load, item.store):
+            item.sign(-COMMON, f"so in all {number(whole)} loads here")
 
     def judge_distance(self, item: Suspect) -> None:
         """Near stores are let in on the chain of values, but for a register that its function put aside."""
