@@ -25,6 +25,7 @@ OTHER_HART, NARROW, RACE, OTHER_FUNCTION, RARITY = 8, 12, 6, 3, 5
 COMMON, COMMON_ROWS = 4, 8   # what a near store is worth less that a load always got, if it ran so often
 CLOSES, CLOSE = 8, 3        # the store that closed a circle, and how near to the loop its load is
 CONSTANT = 2                # what a constant is worth less
+AGAIN = 6                   # what a suspect costs more whose line another suspect tells of
 SYMPTOM = 8                 # a stack that has grown into data is a consequence of its depth
 NEAR_STORE = 6              # what a near store is worth less
 MOST_LOOKED_AT = 60         # pairs of loads and stores whose rows are read
@@ -48,7 +49,18 @@ class Ranking:
         found += memory.given_back_twice() + lost_bits(facts, history, narrowings(self.trace, history))
         found += lost_alignment(facts, history) + branch_suspects(facts, history) + exit_suspects(facts)
         found += unlocked(facts, history) + constants(facts, history)
-        self.found = sorted(stores + found + recursion, key=rank)
+        self.found = self.once(sorted(stores + found + recursion, key=rank))
+
+    def once(self, found: list[Suspect]) -> list[Suspect]:
+        """Of several suspects about one line that stored, the later ones stand further back."""
+        told: set[str] = set()
+        for item in found:
+            line = self.places.line(self.trace.code_of(item.guilty).pc)
+            if item.kind == "store" and item.shown and line in told:
+                item.score += AGAIN
+            elif item.shown:
+                told.add(line)
+        return sorted(found, key=rank)
 
     def stores(self) -> list[Suspect]:
         """A suspect for each two source lines of loads and stores, with its signs."""
