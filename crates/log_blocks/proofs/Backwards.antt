@@ -1,10 +1,11 @@
 -- The walk back over blocks.
-use Rattle.std.proofs.Common.{◌≡◌, ℕ, suc, ◌+◌, ◌-◌, ◌≤◌, true, false, List, [], ◌∷◌, ◌++◌, length, take, drop, length-append, length-drop, refl, sym, ap, ap₂, subst, ◌∙◌, arith}
+use Rattle.std.proofs.Common.{◌≡◌, ℕ, suc, ◌+◌, ◌-◌, ◌≤◌, ◌<◌, Bool, true, false, List, [], ◌∷◌, ◌++◌, length, take, drop, length-append, length-drop, refl, sym, ap, ap₂, subst, ◌∙◌, arith}
 use Rattle.std.proofs.lemmas.List.{length-take-le, drop-take}
 use Rattle.std.proofs.Math.Seq.{take-length}
 use Rattle.le_numbers.specs.Numbers.{number_at}
 use Rattle.log_blocks.specs.Pieces.{Piece, gathered, len_in, start_in, piece_in, is_good, Walked, IsWalk}
-use Rattle.log_blocks.specs.Walks.{AreAt, AreLaid, HasWalked}
+use Rattle.log_blocks.specs.Walks.{AreAt, AreLaid, HasWalked, HasSeen}
+use Rattle.log_blocks.specs.declared.walking.Walk.{Walk}
 use Rattle.log_blocks.proofs.Bytes.{take_take}
 
 -- the blocks that were walked over so far, with which each walk from here is one from the end
@@ -60,3 +61,26 @@ walked_all digest n bytes rest size sizes le few bad w = record {
   within = le;
   few = few;
 }
+
+-- the same with the list of their sizes, or without memory for it
+pub record SeenTo (digest : List ℕ) (n : ℕ) (bytes : List ℕ) (rest size : ℕ) (list : List ℕ) (listed : Bool) : Type 0 where
+  pub sizes : List ℕ
+  pub walked : WalkedTo digest n bytes rest size sizes
+  pub all : listed ≡ true → list ≡ sizes
+  pub some : listed ≡ false → 0 < size
+
+pub seen_none : (digest : List ℕ) (n : ℕ) (bytes list : List ℕ) → list ≡ [] → SeenTo digest n bytes (length bytes) 0 list true
+seen_none digest n bytes list none = record { sizes = []; walked = walked_none digest n bytes; all = λ is. none; some = λ is. absurd cc }
+
+pub seen_more : (digest : List ℕ) (n : ℕ) (bytes : List ℕ) (rest next size len more : ℕ) (list longer : List ℕ) (listed now : Bool) → rest ≤ length bytes → is_good digest n size (take rest bytes) ≡ true → len ≡ len_in (take rest bytes) → 1 ≤ len
+    → len + 48 ≤ length (take rest bytes) → next ≡ rest - (len + 48) → more ≡ size + len → (now ≡ true → (listed ≡ true) × (longer ≡ list ++ len ∷ [])) → SeenTo digest n bytes rest size list listed → SeenTo digest n bytes next more longer now
+seen_more digest n bytes rest next size len more list longer listed now le good is low fits then sum put s = record {
+  sizes = s.sizes ++ len ∷ [];
+  walked = walked_more digest n bytes rest next size len more s.sizes le good is low fits then sum s.walked;
+  all = λ t. (put t).1 ∙ ap (λ (xs : List ℕ). xs ++ len ∷ []) (s.all (put t).0);
+  some = λ t. omega (arith, low, sum);
+}
+
+pub seen_all : (digest : List ℕ) (n : ℕ) (bytes : List ℕ) (walk : Walk) (listed : Bool) → walk.rest ≤ length bytes → walk.size ≤ n → is_good digest n walk.size (take walk.rest bytes) ≡ false → SeenTo digest n bytes walk.rest walk.size walk.sizes.items listed
+    → HasSeen digest n bytes walk listed
+seen_all digest n bytes walk listed le few bad s = record { sizes = s.sizes; walked = walked_all digest n bytes walk.rest walk.size s.sizes le few bad s.walked; all = s.all; some = s.some }

@@ -149,13 +149,13 @@ module _ (laws : Laws) (tests : TestsTell) (bytes : List ℕ) (are : AreBytes by
     j.1.content,
     read_is_spelled laws.numbers laws.width laws.tags bytes are j.0 (record { pieces = behind.pieces; fault = none; walk = all_kept all; size_is = size; blocks = j.1 }),
   )
-  whole none all size (inr j) = inr (j.0, inr (inr (record { rest = behind.rest; pieces = behind.pieces; fault = none; walk = back; wrong = inr (inr (all, size, j.1)) })), j.2)
+  whole none all size (inr j) = inr (j.0, inr (record { rest = behind.rest; pieces = behind.pieces; fault = none; walk = back; wrong = inr (inr (all, size, j.1)) }), j.2)
 
   sized : (b : Bool) → head_fault bytes ≡ None → behind.rest ≡ [] → (size_in bytes == length (gathered behind.pieces)) ≡ b → Second
   sized true none all e = whole none all (eqb-true _ _ e) (said (dropped_in bytes) 136 none (laws.fit 8 92 bytes are))
   sized false none all e = inr (
     File (LengthDiffers (size_in bytes) (length (gathered behind.pieces))),
-    inr (inr (record { rest = behind.rest; pieces = behind.pieces; fault = none; walk = back; wrong = inr (inl (all, other_number _ _ e, refl)) })),
+    inr (record { rest = behind.rest; pieces = behind.pieces; fault = none; walk = back; wrong = inr (inl (all, other_number _ _ e, refl)) }),
     λ is. absurd cc,
   )
 
@@ -163,12 +163,12 @@ module _ (laws : Laws) (tests : TestsTell) (bytes : List ℕ) (are : AreBytes by
   kept_all [] e none = sized (size_in bytes == length (gathered behind.pieces)) none e refl
   kept_all (x ∷ xs) e none = inr (
     BadBlock (136 + length behind.rest),
-    inr (inr (record { rest = behind.rest; pieces = behind.pieces; fault = none; walk = back; wrong = inl (omega (arith, ap length e), refl) })),
+    inr (record { rest = behind.rest; pieces = behind.pieces; fault = none; walk = back; wrong = inl (omega (arith, ap length e), refl) }),
     λ is. absurd cc,
   )
 
   second : (o : Option FileError) → head_fault bytes ≡ o → Second
-  second (Some e) is = inr (File e, inr (inl is), no_memory e (head-named bytes e is))
+  second (Some e) is = inr (File e, inl is, no_memory e (head-named bytes e is))
   second None is = kept_all behind.rest refl is
 
   -- ---- salvage

@@ -199,9 +199,8 @@ head_again bytes (BadBlock at) none x = x
 
 -- a file that is written is refused only when out of memory
 pub refused_again : AreRead → HaveTheirWidth → AreNotBad → TagsTell → BeginNoOther → AreNotRefused
-refused_again read long good tell alone c is e (inl memory) = memory
-refused_again read long good tell alone c is e (inr (inl x)) = absurd (head_again (file_bytes2 c) e (no_fault_again read long good c is) x)
-refused_again read long good tell alone c is e (inr (inr f)) =
+refused_again read long good tell alone c is e (inl x) = absurd (head_again (file_bytes2 c) e (no_fault_again read long good c is) x)
+refused_again read long good tell alone c is e (inr f) =
     let a = content_again read c is in
     let s = one_walk _ _ _ _ _ _ _ f.walk (walked_for read long tell c is) in
     let n : size_in (file_bytes2 c) ≡ length (gathered (pieces_for c)) = a.n_is ∙ ap length (sym (gathered_for c)) in

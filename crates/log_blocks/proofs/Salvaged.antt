@@ -11,9 +11,10 @@ use Rattle.log_file.specs.declared.error.FileError.{FileError}
 use Rattle.log_file.specs.declared.error.FileError.TheVariants.{Short, BadMagic, BadVersion, BadHead, LengthDiffers, DigestDiffers, BadRecord, BadOrder, OutOfMemory}
 use Rattle.log_blocks.specs.declared.damage.Damage.{Damage}
 use Rattle.log_blocks.specs.declared.damage.Damage.TheVariants.{File, BadBlock}
+use Rattle.log_blocks.specs.declared.damage.SalvageError.TheVariants as salvage
 use Rattle.log_blocks.specs.Fields.{settings_in, program_in, head_in, dropped_in, size_in, head_digest, blocks_in}
 use Rattle.log_blocks.specs.Faults.{head_fault}
-use Rattle.log_blocks.specs.Pieces.{Piece, IsWalk}
+use Rattle.log_blocks.specs.Pieces.{Piece, gathered, IsWalk}
 use Rattle.log_blocks.specs.Walks.{sizes_of, AreLaid, HasWalked}
 use Rattle.log_blocks.specs.File.{HasBlocks, IsRecordsFault, IsRead, IsSecondRefusal, dropped_before, IsSalvaged, IsSalvageFault, NoneIsLeft, told, IsSalvageRefusal}
 use Rattle.log_blocks.proofs.Left.{step, all_left, none_left}
@@ -46,26 +47,37 @@ walk_is bytes digest body rest n pieces b w =
 pub bad_block : (bytes digest body : List ℕ) (n rest size : ℕ) (sizes : List ℕ) → Behind bytes digest body n → HasWalked digest n body rest size sizes → 0 < rest → IsSecondRefusal bytes (BadBlock (136 + rest))
 bad_block bytes digest body n rest size sizes b w some =
     let long : rest ≡ length (take rest body) = sym (length-take-le rest body w.within) in
-    inr (inr (record {
+    inr (record {
       rest = take rest body;
       pieces = w.pieces;
       fault = b.fault;
       walk = walk_is bytes digest body (take rest body) n w.pieces b w.walk;
       wrong = inl (omega (arith, some, long), ap (λ (k : ℕ). BadBlock (136 + k)) long);
-    }))
+    })
 
 nothing_ahead : (body : List ℕ) (rest : ℕ) → rest ≡ 0 → take rest body ≡ []
 nothing_ahead body rest e = ap (λ (k : ℕ). take k body) e
 
 pub other_length : (bytes digest body : List ℕ) (n rest size : ℕ) (sizes : List ℕ) → Behind bytes digest body n → HasWalked digest n body rest size sizes → rest ≡ 0 → n ≢ size → IsSecondRefusal bytes (File (LengthDiffers n size))
 other_length bytes digest body n rest size sizes b w none differ =
-    inr (inr (record {
+    inr (record {
       rest = take rest body;
       pieces = w.pieces;
       fault = b.fault;
       walk = walk_is bytes digest body (take rest body) n w.pieces b w.walk;
       wrong = inr (inl (nothing_ahead body rest none, λ e. differ (b.n_is ∙ e ∙ sym w.laid.size_is), ap₂ (λ (x y : ℕ). File (LengthDiffers x y)) b.n_is w.laid.size_is));
-    }))
+    })
+
+-- of blocks that are all good, for whose list there is no memory, the records alone aren't looked at
+pub unlisted : (bytes digest body : List ℕ) (n rest size : ℕ) (sizes : List ℕ) → Behind bytes digest body n → HasWalked digest n body rest size sizes → rest ≡ 0 → n ≡ size → IsSecondRefusal bytes (File OutOfMemory)
+unlisted bytes digest body n rest size sizes b w none all =
+    inr (record {
+      rest = take rest body;
+      pieces = w.pieces;
+      fault = b.fault;
+      walk = walk_is bytes digest body (take rest body) n w.pieces b w.walk;
+      wrong = inr (inr (nothing_ahead body rest none, sym b.n_is ∙ all ∙ w.laid.size_is, tt));
+    })
 
 -- what the call that continues with the blocks says
 abbrev pub Answers : (body : List ℕ) (rest size : ℕ) (sizes : List ℕ) → Head → ℕ → Result Content Damage → Type 0
@@ -91,13 +103,13 @@ read_is bytes digest body n rest size sizes head dropped c b w none all hi di bl
 
 pub refused_is : (bytes digest body : List ℕ) (n rest size : ℕ) (sizes : List ℕ) (head : Head) (dropped : ℕ) (e : Damage) → Behind bytes digest body n → (w : HasWalked digest n body rest size sizes) → rest ≡ 0 → n ≡ size
     → head ≡ head_in bytes → dropped ≡ dropped_in bytes → IsRecordsFault head dropped (136 + rest) w.pieces e → IsSecondRefusal bytes e
-refused_is bytes digest body n rest size sizes head dropped e b w none all hi di fault = inr (inr (record {
+refused_is bytes digest body n rest size sizes head dropped e b w none all hi di fault = inr (record {
   rest = take rest body;
   pieces = w.pieces;
   fault = b.fault;
   walk = walk_is bytes digest body (take rest body) n w.pieces b w.walk;
   wrong = inr (inr (nothing_ahead body rest none, sym b.n_is ∙ all ∙ w.laid.size_is, fault_is head (head_in bytes) dropped (dropped_in bytes) (136 + rest) 136 w.pieces e hi di (omega (arith, none)) fault));
-}))
+})
 
 pub read_ok : (bytes digest body : List ℕ) (n rest size : ℕ) (sizes : List ℕ) (head : Head) (dropped : ℕ) (r : Result Content Damage) → Behind bytes digest body n → HasWalked digest n body rest size sizes → rest ≡ 0 → n ≡ size → head ≡ head_in bytes
     → dropped ≡ dropped_in bytes → Answers body rest size sizes head dropped r → MatchResult r (IsRead bytes) (IsSecondRefusal bytes)
@@ -154,7 +166,21 @@ told_is bytes (File (LengthDiffers said found)) f = (inr f, λ is. absurd cc)
 told_is bytes (File (DigestDiffers kept found)) f = (inr f, λ is. absurd cc)
 told_is bytes (File (BadRecord at)) f = (inr f, λ is. absurd cc)
 told_is bytes (File (BadOrder at rule)) f = (inr f, λ is. absurd cc)
-told_is bytes (File OutOfMemory) f = tt
+told_is bytes (File OutOfMemory) f = f
+
+gathered_none : (size : ℕ) (pieces : List Piece) → size ≡ length (gathered pieces) → pieces ≡ [] → size ≡ 0
+gathered_none size pieces is none = is ∙ ap (λ (ps : List Piece). length (gathered ps)) none
+
+-- where there is no memory for the list of the blocks that are left, there are some
+pub unlisted_left : (bytes digest body : List ℕ) (n rest size : ℕ) (sizes : List ℕ) → Behind bytes digest body n → HasWalked digest n body rest size sizes → 0 < size → IsSalvageRefusal bytes salvage.OutOfMemory
+unlisted_left bytes digest body n rest size sizes b w more = record {
+  rest = take rest body;
+  pieces = w.pieces;
+  fault = b.fault;
+  walk = walk_is bytes digest body (take rest body) n w.pieces b w.walk;
+  some = λ none. absurd (omega (arith, more, gathered_none size w.pieces w.laid.size_is none));
+  wrong = tt;
+}
 
 pub salvaged_is : (bytes digest body : List ℕ) (n rest size : ℕ) (sizes : List ℕ) (head : Head) (given dropped : ℕ) (c : Content) → Behind bytes digest body n → (w : HasWalked digest n body rest size sizes)
     → (not (n == 0) && (length sizes == 0)) ≡ false → head ≡ head_in bytes → given ≡ dropped_in bytes → ((pieces : List Piece) → AreLaid body rest size sizes pieces → dropped ≡ dropped_before given pieces)

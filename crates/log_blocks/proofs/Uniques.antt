@@ -184,12 +184,10 @@ at_walk : (bytes rest other : List ℕ) (pieces others : List Piece) (e : Damage
 at_walk bytes rest other pieces others e s x = subst (λ (t : List Piece). IsWalkFault bytes other t e) s.pieces_are (subst (λ (t : List ℕ). IsWalkFault bytes t pieces e) s.rest_is x)
 
 one_second : BeginNoOther → (bytes : List ℕ) (e f : Damage) → IsSecondRefusal bytes e → IsSecondRefusal bytes f → e ≢ File OutOfMemory → f ≢ File OutOfMemory → e ≡ f
-one_second alone bytes e f (inl x) y m k = absurd (m x)
-one_second alone bytes e f (inr x) (inl y) m k = absurd (k y)
-one_second alone bytes e f (inr (inl x)) (inr (inl y)) m k = one_head bytes e f x y
-one_second alone bytes e f (inr (inl x)) (inr (inr y)) m k = head_or_not bytes e y.fault x
-one_second alone bytes e f (inr (inr x)) (inr (inl y)) m k = head_or_not bytes f x.fault y
-one_second alone bytes e f (inr (inr x)) (inr (inr y)) m k =
+one_second alone bytes e f (inl x) (inl y) m k = one_head bytes e f x y
+one_second alone bytes e f (inl x) (inr y) m k = head_or_not bytes e y.fault x
+one_second alone bytes e f (inr x) (inl y) m k = head_or_not bytes f x.fault y
+one_second alone bytes e f (inr x) (inr y) m k =
     one_behind alone bytes y.rest y.pieces e f (at_walk bytes x.rest y.rest x.pieces y.pieces e (one_walk _ _ _ _ _ _ _ x.walk y.walk) x.wrong) y.wrong m k
 
 -- ---- a file of either version

@@ -1,18 +1,22 @@
 -- A few blocks, worked out.
-use Rattle.std.proofs.Common.{◌≡◌, ◌<◌, ℕ, ◌+◌, Bool, true, false, ◌∷◌, ◌++◌, [], List, length, Some, None, refl, sym, ap, arith, inl, inr}
+use Rattle.std.proofs.Common.{◌≡◌, ◌<◌, ℕ, ◌+◌, Bool, true, false, ◌∷◌, ◌++◌, [], List, length, Option, Some, None, refl, sym, ap, ◌∙◌, arith, inl, inr}
 use Rattle.std.specs.Prelude.{nat_lt, if◌then◌else◌}
 use Rattle.le_numbers.specs.Numbers.{number_bytes}
 use Rattle.log_record.specs.declared.record.Record.TheVariants.{ScOk}
 use Rattle.log_record.specs.Spelling.{total}
 use Rattle.log_file.specs.Blocks.{cut_from, blocks_of}
-use Rattle.log_blocks.specs.declared.damage.Damage.TheVariants.{BadBlock}
+use Rattle.log_file.specs.declared.error.FileError.{FileError}
+use Rattle.log_file.specs.declared.error.FileError.TheVariants.{OutOfMemory}
+use Rattle.log_blocks.specs.declared.damage.Damage.TheVariants.{File, BadBlock}
 use Rattle.log_blocks.specs.declared.damage.SalvageError.TheVariants.{NothingLeft}
+use Rattle.log_blocks.specs.declared.damage.SalvageError.TheVariants as salvage
 use Rattle.log_blocks.specs.Fields.{size_in, head_digest, blocks_in}
 use Rattle.log_blocks.specs.Faults.{head_fault}
 use Rattle.log_blocks.specs.Pieces.{is_good, IsWalk}
 use Rattle.log_blocks.specs.Cuts.{first_wrong}
-use Rattle.log_blocks.specs.File.{IsSecondRefusal, IsSalvageRefusal}
+use Rattle.log_blocks.specs.File.{IsWalkFault, IsSecondRefusal, IsSalvageRefusal}
 use Rattle.log_blocks.specs.Examples.{full_block, two_blocks}
+use Rattle.log_blocks.proofs.Written.{Same, one_walk}
 
 pub full_size_is : total full_block ≡ 4096
 unfolding number_bytes
@@ -42,13 +46,36 @@ no_walk : (bytes : List ℕ) → length (blocks_in bytes) ≡ 47 → IsWalk (hea
 no_walk bytes e = record { count = 0; walked = (not_good (head_digest bytes) (blocks_in bytes) (size_in bytes) 0 e, (refl, refl)) }
 
 pub cut_off_is : (bytes : List ℕ) → head_fault bytes ≡ None → length (blocks_in bytes) ≡ 47 → IsSecondRefusal bytes (BadBlock 183)
-cut_off_is bytes good e = inr (inr (record {
+cut_off_is bytes good e = inr (record {
   rest = blocks_in bytes;
   pieces = [];
   fault = good;
   walk = no_walk bytes e;
   wrong = inl (omega (arith, e), ap (λ (n : ℕ). BadBlock (136 + n)) (sym e));
-}))
+})
 
 pub none_left_is : (bytes : List ℕ) → head_fault bytes ≡ None → length (blocks_in bytes) ≡ 47 → 0 < size_in bytes → IsSalvageRefusal bytes NothingLeft
 none_left_is bytes good e more = record { rest = blocks_in bytes; fault = good; walk = no_walk bytes e; more = more }
+
+-- ---- neither is told as out of memory
+
+no_rest : {P : Type 0} (bytes rest : List ℕ) → length (blocks_in bytes) ≡ 47 → rest ≡ blocks_in bytes → rest ≡ [] → P
+no_rest bytes rest e is none = absurd (omega (arith, e, ap length is, ap length none))
+
+pub cut_off_told : (bytes : List ℕ) → head_fault bytes ≡ None → length (blocks_in bytes) ≡ 47 → IsSecondRefusal bytes (File OutOfMemory) → ⊥
+cut_off_told bytes good e (inl h) = other_fault (sym good ∙ h)
+  where
+    other_fault : ◌≡◌ {A = Option FileError} None (Some OutOfMemory) → ⊥
+    other_fault x = cc
+cut_off_told bytes good e (inr f) = by (one_walk _ _ _ _ _ _ _ f.walk (no_walk bytes e)) f.wrong
+  where
+    other_damage : (at : ℕ) → File OutOfMemory ≡ BadBlock at → ⊥
+    other_damage at x = cc
+
+    by : Same f.rest (blocks_in bytes) f.pieces [] → IsWalkFault bytes f.rest f.pieces (File OutOfMemory) → ⊥
+    by s (inl x) = other_damage _ x.1
+    by s (inr (inl x)) = no_rest bytes f.rest e s.rest_is x.0
+    by s (inr (inr x)) = no_rest bytes f.rest e s.rest_is x.0
+
+pub none_left_told : (bytes : List ℕ) → length (blocks_in bytes) ≡ 47 → 0 < size_in bytes → IsSalvageRefusal bytes salvage.OutOfMemory → ⊥
+none_left_told bytes e more f = let s = one_walk _ _ _ _ _ _ _ f.walk (no_walk bytes e) in omega (arith, more, f.some s.pieces_are)

@@ -109,9 +109,9 @@ pub record IsBlocksFault (bytes : List ℕ) (e : Damage) : Type 0 where
   pub walk : IsWalk (head_digest bytes) (size_in bytes) (blocks_in bytes) rest pieces
   pub wrong : IsWalkFault bytes rest pieces e
 
--- the first refusal of a file of version 2
+-- the first refusal of a file of version 2; of a damaged head or block it is never out of memory
 abbrev pub IsSecondRefusal : List ℕ → Damage → Type 0
-IsSecondRefusal bytes e = (e ≡ File OutOfMemory) ⊎ IsHeadFault bytes e ⊎ IsBlocksFault bytes e
+IsSecondRefusal bytes e = IsHeadFault bytes e ⊎ IsBlocksFault bytes e
 
 -- the first refusal of a file of version 1
 abbrev pub IsFirstRefusal : List ℕ → Damage → Type 0
@@ -171,8 +171,8 @@ told (File (BadRecord at)) = salvage.File (File (BadRecord at))
 told (File (BadOrder at rule)) = salvage.File (File (BadOrder at rule))
 told (File OutOfMemory) = salvage.OutOfMemory
 
--- why nothing is salvaged
+-- why nothing is salvaged; out of memory comes only of a good head and where blocks are left
 abbrev pub IsSalvageRefusal : List ℕ → SalvageError → Type 0
 IsSalvageRefusal bytes (salvage.File e) = (IsHeadFault bytes e ⊎ IsSalvageFault bytes e) × (e ≢ File OutOfMemory)
 IsSalvageRefusal bytes salvage.NothingLeft = NoneIsLeft bytes
-IsSalvageRefusal bytes salvage.OutOfMemory = Unit {0}
+IsSalvageRefusal bytes salvage.OutOfMemory = IsSalvageFault bytes (File OutOfMemory)

@@ -1,5 +1,5 @@
 -- What a walk back leaves: the place of the blocks that it kept, and how long they are.
-use Rattle.std.specs.Prelude.{◌≡◌, ◌≤◌, ℕ, ◌+◌, List, [], ◌∷◌, ◌++◌, take, drop, length, Option}
+use Rattle.std.specs.Prelude.{◌≡◌, ◌≤◌, ◌<◌, ℕ, ◌+◌, Bool, true, false, List, [], ◌∷◌, ◌++◌, take, drop, length, Option}
 use Rattle.std.specs.List.{flat_map, AllByRecursion}
 use Rattle.le_numbers.specs.Numbers.{number_at}
 use Rattle.log_record.specs.declared.record.Record.{Record}
@@ -43,6 +43,13 @@ pub record HasWalked (digest : List ℕ) (n : ℕ) (bytes : List ℕ) (rest size
   pub laid : AreLaid bytes rest size sizes pieces
   pub within : rest ≤ length bytes
   pub few : size ≤ n
+
+-- the walk back ended so; the list has the sizes of its blocks if it is told to be whole, and otherwise there is a block
+pub record HasSeen (digest : List ℕ) (n : ℕ) (bytes : List ℕ) (walk : Walk) (listed : Bool) : Type 0 where
+  pub sizes : List ℕ
+  pub walked : HasWalked digest n bytes walk.rest walk.size sizes
+  pub all : listed ≡ true → walk.sizes.items ≡ sizes
+  pub some : listed ≡ false → 0 < walk.size
 
 -- if the bytes are those of records, and of the pieces that a walk kept, the place is the end of the first piece that isn't the block at its place
 abbrev pub FindsWrong : List ℕ → Walk → ℕ → List ℕ → Option ℕ → Type 0

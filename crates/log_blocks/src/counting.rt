@@ -3,6 +3,8 @@ ghost use Rattle.std.specs.Prelude.{◌≡◌, ◌≤◌, ◌+◌, ◌^◌, List
 ghost use Rattle.std.specs.List.{AllByRecursion};
 ghost use Rattle.log_record.specs.Spelling.{bytes_of, total, Fits};
 ghost use Rattle.log_file.specs.Counts.{counts_in, counts_of};
+ghost use Rattle.log_file.specs.declared.error.FileError.TheVariants.{OutOfMemory};
+ghost use Rattle.log_blocks.specs.declared.damage.Damage.TheVariants.{File};
 ghost use Rattle.log_blocks.specs.Counts.{CountsBlocks, CountsRead, CountsFile};
 ghost use Rattle.log_blocks.specs.Faults.{is_second, head_fault};
 ghost use Rattle.log_blocks.specs.Fields.{settings_in};
@@ -140,10 +142,11 @@ fn count_second(alloc: Global, bytes: &[u8]) -> Result<LogCounts, Damage>
 
 /// What is counted of the log that a file of either version says, without a list of its records. Of a
 /// file of version 1 no memory is taken, and of one of version 2 as much as its records' bytes. A file
-/// is refused as `read_file` refuses it.
+/// is refused as `read_file` refuses it, and one of version 1 is never told as out of memory.
 pub fn count_file(alloc: Global, bytes: &[u8]) -> Result<LogCounts, Damage>
     ensures counted { IfOk result (CountsFile bytes.now) }
     ensures refused { IfErr result (IsRefusal bytes.now) }
+    ensures memory { IfErr result (λ e. e ≡ File OutOfMemory → is_second bytes.now ≡ true) }
 {
     if is_second(bytes) {
         count_second(alloc, bytes)

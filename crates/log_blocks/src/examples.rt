@@ -3,8 +3,10 @@ ghost use Rattle.std.specs.Prelude.{◌≡◌, ◌<◌, ◌∷◌, ◌++◌, [],
 ghost use Rattle.log_record.specs.declared.record.Record.TheVariants.{ScOk};
 ghost use Rattle.log_record.specs.Spelling.{total};
 ghost use Rattle.log_file.specs.Blocks.{cut_from, blocks_of};
-ghost use Rattle.log_blocks.specs.declared.damage.Damage.TheVariants.{BadBlock};
+ghost use Rattle.log_file.specs.declared.error.FileError.TheVariants.{OutOfMemory};
+ghost use Rattle.log_blocks.specs.declared.damage.Damage.TheVariants.{File, BadBlock};
 ghost use Rattle.log_blocks.specs.declared.damage.SalvageError.TheVariants.{NothingLeft};
+ghost use Rattle.log_blocks.specs.declared.damage.SalvageError.TheVariants as salvage;
 ghost use Rattle.log_blocks.specs.Fields.{size_in, blocks_in};
 ghost use Rattle.log_blocks.specs.Faults.{head_fault};
 ghost use Rattle.log_blocks.specs.Pieces.{is_sized};
@@ -35,9 +37,11 @@ pub fn records_are_cut_in_one_way()
 {}
 
 /// If a good head is followed by fewer bytes than a seal has, the block that ends there is bad. If there should be records,
-/// nothing is left to salvage.
-#[tactic(auto, using(crate::proofs::Worked::cut_off_is, crate::proofs::Worked::none_left_is))]
+/// nothing is left to salvage. Neither is told as out of memory.
+#[tactic(auto, using(crate::proofs::Worked::cut_off_is, crate::proofs::Worked::cut_off_told, crate::proofs::Worked::none_left_is, crate::proofs::Worked::none_left_told))]
 pub fn a_block_that_is_cut_off_is_bad()
     ensures read { (bytes : List ℕ) → head_fault bytes ≡ None → length (blocks_in bytes) ≡ 47 → IsSecondRefusal bytes (BadBlock 183) }
+    ensures told { (bytes : List ℕ) → head_fault bytes ≡ None → length (blocks_in bytes) ≡ 47 → IsSecondRefusal bytes (File OutOfMemory) → ⊥ }
     ensures salvaged { (bytes : List ℕ) → head_fault bytes ≡ None → length (blocks_in bytes) ≡ 47 → 0 < size_in bytes → IsSalvageRefusal bytes NothingLeft }
+    ensures unsalvaged { (bytes : List ℕ) → length (blocks_in bytes) ≡ 47 → 0 < size_in bytes → IsSalvageRefusal bytes salvage.OutOfMemory → ⊥ }
 {}

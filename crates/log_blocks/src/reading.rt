@@ -77,7 +77,7 @@ pub(crate) fn whole_walk(alloc: Global, bytes: &[u8]) -> Result<Walk, Damage>
     ensures refused { IfErr result (IsSecondRefusal bytes.now) }
 {
     let said = read_u32(bytes, 100) as usize;
-    let walk = walk_back(alloc, &head_digest(bytes), said, tail(bytes, HEAD_SIZE))?;
+    let (walk, listed) = walk_back(alloc, &head_digest(bytes), said, tail(bytes, HEAD_SIZE));
     if 0 < walk.rest {
         return Err(Damage::BadBlock {
             at: (HEAD_SIZE + walk.rest) as u64,
@@ -88,6 +88,9 @@ pub(crate) fn whole_walk(alloc: Global, bytes: &[u8]) -> Result<Walk, Damage>
             said: said as u64,
             found: walk.size as u64,
         }));
+    }
+    if !listed {
+        return Err(Damage::File(FileError::OutOfMemory));
     }
     Ok(walk)
 }
@@ -141,7 +144,8 @@ fn read_either(alloc: Global, bytes: &[u8]) -> Result<KeptLog, Damage>
 }
 
 /// What a log file of either version says. The error is the first that applies, in the order of the
-/// version that the bytes name.
+/// version that the bytes name. Out of memory comes only where the records alone are still to be
+/// looked at: the digest of version 1, or the blocks of version 2, are whole then.
 pub fn read_file(alloc: Global, bytes: &[u8]) -> Result<KeptLog, Damage>
     // A log that is read is one that the format has, and the bytes are its spelling.
     ensures content { IfOk result (λ c. IsContent c) }

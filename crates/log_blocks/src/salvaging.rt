@@ -73,7 +73,10 @@ fn kept_walk(alloc: Global, bytes: &[u8]) -> Result<Walk, SalvageError>
     ensures refused { IfErr result (IsSalvageRefusal bytes.now) }
 {
     let said = read_u32(bytes, 100) as usize;
-    let walk = walk_back(alloc, &head_digest(bytes), said, tail(bytes, HEAD_SIZE))?;
+    let (walk, listed) = walk_back(alloc, &head_digest(bytes), said, tail(bytes, HEAD_SIZE));
+    if !listed {
+        return Err(SalvageError::OutOfMemory);
+    }
     if is_lost(said, &walk) {
         return Err(SalvageError::NothingLeft);
     }
@@ -150,7 +153,8 @@ fn renewed_in(alloc: Global, bytes: &[u8], settings: Settings) -> Result<NewFile
 }
 
 /// The log of the last blocks of a file of version 2, up to the last that is bad: its head must be
-/// whole, and is kept. How many records were given up before it is what its first block says.
+/// whole, and is kept. How many records were given up before it is what its first block says. Out of
+/// memory comes only where blocks are left, or should have no records.
 pub fn salvage(alloc: Global, bytes: &[u8]) -> Result<KeptLog, SalvageError>
     ensures salvaged { IfOk result (IsSalvaged bytes.now) }
     ensures refused { IfErr result (IsSalvageRefusal bytes.now) }

@@ -1,12 +1,12 @@
 //! The walk over the blocks of a file, from its end back.
-ghost use Rattle.std.specs.Prelude.{◌≡◌, ◌<◌, ◌≤◌, ◌+◌, ◌^◌, true, false, length, IfOk, IfSome, IfNone};
+ghost use Rattle.std.specs.Prelude.{◌≡◌, ◌<◌, ◌≤◌, ◌+◌, ◌^◌, ◌∷◌, ◌++◌, [], true, false, length, IfSome, IfNone};
 ghost use Rattle.log_blocks.specs.Pieces.{len_in, left_in, is_sized, is_good};
-ghost use Rattle.log_blocks.specs.Walks.{HasWalked};
+ghost use Rattle.log_blocks.specs.Walks.{HasSeen};
 
 use crate::sealing::{BLOCK_SIZE, SEAL_SIZE, front, part, seal_of};
 use le_numbers::read_u32;
 use log_file::head::{DIGEST_SIZE, same, tail};
-use std::alloc::{AllocError, Global};
+use std::alloc::Global;
 
 /// What a walk back from the end of some bytes found: good blocks, and what stands ahead of them.
 #[derive(Drop)]
@@ -57,24 +57,28 @@ pub(crate) fn good_block(digest: &[u8; 32], n: usize, left: usize, bytes: &[u8])
     }
 }
 
-/// Walks back over the blocks that end some bytes, up to the first bad one. The only error is out of
-/// memory.
-pub(crate) fn walk_back(
-    alloc: Global,
-    digest: &[u8; 32],
-    n: usize,
-    bytes: &[u8],
-) -> Result<Walk, AllocError>
+// Appends a block's size to those of the blocks before, unless one of these isn't listed or memory runs out,
+// and tells whether it did.
+fn list(sizes: &mut Vec<usize>, listed: bool, size: usize) -> bool
+    ensures { result ≡ true → (listed ≡ true) × (sizes.new.items ≡ sizes.old.items ++ size ∷ []) }
+{
+    listed && sizes.push(size).is_ok()
+}
+
+/// Walks back over the blocks that end some bytes, up to the first bad one, and tells whether all their
+/// sizes are listed. Without memory for these it continues, so that damage before them is seen.
+pub(crate) fn walk_back(alloc: Global, digest: &[u8; 32], n: usize, bytes: &[u8]) -> (Walk, bool)
     requires { n < 2 ^ 32 }
-    ensures { IfOk result (λ w. HasWalked digest.now n bytes.now w.rest w.size w.sizes.items) }
+    ensures { HasSeen digest.now n bytes.now result.0 result.1 }
 {
     let mut rest = bytes.len();
     let mut size = 0;
     let mut sizes = Vec::new(alloc);
+    let mut listed = true;
     while let Some(len) = good_block(digest, n, size, front(bytes, rest)) {
-        sizes.push(len)?;
+        listed = list(&mut sizes, listed, len);
         size += len;
         rest -= len + SEAL_SIZE;
     }
-    Ok(Walk { rest, size, sizes })
+    (Walk { rest, size, sizes }, listed)
 }
