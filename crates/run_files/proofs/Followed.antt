@@ -1,16 +1,18 @@
 -- Lists that are followed turn by turn, and what is wrong with them.
 use Rattle.std.proofs.Common.{◌≡◌, ℕ, suc, ◌+◌, ◌-◌, ◌<◌, ◌≤◌, Bool, true, false, ◌&&◌, nat_lt, List, [], ◌∷◌, ◌++◌, length, get_or, take, drop, drop-cons, refl, sym, ◌∙◌, ap, subst, arith}
-use Rattle.std.specs.Prelude.{Option, Some, None}
+use Rattle.std.specs.Prelude.{Option, Some, None, Result, Ok, Err, IfErr, IsErrAnd}
 use Rattle.std.proofs.Math.Seq.{take-suc}
 use Rattle.std.proofs.lemmas.List.{take_all, drop_all}
 use Rattle.bn_base.specs.Programs.{Program}
 use Rattle.bn_base.specs.declared.settings.RawSettings.{RawSettings}
 use Rattle.run_model.specs.declared.error.TurnError.{TurnError}
-use Rattle.run_model.specs.declared.error.TurnError.TheVariants.{IllegalTurn, NotFinished}
+use Rattle.run_model.specs.declared.error.TurnError.TheVariants.{IllegalTurn, NotFinished, OutOfMemory}
 use Rattle.run_model.specs.declared.hart.Hart.{Hart}
 use Rattle.run_model.specs.Turn.{Run, turn}
 use Rattle.run_model.specs.Runs.{run_from, is_live, live_harts}
 use Rattle.run_model.specs.Lists.{unfinished, error_from}
+use Rattle.run_model.specs.Represents.Plain.{PlainParts}
+use Rattle.run_files.specs.Audits.{StandsBefore}
 
 -- ---- one turn more
 
@@ -94,3 +96,21 @@ pub kept_error : (s t u : RawSettings) (i j : Program) (run : Run) (list : List 
 kept_error s t u i j run list found answer e f g legal told is =
     ap (λ (c : RawSettings). error_from c j run 0 list) (sym e) ∙ ap (λ (q : Program). error_from s q run 0 list) (sym f) ∙ legal
     ∙ ap (λ (c : RawSettings). unfinished (live_harts 0 c.harts (run_from s i run list).harts)) (sym g) ∙ sym told ∙ is
+
+pub kept_stand : (s t : RawSettings) (i j : Program) (run : Run) (list : List ℕ) (p : PlainParts) → s ≡ t → i ≡ j → StandsBefore s i run list p → StandsBefore t j run list p
+kept_stand s t i j run list p e f x = subst (λ (c : RawSettings). StandsBefore c j run list p) e (subst (λ (q : Program). StandsBefore s q run list p) f x)
+
+-- a live hart isn't want of memory
+pub never_memory : {P : Type 0} (ks : List ℕ) (found : Option TurnError) (e : TurnError) → found ≡ unfinished ks → found ≡ Some e → e ≡ OutOfMemory → P
+never_memory [] found e is some m = absurd cc
+never_memory (k ∷ ks) found e is some m = absurd cc
+
+-- ---- an error that is passed on
+
+pub any_err : (P : TurnError → Type 0) (r : Result (Unit {0}) TurnError) → ((e : TurnError) → P e) → IfErr r P
+any_err P (Ok x) f = tt
+any_err P (Err e) f = f e
+
+pub that_err : (P : TurnError → Type 0) (e : TurnError) (r : Result (Unit {0}) TurnError) → IsErrAnd r (λ y. y ≡ e) → P e → IfErr r P
+that_err P e (Ok x) h k = tt
+that_err P e (Err y) h k = subst P (sym h) k

@@ -1,5 +1,5 @@
 -- What an audit compares, and what it finds.
-use Rattle.std.specs.Prelude.{◌≡◌, ◌≢◌, ℕ, ◌+◌, ◌==◌, Bool, true, false, List, [], ◌∷◌, take, drop, slice_get, Option}
+use Rattle.std.specs.Prelude.{◌≡◌, ◌≢◌, ℕ, ◌+◌, ◌<◌, ◌==◌, Bool, true, false, List, [], ◌∷◌, length, take, drop, get_or, slice_get, Option}
 use Rattle.std.specs.Str.{bytes_eq}
 use Rattle.bn_base.specs.Programs.{Program}
 use Rattle.bn_base.specs.declared.settings.RawSettings.{RawSettings}
@@ -10,7 +10,9 @@ use Rattle.run_files.specs.declared.verdict.Verdict.{Verdict}
 use Rattle.run_files.specs.declared.verdict.Verdict.TheVariants.{Agree, Differ}
 use Rattle.run_model.specs.KeptRecords.{content_of}
 use Rattle.run_model.specs.Lists.{list_error}
-use Rattle.run_model.specs.Runs.{run_of}
+use Rattle.run_model.specs.Represents.Plain.{PlainParts, IsRun}
+use Rattle.run_model.specs.Runs.{run_from, run_of, is_live}
+use Rattle.run_model.specs.Turn.{Run}
 use Rattle.run_model.specs.Examples.{Recording, program_of}
 
 -- ---- the file that a log is compared with
@@ -65,6 +67,15 @@ verdict_of file log = verdict_from 0 file log
 pub record VerdictsAreUnique : Type 0 where
   pub one : (file log : List ℕ) (v w : Verdict) → IsVerdict file log v → IsVerdict file log w → v ≡ w
   pub is : (file log : List ℕ) → IsVerdict file log (verdict_of file log)
+
+-- ---- out of memory
+
+-- a machine stands before a turn of a list whose hart is live then; with these settings, program and run it began
+pub record StandsBefore (c : RawSettings) (i : Program) (run : Run) (list : List ℕ) (p : PlainParts) : Type 0 where
+  pub at : ℕ
+  pub within : at < length list
+  pub stands : IsRun p (run_from c i run (take at list))
+  pub live : is_live c (run_from c i run (take at list)) (get_or list at 0) ≡ true
 
 -- ---- small recordings
 

@@ -4,7 +4,7 @@ ghost use Rattle.run_model.specs.declared.error.TurnError.TheVariants.{OutOfMemo
 ghost use Rattle.run_model.specs.Turn.{Run};
 ghost use Rattle.run_model.specs.Runs.{start, run_from, run_of, live_harts};
 ghost use Rattle.run_model.specs.Lists.{unfinished, error_from, list_error};
-ghost use Rattle.run_files.specs.Audits.{is_version2, audited_file, IsVerdict};
+ghost use Rattle.run_files.specs.Audits.{is_version2, audited_file, IsVerdict, StandsBefore};
 ghost use Rattle.run_model.specs.Represents.Plain.{IsRun};
 ghost use Rattle.run_model.specs.Represents.Turning.{parts};
 
@@ -21,6 +21,7 @@ fn follow(code: &DecodedImage, plain: &mut Plain, list: &[u8]) -> Result<(), Tur
     ensures legal { OnOk result ((run : Run) → IsRun (parts plain.old) run → let c = (parts plain.old).start.settings in let i = (parts plain.old).start.image in
         error_from c i run 0 list.now ≡ unfinished (live_harts 0 c.harts (run_from c i run list.now).harts)) }
     ensures illegal { IfErr result (λ e. (e ≡ OutOfMemory) ⊎ ((run : Run) → IsRun (parts plain.old) run → error_from (parts plain.old).start.settings (parts plain.old).start.image run 0 list.now ≡ Some e)) }
+    ensures memory { IfErr result (λ e. e ≡ OutOfMemory → (run : Run) → IsRun (parts plain.old) run → StandsBefore (parts plain.old).start.settings (parts plain.old).start.image run list.now (parts plain.new)) }
     ensures start { (parts plain.new).start ≡ (parts plain.old).start }
 {
     for at in 0..list.len() {
@@ -61,6 +62,7 @@ fn follow_whole(
     ensures run { OnOk result (IsRun (parts plain.new) (run_of from.now.settings from.now.image from.now.input.items list.now)) }
     ensures whole { OnOk result (list_error from.now.settings from.now.image from.now.input.items list.now ≡ None) }
     ensures refused { IfErr result (λ e. (e ≡ OutOfMemory) ⊎ (list_error from.now.settings from.now.image from.now.input.items list.now ≡ Some e)) }
+    ensures memory { IfErr result (λ e. e ≡ OutOfMemory → (plain.new ≡ plain.old) ⊎ StandsBefore from.now.settings from.now.image (start from.now.settings from.now.image from.now.input.items) list.now (parts plain.new)) }
     ensures settings { (parts plain.new).start.settings ≡ from.now.settings }
 {
     let code = DecodedImage::new(alloc, &from.image)?;
@@ -142,8 +144,9 @@ fn compare(file: &[u8], log: &[u8]) -> Verdict
 /// code that is decoded ahead.
 ///
 /// The list is refused if and only if one of its harts isn't live at its turn, or some hart is live after
-/// the last. The error names the first such turn, or the lowest such hart. Out of memory may come in
-/// place of any answer.
+/// the last. The error names the first such turn, or the lowest such hart. Out of memory comes before the
+/// first turn, at a turn whose hart is live, or once the list is found to be whole. Whether a later turn is
+/// refused isn't known then.
 pub fn audit(alloc: Global, from: &Start, list: &[u8], log: &[u8]) -> Result<Verdict, TurnError>
     ensures verdict { IfOk result (λ v. IsVerdict (audited_file (is_version2 log.now) from.now.settings from.now.image from.now.digest from.now.input.items list.now) log.now v) }
     ensures whole { OnOk result (list_error from.now.settings from.now.image from.now.input.items list.now ≡ None) }

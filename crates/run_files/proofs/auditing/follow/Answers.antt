@@ -5,7 +5,7 @@ use Rattle.run_model.specs.Runs.{run_from, is_live, live_harts}
 use Rattle.run_model.specs.Lists.{unfinished, error_from}
 use Rattle.run_model.specs.Represents.Plain.{IsRun}
 use Rattle.run_model.specs.Represents.Turning.{parts}
-use Rattle.run_files.proofs.Followed.{run_more, wrong_here, wrong_later, all_taken, wrong_at_end}
+use Rattle.run_files.proofs.Followed.{run_more, wrong_here, wrong_later, all_taken, wrong_at_end, any_err}
 use Rattle.run_files.proofs.auditing.follow.Goals as goal
 
 pub returns-then-not-live-clause-illegal : goal.returns-then-not-live-clause-illegal
@@ -43,3 +43,17 @@ returns-clause-legal c = λ run is.
     let from = c.args.plain.now.start in let list = c.args.list.now in let at = c.loop-at.at in
     c.loop-at.invariant.judged run is ∙ wrong_at_end from.settings from.image (run_from from.settings from.image run (take at list)) list at c.loop-at-test.false
     ∙ ap (λ (xs : List ℕ). unfinished (live_harts 0 from.settings.harts (run_from from.settings from.image run xs).harts)) (all_taken list at c.loop-at-test.false)
+
+pub returns-then-not-live-clause-memory : goal.returns-then-not-live-clause-memory
+returns-then-not-live-clause-memory c = λ e. absurd cc
+
+pub returns-in_err-turn_ahead-clause-memory : goal.returns-in_err-turn_ahead-clause-memory
+returns-in_err-turn_ahead-clause-memory c = any_err _ c.from_residual.result (λ e m run is.
+    let from = c.args.plain.now.start in let list = c.args.list.now in let at = c.loop-at.at in
+    let now = run_from from.settings from.image run (take at list) in
+    record {
+      at = at;
+      within = c.loop-at-test.true;
+      stands = c.in_err-turn_ahead.ensures.refused now (c.loop-at.invariant.run run is);
+      live = ap (λ (s : Start). is_live s.settings now (get_or list at 0)) (sym c.loop-at.invariant.start) ∙ sym (c.live.ensures.run now (c.loop-at.invariant.run run is)) ∙ c.if-not-live.false;
+    })
