@@ -7,8 +7,9 @@ use Rattle.hart_replay.specs.declared.error.ReplayError.{ReplayError}
 use Rattle.hart_replay.specs.declared.error.ReplayError.TheVariants.{NoInterval, LoadMissing, ScMissing, RecordsLeft, EndDiffers, OutOfMemory}
 use Rattle.slice_back.specs.declared.noted.Noted.{Noted}
 use Rattle.slice_back.specs.Slices.{noted, up_to}
+use Rattle.slice_back.specs.declared.error.SliceError.{SliceError}
 use Rattle.slice_back.specs.declared.error.SliceError.TheVariants as ends
-use Rattle.slice_back.specs.Tracing.{Tracing, behind, reached, error_of, IsStop, IsTraced}
+use Rattle.slice_back.specs.Tracing.{Tracing, behind, reached, error_of, IsStop, EndsUnnoted, IsTraced}
 
 -- what is noted so far, with what the rows that are left add, is what the whole replay gives
 pub record TracedSoFar (ic : ℕ) (loads : List (ℕ × ℕ)) (whole left : Replayed) (t : Tracing) : Type 0 where
@@ -52,8 +53,36 @@ stands-stopped ic loads whole left s e (inl p) w h = stands-refused ic loads who
 stands-stopped ic loads whole left s e (inr q) (inl p) h = stands-refused ic loads whole left s e p h
 stands-stopped ic loads whole left s e (inr q) (inr w) h = subst (λ (x : ReplayError). IsStop whole (error_of x)) (sym q) (inr (omega (arith, a_row_comes left.rows w, h.rest)))
 
--- a row that came is not noted when out of memory
-pub stands-unnoted : (ic : ℕ) (loads : List (ℕ × ℕ)) (whole left more : Replayed) (row : Row) (s : Tracing) → left ≡ with_rows (row ∷ []) more → TracedSoFar ic loads whole left s → IsStop whole ends.OutOfMemory
-stands-unnoted ic loads whole left more row s e h =
-    let one : length left.rows ≡ suc (length more.rows) = ap (λ (x : Replayed). length x.rows) e in
+-- ---- a replay whose rows aren't noted
+
+pub rest-more : (whole left more : Replayed) (row : Row) → left ≡ with_rows (row ∷ []) more → left.outcome ≡ whole.outcome → more.outcome ≡ whole.outcome
+rest-more whole left more row e is = sym (ap (λ (x : Replayed). x.outcome) e) ∙ is
+
+pub ends-done : (whole left now : Replayed) → left ≡ over Done → left.outcome ≡ whole.outcome → EndsUnnoted whole ends.OutOfMemory now
+ends-done whole left now e is = inl (sym is ∙ ap (λ (x : Replayed). x.outcome) e)
+
+ends-as : (whole left now : Replayed) (e : ReplayError) → left ≡ over (Refused e) → now ≡ over (Refused e) → left.outcome ≡ whole.outcome → EndsUnnoted whole (error_of e) now
+ends-as whole left now (NoInterval a b) p n is = sym is ∙ ap (λ (x : Replayed). x.outcome) p
+ends-as whole left now (LoadMissing a b c) p n is = sym is ∙ ap (λ (x : Replayed). x.outcome) p
+ends-as whole left now (ScMissing a b) p n is = sym is ∙ ap (λ (x : Replayed). x.outcome) p
+ends-as whole left now (RecordsLeft a b) p n is = sym is ∙ ap (λ (x : Replayed). x.outcome) p
+ends-as whole left now (EndDiffers a b c) p n is = sym is ∙ ap (λ (x : Replayed). x.outcome) p
+ends-as whole left now OutOfMemory p n is = inr n
+
+pub ends-stopped : (whole left now : Replayed) (e : ReplayError) → (left ≡ over (Refused e)) ⊎ (e ≡ OutOfMemory) → now ≡ over (Refused e) → left.outcome ≡ whole.outcome → EndsUnnoted whole (error_of e) now
+ends-stopped whole left now e (inl p) n is = ends-as whole left now e p n is
+ends-stopped whole left now e (inr q) n is = subst (λ (x : ReplayError). EndsUnnoted whole (error_of x) now) (sym q) (inr (n ∙ ap (λ (x : ReplayError). over (Refused x)) q))
+
+pub ends-whole : (whole more now : Replayed) (e : SliceError) → more.outcome ≡ whole.outcome → EndsUnnoted more e now → EndsUnnoted whole e now
+ends-whole whole more now (ends.Replay e) is x = sym is ∙ x
+ends-whole whole more now (ends.NoRow ic) is x = x
+ends-whole whole more now ends.OutOfMemory is (inl x) = inl (sym is ∙ x)
+ends-whole whole more now ends.OutOfMemory is (inr x) = inr x
+
+-- a row came that wasn't noted, and the replay ended so
+pub stands-unnoted : (ic : ℕ) (loads : List (ℕ × ℕ)) (whole left more now : Replayed) (row : Row) (s : Tracing) (e : SliceError) → left ≡ with_rows (row ∷ []) more → TracedSoFar ic loads whole left s → EndsUnnoted more e now → IsStop whole e
+stands-unnoted ic loads whole left more now row s (ends.Replay e) r h x = sym (rest-more whole left more row r h.outcome) ∙ x
+stands-unnoted ic loads whole left more now row s (ends.NoRow n) r h x = x
+stands-unnoted ic loads whole left more now row s ends.OutOfMemory r h x =
+    let one : length left.rows ≡ suc (length more.rows) = ap (λ (x : Replayed). length x.rows) r in
     inr (omega (arith, one, h.rest))

@@ -2,6 +2,7 @@
 use Rattle.std.specs.Prelude.{◌≡◌, ◌⊎◌, ℕ, ◌<◌, ◌++◌, Bool, true, false, List, length, Option, Some, None}
 use Rattle.bn_base.specs.declared.row.Row.{Row}
 use Rattle.hart_replay.specs.Replay.{Replayed, Done, Refused}
+use Rattle.hart_replay.specs.Coming.{over}
 use Rattle.hart_replay.specs.Scans.{Pending}
 use Rattle.hart_replay.specs.declared.error.ReplayError.{ReplayError}
 use Rattle.hart_replay.specs.declared.error.ReplayError.TheVariants.{NoInterval, LoadMissing, ScMissing, RecordsLeft, EndDiffers, OutOfMemory}
@@ -44,6 +45,13 @@ abbrev pub IsStop : Replayed → SliceError → Type 0
 IsStop y (Replay e) = y.outcome ≡ Refused e
 IsStop y (NoRow ic) = ⊥
 IsStop y ends.OutOfMemory = (y.outcome ≡ Refused OutOfMemory) ⊎ (0 < length y.rows)
+
+-- how a replay ends whose rows aren't noted, and what is left of it then: a refusal is told as it is, and out of memory comes
+-- only if it is done, or finds no memory itself
+abbrev pub EndsUnnoted : Replayed → SliceError → Replayed → Type 0
+EndsUnnoted y (Replay e) left = y.outcome ≡ Refused e
+EndsUnnoted y (NoRow ic) left = ⊥
+EndsUnnoted y ends.OutOfMemory left = (y.outcome ≡ Done) ⊎ (left ≡ over (Refused OutOfMemory))
 
 -- the rows that are noted of a whole replay that is done, if the wanted one is among them
 abbrev pub IsTraced : ℕ → List (ℕ × ℕ) → Replayed → Option (List Noted) → Type 0

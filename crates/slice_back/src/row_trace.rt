@@ -3,7 +3,7 @@ ghost use Rattle.std.specs.Prelude.{◌≡◌, ◌∷◌, [], List, false, OnOk,
 ghost use Rattle.std.specs.Option.{option_map};
 ghost use Rattle.bn_base.specs.declared.row.Row.{Row as RowOf};
 ghost use Rattle.slice_back.specs.Slices.{note, passed};
-ghost use Rattle.slice_back.specs.Tracing.{reached, error_of, IsStop, IsTraced};
+ghost use Rattle.slice_back.specs.Tracing.{reached, error_of, IsStop, EndsUnnoted, IsTraced};
 
 use crate::error::SliceError;
 use crate::first_loads::Pending;
@@ -96,10 +96,25 @@ fn error_of(error: ReplayError) -> SliceError
     }
 }
 
+// Why the rest of a replay isn't noted: the replay's own refusal, which may be still to come, or else out
+// of memory.
+fn unnoted(replayer: &mut Replayer) -> SliceError
+    ensures { EndsUnnoted replayer.old.left result replayer.new.left }
+{
+    'rest: loop {
+        match replayer.step() {
+            Ok(Some(_)) => (),
+            Ok(None) => return SliceError::OutOfMemory,
+            Err(error) => return error_of(error),
+        }
+    }
+}
+
 /// The rows of a replay up to the one with a count, if it is done; `None` if there is no such row.
 ///
 /// All rows are replayed. The error is the replay's, or out of memory, which comes only if the replay
-/// has a row or was out of memory itself.
+/// has a row or was out of memory itself. Without memory for the rows the replay continues, so that a later
+/// refusal is told.
 pub(crate) fn rows_up_to(
     alloc: Global,
     replayer: &mut Replayer,
@@ -108,13 +123,14 @@ pub(crate) fn rows_up_to(
 ) -> Result<Option<Vec<Noted>>, SliceError>
     ensures done { IfOk result (λ found. IsTraced ic loads.now replayer.old.left (option_map (λ v. v.items) found)) }
     ensures refused { IfErr result (λ e. IsStop replayer.old.left e) }
+    ensures memory { IfErr result (λ e. EndsUnnoted replayer.old.left e replayer.new.left) }
 {
     let mut trace = RowTrace::new(alloc, loads, ic);
     'rows: loop {
         match replayer.step() {
             Ok(Some(row)) => {
                 if trace.note(row).is_err() {
-                    return Err(SliceError::OutOfMemory);
+                    return Err(unnoted(replayer));
                 }
             }
             Ok(None) => return Ok(trace.into_noted()),
