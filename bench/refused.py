@@ -46,6 +46,9 @@ SAVING = ("record", "convert", "salvage")
 # Two harts: hart 0 loads a word twice, hart 1 has four bytes read into it.
 CODE = (0x00020437, 0x00051A63, 0x00042283, 0x00042303, 0x05D00893, 0x00000073, 0x00000513, 0x00040593, 0x00400613,
         0x03F00893, 0x00000073, 0x05D00893, 0x00000073)
+# Three harts that pass a word on: hart 0 stores it, hart 1 loads it and stores the next one, hart 2 loads both.
+RELAY = (0x00020437, 0x00100393, 0x00750863, 0x00051C63, 0x00B42023, 0x0180006F, 0x00042283, 0x00B42223, 0x00C0006F,
+         0x00442283, 0x00042303, 0x05D00893, 0x00000073)
 RECORD = ("record", "--harts", "2", "--input", "IN", "ELF", "LOG", "BOOK")
 COMMANDS = {
     "record --seed 1": (*RECORD, "--seed", "1"),
@@ -57,6 +60,7 @@ COMMANDS = {
     "replay": ("replay", "KEPT", "ELF", "1", "1"),
     "joint": ("joint", "KEPT", "ELF"),
     "joint, some given up": ("joint", "ENDED", "ELF"),
+    "joint, a relay": ("joint", "RELAY", "RELAY_ELF"),
     "debug": ("debug", "KEPT", "ELF"),
     "audit": ("audit", "KEPT", "ELF", "TURNS", "--input", "IN"),
     "races": ("races", "KEPT", "ELF", "10"),
@@ -178,6 +182,23 @@ def cut_front(data):
     return forge.sealed(head[:80] + struct.pack("<QI", 2, len(left)) + left)
 
 
+def relay_log():
+    """Returns the log of the relay in intervals of 4 instructions, by the turns 0 2 0 1 1 2 2 0 1 2. The three first
+    Headers and hart 0's first End were given up."""
+
+    def header(hart, pc, loaded=0):
+        registers = ((2, 0x100000 - 0x10000 * hart), (5, loaded), (7, 1), (8, 0x20000), (10, hart), (11, 3))
+        return forge.header(hart, 1, 4, pc, registers)
+
+    records = (
+        header(0, 0x10064), forge.end(2, 4, forge.LENGTH), header(2, 0x10078),
+        forge.edge(1, 3, 0, 4), forge.first_load(1, 0, 3), forge.end(1, 4, forge.LENGTH), header(1, 0x10070, 3),
+        forge.edge(2, 4, 1, 4), forge.first_load(2, 0, 3), forge.first_load(2, 0, 3),
+        *(forge.end(hart, 8, forge.EXIT, hart) for hart in range(3)),
+    )
+    return forge.log(forge.program(*RELAY), b"".join(records), dropped=4, harts=3, interval=4)
+
+
 def damaged(data):
     """Returns a log of version 2 with its records in two blocks, of which the first is damaged."""
     signed, blocks = forge.parts2(data)
@@ -226,6 +247,8 @@ def main(words):
         subprocess.run(shim, check=True)
         write(f"{folder}/ELF", forge.program(*CODE))
         write(f"{folder}/IN", b"wxyz")
+        write(f"{folder}/RELAY_ELF", forge.program(*RELAY))
+        write(f"{folder}/RELAY", relay_log())
         kept = Ran(folder, COMMANDS["record --seed 1"])
         write(f"{folder}/KEPT", kept.files[0])
         write(f"{folder}/ENDED", cut_front(kept.files[0]))
