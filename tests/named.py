@@ -50,7 +50,7 @@ MUTANTS = [
     ("A byte store to a cold word is not logged.", edit("run_model", "a_byte_store_loads_nothing")),
     (
         "A guard ends the interval and leaves the bits of its hart's cache set.",
-        edit("run_model", "the_guard_clears_the_bits_of_hart_0"),
+        edit("run_model", "the_guard_clears_no_bits"),
     ),
     # The machine and its bus.
     ("A store is answered, and writes nothing.", edit("run_model", "a_store_writes_nothing")),
