@@ -13,6 +13,8 @@ mod order;
 #[cfg(test)]
 mod records;
 #[cfg(test)]
+mod relay;
+#[cfg(test)]
 mod replaying;
 #[cfg(test)]
 mod ring;

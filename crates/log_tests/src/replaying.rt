@@ -51,23 +51,38 @@ fn joined(alloc: Global, parts: &[&[u8]]) -> Result<Vec<u8>, AllocError> {
 }
 
 // The file of a log with these records; no bytes if a log has no room for them.
-fn file_of(alloc: Global, records: &[u8]) -> Result<Vec<u8>, AllocError> {
+fn file_of(
+    alloc: Global,
+    settings: Settings,
+    dropped: u64,
+    records: &[u8],
+) -> Result<Vec<u8>, AllocError> {
     let head = Head {
-        settings: Settings::default(),
+        settings,
         digest: [7; 32],
     };
     if head.settings.format() == 1 && records.len() <= head.settings.log_size() as usize {
-        write_file(alloc, &head, 0, records, &[])
+        write_file(alloc, &head, dropped, records, &[])
     } else {
         Ok(Vec::new(alloc))
     }
 }
 
-// The log of these records, written to a file and read back.
-pub(crate) fn log(alloc: Global, parts: &[&[u8]]) -> Result<Option<KeptLog>, AllocError> {
+// The log of these records with some dropped before them, written to a file and read back.
+pub(crate) fn late_log(
+    alloc: Global,
+    settings: Settings,
+    dropped: u64,
+    parts: &[&[u8]],
+) -> Result<Option<KeptLog>, AllocError> {
     let records = joined(alloc, parts)?;
-    let file = file_of(alloc, &records)?;
+    let file = file_of(alloc, settings, dropped, &records)?;
     Ok(read_file(alloc, &file).ok())
+}
+
+// The log of these records with none dropped, by default settings.
+pub(crate) fn log(alloc: Global, parts: &[&[u8]]) -> Result<Option<KeptLog>, AllocError> {
+    late_log(alloc, Settings::default(), 0, parts)
 }
 
 // The pc at the start of interval 0 of hart 0; and after its first row the pc, the count and a0.
