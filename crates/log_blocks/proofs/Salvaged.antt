@@ -171,7 +171,7 @@ told_is bytes (File OutOfMemory) f = f
 gathered_none : (size : ℕ) (pieces : List Piece) → size ≡ length (gathered pieces) → pieces ≡ [] → size ≡ 0
 gathered_none size pieces is none = is ∙ ap (λ (ps : List Piece). length (gathered ps)) none
 
--- where there is no memory for the list of the blocks that are left, there are some
+-- without memory for the list of the blocks that are left, there are some
 pub unlisted_left : (bytes digest body : List ℕ) (n rest size : ℕ) (sizes : List ℕ) → Behind bytes digest body n → HasWalked digest n body rest size sizes → 0 < size → IsSalvageRefusal bytes salvage.OutOfMemory
 unlisted_left bytes digest body n rest size sizes b w more = record {
   rest = take rest body;

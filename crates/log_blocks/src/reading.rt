@@ -144,7 +144,7 @@ fn read_either(alloc: Global, bytes: &[u8]) -> Result<KeptLog, Damage>
 }
 
 /// What a log file of either version says. The error is the first that applies, in the order of the
-/// version that the bytes name. Out of memory comes only where the records alone are still to be
+/// version that the bytes name. Out of memory comes only if the records alone are still to be
 /// looked at: the digest of version 1, or the blocks of version 2, are whole then.
 pub fn read_file(alloc: Global, bytes: &[u8]) -> Result<KeptLog, Damage>
     // A log that is read is one that the format has, and the bytes are its spelling.

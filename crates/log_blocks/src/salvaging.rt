@@ -154,7 +154,7 @@ fn renewed_in(alloc: Global, bytes: &[u8], settings: Settings) -> Result<NewFile
 
 /// The log of the last blocks of a file of version 2, up to the last that is bad: its head must be
 /// whole, and is kept. How many records were given up before it is what its first block says. Out of
-/// memory comes only where blocks are left, or should have no records.
+/// memory comes only if blocks are left, or should have no records.
 pub fn salvage(alloc: Global, bytes: &[u8]) -> Result<KeptLog, SalvageError>
     ensures salvaged { IfOk result (IsSalvaged bytes.now) }
     ensures refused { IfErr result (IsSalvageRefusal bytes.now) }

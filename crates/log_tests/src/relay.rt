@@ -69,7 +69,7 @@ fn kept(alloc: Global, settings: Settings) -> Result<Option<KeptLog>, AllocError
     late_log(alloc, settings, 4, &parts)
 }
 
-// What a hart waits for; none where it is ready, and itself where it is neither.
+// What a hart waits for; none if it is ready, and itself if it is neither.
 fn source(joint: &Joint, hart: HartId) -> Option<(HartId, Ic)> {
     if hart >= joint.harts() {
         return Some((hart, 0));

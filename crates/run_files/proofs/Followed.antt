@@ -100,7 +100,7 @@ kept_error s t u i j run list found answer e f g legal told is =
 pub kept_stand : (s t : RawSettings) (i j : Program) (run : Run) (list : List ℕ) (p : PlainParts) → s ≡ t → i ≡ j → StandsBefore s i run list p → StandsBefore t j run list p
 kept_stand s t i j run list p e f x = subst (λ (c : RawSettings). StandsBefore c j run list p) e (subst (λ (q : Program). StandsBefore s q run list p) f x)
 
--- a live hart isn't want of memory
+-- no live hart is told as out of memory
 pub never_memory : {P : Type 0} (ks : List ℕ) (found : Option TurnError) (e : TurnError) → found ≡ unfinished ks → found ≡ Some e → e ≡ OutOfMemory → P
 never_memory [] found e is some m = absurd cc
 never_memory (k ∷ ks) found e is some m = absurd cc

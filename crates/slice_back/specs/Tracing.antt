@@ -46,8 +46,8 @@ IsStop y (Replay e) = y.outcome ≡ Refused e
 IsStop y (NoRow ic) = ⊥
 IsStop y ends.OutOfMemory = (y.outcome ≡ Refused OutOfMemory) ⊎ (0 < length y.rows)
 
--- how a replay ends whose rows aren't noted, and what is left of it then: a refusal is told as it is, and out of memory comes
--- only if it is done, or finds no memory itself
+-- How a replay ends whose rows aren't noted, and what is left of it then. A refusal is told as it is. Out of memory comes only
+-- if the replay is done, or finds no memory itself
 abbrev pub EndsUnnoted : Replayed → SliceError → Replayed → Type 0
 EndsUnnoted y (Replay e) left = y.outcome ≡ Refused e
 EndsUnnoted y (NoRow ic) left = ⊥
