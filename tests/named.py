@@ -231,6 +231,12 @@ MUTANTS = [
     ),
     ("The first turn of each list is refused (17).", edit("run_files", "the_first_turn_is_illegal")),
     ("Each line of the debugger's commands is too long (18).", edit("step_debugger", "each_line_is_too_long")),
+    ("A damaged block is told as out of memory (9).", edit("log_blocks", "a_damaged_block_is_told_as_out_of_memory")),
+    (
+        "A slice that finds no memory for a row doesn't look for a later refusal (9).",
+        edit("slice_back", "a_later_refusal_is_told_as_out_of_memory"),
+    ),
+    ("A list that isn't finished is told as out of memory (9).", edit("run_files", "an_unfinished_list_is_told_as_out_of_memory")),
     ("Nothing is left of any log that is salvaged (19).", edit("log_blocks", "nothing_is_left_of_any_log")),
     ("Each report has too many races (20).", edit("race_report", "each_list_is_too_long")),
     ("No row of a slice is found (21).", edit("slice_back", "no_row_is_found")),
