@@ -62,8 +62,10 @@ impl Plain {
             }
             _ => {}
         }
+        // A copy: where no call sees `want` itself, a load or a store in place never writes it to memory.
+        let asked = want;
         self.trace.put_back(hart, &mut pc, &mut x, &mut ic);
-        self.take_in_parts(hart, pc, &x, ic, &want)
+        self.take_in_parts(hart, pc, &x, ic, &asked)
     }
 
     // As `take_asked`, by the parts of the ask. It is made here: if its caller made it, room for it would be zeroed in

@@ -186,6 +186,7 @@ impl<'a> DecodedImage<'a> {
 
     /// What a hart asks that stopped at this op, with so much of its budget left. A load or a store is asked by its op;
     /// else words are decoded as they come, up to the ask or the budget's end.
+    #[inline(always)]
     pub fn ask(&self, found: Option<&Op>, state: &mut HartState, left: u64) -> Want
         requires some { is_some found ≡ true → 0 < left }
         requires found { IfSome found (λ op. Says op.now (instruction_at self.now state.old)) }
@@ -197,12 +198,15 @@ impl<'a> DecodedImage<'a> {
                 return want;
             }
         }
-        quiet_run_in_place(self.image, state, left)
+        // In a variable of its own: `want`, which no call sees, stays in registers.
+        let slow = quiet_run_in_place(self.image, state, left);
+        slow
     }
 
     /// As [`quiet_run_in_place`] of its program, and faster if the code is decoded. The state is
     /// changed in place, up to the instruction that asks; the reply to the want goes to
     /// [`absorb_in_place`](crate::absorb_in_place).
+    #[inline(always)]
     pub fn quiet_run_in_place(&self, state: &mut HartState, budget: u64) -> Want
         ensures { record { state = state.new; want = result } ≡ ask_of self.now budget state.old }
     {

@@ -205,6 +205,7 @@ pub(crate) fn do_quiet(op: &Op, first: Addr, place: &mut u32, x: &mut Registers)
 }
 
 /// Writes what a load or a store asks to `want`: other instructions it leaves alone.
+#[inline(always)]
 pub fn ask_memory(op: &Op, image: &Image, x: &Registers, want: &mut Want) -> bool
     ensures { (o : Option Instruction) → Says op.now o → Asking result image.now o x.now want.new }
 {

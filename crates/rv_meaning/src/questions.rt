@@ -20,6 +20,7 @@ pub fn fault(want: &mut Want, kind: Fault, value: u32) -> bool
 }
 
 // Whether the address passes the tests of a load; if it doesn't, the fault is asked.
+#[inline(always)]
 fn may_load(want: &mut Want, image: &Image, addr: Addr, width: u8) -> bool
     requires { 0 < width }
     ensures { (w : Want) → load_or image.now addr width w ≡ if result then w else want.new }
@@ -34,6 +35,7 @@ fn may_load(want: &mut Want, image: &Image, addr: Addr, width: u8) -> bool
 }
 
 // Whether the address passes the tests of a store; if it doesn't, the fault is asked.
+#[inline(always)]
 fn may_store(want: &mut Want, image: &Image, addr: Addr, width: u8) -> bool
     requires { 0 < width }
     ensures { (w : Want) → store_or image.now addr width w ≡ if result then w else want.new }
@@ -50,6 +52,7 @@ fn may_store(want: &mut Want, image: &Image, addr: Addr, width: u8) -> bool
 }
 
 /// A load, or its fault.
+#[inline(always)]
 pub fn load(
     want: &mut Want,
     image: &Image,
@@ -74,6 +77,7 @@ pub fn load(
 }
 
 /// A store, or its fault.
+#[inline(always)]
 pub fn store(want: &mut Want, image: &Image, addr: Addr, width: u8, value: u32) -> bool
     requires { 0 < width }
     ensures asked { want.new ≡ store_or image.now addr width (Store addr width value) }
