@@ -76,6 +76,13 @@ impl<B: Book> Bus<B> {
         self.plain.live(hart)
     }
 
+    /// How many turns were taken.
+    pub fn turns(&self) -> u64
+        ensures { result ≡ self.now.turns }
+    {
+        self.plain.turns()
+    }
+
     /// How many instructions a hart may do before its next cut.
     pub fn budget(&self, hart: HartId) -> u64
         requires { hart < self.now.began.settings.harts }

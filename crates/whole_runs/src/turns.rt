@@ -1,5 +1,5 @@
 //! The turns of harts on the caller's thread.
-ghost use Rattle.std.specs.Prelude.{◌≡◌, ◌+◌, ◌<◌, ◌∷◌, ◌++◌, [], ℕ, true, false, List, Some, OnOk, IfOk, IfErr, ◌⊎◌};
+ghost use Rattle.std.specs.Prelude.{◌≡◌, ◌+◌, ◌<◌, ◌∷◌, ◌++◌, [], ℕ, true, false, List, Some, OnOk, IfOk, IfErr, ◌⊎◌, replicate};
 ghost use Rattle.whole_runs.specs.Lists.{HasTaken, is_finished, seeded_after, list_run, error_of};
 ghost use Rattle.bn_outside.specs.declared.turn_row.TurnRow.{TurnRow};
 ghost use Rattle.whole_runs.specs.Closed.{IsClosed, IsOfRows};
@@ -11,6 +11,30 @@ use bus_core::{Bus, Closed};
 use run_model::TurnError;
 use rv_meaning::DecodedImage;
 use std::alloc::{AllocError, Global};
+
+// All turns that are left to a hart that is alone, which every draw chooses; how many.
+fn finish_alone<B: Book>(code: &DecodedImage, bus: &mut Bus<B>) -> Result<u64, AllocError>
+    requires code { code.now ≡ bus.old.began.image }
+    requires alone { bus.old.began.settings.harts ≡ 1 }
+    ensures taken { IfOk result (λ count. (list : List ℕ) → HasTaken B.tells bus.old list → HasTaken B.tells bus.new (list ++ replicate count 0)) }
+    ensures drawn { IfOk result (λ count. (list : List ℕ) (seed : ℕ) → HasTaken B.tells bus.old list → replicate count 0 ≡ seeded_after bus.old.began list seed) }
+    ensures finished { IfOk result (λ count. (list : List ℕ) → HasTaken B.tells bus.old list → is_finished bus.new.began (list ++ replicate count 0) ≡ true) }
+    ensures began { bus.new.began ≡ bus.old.began }
+    ensures halted { bus.new.halted ≡ bus.old.halted }
+{
+    let before = bus.turns();
+    'taking: while bus.live(0) {
+        bus.take_turn(code, 0)?;
+    }
+    Ok(bus.turns() - before)
+}
+
+// The list of so many turns of hart 0.
+fn turns_alone(alloc: Global, count: u64) -> Result<Vec<u8>, AllocError>
+    ensures { IfOk result (λ list. list.items ≡ replicate count 0) }
+{
+    vec![in alloc; 0; count as usize]
+}
 
 /// Turns chosen by the draws after a number, until no hart is live. What is given is their list: a byte
 /// for each, the number of its hart.
@@ -27,6 +51,11 @@ pub fn finish<B: Book>(
     ensures began { bus.new.began ≡ bus.old.began }
     ensures halted { bus.new.halted ≡ bus.old.halted }
 {
+    if bus.start().settings.harts() == 1 {
+        let taken = finish_alone(code, bus)?;
+        let list = turns_alone(alloc, taken)?;
+        return Ok(list);
+    }
     let mut list = Vec::new(alloc);
     let mut state = seed;
     let mut count = count_live(bus);
@@ -57,6 +86,10 @@ pub fn finish_unlisted<B: Book>(
     ensures began { bus.new.began ≡ bus.old.began }
     ensures halted { bus.new.halted ≡ bus.old.halted }
 {
+    if bus.start().settings.harts() == 1 {
+        finish_alone(code, bus)?;
+        return Ok(());
+    }
     let mut state = seed;
     let mut count = count_live(bus);
     'drawing: loop {
