@@ -1,7 +1,8 @@
-//! The files of the system as a store. No clause says what real files hold; tests do.
-ghost use Rattle.std.specs.Prelude.{◌≡◌, ◌≤◌, ◌↔◌, None, IfOk, IsFalse, vec_len};
+//! The files of the system as a store.
+ghost use Rattle.std.specs.Prelude.{◌≡◌, ◌≤◌, ◌↔◌, None, Err, IfOk, IsFalse, vec_len};
 ghost use Rattle.std.specs.List.{Contains};
 ghost use Rattle.host_outside.specs.Answers.{FileTells};
+ghost use Rattle.host_outside.specs.Kinds.{IsMissing};
 ghost use Rattle.host_outside.specs.declared.spared_files.FileId.{FileId as AnyFile};
 
 use crate::limits::most_bytes;
@@ -13,9 +14,9 @@ use crate::spared_files::SparedFiles;
 use crate::streams::ReaderSource;
 use bn_outside::{LoadError, ReadError, SaveError, Store, read_to_end};
 use std::alloc::Global;
-use std::fs;
 use std::fs::Files;
 use std::io::{ErrorKind, Read};
+use std::{fs, io};
 
 /// The files of the system. A name is a path.
 ///
@@ -55,7 +56,8 @@ impl<'a, R: Files + AllocGlobal> FileStore<'a, R> {
 // Why a file that can't be opened isn't loaded.
 // Only a name that isn't there is missing: a file without permission is a failure, and so is a folder once it is read.
 fn load_error(kind: ErrorKind) -> LoadError
-    ensures { (result ≡ LoadError.Missing) ↔ (kind ≡ ErrorKind.NotFound) }
+    ensures missing { (result ≡ LoadError.Missing) ↔ (kind ≡ ErrorKind.NotFound) }
+    ensures wanting { (result ≡ LoadError.OutOfMemory) ↔ (kind ≡ ErrorKind.OutOfMemory) }
 {
     match kind {
         ErrorKind::NotFound => LoadError::Missing,
@@ -64,16 +66,16 @@ fn load_error(kind: ErrorKind) -> LoadError
     }
 }
 
-// Opens a file to be loaded, and remembers it.
-fn open_to_load<R: Files>(
-    rt: &R,
-    name: &str,
+// Remembers a file that was opened to be loaded.
+fn open_to_load<F: Drop>(
+    opened: io::Result<Opened<F>>,
     spared: &mut SparedFiles,
-) -> Result<Opened<R::File>, LoadError>
+) -> Result<Opened<F>, LoadError>
+    ensures missing { (result ≡ Err LoadError.Missing) ↔ IsMissing opened }
     ensures remembered { IfOk result (λ opened. IsFalse opened.is_stream → Contains spared.new opened.id) }
     ensures kept { (id : AnyFile) → Contains spared.old id → Contains spared.new id }
 {
-    match open_to_read(rt, name) {
+    match opened {
         Ok(open) => match open.remember(spared) {
             Ok(()) => Ok(open),
             Err(_) => Err(LoadError::OutOfMemory),
@@ -114,7 +116,7 @@ fn load_file<R: Files>(
     ensures bound { IfOk result (λ bytes. vec_len bytes ≤ limit) }
     ensures kept { (id : AnyFile) → Contains spared.old id → Contains spared.new id }
 {
-    let open = open_to_load(rt, name, spared)?;
+    let open = open_to_load(open_to_read(rt, name), spared)?;
     read_file(alloc, open, spared, limit)
 }
 
@@ -170,7 +172,7 @@ fn save_new<R: Files>(
 fn save_over<R: Files>(
     rt: &R,
     alloc: Global,
-    open: Opened<R::File>,
+    mut open: Opened<R::File>,
     name: &str,
     bytes: &[u8],
     spared: &mut SparedFiles,
@@ -180,7 +182,7 @@ fn save_over<R: Files>(
 {
     match make_like(rt, alloc, &open, name) {
         Ok(Some(fresh)) => put_over(rt, fresh, name, open.id, bytes, spared),
-        Ok(None) => overwrite(open, bytes, spared),
+        Ok(None) => overwrite(&mut open, bytes, spared),
         Err(error) => Err(save_error(error.kind())),
     }
 }
@@ -199,7 +201,10 @@ fn save_file<R: Files>(
         return Err(SaveError::Failed);
     }
     let end = end_of_links(rt, alloc, name)?;
-    if is_free(rt, name, end.as_str()) {
+    if is_free(
+        &fs::metadata(rt, name),
+        &fs::symlink_metadata(rt, end.as_str()),
+    ) {
         return save_new(rt, alloc, end.as_str(), bytes, spared);
     }
     let open = open_to_save(rt, name, spared)?;

@@ -4,8 +4,10 @@
 //! one whose process or machine ends, leaves the old file whole. If that would change more than the bytes, the file is
 //! written in place. So it is if the file isn't regular, has further hard links, belongs to another user or group, or is
 //! mounted from elsewhere, or if the folder takes no new file.
-ghost use Rattle.std.specs.Prelude.{OnOk, IsFalse};
+ghost use Rattle.std.specs.Prelude.{◌≡◌, ◌↔◌, IfOk, OnOk, OnSome, IsFalse, IsTrue};
 ghost use Rattle.std.specs.List.{Contains};
+ghost use Rattle.std.specs.Io.KnownBytes.{Appends};
+ghost use Rattle.host_outside.specs.Kinds.{IsMissing, IsRegular};
 ghost use Rattle.host_outside.specs.declared.spared_files.FileId.{FileId as AnyFile};
 
 use crate::opened::{Opened, identified};
@@ -31,7 +33,9 @@ pub struct Fresh<F> {
 }
 
 /// Why bytes aren't saved.
-pub fn save_error(kind: ErrorKind) -> SaveError {
+pub fn save_error(kind: ErrorKind) -> SaveError
+    ensures { (result ≡ SaveError.OutOfMemory) ↔ (kind ≡ ErrorKind.OutOfMemory) }
+{
     match kind {
         ErrorKind::OutOfMemory => SaveError::OutOfMemory,
         _ => SaveError::Failed,
@@ -75,7 +79,9 @@ pub fn end_of_links<R: Files>(rt: &R, alloc: Global, name: &str) -> Result<Strin
 }
 
 // Whether a look for a file finds none.
-fn is_missing(found: &io::Result<Metadata>) -> bool {
+fn is_missing(found: &io::Result<Metadata>) -> bool
+    ensures { IsTrue result ↔ IsMissing found.now }
+{
     match found {
         Ok(_) => false,
         Err(error) => error.kind() == ErrorKind::NotFound,
@@ -84,8 +90,10 @@ fn is_missing(found: &io::Result<Metadata>) -> bool {
 
 /// Whether a name leads to nothing, and at the end of its links there isn't even a link.
 // Both are asked: the links of /proc lead to files, as to a pipe, by words that are no names.
-pub fn is_free<R: Files>(rt: &R, name: &str, end: &str) -> bool {
-    is_missing(&fs::metadata(rt, name)) && is_missing(&fs::symlink_metadata(rt, end))
+pub fn is_free(found: &io::Result<Metadata>, at_end: &io::Result<Metadata>) -> bool
+    ensures { IsTrue result ↔ (IsMissing found.now × IsMissing at_end.now) }
+{
+    is_missing(found) && is_missing(at_end)
 }
 
 // Gives up a new file.
@@ -132,7 +140,9 @@ fn take_mode<F: OpenFile>(new: &Opened<F>, old: &Metadata) -> io::Result<()> {
 }
 
 // Whether a file can be replaced by a new one: it is a regular one, with this name alone.
-fn is_replaceable<R: Files, F>(rt: &R, open: &Opened<F>, name: &str) -> bool {
+fn is_replaceable<R: Files, F>(rt: &R, open: &Opened<F>, name: &str) -> bool
+    ensures { IsTrue result → IsRegular open.now.metadata }
+{
     let is_alone = open.metadata.is_file() && open.metadata.nlink() == 1;
     match fs::symlink_metadata(rt, name) {
         Ok(there) => is_alone && id_of(&there) == open.id,
@@ -146,7 +156,9 @@ pub fn make_like<R: Files>(
     alloc: Global,
     open: &Opened<R::File>,
     name: &str,
-) -> io::Result<Option<Fresh<R::File>>> {
+) -> io::Result<Option<Fresh<R::File>>>
+    ensures { IfOk result (λ o. OnSome o (IsRegular open.now.metadata)) }
+{
     if !is_replaceable(rt, open, name) {
         return Ok(None);
     }
@@ -169,7 +181,9 @@ pub fn make_like<R: Files>(
 }
 
 // Writes all bytes, and waits until the disk has them.
-fn write_durably<F: OpenFile + Write>(file: &mut F, bytes: &[u8]) -> io::Result<()> {
+fn write_durably<F: OpenFile + Write>(file: &mut F, bytes: &[u8]) -> io::Result<()>
+    ensures { OnOk result (Appends (F.contents file.old) (F.contents file.new) bytes.now) }
+{
     file.write_all(bytes)?;
     file.sync_all()
 }
@@ -182,6 +196,7 @@ fn finish<R: Files>(
     bytes: &[u8],
     spared: &mut SparedFiles,
 ) -> Result<(), SaveError>
+    ensures written { OnOk result (Appends (R.File.contents fresh.old.open.file) (R.File.contents fresh.new.open.file) bytes.now) }
     ensures remembered { OnOk result (Contains spared.new fresh.old.open.id) }
     ensures kept { (id : AnyFile) → Contains spared.old id → Contains spared.new id }
 {
@@ -235,7 +250,9 @@ fn write_over<F: OpenFile + Write>(
     file: &mut F,
     metadata: &Metadata,
     bytes: &[u8],
-) -> io::Result<()> {
+) -> io::Result<()>
+    ensures { OnOk result (Appends (F.contents file.old) (F.contents file.new) bytes.now) }
+{
     if metadata.is_file() {
         file.set_len(0)?;
     }
@@ -243,22 +260,18 @@ fn write_over<F: OpenFile + Write>(
 }
 
 /// Gives an open file these bytes, in place of what it has.
-pub fn overwrite<F: OpenFile + Write + Drop>(
-    open: Opened<F>,
+pub fn overwrite<F: OpenFile + Write>(
+    open: &mut Opened<F>,
     bytes: &[u8],
     spared: &mut SparedFiles,
 ) -> Result<(), SaveError>
-    requires { Contains spared.old open.id → ⊥ }
-    ensures remembered { OnOk result (IsFalse open.is_stream → Contains spared.new open.id) }
+    requires { Contains spared.old open.old.id → ⊥ }
+    ensures written { OnOk result (Appends (F.contents open.old.file) (F.contents open.new.file) bytes.now) }
+    ensures remembered { OnOk result (IsFalse open.old.is_stream → Contains spared.new open.old.id) }
     ensures kept { (id : AnyFile) → Contains spared.old id → Contains spared.new id }
 {
     open.remember(spared)?;
-    let Opened {
-        mut file,
-        metadata,
-        ..
-    } = open;
-    match write_over(&mut file, &metadata, bytes) {
+    match write_over(&mut open.file, &open.metadata, bytes) {
         Ok(()) => Ok(()),
         Err(error) => Err(save_error(error.kind())),
     }
