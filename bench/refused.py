@@ -24,6 +24,8 @@ Each run has to end with the status of a run that nothing was refused, and then 
 
 A file that isn't saved is unchanged, and unless the process is killed no further file is left.
 
+Each file that is saved takes one `sync` and one `rename`.
+
 A request for room that the thread of a hart makes ends with 9 always: its run isn't made again.
 
 It prints how many runs of each command ended with which status, and ends with 1 if one ended otherwise.
@@ -232,6 +234,9 @@ def try_command(folder, name, words, most):
             if fault:
                 wrong += 1
                 print(f"{name}, {kind} {number}: {fault}: status {ran.status}, out {len(ran.out)}, err {ran.err!r}")
+        if kind in ("sync", "rename") and plain.calls != sum(saved_by(plain)):
+            wrong += 1
+            print(f"{name}: {plain.calls} calls of {kind} for {sum(saved_by(plain))} saved files")
         if kind == "alloc" and in_threads and not of_harts:
             wrong += 1
             print(f"{name}: no thread of a hart asked for room")
