@@ -163,6 +163,12 @@ def asked_row(row: str) -> At:
     return At(whole(hart, 0, 255, "the hart of --row"), whole(count, 0, 1 << 41, "the count of --row"))
 
 
+def asked_byte(text: str) -> Byte:
+    """The byte that --output N:BYTE names."""
+    write, _, place = text.partition(":")
+    return Byte(whole(write, 0, 1 << 31, "the write of --output N:BYTE"), whole(place, 0, 1 << 31, "the byte of --output N:BYTE"))
+
+
 def find_row(trace: Trace, at: At) -> int:
     n = trace.row_of(at.hart, at.count)
     if not n:

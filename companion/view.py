@@ -12,13 +12,15 @@ from typing import Any, Mapping, Optional, Sequence
 
 from . import streams
 from .analysis import Analysis, analysed
+from .facts import asked_byte
 from .fault import fault_words
+from .hang import hang_lines
 from .instruction import NAMES
 from .options import parse, whole
 from .origins import advice
 from .race import Judged, family_word, pairs_of
 from .races import AccessPair, Group, Races
-from .report import ALONE, DID, STORED, unread
+from .report import ALONE, DID, STORED, output_lines, unread
 from .suspect import Suspect
 from .text import as_text, number
 from .view_chain import Way, chain_boxes
@@ -27,15 +29,17 @@ from .view_rows import PageRows
 
 HELP = """Draws a log as one page, to look at in a browser: harts, intervals, Edges, races, the fault, and the chain behind it.
 
-    zelkuma view LOG ELF [--names ELF] [--row HART:IC] [--rows N] > page.html
+    zelkuma view LOG ELF [--names ELF] [--row HART:IC] [--output N:BYTE] [--rows N] > page.html
 
 --names   the program with its names and lines, if ELF was stripped
 --row     asks for the chain behind another row than the fault's
+--output  asks for the chain behind a byte that the guest wrote, as `zelkuma output` numbers them
 --rows    how many of the last rows are read, as for why
 
 The page is one file that needs no network and no other file. It holds names and lines of source of the program.
 Companions show; the program proves: rows, intervals, Edges and races are the program's, suspects are a judgement."""
-FORM = "view LOG ELF [--names ELF] [--row HART:IC] [--rows N]"
+FORM = "view LOG ELF [--names ELF] [--row HART:IC] [--output N:BYTE] [--rows N]"
+OPTIONS = {"--names": True, "--row": True, "--output": True, "--rows": True}
 SCRIPTS = ("model.js", "timeline.js", "arrows.js", "rows.js", "panels.js", "chain.js", "controls.js")
 RACES_ASKED, RACE_GROUPS, ARCS = 20000, 40, 12
 SUSPECTS, ORIGINS = 3, 6
@@ -191,14 +195,26 @@ class View:
         return dict(
             start=self.page.point(crash.start), where=self.where(), notes=crash.notes + unread(crash) + crash.places.trouble(),
             fault=[self.fault.name, f"{self.fault.value:08x}"] if self.fault else None,
-            words=fault_words(self.trace, self.fault, crash.named) if self.fault else [],
+            about=self.about(), words=self.words(), hang=hang_lines(crash, False) if crash.loops else [],
             suspects=[self.suspect(item) for item in self.suspects], noSuspect=self.no_suspect(),
             chainRows=len(history.cost) - len(history.decided), chainCut=history.cut,
             registers=[] if crash.asked else [f"{value:08x}" for value in final], registerNames=NAMES,
             origin=[[loads.times, *origin] for origin, loads in list(crash.origin.items())[:ORIGINS]])
 
+    def about(self) -> str:
+        """What the page begins with."""
+        crash = self.crash
+        return "output" if crash.output else "fault" if self.fault else "row" if crash.asked else "hang" if crash.loops else "end"
+
+    def words(self) -> list[str]:
+        if self.crash.output:
+            return output_lines(self.crash, self.crash.output)
+        return fault_words(self.trace, self.fault, self.crash.named) if self.fault else []
+
     def title(self) -> str:
         elf = os.path.basename(self.crash.elf.name)
+        if self.crash.output:
+            return f"{elf}: byte {self.crash.output.place} of write {self.crash.output.write}"
         if self.fault:
             return f"{elf}: {self.fault.name} {self.fault.value:08x}"
         reasons = sorted({end.reason for end in self.log.ends.values()})
@@ -210,9 +226,10 @@ def quoted(text: str) -> str:
 
 
 def main(words: list[str]) -> int:
-    (log_name, elf_name), given = parse(words, {"--names": True, "--row": True, "--rows": True}, 2, FORM)
+    (log_name, elf_name), given = parse(words, OPTIONS, 2, FORM)
     rows = whole(given["--rows"], 1, 1 << 41, "--rows") if "--rows" in given else 0
-    with closing(analysed(log_name, elf_name, given.get("--names", ""), given.get("--row", ""), rows)) as crash:
+    byte = asked_byte(given["--output"]) if "--output" in given else None
+    with closing(analysed(log_name, elf_name, given.get("--names", ""), given.get("--row", ""), rows, byte)) as crash:
         view = View(crash)
         # The page says that it is UTF-8, whatever the terminal's encoding is.
         streams.put_bytes(page_text(view.title(), view.data()).encode("utf-8", "backslashreplace"))

@@ -8,7 +8,7 @@ from . import streams
 from .analysis import analysed
 from .answers import put_answer
 from .errors import UNWRITABLE, CompanionError
-from .facts import Byte
+from .facts import asked_byte
 from .options import parse, whole
 from .page import page
 from .report import report
@@ -21,7 +21,7 @@ HELP = """Explains a crash: what happened, where, and which store, call or arith
 --names   the same program with names and lines, if ELF was stripped
 --row     asks of another row than the fault's
 --output  asks of a byte that the guest wrote, as `zelkuma output` numbers them
---rows    how many of the last rows are read; without it a million, and five if values near the fault come from before
+--rows    how many of the last rows are read; without it a million, and three if values near the fault come from before
 --more    longer lists
 --html    saves the same text as a page, too
 --json    prints one JSON object in place of the text (docs/JSON.md)
@@ -41,16 +41,10 @@ def save(name: str, text: str) -> None:
             raise CompanionError(f"{name} takes no more: {error.strerror}", UNWRITABLE)
 
 
-def byte_of(text: str) -> Byte:
-    """The byte that N:BYTE says."""
-    write, _, place = text.partition(":")
-    return Byte(whole(write, 0, 1 << 31, "the write of --output N:BYTE"), whole(place, 0, 1 << 31, "the byte of --output N:BYTE"))
-
-
 def main(words: list[str]) -> int:
     (log, elf), given = parse(words, OPTIONS, 2, FORM)
     rows = whole(given["--rows"], 1, 1 << 41, "--rows") if "--rows" in given else 0
-    byte = byte_of(given["--output"]) if "--output" in given else None
+    byte = asked_byte(given["--output"]) if "--output" in given else None
     with closing(analysed(log, elf, given.get("--names", ""), given.get("--row", ""), rows, byte)) as analysis:
         parts = report(analysis, "--more" in given)
         if "--json" in given:

@@ -1,6 +1,15 @@
 /* The parts of the page that don't change: heading, fault, suspects, legend, races, intervals, registers. */
 const RACES_TOLD = 14;
 const INTERVALS_TOLD = 16;
+/* Of each kind of page the heads of its first two parts, and what stands before the place. */
+const HEADS = {
+  hang: ["The loop", "Why it goes on"], output: ["The output", "Where the byte came from"],
+  row: ["The row", "Where the value in that row came from"], end: ["The end", "Where the value in that row came from"],
+};
+const WHERE = {
+  fault: "It happened in ", hang: "A branch that would have ended it: ", output: "It was stored in ", row: "Shown below: ",
+  end: "Shown below: ",
+};
 
 function showHeading() {
   const title = byId("title");
@@ -37,14 +46,15 @@ function endsInWords() {
 function showEnd() {
   const box = byId("fault");
   if (!D.fault) {
-    byId("fault-head").textContent = "The end";
-    byId("suspects-head").textContent = "Where the value in that row came from";
+    const [head, suspects] = HEADS[D.about];
+    byId("fault-head").textContent = head;
+    byId("suspects-head").textContent = suspects;
     byId("fault-card").classList.remove("fault");
-    byId("suspects-card").classList.remove("hot");
-    box.append(endList());
+    if (D.about === "row" || D.about === "end") byId("suspects-card").classList.remove("hot");
+    if (D.about !== "output") box.append(endList());
   }
   for (const sentence of D.words) box.append(element("p", sentence));
-  const where = element("p", D.fault ? "It happened in " : "Shown below: ");
+  const where = element("p", WHERE[D.about]);
   where.append(element("b", placeText(D.where)));
   box.append(where);
   box.append(sourceBox(D.where));
@@ -54,6 +64,13 @@ function showEnd() {
   const go = link(`Hart ${start.hart}, count ${commas(start.count)}`, () => choose(start.hart, start.count));
   go.id = "go-start";
   box.append(element("h2", "Calls", "inner"), calls, go);
+  if (D.hang.length) showHang();
+}
+
+/* What hangs, since when, and what would have ended it: one line each, as `why` tells them. */
+function showHang() {
+  byId("hang-card").hidden = false;
+  byId("hang").textContent = D.hang.join("\n");
 }
 
 function endList() {
