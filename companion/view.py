@@ -195,7 +195,7 @@ class View:
         return dict(
             start=self.page.point(crash.start), where=self.where(), notes=crash.notes + unread(crash) + crash.places.trouble(),
             fault=[self.fault.name, f"{self.fault.value:08x}"] if self.fault else None,
-            about=self.about(), words=self.words(), hang=hang_lines(crash, False) if crash.loops else [],
+            about=self.about(), words=self.words(), hang=self.hang(),
             suspects=[self.suspect(item) for item in self.suspects], noSuspect=self.no_suspect(),
             chainRows=len(history.cost) - len(history.decided), chainCut=history.cut,
             registers=[] if crash.asked else [f"{value:08x}" for value in final], registerNames=NAMES,
@@ -205,6 +205,10 @@ class View:
         """What the page begins with."""
         crash = self.crash
         return "output" if crash.output else "fault" if self.fault else "row" if crash.asked else "hang" if crash.loops else "end"
+
+    def hang(self) -> list[str]:
+        lines = hang_lines(self.crash, False) if self.crash.loops else []
+        return [line.replace("(--more)", "(zelkuma why --more)") for line in lines]
 
     def words(self) -> list[str]:
         if self.crash.output:

@@ -1,13 +1,16 @@
 #!/usr/bin/env bash
 # Makes docs/view.png: the page that `zelkuma view` draws of a recording of examples/tills.elf, in Chromium.
 #
-# tests/view.sh [PROGRAM [PICTURE]]: PROGRAM is that of ZELKUMA_PROGRAM, else the one that was built here.
+# tests/view.sh [PROGRAM [PICTURE [FOLDER]]]: PROGRAM is that of ZELKUMA_PROGRAM, else the one that the companions find.
+# In FOLDER are made, to look at, the pages of a crash, a hang and a byte of the output, each in light and dark.
 # Without Chromium, or without the compiler that gives the example its names, nothing is made.
 set -eu
 . "$(dirname "$0")/fresh_start.sh"
 top=$(cd "$(dirname "$0")/.." && pwd)
-export ZELKUMA_PROGRAM=${1:-${ZELKUMA_PROGRAM:-$top/crates/bugnet_main/out/bugnet_main}}
+ZELKUMA_PROGRAM=${1:-${ZELKUMA_PROGRAM:-$(cd "$top" && python3 -B -c 'from companion import program; print(program.path())')}}
+export ZELKUMA_PROGRAM
 picture=${2:-$top/docs/view.png}
+folder=${3:-}
 
 library=$top/tests/companions/lib
 
@@ -22,5 +25,25 @@ status=0
 [ "$status" -eq 10 ] || { echo "tills.elf ended with $status, not with its fault" >&2; exit 1; }
 python3 "$top/companion" view "$work/tills.log" "$work/elf/tills.elf" --names "$work/names/tills.elf" >"$work/page.html"
 python3 "$library/picture.py" "$work/page.html" "$picture"
+
+# Pictures of the page of one of tests/crashes: draws NAME STATUS [OPTION..] -- [OPTION OF VIEW..]
+draws() {
+    local name=$1 ends=$2 options=() status=0
+    shift 2
+    while [ "$1" != -- ]; do options+=("$1") && shift; done
+    shift
+    local elf=$top/tests/crashes/$name.elf
+    "$ZELKUMA_PROGRAM" record --format 2 --seed 1 "${options[@]}" "$elf" "$work/$name.log" "$work/book" >"$work/said" 2>&1 || status=$?
+    [ "$status" -eq "$ends" ] || { echo "$name.elf ended with $status, not with $ends" >&2; exit 1; }
+    python3 "$top/companion" view "$work/$name.log" "$elf" "$@" >"$work/$name.html"
+    python3 "$library/picture.py" "$work/$name.html" "$folder/$name.png" "$folder/$name-dark.png"
+}
+
+if [ -n "$folder" ]; then
+    mkdir -p "$folder"
+    draws race_settings 10 --harts 2 --
+    draws hang_wakeup 11 --harts 2 --limit 60000 --
+    draws wrong_total 0 -- --output 0:29
+fi
 [ "$(head -c 8 "$picture" | od -An -tx1 | tr -d ' \n')" = 89504e470d0a1a0a ] || { echo "$picture is no picture" >&2; exit 1; }
 echo "made $picture"

@@ -18,7 +18,7 @@ function showHeading() {
   if (D.fault) {
     title.append(" crashed: ", element("span", D.fault.join(" "), "bad"), ` in ${name ? `${name}, ${line}` : line}`);
   } else {
-    title.append(`: no fault, ${endsInWords()}`);
+    title.append(D.about === "output" ? `: a byte of its output, from ${name ? `${name}, ${line}` : line}` : `: no fault, ${endsInWords()}`);
   }
   const parts = [
     `${commas(D.bytes)} bytes`, plural(D.harts, "hart"), plural(intervals.length, "interval"),
@@ -157,7 +157,7 @@ function showLegend() {
   const kinds = new Set(intervals.map(({ reason }) => kindOf(reason)));
   for (const kind in said) if (kinds.has(kind)) legendItem(chip(`var(--${kind})`), said[kind]);
   if (kinds.has("fault")) legendItem(chip("var(--fault)"), "the fault");
-  if (D.suspects.length) legendItem(lineSample("var(--hot)"), "from a suspect to the load behind the fault");
+  if (D.suspects.length) legendItem(lineSample("var(--hot)"), D.fault ? "from a suspect to the load behind the fault" : "from a suspect to its load");
   if (D.allEdges) legendItem(lineSample("var(--edge)"), "Edge: comes after");
   if (D.races.length) legendItem(lineSample("var(--race)", true), "race");
   byId("legend").append(element("span", "Thin strip: the function, where the hart runs"));

@@ -10,9 +10,12 @@ import os
 import random
 import sys
 import time
+import unittest
 
-sys.path.insert(0, os.path.join(os.path.dirname(os.path.abspath(__file__)), "gdb"))
+for folder in ("gdb", "lib"):
+    sys.path.insert(0, os.path.join(os.path.dirname(os.path.abspath(__file__)), folder))
 
+import case
 from client import Client, Stop
 from recordings import (A0, A1, A2, A7, DATA, ECALL, EXIT, T0, T1, T2, addi, branch_unless_equal, load, lui, store,
                         Recordings)
@@ -223,28 +226,36 @@ class Session:
         assert self.client.close() == 0
 
 
-def main(words):
-    end = time.monotonic() + float(words[0] if words else 20)
-    seed = int(words[1]) if len(words) > 1 else 1
-    sessions, tally = 0, {}
-    with Recordings() as recordings:
-        prepared = [(pair, Reference(*pair)) for pair in logs(recordings)]
-        while not sessions or time.monotonic() < end:
-            for (log, elf), reference in prepared:
-                session = Session(log, elf, reference, seed)
-                try:
-                    session.play()
-                except Exception:
-                    print(f"failed: {os.path.basename(log)} by seed {seed}")
-                    raise
-                sessions += 1
-                for kind, count in session.tally.items():
-                    tally[kind] = tally.get(kind, 0) + count
-            seed += 1
-    print("sessions", sessions, *(f"{kind} {count}" for kind, count in sorted(tally.items())))
-    assert all(tally.get(kind) for kind in ("begin", "break", "end", "fault", "later", "watch"))
-    print(f"{sessions} passed, 0 failed")
+class Fuzz(unittest.TestCase):
+    """`seconds` is for how long sessions are begun, and `seed` the first seed."""
+    seconds, seed = 20.0, 1
+
+    def test_sessions(self):
+        end, seed = time.monotonic() + self.seconds, self.seed
+        sessions, tally = 0, {}
+        with Recordings() as recordings:
+            prepared = [(pair, Reference(*pair)) for pair in logs(recordings)]
+            while not sessions or time.monotonic() < end:
+                for (log, elf), reference in prepared:
+                    session = Session(log, elf, reference, seed)
+                    try:
+                        session.play()
+                    except Exception:
+                        print(f"failed: {os.path.basename(log)} by seed {seed}")
+                        raise
+                    sessions += 1
+                    for kind, count in session.tally.items():
+                        tally[kind] = tally.get(kind, 0) + count
+                seed += 1
+        print("sessions", sessions, *(f"{kind} {count}" for kind, count in sorted(tally.items())))
+        for kind in ("begin", "break", "end", "fault", "later", "watch"):
+            self.assertTrue(tally.get(kind), kind)
 
 
 if __name__ == "__main__":
-    main(sys.argv[1:])
+    if len(sys.argv) > 1:
+        Fuzz.seconds = float(sys.argv[1])
+    if len(sys.argv) > 2:
+        Fuzz.seed = int(sys.argv[2])
+    del sys.argv[1:]
+    case.main()

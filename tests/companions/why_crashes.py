@@ -9,15 +9,18 @@ import os
 import re
 import subprocess
 import sys
+import unittest
 from concurrent.futures import ThreadPoolExecutor
 from typing import NamedTuple
 
-from common import CRASHES, PROGRAM, check, companion, crashes, finish, need_addr2line, path, skip
+sys.path.insert(0, os.path.join(os.path.dirname(os.path.abspath(__file__)), "lib"))
+import case                                     # noqa: E402
+from common import CRASHES, PROGRAM, TOOLS, companion, crashes, path, present_tools     # noqa: E402
 
 FIRST, COMPILER, LARGE = 3, "12.2.0", 100
 PICOLIBC = "/usr/lib/picolibc/riscv64-unknown-elf"
 # How many programs of each share have their line in the first three.
-LEAST = {"known, small": 7, "kept, small": 5, "known": 14, "opened": 11, "kept": 4}
+LEAST = {"known, small": 7, "kept, small": 5, "known": 15, "opened": 19, "kept": 6}
 AT_ONCE = 3
 
 
@@ -30,24 +33,16 @@ def rank_of(line, text):
     return 0
 
 
-def kept_files():
-    """The ELF files that are kept are what the sources give, if the compiler is the one that built them."""
+def compiler():
+    """The version of the compiler, or no."""
     try:
-        version = subprocess.run(["riscv64-unknown-elf-gcc", "-dumpfullversion"], stdout=subprocess.PIPE).stdout.decode().strip()
+        return subprocess.run(["riscv64-unknown-elf-gcc", "-dumpfullversion"], stdout=subprocess.PIPE).stdout.decode().strip()
     except OSError:
-        version = "no"
-    if version != COMPILER or not os.path.isdir(PICOLIBC):
-        skip("whether the kept ELF files are those of the sources",
-             "they were built by GCC %s with picolibc, here is GCC %s" % (COMPILER, version))
-        return
-    subprocess.run([os.path.join(CRASHES, "build.sh"), path("crashes")], check=True)
-    other = [name for name in sorted(os.listdir(path("crashes")))
-             if not filecmp.cmp(os.path.join(CRASHES, name), os.path.join(path("crashes"), name), False)]
-    check("the kept ELF files are those of the sources", os.listdir(path("crashes")) and not other, other)
+        return "no"
 
 
-def share_of(case):
-    return case.group if case.lines >= LARGE else case.group + ", small"
+def share_of(program):
+    return program.group if program.lines >= LARGE else program.group + ", small"
 
 
 class Tried(NamedTuple):
@@ -58,31 +53,53 @@ class Tried(NamedTuple):
     place: int
 
 
-def tried(case):
-    log = path(case.name + ".log")
-    done = subprocess.run([PROGRAM, "record", "--format", "2"] + case.options + [case.elf, log, path(case.name + ".book")],
+def tried(program):
+    log = path(program.name + ".log")
+    done = subprocess.run([PROGRAM, "record", "--format", "2"] + program.options + [program.elf, log, path(program.name + ".book")],
                           stdout=subprocess.PIPE, stderr=subprocess.PIPE)
-    status, text, err = companion("why", log, case.elf, "--more", *(["--output", case.wrong] if case.wrong else []))
-    return Tried(done.returncode, status, err, rank_of(case.guilty, text))
+    wrong = ["--output", program.wrong] if program.wrong else []
+    status, text, err = companion("why", log, program.elf, "--more", *wrong)
+    return Tried(done.returncode, status, err, rank_of(program.guilty, text))
 
 
-def main(groups):
-    need_addr2line()
-    kept_files()
-    cases = [case for case in crashes().values() if not groups or case.group in groups]
-    found = {}
-    with ThreadPoolExecutor(AT_ONCE) as pool:
-        for case, (ends, status, err, place) in zip(cases, pool.map(tried, cases)):
-            print("        %-13s %-20s %s" % (share_of(case), case.name, "suspect %d" % place if place else "not among the suspects"),
-                  flush=True)
-            if str(ends) != case.ends or status:
-                check("%s ends with %s, and why explains it" % (case.name, case.ends), False, (ends, status, err))
-            share = found.setdefault(share_of(case), [0, 0])
-            share[0] += 0 < place <= FIRST
-            share[1] += 1
-    for key, (good, whole) in sorted(found.items()):
-        check("%s programs: %d of %d guilty lines in the first three" % (key, good, whole), good >= LEAST[key])
-    finish()
+class WhyCrashes(unittest.TestCase):
+    """`groups` is those that are asked for, or nothing for all of them."""
+    groups = ()
+
+    def test_kept_files(self):
+        """The ELF files that are kept are what the sources give, if the compiler is the one that built them."""
+        version = compiler()
+        if version != COMPILER or not os.path.isdir(PICOLIBC):
+            self.skipTest("they were built by GCC %s with picolibc, here is GCC %s" % (COMPILER, version))
+        subprocess.run([os.path.join(CRASHES, "build.sh"), path("crashes")], check=True)
+        names = sorted(os.listdir(path("crashes")))
+        other = [name for name in names
+                 if not filecmp.cmp(os.path.join(CRASHES, name), os.path.join(path("crashes"), name), False)]
+        self.assertTrue(names)
+        self.assertEqual(other, [])
+
+    def test_shares(self):
+        """Each program ends as it should and is explained, and no share falls under what stands in docs/WHY.md."""
+        if not present_tools():
+            self.skipTest("none of %s is there" % ", ".join(TOOLS))
+        programs = [one for one in crashes().values() if not self.groups or one.group in self.groups]
+        found = {}
+        with ThreadPoolExecutor(AT_ONCE) as pool:
+            for one, (ends, status, err, place) in zip(programs, pool.map(tried, programs)):
+                print("        %-13s %-20s %s" % (share_of(one), one.name,
+                                                  "suspect %d" % place if place else "not among the suspects"), flush=True)
+                with self.subTest(one.name):
+                    self.assertEqual((str(ends), status), (one.ends, 0), err)
+                share = found.setdefault(share_of(one), [0, 0])
+                share[0] += 0 < place <= FIRST
+                share[1] += 1
+        for key, (good, whole) in sorted(found.items()):
+            print("        %s programs: %d of %d guilty lines in the first three" % (key, good, whole))
+            with self.subTest(key):
+                self.assertGreaterEqual(good, LEAST[key])
 
 
-main(sys.argv[1:])
+if __name__ == "__main__":
+    WhyCrashes.groups = sys.argv[1:]
+    del sys.argv[1:]
+    case.main()
