@@ -1,8 +1,9 @@
 """What may be guilty of a crash, likeliest first.
 
-A suspect is a load and the store that it got, or memory that was used after it was given back or before it was written.
-It may also be a row that lost bits, a branch that chose the way, or a call that keeps calling itself. Its score is the
-cost at which the history of the fault reached it, less what its signs are worth; the lowest score is the likeliest.
+A suspect is a load and the store that it got, memory that was used after it was given back or before it was written, a
+row that lost bits, a branch that chose the way, an access without the lock that others hold, a constant, or a call that
+goes on calling itself. Its score is the cost at which the history of the fault reached it, less what its signs are worth;
+the lowest score is the likeliest.
 
 The signs, and what each is worth, were set by looking at few programs: tests/crashes/README.md says which, and how well
 they do on others."""
@@ -146,7 +147,7 @@ class Ranking:
 
 
 def constants(facts: Facts, history: History) -> list[Suspect]:
-    """Constants that were passed on unchanged: what a function returned, or what a loop didn't replace."""
+    """Constants that nothing changed: what a function returned, or what a loop didn't replace."""
     trace = facts.trace
     found: dict[str, Suspect] = {}
     for n, price in history.cost.items():
@@ -156,7 +157,7 @@ def constants(facts: Facts, history: History) -> list[Suspect]:
         user = trace.code_of(history.parent[n].row)
         if user.move or history.parent[n].row == facts.start:
             suspect = Suspect("constant", n, n, price)
-            suspect.sign(-CONSTANT, f"{trace.result_of(n) or 0:08x} is a constant, which went on as it was")
+            suspect.sign(-CONSTANT, f"{trace.result_of(n) or 0:08x} is a constant, which nothing changed")
             if facts.line(n) not in found or rank(suspect) < rank(found[facts.line(n)]):
                 found[facts.line(n)] = suspect
     return list(found.values())

@@ -60,6 +60,7 @@ race --more
 race --json
 view --names ELF
 view --row HART:IC
+view --output N:BYTE
 view --rows N
 gdb --port N
 gdb --end

@@ -71,6 +71,26 @@ class ViewTest(case.Case):
         stripped = self.record("wild_store", "--seed", "1"), self.elf("wild_store")
         self.assertEqual({len(lines) for _, lines in data_of(self.says("view", *stripped))["around"].values()}, {0})
 
+    def test_a_hang_shows_its_loop(self):
+        page = self.says("view", *self.crash("hang_wakeup"))
+        data = data_of(page)
+        self.assertEqual((data["about"], data["fault"], data["words"]), ("hang", None, []))
+        self.assertEqual(data["places"][data["where"]][:2], ["sleep_until_rung", "hang_wakeup.c:35"])
+        self.assertIn("hart 0 goes round since count 8,372: 51,628 rows, 25,814 rounds", data["hang"])
+        self.assertTrue([line for line in data["hang"] if "(zelkuma why --more)" in line])
+
+    def test_a_byte_of_the_output_shows_its_store(self):
+        log, elf = self.crash("wrong_total")
+        page = self.says("view", log, elf, "--output", "0:29")
+        data = data_of(page)
+        self.assertEqual((data["about"], data["hang"]), ("output", []))
+        self.assertEqual(Reader(page).title, "wrong_total.elf: byte 29 of write 0")
+        self.assertEqual(data["start"][:2], [0, 18281])
+        self.assertIn("The byte is '5': hart 0 stored it at count 18,281.", data["words"])
+        self.assertEqual(data["places"][data["suspects"][0]["place"]][1], "wrong_total.c:42")
+        self.assertIn("has to be a number", self.refuses(2, "view", log, elf, "--output", "0"))
+        self.refuses(14, "view", log, elf, "--output", "999:0")
+
     def test_tills_has_its_race(self):
         data = data_of(self.view("tills", "--seed", "1", "--harts", "2"))
         self.assertEqual(data["allRaces"], 477)

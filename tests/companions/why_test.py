@@ -43,6 +43,38 @@ class WhyTest(case.Case):
         self.check("two_locks: the first suspect is the swap by which the other hart holds the lock",
                    "hart 1 stored it" in first and "amoswap.w" in first and re.search(r"\n +1 107 ", first), first)
 
+    def test_a_word_without_its_lock(self):
+        found = [item for item in suspects(self.says("why", *self.crash("race_list"), "--more")) if "held no lock in" in item]
+        self.assertEqual(len(found), 1)
+        self.assertIn("held no lock in take_one_back race_list.c:61", found[0])
+        self.assertRegex(found[0], r"[0-9]+ other accesses hold a lock, lock")
+        self.assertNotIn("held no lock in", self.says("why", *self.crash("lock_left_held"), "--more"))
+
+    def test_an_allocators_own_words(self):
+        """What it loads of its own is no use of memory that was given back; what others load of it is a sign."""
+        found = suspects(self.says("why", *self.crash("libc_table_size"), "--more"))
+        self.assertIn("an allocator's own word, which others loaded", found[1])
+        self.assertIn("shrink libc_table_size.c:38", found[1])
+        for item in found:
+            self.assertFalse("gave the memory back in" in item and item.count("malloc") + item.count("__malloc_free") > 2, item)
+
+    def test_the_branch_that_left_what_others_wait_for(self):
+        found = [item for item in suspects(self.says("why", *self.crash("hang_barrier"), "--more")) if "goes on waiting in" in item]
+        self.assertEqual(len(found), 1)
+        self.assertIn("hart 0 chose the way in work hang_barrier.c:71", found[0])
+
+    def test_a_counter_is_one_step(self):
+        """The way to what a long loop counted from is short, whatever its rounds."""
+        log, elf = self.crash("libc_short_packet")
+        facts = analysed(log, elf)
+        facts.close()
+        counted = [n for n in facts.history.cost if facts.trace.code_of(n).counts and facts.trace.pc[n] == facts.trace.pc[facts.trace.d1[n]]]
+        self.assertTrue(counted)
+        for n in counted:
+            before = facts.trace.before_counting(n)
+            self.assertNotEqual(facts.trace.pc[before], facts.trace.pc[n])
+            self.assertIn(before, [0, *facts.history.cost])
+
     def against_slice(self, name, log, elf):
         """Each row of the program's own slice of the fault is in the history."""
         facts = analysed(log, elf)
