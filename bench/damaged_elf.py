@@ -1,8 +1,8 @@
 #!/usr/bin/env python3
 """Damages ELF files with names and lines, and gives them to the companions: names, why, bucket, view, gdb.
 
-bench/damaged_elf.py [COUNT [SEED]]: so many files (2000), drawn from the crashing programs of tests/crashes. Bits are
-flipped, sections are cut, sizes and offsets of headers, symbols and DWARF are forged. Each file is taken for the names of a
+bench/damaged_elf.py [COUNT [SEED [FIRST]]]: so many files (2000), drawn from the crashing programs of tests/crashes, but
+those before FIRST. Bits are flipped, sections are cut, sizes and offsets of headers, symbols and DWARF are forged. Each file is taken for the names of a
 recording, and if it can be recorded, for the program itself. Each call has to end with the answer or with a line and a
 status, within 30 seconds and 1 GB; else it is told, and the status is 1."""
 import collections
@@ -133,7 +133,7 @@ def calls_of(damaged, elf, log, folder, draw):
 
 
 def main(words):
-    count, seed = map(int, [*words, *("2000", "1")[len(words):]])
+    count, seed, first = map(int, [*words, *("2000", "1", "0")[len(words):]])
     signal.signal(signal.SIGTERM, signal.default_int_handler)
     ended, wrong, slowest, done = collections.Counter(), [], (0.0, ""), 0
     with contextlib.suppress(KeyboardInterrupt), tempfile.TemporaryDirectory() as folder:
@@ -145,7 +145,7 @@ def main(words):
         for elf in elves:
             logs[elf] = os.path.join(folder, os.path.basename(elf) + ".log")
             record(elf, logs[elf], folder)
-        for number in range(count):             # Ctrl-C or a time limit ends it; what was tried is told
+        for number in range(first, count):      # Ctrl-C or a time limit ends it; what was tried is told
             draw = random.Random(seed << 40 | number)
             elf = draw.choice(elves)
             with open(elf, "rb") as file:

@@ -46,6 +46,8 @@ def branch_suspects(facts: Facts, history: History) -> list[Suspect]:
         suspect = found[line] = Suspect("branch", row, row, decided.cost)
         judge_values(facts, suspect)
         way = ways.of(row)
+        if decided.how == "awaited":            # it left its loop, wherever that goes on
+            way = way._replace(is_back=False)
         judge_way(suspect, way)
         if way.all_times == 1 and not facts.trace.node_of(row) and not facts.trace.is_cut(row):
             suspect.sign(-ENTRY, "it ran once, before any call")
