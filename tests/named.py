@@ -147,6 +147,10 @@ MUTANTS = [
         "A failed save is made again, and the other file's name is told.",
         edit("log_commands", "a_failed_save_is_made_again"),
     ),
+    (
+        "An empty file is saved, and then memory is said to have run out.",
+        edit("log_commands", "an_empty_file_is_saved_before_out_of_memory"),
+    ),
     ("The list of turns is saved under the log's name.", edit("log_commands", "the_list_is_saved_under_the_logs_name")),
     ("A failed write is made again.", edit("bn_outside", "a_failed_write_is_made_again")),
     ("A failed read within a load is made again.", edit("bn_outside", "a_failed_read_is_made_again")),

@@ -5,5 +5,5 @@ use Rattle.std.specs.Prelude.{ℕ, List}
 pub data StoreCall : Type 0 where
   -- a load of a name, with the most bytes that it may have
   LoadCall : List ℕ → ℕ → StoreCall
-  -- a save under a name
-  SaveCall : List ℕ → StoreCall
+  -- a save of bytes under a name
+  SaveCall : (name bytes : List ℕ) → StoreCall

@@ -95,7 +95,7 @@ pub trait Store {
             (λ _ new. new name.now ≡ Some bytes.now)) }
         ensures others { WhereTold (files self.old) (files self.new) (SameElsewhere name.now) }
         ensures asked { saves self.new ≡ counted (saves self.old) }
-        ensures called { noted self.new ≡ note (noted self.old) (SaveCall name.now) }
+        ensures called { noted self.new ≡ note (noted self.old) (SaveCall name.now bytes.now) }
         ensures later { NoneFell (counts self.old) (counts self.new) }
         ensures cause { SaveCause (counts self.old) (counts self.new) result };
 }

@@ -1,6 +1,6 @@
 -- Which calls a line makes of its store.
 use Rattle.std.proofs.Common.{◌≡◌, ◌≢◌, ℕ, List, [], ◌++◌, Option, Some, None, ◌∙◌, ap, subst, sym, refl, arith, true, false, Bool, inl, inr, ◌⊎◌, append_assoc}
-use Rattle.std.specs.Prelude.{Result, Ok, Err, IfOk, is_some, option_map}
+use Rattle.std.specs.Prelude.{Result, Ok, Err, IfOk, is_some, not, option_map}
 use Rattle.std.specs.Io.KnownBytes.{Appends}
 use Rattle.std.proofs.lemmas.List.{append-nil}
 use Rattle.bn_base.specs.Ranges.{first_bad}
@@ -23,22 +23,22 @@ use Rattle.log_order.specs.Content.{Content}
 use Rattle.bn_base.specs.Programs.{Program}
 use Rattle.bn_base.specs.declared.end_mark.EndMark.{EndMark}
 use Rattle.log_commands.specs.Names.{FileNames, no_names}
-use Rattle.bugnet.specs.Answers.{names_in, names_by, manner_of, setting_refusal, refusal_in, refusal_by}
+use Rattle.bugnet.specs.Answers.{names_in, names_by, manner_of, setting_refusal, refusal_in, refusal_by, IsAnswer}
 use Rattle.log_commands.specs.Refusals.{replay_status, joint_refusal}
 use Rattle.log_commands.specs.SaveCounts.{IsRenewed, IsRecordedRun, IsMade}
 use Rattle.bugnet.specs.Asks.{FitsLine}
-use Rattle.log_commands.specs.FileCalls.{FileCall, Saves, noted_after, loads_of, saves_of, input_roles, record_roles, elf_roles, saves_in, IsOfContent, StopsAt, LoadsUpTo, CallsTo, LoadsTo, CallsBy, IsOfSave, SaveRefused, SavesTold}
-use Rattle.bugnet.specs.LineCalls.{line_roles, needed_roles, line_saves, calls_of, needed_of, is_printed, is_replayed, is_recorded, line_past, past_of, RefusedAfter, CallsSo, CallsOnly, TellsRefusal, HasShape, AnswersDemo, TellsDemo}
+use Rattle.log_commands.specs.FileCalls.{FileCall, Note, Saves, noted_after, loads_of, saves_of, has_save, input_roles, record_roles, elf_roles, saved_in, saves_in, IsOfContent, StopsAt, LoadsUpTo, CallsTo, LoadsTo, CallsBy, IsOfSave, SaveRefused, SavesTold}
+use Rattle.bugnet.specs.LineCalls.{line_roles, needed_roles, IsSaved, MaySave, calls_of, needed_of, is_printed, is_replayed, is_recorded, line_past, past_of, RefusedAfter, CallsSo, CallsOnly, TellsRefusal, HasShape, AnswersDemo, TellsDemo}
 use Rattle.bugnet.specs.Command.Record.{is_clash}
 use Rattle.log_commands.specs.Commands.{replay_found, ended}
 use Rattle.log_commands.specs.Joined.{ran_told, joined, joint_with}
 use Rattle.bugnet.specs.Laws.{IsReadOnly, IsNoSession}
-use Rattle.log_commands.specs.Outside.{CauseBy, IsPrinted, ToldRefusal, told_of}
+use Rattle.log_commands.specs.Outside.{WithFiles, CauseBy, IsPrinted, ToldRefusal, told_of}
 use Rattle.log_commands.specs.Pairs.{pair_roles}
 use Rattle.log_commands.specs.RunEnds.{end_status}
-use Rattle.log_commands.specs.Effects.{Call, IsFree, Tells, Done}
+use Rattle.log_commands.specs.Effects.{Call, IsFree, SomeTold, Tells, Done}
 use Rattle.bugnet.specs.Sessions.{is_begun}
-use Rattle.log_commands.specs.Told.{Told, refused, printed, printed_until}
+use Rattle.log_commands.specs.Told.{Told, Saved, refused, printed, printed_until}
 use Rattle.log_commands.specs.declared.answer.Answer.{Answer}
 use Rattle.log_commands.specs.declared.answer.Answer.TheVariants.{Recorded, Interval, Joined, Listed, Checked, Agreed, Renewed, Shown}
 use Rattle.log_commands.specs.declared.answer.RunEnd.{RunEnd}
@@ -50,14 +50,15 @@ use Rattle.log_commands.specs.declared.refusal.Refusal.TheVariants.{OutOfMemory,
 use Rattle.bugnet.proofs.BegunReplays.{is_found, is_begun_end, StopsBegun, replays_begin, joint_replays_begin}
 use Rattle.log_commands.proofs.Prints.{part-longer, part-whole}
 use Rattle.log_commands.proofs.Tells.{from, stopped-free, memory-names, wanting, same-files}
-use Rattle.log_commands.proofs.FileCalls.{CalledSoFar, ends-behind, noted-append}
+use Rattle.log_commands.proofs.FileCalls.{CalledSoFar, ends-behind, noted-append, loads-alone}
+use Rattle.log_commands.proofs.Shows.{found-saved}
 
 -- ---- the last of the calls
 
 -- at a save
 stops-save : (needed : List FileCall) (r : Refusal) (first made : List FileCall) → IsOfSave r made → StopsAt needed r (first ++ made)
 stops-save needed r first made (inl memory) = inl memory
-stops-save needed r first made (inr (role, last, is)) = inr (inr (inl (role, ends-behind first made (Saves role) last, is)))
+stops-save needed r first made (inr (role, bytes, last, is)) = inr (inr (inl (role, bytes, ends-behind first made (Saves role bytes) last, is)))
 
 -- ---- loads
 
@@ -132,9 +133,9 @@ end-other run_end.Done = λ e. omega (arith, e)
 end-other run_end.Fault = λ e. omega (arith, e)
 end-other run_end.Limit = λ e. omega (arith, e)
 
--- ---- what an answer saves is what its line saves
+-- ---- what an answer saves is what its line may save
 
-printed-none : (answer : Answer) → IsPrinted answer → saves_in answer ≡ []
+printed-none : (answer : Answer) → IsPrinted answer → saved_in answer ≡ None
 printed-none (Recorded r) p = absurd p
 printed-none (Interval r) p = refl
 printed-none (Joined r) p = refl
@@ -144,7 +145,7 @@ printed-none Agreed p = refl
 printed-none (Renewed n) p = absurd p
 printed-none (Shown text) p = refl
 
-renewed-one : (answer : Answer) → IsRenewed answer → saves_in answer ≡ saves_of true
+renewed-one : (answer : Answer) → IsRenewed answer → IsSaved true (saved_in answer)
 renewed-one (Recorded r) is = absurd is
 renewed-one (Interval r) is = absurd is
 renewed-one (Joined r) is = absurd is
@@ -154,8 +155,12 @@ renewed-one Agreed is = absurd is
 renewed-one (Renewed n) is = refl
 renewed-one (Shown text) is = absurd is
 
-recorded-so : (lean : Bool) (answer : Answer) → IsRecordedRun lean answer → saves_in answer ≡ saves_of lean
-recorded-so lean (Recorded r) is = ap saves_of is
+listed-so : {A B : Type 0} (f : A → B) (o : Option A) (lean : Bool) → not (is_some o) ≡ lean → is_some (option_map f o) ≡ not lean
+listed-so f None lean e = ap not e
+listed-so f (Some a) lean e = ap not e
+
+recorded-so : (lean : Bool) (answer : Answer) → IsRecordedRun lean answer → IsSaved lean (saved_in answer)
+recorded-so lean (Recorded r) is = listed-so _ r.book lean is
 recorded-so lean (Interval r) is = absurd is
 recorded-so lean (Joined r) is = absurd is
 recorded-so lean (Listed d) is = absurd is
@@ -164,7 +169,7 @@ recorded-so lean Agreed is = absurd is
 recorded-so lean (Renewed n) is = absurd is
 recorded-so lean (Shown text) is = absurd is
 
-answer-saves : (line : Line) (answer : Answer) → FitsLine line answer → (IsReadOnly (Some line) → IsPrinted answer) → saves_in answer ≡ line_saves line
+answer-saves : (line : Line) (answer : Answer) → FitsLine line answer → (IsReadOnly (Some line) → IsPrinted answer) → MaySave (Some line) (saved_in answer)
 answer-saves (RecordLine r) answer records prints = recorded-so r.lean answer records
 answer-saves (ReplayLine log elf hart interval) answer records prints = printed-none answer (prints tt)
 answer-saves (JointLine log elf) answer records prints = printed-none answer (prints tt)
@@ -177,6 +182,50 @@ answer-saves (SliceLine log elf hart interval ic) answer records prints = printe
 answer-saves (ConvertLine log copy) answer records prints = renewed-one answer records
 answer-saves (SalvageLine log copy) answer records prints = renewed-one answer records
 answer-saves (DemoLine seed) answer records prints = printed-none answer (prints tt)
+
+-- and what it tells says so
+until-saved : (names : FileNames) (text : List ℕ) (o : Option Refusal) → (printed_until names text o).saved ≡ None
+until-saved names text None = refl
+until-saved names text (Some refusal) = refl
+
+answer-told : (names : FileNames) (answer : Answer) → (told_of names answer).saved ≡ saved_in answer
+unfolding ran_told
+answer-told names (Recorded r) = refl
+answer-told names (Interval r) = found-saved names r (interval_of r.hart r.interval r.log.records)
+answer-told names (Joined r) = until-saved names _ _
+answer-told names (Listed d) = refl
+answer-told names (Checked n) = refl
+answer-told names Agreed = refl
+answer-told names (Renewed n) = refl
+answer-told names (Shown text) = refl
+
+-- before there is an answer: something that the line may save
+abbrev a_log : (lean : Bool) → Option Saved
+a_log true = Some (record { log = []; book = None })
+a_log false = Some (record { log = []; book = Some [] })
+
+log-fits : (lean : Bool) → IsSaved lean (a_log lean)
+log-fits true = refl
+log-fits false = refl
+
+sample : (line : Option Line) → (saved : Option Saved) × MaySave line saved
+sample None = (None, refl)
+sample (Some (RecordLine r)) = (a_log r.lean, log-fits r.lean)
+sample (Some (ReplayLine log elf hart interval)) = (None, refl)
+sample (Some (JointLine log elf)) = (None, refl)
+sample (Some (DebugLine log elf)) = (None, refl)
+sample (Some (ListLine log)) = (None, refl)
+sample (Some (CheckLine log)) = (None, refl)
+sample (Some (AuditLine log elf book input)) = (None, refl)
+sample (Some (RacesLine log elf most)) = (None, refl)
+sample (Some (SliceLine log elf hart interval ic)) = (None, refl)
+sample (Some (ConvertLine log copy)) = (a_log true, refl)
+sample (Some (SalvageLine log copy)) = (a_log true, refl)
+sample (Some (DemoLine seed)) = (None, refl)
+
+-- no save was made
+no-save : {A : Type 0} (b : Bool) → b ≡ false → b ≡ true → A
+no-save b none some = absurd (grind arith)
 
 pub made-printed : {E : Type 0} (result : Result Answer E) → IfOk result IsMade → IfOk result IsPrinted
 made-printed (Ok (Recorded r)) p = absurd p
@@ -286,21 +335,27 @@ recorded-past lean names (Shown text) p = absurd p
 abbrev Ends : (past : ℕ → Bool) → (calls needed : List FileCall) → FileNames → (status : ℕ) → Call → Type 0
 Ends past calls needed names status k = (past status ≡ true) ⊎ ((calls ≡ needed) × Unbegun names status k)
 
-abbrev LineEnds : Line → FileNames → (status : ℕ) → Call → Type 0
-LineEnds line names status k = Ends (line_past line) (calls_of (Some line)) (needed_of (Some line)) names status k
+abbrev LineEnds : Line → (saved : Option Saved) → FileNames → (status : ℕ) → Call → Type 0
+LineEnds line saved names status k = Ends (line_past line) (calls_of (Some line) saved) (needed_of (Some line)) names status k
 
 replay-ends : (names : FileNames) (status : ℕ) (k : Call) → Replays names status k → Ends is_replayed (loads_of pair_roles) (loads_of pair_roles) names status k
 replay-ends names status k (inl past) = inl past
 replay-ends names status k (inr refused) = inr (refl, refused)
 
+printed-ends : (names : FileNames) (answer : Answer) (status : ℕ) (k : Call) → IsPrinted answer → Done names (told_of names answer) status k
+    → Ends is_replayed (loads_of pair_roles ++ saves_of (saved_in answer)) (loads_of pair_roles) names status k
+printed-ends names answer status k p done =
+    subst (λ (saved : Option Saved). Ends is_replayed (loads_of pair_roles ++ saves_of saved) (loads_of pair_roles) names status k) (sym (printed-none answer p))
+    (replay-ends names status k (printed-past names answer status k p done))
+
 answer-past : (past : ℕ → Bool) (names : FileNames) (answer : Answer) (status : ℕ) (k : Call) → Done names (told_of names answer) status k → past (told_of names answer).status ≡ true → past status ≡ true
 answer-past past names answer status k done e = past-at past status (told_of names answer).status done.status_is e
 
 line-ends : (line : Line) (names : FileNames) (answer : Answer) (status : ℕ) (k : Call) → FitsLine line answer → (IsReadOnly (Some line) → IsPrinted answer) → IsNoSession (Some line)
-    → Done names (told_of names answer) status k → LineEnds line names status k
+    → Done names (told_of names answer) status k → LineEnds line (saved_in answer) names status k
 line-ends (RecordLine r) names answer status k fits prints other done = inl (answer-past is_recorded names answer status k done (recorded-past r.lean names answer fits))
-line-ends (ReplayLine log elf hart interval) names answer status k fits prints other done = replay-ends names status k (printed-past names answer status k (prints tt) done)
-line-ends (JointLine log elf) names answer status k fits prints other done = replay-ends names status k (printed-past names answer status k (prints tt) done)
+line-ends (ReplayLine log elf hart interval) names answer status k fits prints other done = printed-ends names answer status k (prints tt) done
+line-ends (JointLine log elf) names answer status k fits prints other done = printed-ends names answer status k (prints tt) done
 line-ends (DebugLine log elf) names answer status k fits prints other done = absurd other
 line-ends (ListLine log) names answer status k fits prints other done = inl (answer-past is_printed names answer status k done (made-past names answer fits))
 line-ends (CheckLine log) names answer status k fits prints other done = inl (answer-past is_printed names answer status k done (made-past names answer fits))
@@ -345,7 +400,7 @@ free-past line status (inr (inl e)) other = past-at (line_past line) status 9 e 
 free-past line status (inr (inr e)) other = past-at (line_past line) status 13 e (write-past line)
 
 tells-past : (line : Line) (names : FileNames) (answer : Answer) (status : ℕ) (k : Call) → FitsLine line answer → (IsReadOnly (Some line) → IsPrinted answer) → IsNoSession (Some line)
-    → Tells names (told_of names answer) status k → status ≢ 3 → LineEnds line names status k
+    → Tells names (told_of names answer) status k → status ≢ 3 → LineEnds line (saved_in answer) names status k
 tells-past line names answer status k fits prints none (inl done) other = line-ends line names answer status k fits prints none done
 tells-past line names answer status k fits prints none (inr s) other = inl (free-past line status (stopped-free names (told_of names answer) status k s) other)
 
@@ -357,31 +412,48 @@ same_refusal A r x e = grind arith
 no-answer : (A : Type 0) (a : A) (x : Refusal) → ◌≡◌ {A = Result A Refusal} (Ok a) (Err x) → ⊥
 no-answer A a x e = grind arith
 
+-- such calls without a save
+abbrev SavesNone : FileNames → (calls needed : List FileCall) → Option Refusal → (ℕ → Bool) → (status : ℕ) → Note → (before after : ℕ) → Call → Type 0
+SavesNone names calls needed words past status note before after k = (so : CallsSo names calls needed words past status note before after k) × (has_save so.made ≡ false)
+
+-- those of a line
+none-saved : (line : Option Line) (saved : Option Saved) (status : ℕ) (note : Note) (before after : ℕ) (k : Call) → MaySave line saved
+    → SavesNone (names_by line) (calls_of line saved) (needed_of line) (refusal_by line) (past_of line) status note before after k → CallsOnly line status note before after k
+none-saved line saved status note before after k fits (so, none) = record { saved = saved; fits = fits; so = so; own = λ some. no-save (has_save so.made) none some }
+
 -- it is refused before it saves
 refused-so : (A : Type 0) (note : ℕ → StoreCall → ℕ) (names : FileNames) (o : Option Refusal) (roles needed : List Role) (saves : List FileCall) (past : ℕ → Bool) (r : Refusal) (status : ℕ) (before after : ℕ) (first last : Counts) (k : Call)
     → CallsBy {A = A} o names roles needed note before after (Err r) → CauseBy {A = A} o first last (Err r) → Appends k.old.out k.new.out []
-    → ToldRefusal names r status k.old.err k.new.err k.old.err_faults k.new.err_faults → CallsSo names (loads_of roles ++ saves) (loads_of needed) o past status note before after k
-refused-so A note names (Some x) roles needed saves past r status before after first last k h c out told = record {
-  made = [];
-  left = loads_of roles ++ saves;
-  parts = refl;
-  noted = h;
-  ends = inr (record { refusal = r; at = inl (same_refusal A r x c.0, refl); out = out; told = told });
-}
-refused-so A note names None roles needed saves past r status before after first last k h c out told = record {
-  made = h.made;
-  left = h.left ++ saves;
-  parts = ap (λ (calls : List FileCall). calls ++ saves) h.parts ∙ append_assoc h.made h.left saves;
-  noted = h.noted;
-  ends = inr (record { refusal = r; at = inr h.at; out = out; told = told });
-}
+    → ToldRefusal names r status k.old.err k.new.err k.old.err_faults k.new.err_faults → SavesNone names (loads_of roles ++ saves) (loads_of needed) o past status note before after k
+refused-so A note names (Some x) roles needed saves past r status before after first last k h c out told = (
+  record {
+    made = [];
+    left = loads_of roles ++ saves;
+    parts = refl;
+    noted = h;
+    ends = inr (record { refusal = r; at = inl (same_refusal A r x c.0, refl); out = out; told = told });
+  },
+  refl,
+)
+refused-so A note names None roles needed saves past r status before after first last k h c out told = (
+  record {
+    made = h.made;
+    left = h.left ++ saves;
+    parts = ap (λ (calls : List FileCall). calls ++ saves) h.parts ∙ append_assoc h.made h.left saves;
+    noted = h.noted;
+    ends = inr (record { refusal = r; at = inr h.at; out = out; told = told });
+  },
+  loads-alone roles h.made h.left h.parts,
+)
 
 pub refusal-calls : (A : Type 0) (note : ℕ → StoreCall → ℕ) (line : Line) (names : FileNames) (r : Refusal) (status : ℕ) (before after : ℕ) (first last : Counts) (k : Call) → names ≡ names_in line
     → CallsBy {A = A} (refusal_in line) names (line_roles line) (needed_roles line) note before after (Err r) → CauseBy {A = A} (refusal_in line) first last (Err r) → Appends k.old.out k.new.out []
     → ToldRefusal names r status k.old.err k.new.err k.old.err_faults k.new.err_faults → CallsOnly (Some line) status note before after k
 refusal-calls A note line names r status before after first last k e h c out told =
-    subst (λ (n : FileNames). CallsSo n (calls_of (Some line)) (needed_of (Some line)) (refusal_in line) (line_past line) status note before after k) e
-    (refused-so A note names (refusal_in line) (line_roles line) (needed_roles line) (line_saves line) (line_past line) r status before after first last k h c out told)
+    let saved = (sample (Some line)).0 in
+    none-saved (Some line) saved status note before after k (sample (Some line)).1
+    (subst (λ (n : FileNames). SavesNone n (calls_of (Some line) saved) (needed_of (Some line)) (refusal_in line) (line_past line) status note before after k) e
+    (refused-so A note names (refusal_in line) (line_roles line) (needed_roles line) (saves_of saved) (line_past line) r status before after first last k h c out told))
 
 -- it has its answer, of which all is saved, or not
 answer-so : (A : Type 0) (a : A) (note : ℕ → StoreCall → ℕ) (names : FileNames) (o : Option Refusal) (roles needed : List Role) (saves : List FileCall) (past : ℕ → Bool) (status : ℕ) (before mid after : ℕ) (first last : Counts) (files : Option Files) (counts : Counts) (k : Call)
@@ -412,11 +484,19 @@ answer-so A a note names None roles needed saves past status before mid after fi
 pub answer-calls : (note : ℕ → StoreCall → ℕ) (line : Line) (names : FileNames) (answer : Answer) (status : ℕ) (before mid after : ℕ) (first last : Counts) (files : Option Files) (counts : Counts) (k : Call) → names ≡ names_in line
     → CallsBy (refusal_in line) names (line_roles line) (needed_roles line) note before mid (Ok answer) → CauseBy (refusal_in line) first last (Ok answer)
     → FitsLine line answer → (IsReadOnly (Some line) → IsPrinted answer) → IsNoSession (Some line) → SavesTold names (saves_in answer) status note mid after k → Tells names (told_of names answer) status k
-    → CallsOnly (Some line) status note before after (from files counts k)
-answer-calls note line names answer status before mid after first last files counts k e h c fits prints none s told =
-    subst (λ (n : FileNames). CallsSo n (calls_of (Some line)) (needed_of (Some line)) (refusal_in line) (line_past line) status note before after (from files counts k)) e
-    (answer-so Answer answer note names (refusal_in line) (line_roles line) (needed_roles line) (line_saves line) (line_past line) status before mid after first last files counts k h c
-    (subst (λ (saves : List FileCall). SavesTold names saves status note mid after k) (answer-saves line answer fits prints) s) (λ other. tells-past line names answer status k fits prints none told other))
+    → WithFiles files (λ known. IsAnswer (Some line) known (told_of names answer)) → CallsOnly (Some line) status note before after (from files counts k)
+answer-calls note line names answer status before mid after first last files counts k e h c fits prints none s told is = record {
+  saved = saved_in answer;
+  fits = answer-saves line answer fits prints;
+  so = subst (λ (n : FileNames). CallsSo n (calls_of (Some line) (saved_in answer)) (needed_of (Some line)) (refusal_in line) (line_past line) status note before after (from files counts k)) e
+      (answer-so Answer answer note names (refusal_in line) (line_roles line) (needed_roles line) (saves_in answer) (line_past line) status before mid after first last files counts k h c s
+      (λ other. tells-past line names answer status k fits prints none told other));
+  own = λ some. its-own files is;
+}
+  where
+    its-own : (known : Option Files) → WithFiles known (λ files. IsAnswer (Some line) files (told_of names answer)) → WithFiles known (λ files. SomeTold (IsAnswer (Some line) files) (λ what. what.saved ≡ saved_in answer))
+    its-own None is = tt
+    its-own (Some files) is = (told_of names answer, is, answer-told names answer)
 
 -- ---- a session
 
@@ -446,7 +526,9 @@ begun-calls note names roles status before after k e begun = record {
 -- by the names that its line says
 session-named : (log elf : List ℕ) (note : ℕ → StoreCall → ℕ) (names : FileNames) (status : ℕ) (before after : ℕ) (k : Call) → names ≡ names_in (DebugLine log elf)
     → CallsSo names (loads_of pair_roles) (loads_of pair_roles) None is_begun status note before after k → CallsOnly (Some (DebugLine log elf)) status note before after k
-session-named log elf note names status before after k e h = subst (λ (n : FileNames). CallsSo n (loads_of pair_roles) (loads_of pair_roles) None is_begun status note before after k) e h
+session-named log elf note names status before after k e h =
+    none-saved (Some (DebugLine log elf)) None status note before after k refl
+    (subst (λ (n : FileNames). SavesNone n (loads_of pair_roles) (loads_of pair_roles) None is_begun status note before after k) e (h, loads-alone pair_roles h.made h.left h.parts))
 
 pub session-calls : (line : Line) (note : ℕ → StoreCall → ℕ) (names : FileNames) (status : ℕ) (before after : ℕ) (k : Call) → (IsNoSession (Some line) → ⊥) → names ≡ names_in line
     → CallsSo names (loads_of pair_roles) (loads_of pair_roles) None is_begun status note before after k → CallsOnly (Some line) status note before after k
@@ -468,27 +550,30 @@ session-calls (DemoLine seed) note names status before after k is e h = absurd (
 -- they say no line
 pub words-calls : (note : ℕ → StoreCall → ℕ) (status : ℕ) (n : ℕ) (k : Call) → Appends k.old.out k.new.out [] → ToldRefusal no_names WordsRefused status k.old.err k.new.err k.old.err_faults k.new.err_faults
     → CallsOnly None status note n n k
-words-calls note status n k out told = record { made = []; left = []; parts = refl; noted = refl; ends = inr (record { refusal = WordsRefused; at = inl (refl, refl); out = out; told = told }) }
+words-calls note status n k out told =
+    none-saved None None status note n n k refl (record { made = []; left = []; parts = refl; noted = refl; ends = inr (record { refusal = WordsRefused; at = inl (refl, refl); out = out; told = told }) }, refl)
 
 -- no memory to read them
 pub unread-calls : (note : ℕ → StoreCall → ℕ) (line : Option Line) (status : ℕ) (n : ℕ) (k : Call) → Appends k.old.out k.new.out []
     → ToldRefusal (names_by line) OutOfMemory status k.old.err k.new.err k.old.err_faults k.new.err_faults → CallsOnly line status note n n k
-unread-calls note line status n k out told = record { made = []; left = calls_of line; parts = refl; noted = refl; ends = inr (record { refusal = OutOfMemory; at = inr (inl refl); out = out; told = told }) }
+unread-calls note line status n k out told =
+    none-saved line (sample line).0 status note n n k (sample line).1
+    (record { made = []; left = calls_of line (sample line).0; parts = refl; noted = refl; ends = inr (record { refusal = OutOfMemory; at = inr (inl refl); out = out; told = told }) }, refl)
 
 -- ---- what is told
 
 pub call-shape : (note : ℕ → StoreCall → ℕ) (line : Option Line) (status : ℕ) (before after : ℕ) (k : Call) → CallsOnly line status note before after k → HasShape line status k
-call-shape note line status before after k calls other = by calls.ends
+call-shape note line status before after k calls other = by calls.so.ends
   where
     apart : (b : Bool) → b ≡ true → b ≡ false → ⊥
     apart b x y = grind arith
 
-    told : (r : RefusedAfter (names_by line) (needed_of line) (refusal_by line) calls.made status k)
+    told : (r : RefusedAfter (names_by line) (needed_of line) (refusal_by line) calls.so.made status k)
         → ToldRefusal (names_by line) r.refusal status k.old.err k.new.err k.old.err_faults k.new.err_faults → TellsRefusal (names_by line) status k
     told r (inl h) = record { refusal = r.refusal; status_is = h.0; out = r.out; err = h.1 }
     told r (inr h) = record { refusal = OutOfMemory; status_is = h.0; out = r.out; err = h.1 }
 
-    by : ((calls.left ≡ []) × (past_of line status ≡ true)) ⊎ RefusedAfter (names_by line) (needed_of line) (refusal_by line) calls.made status k → TellsRefusal (names_by line) status k
+    by : ((calls.so.left ≡ []) × (past_of line status ≡ true)) ⊎ RefusedAfter (names_by line) (needed_of line) (refusal_by line) calls.so.made status k → TellsRefusal (names_by line) status k
     by (inl (all, past)) = absurd (apart (past_of line status) past other)
     by (inr r) = told r r.told
 

@@ -86,7 +86,7 @@ line-acted line names note old mid out err new answer result named session leave
       obeys = acted (Some line) status k l names (told_of names answer) h.later a.acts refl refl refl refl told (answer-words Answer answer (refusal_in line) old.counts mid.counts (names_in line) status k h.cause a.acts.words);
       still = λ p. a.still (h.prints p) ∙ h.same;
       saves = line-acts line answer status old.saves mid.saves new.store.saves h.records h.prints h.asks a.saves;
-      calls = answer-calls note line names answer status old.noted mid.noted new.store.noted old.counts mid.counts old.files old.counts l named h.calls h.cause h.records h.prints session a.calls a.acts.told;
+      calls = answer-calls note line names answer status old.noted mid.noted new.store.noted old.counts mid.counts old.files old.counts l named h.calls h.cause h.records h.prints session a.calls a.acts.told h.told;
       demo = demo-answers line names answer status k named h.demo tells;
       recorded = leaves status k refl told;
       read = a.acts.read;

@@ -1,22 +1,22 @@
 -- Which calls a line makes of its store, in which order, and what it tells if one of them or what it loaded ends it.
-use Rattle.std.specs.Prelude.{◌≡◌, ◌⊎◌, ℕ, ◌==◌, ◌||◌, Bool, true, false, List, [], ◌++◌, Option, Some, None, Result, Ok, Err, is_some}
+use Rattle.std.specs.Prelude.{◌≡◌, ◌⊎◌, ℕ, ◌==◌, ◌||◌, Bool, true, false, List, [], ◌++◌, Option, Some, None, Result, Ok, Err, is_some, not, IsSomeAnd}
 use Rattle.std.specs.Io.KnownBytes.{Appends}
 use Rattle.demo_run.specs.Demonstration.{demo_text}
 use Rattle.command_words.specs.Words.{Line, RecordLine, ReplayLine, JointLine, DebugLine, ListLine, CheckLine, AuditLine, RacesLine, SliceLine, ConvertLine, SalvageLine, DemoLine}
 use Rattle.log_commands.specs.Names.{FileNames, no_names}
-use Rattle.bugnet.specs.Answers.{names_by, refusal_by}
+use Rattle.bugnet.specs.Answers.{names_by, refusal_by, IsAnswer}
 use Rattle.log_commands.specs.Command.Audit.{roles_of}
-use Rattle.log_commands.specs.Outside.{Wrote, ToldRefusal, told_of}
+use Rattle.log_commands.specs.Outside.{WithFiles, Wrote, ToldRefusal, told_of}
 use Rattle.log_commands.specs.Pairs.{pair_roles}
 use Rattle.log_commands.specs.Refusals.{status_of, line_of}
-use Rattle.log_commands.specs.Effects.{Call, Tells}
+use Rattle.log_commands.specs.Effects.{Call, SomeTold, Tells}
 use Rattle.bugnet.specs.Sessions.{is_begun}
-use Rattle.log_commands.specs.Told.{printed}
+use Rattle.log_commands.specs.Told.{Saved, printed}
 use Rattle.log_commands.specs.declared.answer.Answer.{Answer}
 use Rattle.log_commands.specs.declared.names.Role.{Role}
 use Rattle.log_commands.specs.declared.refusal.Refusal.{Refusal}
 use Rattle.log_commands.specs.declared.refusal.Refusal.TheVariants as why
-use Rattle.log_commands.specs.FileCalls.{FileCall, Note, StopsAt, elf_roles, loads_of, log_roles, noted_after, origin_roles, record_roles, saves_of}
+use Rattle.log_commands.specs.FileCalls.{FileCall, Note, StopsAt, elf_roles, has_save, loads_of, log_roles, noted_after, origin_roles, record_roles, saves_of}
 
 -- ---- the calls of a line
 
@@ -40,17 +40,21 @@ abbrev pub needed_roles : Line → List Role
 needed_roles (RecordLine r) = elf_roles
 needed_roles line = line_roles line
 
--- what it saves after that
-abbrev pub line_saves : Line → List FileCall
-line_saves (RecordLine r) = saves_of r.lean
-line_saves (ConvertLine log copy) = saves_of true
-line_saves (SalvageLine log copy) = saves_of true
-line_saves line = []
+-- a log, and a list of turns unless it is lean
+abbrev pub IsSaved : (lean : Bool) → Option Saved → Type 0
+IsSaved lean saved = IsSomeAnd saved (λ s. is_some s.book ≡ not lean)
 
--- all its calls, in their order; words that say no line have none
-abbrev pub calls_of : Option Line → List FileCall
-calls_of None = []
-calls_of (Some line) = loads_of (line_roles line) ++ line_saves line
+-- what it saves after that: a recording its log, and the list of its turns; a log made of another is saved alone
+abbrev pub MaySave : Option Line → Option Saved → Type 0
+MaySave (Some (RecordLine r)) saved = IsSaved r.lean saved
+MaySave (Some (ConvertLine log copy)) saved = IsSaved true saved
+MaySave (Some (SalvageLine log copy)) saved = IsSaved true saved
+MaySave line saved = saved ≡ None
+
+-- all its calls, in their order, if this is what it saves; words that say no line have none
+abbrev pub calls_of : Option Line → Option Saved → List FileCall
+calls_of None saved = []
+calls_of (Some line) saved = loads_of (line_roles line) ++ saves_of saved
 
 abbrev pub needed_of : Option Line → List FileCall
 needed_of None = []
@@ -103,11 +107,12 @@ pub record CallsSo (names : FileNames) (calls needed : List FileCall) (words : O
   pub noted : after ≡ noted_after note names before made
   pub ends : ((left ≡ []) × (past status ≡ true)) ⊎ RefusedAfter names needed words made status k
 
--- so it is with the calls of a line
-abbrev pub CallsOnly : Option Line → (status : ℕ) → (note : Note) → (before after : ℕ) → Call → Type 0
-CallsOnly line status note before after k =
-    CallsSo (names_by line) (calls_of line) (needed_of line) (refusal_by line) (past_of line)
-    status note before after k
+-- so it is with the calls of a line. Whatever its status, what it saves is what an answer to the files that are there saves
+pub record CallsOnly (line : Option Line) (status : ℕ) (note : Note) (before after : ℕ) (k : Call) : Type 0 where
+  pub saved : Option Saved
+  pub fits : MaySave line saved
+  pub so : CallsSo (names_by line) (calls_of line saved) (needed_of line) (refusal_by line) (past_of line) status note before after k
+  pub own : has_save so.made ≡ true → WithFiles k.old.files (λ files. SomeTold (IsAnswer line files) (λ what. what.saved ≡ saved))
 
 -- ---- what it tells, by any store
 

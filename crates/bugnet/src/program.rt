@@ -502,9 +502,10 @@ pub fn run<S: Store, I: Source, O: Sink, X: Sink, G: Gate, R: Threads + Wait + S
     // `convert` and `salvage` NEW. A refused one has saved at most so often, and no other command saves.
     ensures saves { LineSaves (command_in words.now) result (S.saves store.old) (S.saves store.new) }
 
-    // It makes the calls of its words, in their order, and no other. If the store refuses one, that call is
-    // the last, nothing is printed, and err has the line of that call's file. A recording that is done has
-    // made them all; words that are refused make none.
+    // It makes the calls of its words, in their order, and no other. Whatever its status, even out of memory, each
+    // save has the bytes of an answer to the files that are there. If the store refuses a call, that is the last,
+    // nothing is printed, and err has the line of that call's file. A recording that is done has made them all;
+    // words that are refused make none.
     ensures calls { CallsOnly (command_in words.now) result S.note (S.noted store.old) (S.noted store.new) (call S.files S.counts O.written O.faults X.written X.faults store.old out.old err.old store.new out.new err.new) }
 
     // By any store a command that isn't done is refused, unless memory ran out or a write failed. Then

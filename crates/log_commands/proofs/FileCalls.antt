@@ -1,11 +1,11 @@
 -- The calls that a command makes of its store.
-use Rattle.std.proofs.Common.{◌≡◌, ◌≢◌, ℕ, Bool, true, false, List, [], ◌∷◌, ◌++◌, ◌∙◌, ap, subst, sym, refl, arith, inl, inr, ◌⊎◌, append_assoc}
+use Rattle.std.proofs.Common.{◌≡◌, ◌≢◌, ℕ, Bool, true, false, List, [], ◌∷◌, ◌++◌, ◌∙◌, ap, subst, sym, refl, arith, inl, inr, ◌⊎◌, append_assoc, Option}
 use Rattle.std.specs.Prelude.{Result, Ok, Err}
 use Rattle.std.specs.Io.KnownBytes.{Appends}
 use Rattle.std.proofs.lemmas.List.{append-nil}
 use Rattle.bn_outside.specs.StoreCalls.{StoreCall, LoadCall}
 use Rattle.log_commands.specs.Names.{FileNames, name_of}
-use Rattle.log_commands.specs.FileCalls.{FileCall, Loads, Saves, store_call, noted_after, loads_of, EndsWith, StopsAt, LoadsUpTo, CallsTo, LoadsTo, IsOfLoad, IsOfSave, SavesUpTo, SavesTo, SavesTold, saves_of}
+use Rattle.log_commands.specs.FileCalls.{FileCall, Loads, Saves, store_call, noted_after, loads_of, EndsWith, StopsAt, LoadsUpTo, CallsTo, LoadsTo, IsOfLoad, IsOfSave, SavesUpTo, SavesTo, SavesTold, book_saves, has_save}
 use Rattle.log_commands.specs.Inputs.{limit_of}
 use Rattle.log_commands.specs.Outside.{IsOwn, ToldRefusal}
 use Rattle.log_commands.specs.Effects.{Call}
@@ -30,7 +30,7 @@ ends-behind first made last (earlier, e) = (first ++ earlier, ap (λ (calls : Li
 pub stops-behind : (c : FileCall) (needed : List FileCall) (r : Refusal) (made : List FileCall) → StopsAt needed r made → StopsAt (c ∷ needed) r (c ∷ made)
 stops-behind c needed r made (inl memory) = inl memory
 stops-behind c needed r made (inr (inl (role, last, is))) = inr (inl (role, ends-behind (c ∷ []) made (Loads role) last, is))
-stops-behind c needed r made (inr (inr (inl (role, last, is)))) = inr (inr (inl (role, ends-behind (c ∷ []) made (Saves role) last, is)))
+stops-behind c needed r made (inr (inr (inl (role, bytes, last, is)))) = inr (inr (inl (role, bytes, ends-behind (c ∷ []) made (Saves role bytes) last, is)))
 stops-behind c needed r made (inr (inr (inr (own, e)))) = inr (inr (inr (own, ap (λ (calls : List FileCall). c ∷ calls) e)))
 
 -- at a load
@@ -121,36 +121,43 @@ called-stops note names roles left rest role limit before now after r l e so_far
 -- ---- saves
 
 -- one alone: it was refused
-pub one-save-stops : (note : ℕ → StoreCall → ℕ) (names : FileNames) (role : Role) (saves : List FileCall) (before after : ℕ) (r : Refusal) → after ≡ note before (store_call names (Saves role))
-    → (r ≡ OutOfMemory) ⊎ (r ≡ StoreFailed role) → SavesUpTo names (Saves role ∷ saves) note before after r
-one-save-stops note names role saves before after r e (inl memory) = record { made = Saves role ∷ []; left = saves; parts = refl; noted = e; at = inl memory }
-one-save-stops note names role saves before after r e (inr is) = record { made = Saves role ∷ []; left = saves; parts = refl; noted = e; at = inr (role, ([], refl), is) }
+pub one-save-stops : (note : ℕ → StoreCall → ℕ) (names : FileNames) (role : Role) (bytes : List ℕ) (saves : List FileCall) (before after : ℕ) (r : Refusal) → after ≡ note before (store_call names (Saves role bytes))
+    → (r ≡ OutOfMemory) ⊎ (r ≡ StoreFailed role) → SavesUpTo names (Saves role bytes ∷ saves) note before after r
+one-save-stops note names role bytes saves before after r e (inl memory) = record { made = Saves role bytes ∷ []; left = saves; parts = refl; noted = e; at = inl memory }
+one-save-stops note names role bytes saves before after r e (inr is) = record { made = Saves role bytes ∷ []; left = saves; parts = refl; noted = e; at = inr (role, bytes, ([], refl), is) }
 
 -- the second of two
-pub next-save-stops : (note : ℕ → StoreCall → ℕ) (names : FileNames) (first last : Role) (before mid after : ℕ) (r : Refusal) → mid ≡ note before (store_call names (Saves first)) → after ≡ note mid (store_call names (Saves last))
-    → (r ≡ OutOfMemory) ⊎ (r ≡ StoreFailed last) → SavesUpTo names (Saves first ∷ Saves last ∷ []) note before after r
-next-save-stops note names first last before mid after r f e is = record {
-  made = Saves first ∷ Saves last ∷ [];
+pub next-save-stops : (note : ℕ → StoreCall → ℕ) (names : FileNames) (first last : FileCall) (role : Role) (bytes : List ℕ) (before mid after : ℕ) (r : Refusal) → last ≡ Saves role bytes
+    → mid ≡ note before (store_call names first) → after ≡ note mid (store_call names last) → (r ≡ OutOfMemory) ⊎ (r ≡ StoreFailed role) → SavesUpTo names (first ∷ last ∷ []) note before after r
+next-save-stops note names first last role bytes before mid after r at f e is = record {
+  made = first ∷ last ∷ [];
   left = [];
   parts = refl;
-  noted = e ∙ ap (λ (n : ℕ). note n (store_call names (Saves last))) f;
+  noted = e ∙ ap (λ (n : ℕ). note n (store_call names last)) f;
   at = by is;
 }
   where
-    by : (r ≡ OutOfMemory) ⊎ (r ≡ StoreFailed last) → IsOfSave r (Saves first ∷ Saves last ∷ [])
+    by : (r ≡ OutOfMemory) ⊎ (r ≡ StoreFailed role) → IsOfSave r (first ∷ last ∷ [])
     by (inl memory) = inl memory
-    by (inr is) = inr (last, (Saves first ∷ [], refl), is)
+    by (inr is) = inr (role, bytes, (first ∷ [], ap (λ (c : FileCall). first ∷ c ∷ []) at), is)
 
 -- whether there is a list decides
-pub lean-saves : (lean known : Bool) (note : ℕ → StoreCall → ℕ) (names : FileNames) (A : Type 0) (before after : ℕ) (result : Result A Refusal) → lean ≡ known
-    → SavesTo names (saves_of known) note before after result → SavesTo names (saves_of lean) note before after result
-lean-saves lean known note names A before after result e h = subst (λ (b : Bool). SavesTo names (saves_of b) note before after result) (sym e) h
+pub listed-saves : (log : List ℕ) (book known : Option (List ℕ)) (note : ℕ → StoreCall → ℕ) (names : FileNames) (A : Type 0) (before after : ℕ) (result : Result A Refusal) → book ≡ known
+    → SavesTo names (Saves role.Log log ∷ book_saves known) note before after result → SavesTo names (Saves role.Log log ∷ book_saves book) note before after result
+listed-saves log book known note names A before after result e h = subst (λ (o : Option (List ℕ)). SavesTo names (Saves role.Log log ∷ book_saves o) note before after result) (sym e) h
 
--- the first was refused, whichever follows
-pub log-save-stops : (lean : Bool) (note : ℕ → StoreCall → ℕ) (names : FileNames) (before after : ℕ) (r : Refusal) → after ≡ note before (store_call names (Saves role.Log))
-    → (r ≡ OutOfMemory) ⊎ (r ≡ StoreFailed role.Log) → SavesUpTo names (saves_of lean) note before after r
-log-save-stops true note names before after r e is = one-save-stops note names role.Log [] before after r e is
-log-save-stops false note names before after r e is = one-save-stops note names role.Log (Saves role.Book ∷ []) before after r e is
+-- ---- calls without a save
+
+pub loads-alone : (roles : List Role) (made left : List FileCall) → loads_of roles ≡ made ++ left → has_save made ≡ false
+loads-alone roles [] left e = refl
+loads-alone [] (c ∷ made) left e = absurd cc
+loads-alone (r ∷ roles) (c ∷ made) left e = subst (λ (x : FileCall). has_save (x ∷ made) ≡ false) (head-same e) (loads-alone roles made left (tail-same e))
+  where
+    head-same : loads_of (r ∷ roles) ≡ (c ∷ made) ++ left → Loads r ≡ c
+    head-same e = cc
+
+    tail-same : loads_of (r ∷ roles) ≡ (c ∷ made) ++ left → loads_of roles ≡ made ++ left
+    tail-same e = cc
 
 -- an answer whose saves were refused
 pub saves-refused : (note : ℕ → StoreCall → ℕ) (names : FileNames) (saves : List FileCall) (r : Refusal) (status : ℕ) (before after : ℕ) (k : Call) → SavesUpTo names saves note before after r

@@ -7,7 +7,7 @@ use Rattle.bn_outside.specs.Counts.{Counts, Rose, counted}
 use Rattle.bn_outside.specs.Files.{Files, WhereTold}
 use Rattle.log_commands.specs.Acting.{StopsSaving, SavesFile, SavesAll, World, world, between, with_err, ActsOn, ActsTo}
 use Rattle.log_commands.specs.Effects.{Acts, PrintsTo, done_of}
-use Rattle.log_commands.specs.FileCalls.{FileCall, Note, Saves, store_call, saves_in, saves_of, SavesTold}
+use Rattle.log_commands.specs.FileCalls.{FileCall, Note, Saves, store_call, saves_in, saves_of, book_saves, SavesTold}
 use Rattle.log_commands.specs.Inputs.{Stored}
 use Rattle.log_commands.specs.Names.{FileNames}
 use Rattle.log_commands.specs.Outside.{Stream, Sends, SendsBytes, Always, Unsaved, Refuses, SaveBroke, KeptLog, KeptSaved, KeptFiles, saved_of, saved_new, told_of, told_of_recording}
@@ -29,7 +29,7 @@ use Rattle.log_commands.specs.declared.refusal.Refusal.TheVariants.{StoreFailed,
 use Rattle.log_commands.proofs.Acts.{closed-done, prints-so, acts-so, none-fell, sends-done}
 use Rattle.log_commands.proofs.Causes.{Sends as Stops, sends-told, sends-high}
 use Rattle.log_commands.proofs.Fetched.{fell-later}
-use Rattle.log_commands.proofs.FileCalls.{saves-refused, saves-done, log-save-stops, next-save-stops, lean-saves}
+use Rattle.log_commands.proofs.FileCalls.{saves-refused, saves-done, one-save-stops, next-save-stops, listed-saves}
 use Rattle.log_commands.proofs.Prints.{appends-nothing, rose-later}
 use Rattle.log_commands.proofs.SaveCounts.{unsaved-saves}
 use Rattle.log_commands.proofs.Tells.{unsaved-told, stopped-told, half-told, recorded-told, kept-both, both-saved, kept-log, log-alone, log-saved}
@@ -70,7 +70,7 @@ log-refused names saved lean note old new x s = record {
   later = s.later;
   few = one-few lean old.saves new.saves s.asked;
   all = tt;
-  calls = log-save-stops lean note names old.noted new.noted x s.called (stops-so role.Log old new x s.stops);
+  calls = one-save-stops note names role.Log saved.log (book_saves saved.book) old.noted new.noted x s.called (stops-so role.Log old new x s.stops);
 }
 
 -- it was saved, and is alone
@@ -80,7 +80,7 @@ log-kept names saved lean note old new alone is s = record {
   later = s.later;
   few = one-few lean old.saves new.saves s.asked;
   all = subst (λ (b : Bool). new.saves ≡ saves_after b old.saves) (sym is) s.asked;
-  calls = lean-saves lean true note names (Unit {0}) old.noted new.noted (Ok tt) is s.called;
+  calls = listed-saves saved.log saved.book None note names (Unit {0}) old.noted new.noted (Ok tt) alone s.called;
 }
 
 -- then the list was saved, or refused
@@ -91,7 +91,7 @@ list-kept names saved lean list note old mid new (Ok u) there is first last = re
   later = fell-later old.counts mid.counts new.counts first.later last.later;
   few = subst (λ (b : Bool). AtMostSaves b old.saves new.saves) (sym is) (inr (inr (last.asked ∙ ap counted first.asked)));
   all = subst (λ (b : Bool). new.saves ≡ saves_after b old.saves) (sym is) (last.asked ∙ ap counted first.asked);
-  calls = lean-saves lean false note names (Unit {0}) old.noted new.noted (Ok tt) is (last.called ∙ ap (λ (n : ℕ). note n (store_call names (Saves role.Book))) first.called);
+  calls = listed-saves saved.log saved.book (Some list) note names (Unit {0}) old.noted new.noted (Ok tt) there (last.called ∙ ap (λ (n : ℕ). note n (store_call names (Saves role.Book list))) first.called);
 }
 list-kept names saved lean list note old mid new (Err x) there is first last = record {
   told = broken names saved role.Book old mid new x first.later.faults last.stops
@@ -99,8 +99,8 @@ list-kept names saved lean list note old mid new (Err x) there is first last = r
   later = fell-later old.counts mid.counts new.counts first.later last.later;
   few = subst (λ (b : Bool). AtMostSaves b old.saves new.saves) (sym is) (inr (inr (last.asked ∙ ap counted first.asked)));
   all = tt;
-  calls = lean-saves lean false note names (Unit {0}) old.noted new.noted (Err x) is
-      (next-save-stops note names role.Log role.Book old.noted mid.noted new.noted x first.called last.called (stops-so role.Book mid new x last.stops));
+  calls = listed-saves saved.log saved.book (Some list) note names (Unit {0}) old.noted new.noted (Err x) there
+      (next-save-stops note names (Saves role.Log saved.log) (Saves role.Book list) role.Book list old.noted mid.noted new.noted x refl first.called last.called (stops-so role.Book mid new x last.stops));
 }
 
 -- ---- what is saved is printed
@@ -113,7 +113,7 @@ telling end out err saved = record { status = end; out = out; err = err; saved =
 pub record Keeps (names : FileNames) (what : Told) (lean : Bool) (status : ℕ) (note : Note) (old new : World) : Type 0 where
   pub acts : Acts names what status (between old new)
   pub saves : SavesEach lean status old.store.saves new.store.saves
-  pub calls : SavesTold names (saves_of lean) status note old.store.noted new.store.noted (between old new)
+  pub calls : SavesTold names (saves_of what.saved) status note old.store.noted new.store.noted (between old new)
 
 -- what a refused save can end with
 record SaveEnds (before now : Counts) (status : ℕ) : Type 0 where
@@ -167,7 +167,7 @@ unsaved-kept names end text last saved lean note old new out err told r status s
         counts = s.later;
       };
       saves = unsaved-saves saved names old.files new.files old.counts new.counts r status err.text told.text err.faults told.faults old.saves new.saves lean s.told closed.0 s.few;
-      calls = saves-refused note names (saves_of lean) r status old.noted new.noted k s.calls (appends-nothing out.text) closed.0;
+      calls = saves-refused note names (saves_of (Some saved)) r status old.noted new.noted k s.calls (appends-nothing out.text) closed.0;
     }
 
 -- the files were saved, and then this was told
@@ -177,7 +177,7 @@ told-kept : (names : FileNames) (end : ℕ) (text last : List ℕ) (saved : Save
 told-kept names end text last saved lean note old w out err status s acts other = record {
   acts = acts;
   saves = record { few = s.few; all = λ is. s.all };
-  calls = saves-done note names (saves_of lean) status old.noted w.store.noted (between (world old out err) w) s.calls other;
+  calls = saves-done note names (saves_of (Some saved)) status old.noted w.store.noted (between (world old out err) w) s.calls other;
 }
 
 -- sending to out stopped

@@ -21,3 +21,4 @@ pub mod Answered
 pub mod Kept
 pub mod SaveCounts
 pub mod StatusesApart
+pub mod Worked

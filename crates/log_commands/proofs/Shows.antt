@@ -123,7 +123,7 @@ interval-stopped names reading r mark why status k b h files told =
     back names reading r mark status k b
     (stopped-told names what why status k (there, h.1) (kept-none names what k (ended-saved names hart n mark (begin_text hart n r.state.ic ++ rows_text r.left.rows) r.left.outcome) files) told)
 
-found-saved : (names : FileNames) (reading : IntervalToReplay) (o : Option Interval) → (replay_found names reading.hart reading.interval reading.log reading.image o).saved ≡ None
+pub found-saved : (names : FileNames) (reading : IntervalToReplay) (o : Option Interval) → (replay_found names reading.hart reading.interval reading.log reading.image o).saved ≡ None
 unfolding refused
 found-saved names reading None = refl
 found-saved names reading (Some v) = ended-saved names reading.hart reading.interval v.mark _ _

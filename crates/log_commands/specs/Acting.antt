@@ -25,7 +25,7 @@ pub record SavesFile (names : FileNames) (r : Role) (file : List ℕ) (note : No
   pub saved : OnOk result (WhereTold old.files new.files (λ before after. after (name_of names r) ≡ Some file))
   pub others : WhereTold old.files new.files (SameElsewhere (name_of names r))
   pub asked : new.saves ≡ counted old.saves
-  pub called : new.noted ≡ note old.noted (store_call names (Saves r))
+  pub called : new.noted ≡ note old.noted (store_call names (Saves r file))
   pub later : NoneFell old.counts new.counts
   pub stops : IfErr result (StopsSaving r old new)
 
@@ -35,7 +35,7 @@ pub record SavesAll (names : FileNames) (saved : Saved) (lean : Bool) (note : No
   pub later : NoneFell old.counts new.counts
   pub few : AtMostSaves lean old.saves new.saves
   pub all : OnOk result (new.saves ≡ saves_after lean old.saves)
-  pub calls : SavesTo names (saves_of lean) note old.noted new.noted result
+  pub calls : SavesTo names (saves_of (Some saved)) note old.noted new.noted result
 
 -- ---- the whole outside
 

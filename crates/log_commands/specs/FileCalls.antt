@@ -4,10 +4,10 @@ use Rattle.std.specs.Io.KnownBytes.{Appends}
 use Rattle.bn_outside.specs.Counts.{Counts}
 use Rattle.bn_outside.specs.StoreCalls.{StoreCall, LoadCall, SaveCall}
 use Rattle.log_commands.specs.Names.{FileNames, name_of}
-use Rattle.log_commands.specs.SaveCounts.{is_lean}
 use Rattle.log_commands.specs.Inputs.{limit_of}
-use Rattle.log_commands.specs.Outside.{RefusalCause, ToldRefusal}
+use Rattle.log_commands.specs.Outside.{RefusalCause, ToldRefusal, saved_of, saved_new}
 use Rattle.log_commands.specs.Effects.{Call}
+use Rattle.log_commands.specs.Told.{Saved}
 use Rattle.log_commands.specs.declared.answer.Answer.{Answer}
 use Rattle.log_commands.specs.declared.answer.Answer.TheVariants.{Recorded, Renewed}
 use Rattle.log_commands.specs.declared.names.Role.{Role}
@@ -17,15 +17,15 @@ use Rattle.log_commands.specs.declared.refusal.Refusal.TheVariants as why
 
 -- ---- the calls
 
--- a load or a save of the file in a role
+-- a load of the file in a role, or a save of bytes as that file
 pub data FileCall : Type 0 where
   Loads : Role → FileCall
-  Saves : Role → FileCall
+  Saves : Role → (bytes : List ℕ) → FileCall
 
--- the call that the store gets: by the file's name, and a load with the most bytes that the file may have
+-- the call that the store gets: by the file's name, a load with the most bytes that the file may have, and a save with its bytes
 abbrev pub store_call : FileNames → FileCall → StoreCall
 store_call names (Loads r) = LoadCall (name_of names r) (limit_of r)
-store_call names (Saves r) = SaveCall (name_of names r)
+store_call names (Saves r bytes) = SaveCall (name_of names r) bytes
 
 -- how a store notes a call: the number that it had noted, the call, and the number after it
 abbrev pub Note : Type 0
@@ -40,10 +40,20 @@ abbrev pub loads_of : List Role → List FileCall
 loads_of [] = []
 loads_of (r ∷ roles) = Loads r ∷ loads_of roles
 
--- the log of a recording, and then the list of its turns, unless it is lean; a log made of another is saved alone
-abbrev pub saves_of : (lean : Bool) → List FileCall
-saves_of true = Saves role.Log ∷ []
-saves_of false = Saves role.Log ∷ Saves role.Book ∷ []
+abbrev pub book_saves : Option (List ℕ) → List FileCall
+book_saves None = []
+book_saves (Some list) = Saves role.Book list ∷ []
+
+-- the saves of what is to be saved: the log, and then the list of turns, if there is one
+abbrev pub saves_of : Option Saved → List FileCall
+saves_of None = []
+saves_of (Some saved) = Saves role.Log saved.log ∷ book_saves saved.book
+
+-- a save is among the calls
+abbrev pub has_save : List FileCall → Bool
+has_save [] = false
+has_save (Loads r ∷ calls) = has_save calls
+has_save (Saves r bytes ∷ calls) = true
 
 -- ---- the calls of a line
 
@@ -64,10 +74,13 @@ abbrev pub record_roles : (has_input : Bool) → List Role
 record_roles has_input = role.Elf ∷ input_roles has_input
 
 -- what an answer saves
+abbrev pub saved_in : Answer → Option Saved
+saved_in (Recorded r) = Some (saved_of r)
+saved_in (Renewed n) = Some (saved_new n.file.items)
+saved_in answer = None
+
 abbrev pub saves_in : Answer → List FileCall
-saves_in (Recorded r) = saves_of (is_lean r)
-saves_in (Renewed n) = saves_of true
-saves_in answer = []
+saves_in answer = saves_of (saved_in answer)
 
 -- ---- the call at which a command stops
 
@@ -83,7 +96,7 @@ StopsLoad refusal made =
 
 -- the same of a save
 abbrev pub StopsSave : Refusal → (made : List FileCall) → Type 0
-StopsSave refusal made = (r : Role) × EndsWith made (Saves r) × (refusal ≡ why.StoreFailed r)
+StopsSave refusal made = (r : Role) × (bytes : List ℕ) × EndsWith made (Saves r bytes) × (refusal ≡ why.StoreFailed r)
 
 -- no refusal by a store, of words, of a write, or of the commands of a session
 abbrev pub IsOfContent : Refusal → Type 0

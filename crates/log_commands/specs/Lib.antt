@@ -24,3 +24,4 @@ pub mod Effects
 pub mod FileCalls
 pub mod RunEnds
 pub mod SaveCounts
+pub mod Examples

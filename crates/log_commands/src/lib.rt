@@ -6,6 +6,7 @@
 pub mod acting;
 pub mod answer;
 pub mod commands;
+pub mod examples;
 pub mod inputs;
 mod lines;
 pub mod names;

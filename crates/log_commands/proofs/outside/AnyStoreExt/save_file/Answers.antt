@@ -11,7 +11,7 @@ returns-in-Ok g c = record {
   saved = subst (λ (n : List ℕ). WhereTold (g.S.Store.files c.args.self.now) (g.S.Store.files c.save.new.self) (λ before after. after n ≡ Some c.args.file.now)) c.of.ensures c.in-Ok.ensures.saved;
   others = subst (λ (n : List ℕ). WhereTold (g.S.Store.files c.args.self.now) (g.S.Store.files c.save.new.self) (SameElsewhere n)) c.of.ensures c.save.ensures.others;
   asked = c.save.ensures.asked;
-  called = c.save.ensures.called ∙ ap (λ (n : List ℕ). g.S.Store.note (g.S.Store.noted c.args.self.now) (SaveCall n)) c.of.ensures;
+  called = c.save.ensures.called ∙ ap (λ (n : List ℕ). g.S.Store.note (g.S.Store.noted c.args.self.now) (SaveCall n c.args.file.now)) c.of.ensures;
   later = c.save.ensures.later;
   stops = tt;
 }
@@ -21,7 +21,7 @@ returns-in-Err-Failed g c = record {
   saved = tt;
   others = subst (λ (n : List ℕ). WhereTold (g.S.Store.files c.args.self.now) (g.S.Store.files c.save.new.self) (SameElsewhere n)) c.of.ensures c.save.ensures.others;
   asked = c.save.ensures.asked;
-  called = c.save.ensures.called ∙ ap (λ (n : List ℕ). g.S.Store.note (g.S.Store.noted c.args.self.now) (SaveCall n)) c.of.ensures;
+  called = c.save.ensures.called ∙ ap (λ (n : List ℕ). g.S.Store.note (g.S.Store.noted c.args.self.now) (SaveCall n c.args.file.now)) c.of.ensures;
   later = c.save.ensures.later;
   stops = inr (refl, subst (λ (e : SaveError). SaveCause {T = Unit {0}} (g.S.Store.counts c.args.self.now) (g.S.Store.counts c.save.new.self) (Err e)) c.in-Err-Failed.field-0-is c.in-Err-Failed.ensures.cause);
 }
@@ -31,7 +31,7 @@ returns-in-Err-OutOfMemory g c = record {
   saved = tt;
   others = subst (λ (n : List ℕ). WhereTold (g.S.Store.files c.args.self.now) (g.S.Store.files c.save.new.self) (SameElsewhere n)) c.of.ensures c.save.ensures.others;
   asked = c.save.ensures.asked;
-  called = c.save.ensures.called ∙ ap (λ (n : List ℕ). g.S.Store.note (g.S.Store.noted c.args.self.now) (SaveCall n)) c.of.ensures;
+  called = c.save.ensures.called ∙ ap (λ (n : List ℕ). g.S.Store.note (g.S.Store.noted c.args.self.now) (SaveCall n c.args.file.now)) c.of.ensures;
   later = c.save.ensures.later;
   stops = inl refl;
 }
