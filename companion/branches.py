@@ -46,7 +46,7 @@ def branch_suspects(facts: Facts, history: History) -> list[Suspect]:
         suspect = found[line] = Suspect("branch", row, row, decided.cost)
         judge_values(facts, suspect)
         way = ways.of(row)
-        if decided.how == "awaited":            # it left its loop, wherever that goes on
+        if decided.how == "awaited":            # it left its loop, wherever that continues
             way = way._replace(is_back=False)
         judge_way(suspect, way)
         if way.all_times == 1 and not facts.trace.node_of(row) and not facts.trace.is_cut(row):

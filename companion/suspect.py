@@ -11,16 +11,20 @@ class Extra(NamedTuple):
 
 
 class Suspect:
-    """kind         "store": a load and the store that it got
-                 "back": memory that was used after it was given back
-                 "twice": memory that was given back twice
-                 "unwritten": memory that was used before it was written
-                 "lost": arithmetic that lost bits
-                 "odd": arithmetic that lost an address's alignment
-                 "branch": a branch that chose the way; "exit": one that would have ended a loop
-                 "unlocked": an access without the lock that others hold
-                 "constant": a constant that nothing changed
-                 "calls": a function that goes on calling itself
+    """What may be guilty, and what speaks for it.
+
+    kind         one of
+     "store"     a load and the store that it got
+     "back"      memory that was used after it was given back
+     "twice"     memory that was given back twice
+     "unwritten" memory that was used before it was written
+     "lost"      arithmetic that lost bits
+     "odd"       arithmetic that lost an address's alignment
+     "branch"    a branch that chose the way
+     "exit"      one that would have ended a loop
+     "unlocked"  an access without the lock that others hold
+     "constant"  a constant that nothing changed
+     "calls"     a function that keeps calling itself
     load, store  its rows; they are the same row if it has only one
     guilty       the row that the suspect is about
     extra        more rows that tell of it

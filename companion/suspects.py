@@ -1,8 +1,8 @@
 """What may be guilty of a crash, likeliest first.
 
-A suspect is a load and the store that it got, memory that was used after it was given back or before it was written, a
-row that lost bits, a branch that chose the way, an access without the lock that others hold, a constant, or a call that
-goes on calling itself. Its score is the cost at which the history of the fault reached it, less what its signs are worth;
+A suspect is a load and the store that it got; memory that was used after it was given back, or before it was written; or
+a row that lost bits. It may also be a branch that chose the way, an access without the lock that others hold, a constant,
+or a function that keeps calling itself. Its score is the cost at which the history of the fault reached it, less what its signs are worth;
 the lowest score is the likeliest.
 
 The signs, and what each is worth, were set by looking at few programs: tests/crashes/README.md says which, and how well

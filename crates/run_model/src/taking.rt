@@ -62,7 +62,7 @@ impl Plain {
             }
             _ => {}
         }
-        // A copy: where no call sees `want` itself, a load or a store in place never writes it to memory.
+        // A copy for the call: since no call sees `want` itself, that of a load or a store in place stays in registers.
         let asked = want;
         self.trace.put_back(hart, &mut pc, &mut x, &mut ic);
         self.take_in_parts(hart, pc, &x, ic, &asked)

@@ -198,7 +198,7 @@ impl<'a> DecodedImage<'a> {
                 return want;
             }
         }
-        // In a variable of its own: `want`, which no call sees, stays in registers.
+        // In a variable of its own: since no call sees the place of the result, a load or a store stays in registers.
         let slow = quiet_run_in_place(self.image, state, left);
         slow
     }
