@@ -237,6 +237,10 @@ MUTANTS = [
     ("Each line of the debugger's commands is too long (18).", edit("step_debugger", "each_line_is_too_long")),
     ("A damaged block is told as out of memory (9).", edit("log_blocks", "a_damaged_block_is_told_as_out_of_memory")),
     (
+        "A step that a joint replay refuses is told as out of memory by a race report (9).",
+        edit("race_report", "a_refused_step_is_told_as_out_of_memory"),
+    ),
+    (
         "A slice that finds no memory for a row doesn't look for a later refusal (9).",
         edit("slice_back", "a_later_refusal_is_told_as_out_of_memory"),
     ),

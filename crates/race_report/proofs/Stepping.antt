@@ -7,14 +7,15 @@ use Rattle.bn_base.specs.declared.end_mark.EndMark.{EndMark}
 use Rattle.bn_base.specs.declared.row.Row.{Row}
 use Rattle.bn_base.specs.declared.state.HartState.{HartState}
 use Rattle.hart_replay.specs.declared.error.ReplayError.{ReplayError}
+use Rattle.hart_replay.specs.declared.error.ReplayError.TheVariants as replay
 use Rattle.joint_replay.specs.declared.error.JointError.{JointError}
 use Rattle.joint_replay.specs.declared.error.JointError.TheVariants as why
 use Rattle.joint_replay.specs.declared.kinds.Stepped.TheVariants.{Passed, Did, Ended}
-use Rattle.joint_replay.specs.declared.kinds.Next.TheVariants.{Hart, AllDone}
+use Rattle.joint_replay.specs.declared.kinds.Next.TheVariants.{Hart, AllDone, NoneReady}
 use Rattle.joint_replay.specs.Lanes.{Cursor, Lane, Item, Passing, Doing, Ending, row_given, lane_step, cursor_step, state_of}
 use Rattle.joint_replay.specs.Memory.{memory_after}
 use Rattle.hart_replay.specs.Replay.{Outcome, Done, Refused}
-use Rattle.joint_replay.specs.Joining.{Joining, Taken, Ran, fresh, lanes_from, begun, ran, choice, move, next_step, steps_left, run_all}
+use Rattle.joint_replay.specs.Joining.{Joining, Taken, Ran, fresh, lanes_from, begun, ran, choice, move, next_step, error_of, positions_from, steps_left, run_all}
 use Rattle.joint_replay.specs.Calls.{stepped_of, state_at, Steps}
 use Rattle.joint_replay.specs.Runs.{Runs}
 use Rattle.joint_replay.specs.Firsts.{IsFirstStep, RunsByStep}
@@ -29,7 +30,7 @@ use Rattle.log_record.specs.declared.record.Record.{Record}
 use Rattle.race_report.specs.declared.race.Race.{Race}
 use Rattle.race_report.specs.Races.{races_of}
 use Rattle.race_report.specs.Found.{total}
-use Rattle.race_report.specs.Reports.{IsReport, TellsReport, Stops, TakesRow, Advances, HasState, IsOnTheWay, Gathers, GathersRest, GathersInto}
+use Rattle.race_report.specs.Reports.{IsReport, TellsReport, Stops, HasFoundNone, IsUnrefused, TakesRow, Advances, HasState, IsOnTheWay, Gathers, GathersRest, GathersInto}
 
 -- ---- a step that did no row
 
@@ -164,6 +165,48 @@ stuck_run old new e r out_old out_new (inr f) t = out_of_memory e r old (same_er
   where
     same_error : (x : JointError) → ◌≡◌ {A = Result (Unit {0}) JointError} (Err x) (Err why.OutOfMemory) → x ≡ why.OutOfMemory
     same_error x g = cc
+
+-- ---- want of memory
+
+memory_is : (r : ReplayError) → error_of r ≡ why.OutOfMemory → r ≡ replay.OutOfMemory
+memory_is (replay.NoInterval a b) e = absurd cc
+memory_is (replay.LoadMissing a b c) e = absurd cc
+memory_is (replay.ScMissing a b) e = absurd cc
+memory_is (replay.RecordsLeft a b) e = absurd cc
+memory_is (replay.EndDiffers a b c) e = absurd cc
+memory_is replay.OutOfMemory e = refl
+
+told_memory : (e : JointError) (r : RaceError) → TellsReport e r → r ≡ OutOfMemory → e ≡ why.OutOfMemory
+told_memory e (Joint f) t is = absurd cc
+told_memory e (TooMany max) t is = absurd t
+told_memory e OutOfMemory t is = t
+
+pub step_unrefused : (h : ℕ) (old new : Joining) (e : JointError) (r : RaceError) → Steps old h (Err e) new → TellsReport e r → r ≡ OutOfMemory → IsUnrefused new
+step_unrefused h old new e r (inl f) t is = inr (ap (λ (j : Joining). j.refused) f.repeated ∙ ap (λ (x : ReplayError). Some x) (memory_is f.refusal (sym f.error_is ∙ told_memory e r t is)))
+step_unrefused h old new e r (inr f) t is = inr f.2.refused
+
+pub row_unrefused : RunsByStep → (h : ℕ) (row : Row) (old new : Joining) → old.refused ≡ None → choice old ≡ Hart h → Steps old h (Ok (Did row)) new → IsUnrefused new
+row_unrefused law h row old new none lowest s = inl ((law.first old h (s.0, new) none lowest s.1).refused ∙ none)
+
+stuck_there : RunsByStep → (old : Joining) (stopped : Option JointError) → old.refused ≡ None → choice old ≡ NoneReady → (run_all old).stopped ≡ stopped → stopped ≡ Some (why.Stuck (positions_from 0 old.lanes))
+stuck_there law old stopped none stuck is = sym is ∙ ap (λ (x : Ran). x.stopped) (law.stuck old none stuck)
+
+pub stuck_done : RunsByStep → (old new : Joining) (u : Unit {0}) (out_old out_new : List ℕ) → old.refused ≡ None → choice old ≡ NoneReady → Runs old (Ok u) new out_old out_new → HasFoundNone new
+stuck_done law old new u out_old out_new none stuck (inl f) = absurd (no (stuck_there law old None none stuck f.ends))
+  where
+    no : ◌≡◌ {A = Option JointError} None (Some (why.Stuck (positions_from 0 old.lanes))) → ⊥
+    no e = cc
+stuck_done law old new u out_old out_new none stuck (inr f) = absurd (no f.0)
+  where
+    no : ◌≡◌ {A = Result (Unit {0}) JointError} (Ok u) (Err why.OutOfMemory) → ⊥
+    no e = cc
+
+pub stuck_memory : RunsByStep → (old new : Joining) (e : JointError) (r : RaceError) (out_old out_new : List ℕ) → old.refused ≡ None → choice old ≡ NoneReady → Runs old (Err e) new out_old out_new → TellsReport e r → r ≡ OutOfMemory → HasFoundNone new
+stuck_memory law old new e r out_old out_new none stuck (inl f) t is = absurd (no (ap (λ (x : JointError). Some x) (sym (told_memory e r t is)) ∙ stuck_there law old (Some e) none stuck f.ends))
+  where
+    no : ◌≡◌ {A = Option JointError} (Some why.OutOfMemory) (Some (why.Stuck (positions_from 0 old.lanes))) → ⊥
+    no e = cc
+stuck_memory law old new e r out_old out_new none stuck (inr f) t is = f.1.halted.refused
 
 -- ---- all steps
 

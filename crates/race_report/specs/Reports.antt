@@ -1,9 +1,10 @@
 -- What a race report answers.
-use Rattle.std.specs.Prelude.{◌≡◌, ◌≢◌, ◌≤◌, ◌<◌, ℕ, List, ◌++◌, length, Option, Some, None, Result, Ok, Err}
+use Rattle.std.specs.Prelude.{◌≡◌, ◌≢◌, ◌⊎◌, ◌≤◌, ◌<◌, ℕ, List, ◌++◌, length, Option, Some, None, Result, Ok, Err}
 use Rattle.bn_base.specs.Programs.{Program}
 use Rattle.bn_base.specs.declared.row.Row.{Row}
 use Rattle.bn_base.specs.declared.state.HartState.{HartState}
 use Rattle.log_order.specs.Content.{Content}
+use Rattle.hart_replay.specs.declared.error.ReplayError.TheVariants as replay
 use Rattle.joint_replay.specs.declared.error.JointError.{JointError}
 use Rattle.joint_replay.specs.declared.error.JointError.TheVariants as why
 use Rattle.joint_replay.specs.Lanes.{Item}
@@ -26,7 +27,7 @@ abbrev pub points_in : Ran → List Accessing
 points_in r = points_of r.walk.taken
 
 -- the report of a joint replay of so many harts: if it stops, why it does; else if there are more than `most` races, that
--- there are; else all races. It may run out of memory at any time
+-- there are; else all races. It may run out of memory at any time; whether a later step would be refused isn't known then
 abbrev pub IsReport : ℕ → ℕ → Ran → Result (List Race) RaceError → Type 0
 IsReport harts most r (Ok races) = (r.stopped ≡ None) × (race_count (points_in r) ≤ most) × (races ≡ races_of harts (points_in r))
 IsReport harts most r (Err (Joint e)) = (r.stopped ≡ Some e) × (e ≢ why.OutOfMemory)
@@ -46,6 +47,14 @@ abbrev pub Stops : Joining → RaceError → Type 0
 Stops j (Joint e) = ((run_all j).stopped ≡ Some e) × (e ≢ why.OutOfMemory)
 Stops j (TooMany max) = ⊥
 Stops j OutOfMemory = Unit {0}
+
+-- a joint replay found no memory itself
+abbrev pub HasFoundNone : Joining → Type 0
+HasFoundNone j = j.refused ≡ Some replay.OutOfMemory
+
+-- or it stopped for no refusal
+abbrev pub IsUnrefused : Joining → Type 0
+IsUnrefused j = (j.refused ≡ None) ⊎ HasFoundNone j
 
 -- a row of a hart that asked this before it is taken in, if the hart was there
 abbrev pub TakesRow : ℕ → ℕ → Option Asked → Row → Gathered → Result (Unit {0}) RaceError → Gathered → Type 0

@@ -1,11 +1,12 @@
 //! `report`: a joint replay is run to its end, and its rows' races are gathered.
-ghost use Rattle.std.specs.Prelude.{◌≡◌, ◌<◌, [], ℕ, length, None};
+ghost use Rattle.std.specs.Prelude.{◌≡◌, ◌<◌, [], ℕ, length, None, IfErr};
 ghost use Rattle.std.specs.Option.{option_map};
 ghost use Rattle.joint_replay.specs.declared.kinds.Next.TheVariants.{Hart, NoneReady};
 ghost use Rattle.joint_replay.specs.Joining.{Joining, choice};
 ghost use Rattle.joint_replay.specs.Calls.{state_at};
+ghost use Rattle.race_report.specs.declared.error.RaceError.TheVariants.{OutOfMemory};
 ghost use Rattle.race_report.specs.Points.{asked_by};
-ghost use Rattle.race_report.specs.Reports.{IsReport, TellsReport, Stops, Advances, TakesRow, HasState, IsOnTheWay, Gathers, GathersRest, GathersInto, joint_of};
+ghost use Rattle.race_report.specs.Reports.{IsReport, TellsReport, Stops, HasFoundNone, IsUnrefused, Advances, TakesRow, HasState, IsOnTheWay, Gathers, GathersRest, GathersInto, joint_of};
 ghost use Rattle.race_report.specs.Gathering.{IsGathered};
 
 use crate::calls::Asked;
@@ -71,7 +72,8 @@ fn advance(
     requires none { joint.old.refused ≡ None }
     requires lowest { choice joint.old ≡ Hart hart }
     requires state { HasState hart most gathered.old }
-    ensures { Advances hart most joint.old gathered.old result joint.new gathered.new }
+    ensures advances { Advances hart most joint.old gathered.old result joint.new gathered.new }
+    ensures memory { IfErr result (λ e. e ≡ OutOfMemory → IsUnrefused joint.new) }
 {
     runs_go_by_steps();
     let asked = asked_in(joint, hart);
@@ -89,8 +91,10 @@ fn advance(
 fn stuck(alloc: Global, joint: &mut Joint) -> RaceError
     requires none { joint.old.refused ≡ None }
     requires stuck { choice joint.old ≡ NoneReady }
-    ensures { Stops joint.old result }
+    ensures stops { Stops joint.old result }
+    ensures memory { result ≡ OutOfMemory → HasFoundNone joint.new }
 {
+    runs_go_by_steps();
     let mut lines = RowLines::new(alloc);
     let mut untold = Text::new(alloc);
     match joint.run_all(&mut lines, &mut untold) {
@@ -107,7 +111,8 @@ fn gather_all(
     most: u64,
 ) -> Result<(), RaceError>
     requires { (harts : ℕ) × (first : Joining) × IsOnTheWay harts most first joint.old gathered.old }
-    ensures { GathersRest most joint.old gathered.old result gathered.new }
+    ensures gathers { GathersRest most joint.old gathered.old result gathered.new }
+    ensures memory { IfErr result (λ e. e ≡ OutOfMemory → IsUnrefused joint.new) }
 {
     runs_go_by_steps();
     'steps: loop {
@@ -158,7 +163,8 @@ fn gather(alloc: Global, image: &Image, log: &KeptLog, most: u64) -> Result<Gath
 ///
 /// If the joint replay stops, the error says why. Else, if there are more than `max` races, it is
 /// TooMany. It keeps the rows that access words, at most 2^32 - 1 of them; more are treated as out of
-/// memory.
+/// memory. Out of memory is never told of a step that the joint replay refuses, nor if no hart is ready;
+/// later steps aren't tried then.
 pub fn report(
     alloc: Global,
     image: &Image,

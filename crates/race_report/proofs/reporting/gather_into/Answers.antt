@@ -11,4 +11,4 @@ pub returns : goal.returns
 returns c =
     let log = c.args.log.now in
     rest_into log.head.settings.harts c.args.most (fresh c.args.image.now log.head.settings.harts log.records) c.in-Ok.joint c.args.gathered.now c.gather_all.result c.gather_all.new.gathered
-    (way_fresh c.args.image.now log.head.settings.harts c.args.most log.records c.in-Ok.joint c.args.gathered.now c.in-Ok.ensures.fresh c.requires) c.gather_all.ensures
+    (way_fresh c.args.image.now log.head.settings.harts c.args.most log.records c.in-Ok.joint c.args.gathered.now c.in-Ok.ensures.fresh c.requires) c.gather_all.ensures.gathers
