@@ -171,7 +171,7 @@ told (File (BadRecord at)) = salvage.File (File (BadRecord at))
 told (File (BadOrder at rule)) = salvage.File (File (BadOrder at rule))
 told (File OutOfMemory) = salvage.OutOfMemory
 
--- why nothing is salvaged; out of memory comes only if the head is good and blocks are left
+-- why nothing is salvaged; out of memory comes only if the head is good and blocks are left, or should have no records
 abbrev pub IsSalvageRefusal : List ℕ → SalvageError → Type 0
 IsSalvageRefusal bytes (salvage.File e) = (IsHeadFault bytes e ⊎ IsSalvageFault bytes e) × (e ≢ File OutOfMemory)
 IsSalvageRefusal bytes salvage.NothingLeft = NoneIsLeft bytes

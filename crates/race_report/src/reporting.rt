@@ -163,8 +163,8 @@ fn gather(alloc: Global, image: &Image, log: &KeptLog, most: u64) -> Result<Gath
 ///
 /// If the joint replay stops, the error says why. Else, if there are more than `max` races, it is
 /// TooMany. It keeps the rows that access words, at most 2^32 - 1 of them; more are treated as out of
-/// memory. Out of memory is never told of a step that the joint replay refuses, nor if no hart is ready;
-/// later steps aren't tried then.
+/// memory. A step that the joint replay refuses is never told as out of memory, and stuck harts only if
+/// the joint replay has no memory for their positions. Once memory runs out, later steps aren't tried.
 pub fn report(
     alloc: Global,
     image: &Image,
