@@ -166,7 +166,7 @@ stuck_run old new e r out_old out_new (inr f) t = out_of_memory e r old (same_er
     same_error : (x : JointError) → ◌≡◌ {A = Result (Unit {0}) JointError} (Err x) (Err why.OutOfMemory) → x ≡ why.OutOfMemory
     same_error x g = cc
 
--- ---- want of memory
+-- ---- out of memory
 
 memory_is : (r : ReplayError) → error_of r ≡ why.OutOfMemory → r ≡ replay.OutOfMemory
 memory_is (replay.NoInterval a b) e = absurd cc
