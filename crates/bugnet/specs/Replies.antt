@@ -10,9 +10,10 @@ use Rattle.bugnet.specs.LineCalls.{CallsOnly, TellsDemo}
 use Rattle.bugnet.specs.Run.{Obeys}
 use Rattle.bugnet.specs.Saves.{LeavesRun}
 use Rattle.bugnet.specs.Sessions.{is_begun}
-use Rattle.log_commands.specs.Acting.{World, between, with_err}
+use Rattle.log_commands.specs.Acting.{World, world, between, with_err}
 use Rattle.log_commands.specs.Effects.{IsClosed}
 use Rattle.log_commands.specs.FileCalls.{Note}
+use Rattle.log_commands.specs.Inputs.{Stored}
 use Rattle.log_commands.specs.Names.{FileNames}
 use Rattle.log_commands.specs.Outside.{Stream, WithFiles}
 use Rattle.log_commands.specs.declared.refusal.Refusal.{Refusal}
@@ -30,6 +31,10 @@ pub record Replies (line : Line) (status : ℕ) (note : Note) (old new : World) 
 -- a command that reads no commands does so once its refusal, if there is one, is told
 abbrev pub RepliesTo : Line → FileNames → Note → (old new : World) → Result ℕ Refusal → Type 0
 RepliesTo line names note old new result = (status : ℕ) (end : Stream) → IsClosed names result status new.err end → Replies line status note old (with_err new end)
+
+-- the same of a store and outputs, by what they tell
+abbrev pub RepliesAs : {S O X : Type 0} → (S → Stored) → (O → Stream) → (X → Stream) → Line → FileNames → Note → (s : S) → (o : O) → (e : X) → (t : S) → (p : O) → (f : X) → Result ℕ Refusal → Type 0
+RepliesAs stored out err line names note s o e t p f result = RepliesTo line names note (world (stored s) (out o) (err e)) (world (stored t) (out p) (err f)) result
 
 -- ---- with what it reads
 
@@ -81,3 +86,10 @@ pub record Does {I : Type 0} (line : Line) (status : ℕ) (note : Note) (i : Rea
 
 abbrev pub DoesTo : {I : Type 0} → Line → FileNames → Note → Reading I → (old new : World) → Result ℕ Refusal → Type 0
 DoesTo line names note i old new result = (status : ℕ) (end : Stream) → IsClosed names result status new.err end → Does line status note i old (with_err new end)
+
+-- the same of a store and outputs, by what they tell
+abbrev pub DoesAs : {S O X I : Type 0} → (S → O → X → World) → Reading I → Line → FileNames → Note → (s : S) → (o : O) → (e : X) → (t : S) → (p : O) → (f : X) → Result ℕ Refusal → Type 0
+DoesAs told i line names note s o e t p f result = DoesTo line names note i (told s o e) (told t p f) result
+
+abbrev pub DoneAs : {S O X I : Type 0} → (S → O → X → World) → Reading I → Line → (status : ℕ) → Note → (s : S) → (o : O) → (e : X) → (t : S) → (p : O) → (f : X) → Type 0
+DoneAs told i line status note s o e t p f = Does line status note i (told s o e) (told t p f)

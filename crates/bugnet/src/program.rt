@@ -7,8 +7,7 @@ ghost use Rattle.std.specs.Str.{bytes_eq};
 ghost use Rattle.bugnet.specs.ClosedRuns.{IsRecordingBy, MakesRecordings};
 ghost use Rattle.bugnet.specs.Answers.{manner_of, names_in, refusal_in, IsOn, KindOf};
 ghost use Rattle.bugnet.specs.LineAnswers.{AnswersLine};
-ghost use Rattle.bugnet.specs.Replies.{RepliesTo, Does, DoesTo, world_of, reading};
-ghost use Rattle.log_commands.specs.Acting.{world};
+ghost use Rattle.bugnet.specs.Replies.{RepliesAs, DoesAs, DoneAs, world_of, reading};
 ghost use Rattle.log_commands.specs.Answering.{Answers};
 ghost use Rattle.log_commands.specs.Inputs.{bytes_of};
 ghost use Rattle.log_commands.specs.Names.{FileNames};
@@ -232,7 +231,7 @@ fn reply<S: StoreExt, O: SinkExt, X: SinkExt>(
     requires named { names.now ≡ names_in (seen command.now) }
     requires no_session { IsNoSession (Some (seen command.now)) }
     requires no_recording { IsNoRecording (Some (seen command.now)) }
-    ensures { RepliesTo (seen command.now) names.now S.note (world (S.stored store.old) (O.stream out.old) (X.stream err.old)) (world (S.stored store.new) (O.stream out.new) (X.stream err.new)) result }
+    ensures { RepliesAs S.stored O.stream X.stream (seen command.now) names.now S.note store.old out.old err.old store.new out.new err.new result }
 {
     let answer = answer_to(alloc, command, names, store)?;
     act(alloc, names, &answer, store, out, err)
@@ -256,7 +255,7 @@ fn keep_recording<
     requires named { names.now ≡ names_in (RecordLine (seen_recording options.now)) }
     requires callable { F.IsAlwaysCallable make }
     requires made { MakesRecordings F.FnOnce make (manner_of (seen_recording options.now)) }
-    ensures { RepliesTo (RecordLine (seen_recording options.now)) names.now S.note (world (S.stored store.old) (O.stream out.old) (X.stream err.old)) (world (S.stored store.new) (O.stream out.new) (X.stream err.new)) result }
+    ensures { RepliesAs S.stored O.stream X.stream (RecordLine (seen_recording options.now)) names.now S.note store.old out.old err.old store.new out.new err.new result }
 {
     // Laws:
     seeds_are_whole();
@@ -264,63 +263,6 @@ fn keep_recording<
     logs_are_contents();
     let answer = record::evaluate(alloc, names, options, store, make)?;
     act(alloc, names, &answer, store, out, err)
-}
-
-// Does what the words of a recording with a seed ask for.
-fn record_by_seed<S: StoreExt, O: SinkExt, X: SinkExt>(
-    alloc: Global,
-    options: &RecordOptions,
-    seed: u64,
-    names: &Names,
-    store: &mut S,
-    out: &mut O,
-    err: &mut X,
-) -> Result<u8, Refusal>
-    requires named { names.now ≡ names_in (RecordLine (seen_recording options.now)) }
-    requires seed { options.now.seed ≡ Some seed }
-    ensures { RepliesTo (RecordLine (seen_recording options.now)) names.now S.note (world (S.stored store.old) (O.stream out.old) (X.stream err.old)) (world (S.stored store.new) (O.stream out.new) (X.stream err.new)) result }
-{
-    let lean = options.lean;
-    keep_recording(
-        alloc,
-        options,
-        names,
-        store,
-        out,
-        err,
-        |start: &Start| -> Result<RunToTell, AllocError>
-            ensures { IfOk result (λ r. IsRecordingBy start.now (record { seed = Some seed; lean = lean }) r) }
-        { recorder::record_by_seed(alloc, start, seed, lean) },
-    )
-}
-
-// Does what the words of a recording without a seed ask for. It may wait, as its harts in threads wait for each other.
-fn record_unseeded<S: StoreExt, O: SinkExt, X: SinkExt, G: Gate, R: Threads + Wait + Sync>(
-    rt: &R,
-    alloc: Global,
-    options: &RecordOptions,
-    names: &Names,
-    store: &mut S,
-    out: &mut O,
-    err: &mut X,
-    gate: &G,
-) -> Result<u8, Refusal>
-    requires named { names.now ≡ names_in (RecordLine (seen_recording options.now)) }
-    requires seed { options.now.seed ≡ None }
-    ensures { RepliesTo (RecordLine (seen_recording options.now)) names.now S.note (world (S.stored store.old) (O.stream out.old) (X.stream err.old)) (world (S.stored store.new) (O.stream out.new) (X.stream err.new)) result }
-{
-    let lean = options.lean;
-    keep_recording(
-        alloc,
-        options,
-        names,
-        store,
-        out,
-        err,
-        |start: &Start| -> Result<RunToTell, AllocError>
-            ensures { IfOk result (λ r. IsRecordingBy start.now (record { seed = None; lean = lean }) r) }
-        { recorder::record_unseeded(rt, alloc, start, lean, gate) },
-    )
 }
 
 // The options of a recording without a seed.
@@ -349,7 +291,8 @@ pub fn perform<S: Store, I: Source, O: Sink, X: Sink>(
 ) -> Result<u8, Refusal>
     requires named { names.now ≡ names_in (seen command.now) }
     requires no_threads { NeedsNoThreads (Some (seen command.now)) }
-    ensures { DoesTo (seen command.now) names.now S.note (reading I.left I.faults I.reads input.old input.new) (world_of S.files S.saves S.counts S.noted O.written O.faults X.written X.faults store.old out.old err.old) (world_of S.files S.saves S.counts S.noted O.written O.faults X.written X.faults store.new out.new err.new) result }
+    ensures { DoesAs (world_of S.files S.saves S.counts S.noted O.written O.faults X.written X.faults) (reading I.left I.faults I.reads input.old input.new)
+        (seen command.now) names.now S.note store.old out.old err.old store.new out.new err.new result }
 {
     // Laws:
     readings_are_unique();
@@ -364,7 +307,20 @@ pub fn perform<S: Store, I: Source, O: Sink, X: Sink>(
         Command::Debug { .. } => done(debug_files(alloc, names, store, input, out)),
         Command::Record(options) => match options.seed {
             None => unreachable!(),
-            Some(seed) => record_by_seed(alloc, options, seed, names, store, out, err),
+            Some(seed) => {
+                let lean = options.lean;
+                keep_recording(
+                    alloc,
+                    options,
+                    names,
+                    store,
+                    out,
+                    err,
+                    |start: &Start| -> Result<RunToTell, AllocError>
+                        ensures { IfOk result (λ r. IsRecordingBy start.now (record { seed = Some seed; lean = lean }) r) }
+                    { recorder::record_by_seed(alloc, start, seed, lean) },
+                )
+            }
         },
         _ => reply(alloc, command, names, store, out, err),
     }
@@ -383,10 +339,24 @@ fn attempt<S: Store, I: Source, O: Sink, X: Sink, G: Gate, R: Threads + Wait + S
     gate: &G,
 ) -> Result<u8, Refusal>
     requires { names.now ≡ names_in (seen command.now) }
-    ensures { DoesTo (seen command.now) names.now S.note (reading I.left I.faults I.reads input.old input.new) (world_of S.files S.saves S.counts S.noted O.written O.faults X.written X.faults store.old out.old err.old) (world_of S.files S.saves S.counts S.noted O.written O.faults X.written X.faults store.new out.new err.new) result }
+    ensures { DoesAs (world_of S.files S.saves S.counts S.noted O.written O.faults X.written X.faults) (reading I.left I.faults I.reads input.old input.new)
+        (seen command.now) names.now S.note store.old out.old err.old store.new out.new err.new result }
 {
     match unseeded(command) {
-        Some(options) => record_unseeded(rt, alloc, options, names, store, out, err, gate),
+        Some(options) => {
+            let lean = options.lean;
+            keep_recording(
+                alloc,
+                options,
+                names,
+                store,
+                out,
+                err,
+                |start: &Start| -> Result<RunToTell, AllocError>
+                    ensures { IfOk result (λ r. IsRecordingBy start.now (record { seed = None; lean = lean }) r) }
+                { recorder::record_unseeded(rt, alloc, start, lean, gate) },
+            )
+        }
         None => perform(alloc, command, names, store, input, out, err),
     }
 }
@@ -402,7 +372,8 @@ fn obey<S: Store, I: Source, O: Sink, X: Sink, G: Gate, R: Threads + Wait + Sync
     err: &mut X,
     gate: &G,
 ) -> u8
-    ensures { Does (seen command.now) result S.note (reading I.left I.faults I.reads input.old input.new) (world_of S.files S.saves S.counts S.noted O.written O.faults X.written X.faults store.old out.old err.old) (world_of S.files S.saves S.counts S.noted O.written O.faults X.written X.faults store.new out.new err.new) }
+    ensures { DoneAs (world_of S.files S.saves S.counts S.noted O.written O.faults X.written X.faults) (reading I.left I.faults I.reads input.old input.new)
+        (seen command.now) result S.note store.old out.old err.old store.new out.new err.new }
 {
     let names = names_of(command);
     let ending = attempt(rt, alloc, command, &names, store, input, out, err, gate);
