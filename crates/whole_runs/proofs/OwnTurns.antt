@@ -74,7 +74,7 @@ kept_more false before after list k is kept t = absurd (cc)
 pub stays_taken : (tells : Bool) (old new : Seen) (before after : List ℕ) (keeps : Bool) (k : ℕ) → old.halted ≡ false → ((list : List ℕ) → HasTaken tells old list → HasTaken tells new (list ++ k ∷ [])) → after ≡ kept_after keeps before k → StaysTaken tells old before new after keeps
 stays_taken tells old new before after keeps k running more is = record {
   running = running;
-  more = λ list a. (list ++ k ∷ [], record { taken = more list a.taken; kept = kept_more keeps before after list k is a.kept });
+  more = λ list a. (list ++ k ∷ [], record { taken = more list a.taken; kept_is = kept_more keeps before after list k is a.kept_is });
 }
 
 -- the list that is kept, and more turns

@@ -9,16 +9,17 @@ use Rattle.whole_runs.specs.Closed.{IsClosed}
 use Rattle.whole_runs.specs.Lists.{HasTaken, list_run, is_legal, is_finished, seeded_after}
 use Rattle.whole_runs.specs.HartTurns.{IsServed, row_of}
 
--- what is seen of it: the bus, whether the list is kept, and what is kept of it
+-- what is seen of it: the bus, whether the list is kept, what is kept of it, and whether some hart found no memory
 pub record Taking : Type 0 where
   pub bus : Seen
   pub keeps : Bool
   pub list : List ℕ
+  pub out_of_memory : Bool
 
--- the turns of a list led to the bus, and no other ask; if it is kept, it is this list
-pub record AreTaken (tells : Bool) (s : Taking) (list : List ℕ) : Type 0 where
-  pub taken : HasTaken tells s.bus list
-  pub kept : s.keeps ≡ true → s.list ≡ list
+-- the turns of a list led to the bus, and no other ask; if a list is kept, it is this one
+pub record AreTaken (tells : Bool) (bus : Seen) (keeps : Bool) (kept list : List ℕ) : Type 0 where
+  pub taken : HasTaken tells bus list
+  pub kept_is : keeps ≡ true → kept ≡ list
 
 -- after the turns of some legal list hart h asks this next, and at its turn it is answered so
 pub record AnswersTurn (b : Began) (h : ℕ) (ask : Ask) (answered : Reply × Bool) : Type 0 where
@@ -30,15 +31,12 @@ pub record AnswersTurn (b : Began) (h : ℕ) (ask : Ask) (answered : Reply × Bo
 pub record IsTaking (tells : Bool) (b : Began) (keeps : Bool) (s : Taking) : Type 0 where
   pub began : s.bus.began ≡ b
   pub same : s.keeps ≡ keeps
-  pub some : s.bus.halted ≡ false → (list : List ℕ) × AreTaken tells s list
-
-abbrev pub taking : Seen → Bool → List ℕ → Taking
-taking bus keeps list = record { bus = bus; keeps = keeps; list = list }
+  pub some : s.bus.halted ≡ false → (list : List ℕ) × AreTaken tells s.bus s.keeps s.list list
 
 -- it wasn't halted before, and if the turns of a list led to it then, those of a list lead to it now
 pub record StaysTaken (tells : Bool) (old : Seen) (before : List ℕ) (new : Seen) (after : List ℕ) (keeps : Bool) : Type 0 where
   pub running : old.halted ≡ false
-  pub more : (list : List ℕ) → AreTaken tells (taking old keeps before) list → (all : List ℕ) × AreTaken tells (taking new keeps after) all
+  pub more : (list : List ℕ) → AreTaken tells old keeps before list → (all : List ℕ) × AreTaken tells new keeps after all
 
 -- what is kept of a list after one turn more
 abbrev pub kept_after : Bool → List ℕ → ℕ → List ℕ
@@ -64,6 +62,12 @@ pub record Finishes (tells : Bool) (old new : Seen) (keeps : Bool) (before after
   pub chosen : (list : List ℕ) → HasTaken tells old list → more ≡ seeded_after old.began list 0
   pub taken : (list : List ℕ) → HasTaken tells old list → HasTaken tells new (list ++ more)
   pub finished : (list : List ℕ) → HasTaken tells old list → is_finished new.began (list ++ more) ≡ true
+
+-- A run continues by seed 0 from a bus. Whatever list led to the bus, it is closed after that list and the turns of seed 0. If a
+-- list is kept, these are kept after it
+pub record GoesOn {B : _} (tells : Bool) (b : Began) (own : Taking) (closed : Closed B) (kept : List ℕ) (rows : List TurnRow) : Type 0 where
+  pub closed_is : (list : List ℕ) → HasTaken tells own.bus list → IsClosed tells b (list ++ seeded_after b list 0) closed rows
+  pub kept_is : own.keeps ≡ true → kept ≡ own.list ++ seeded_after b own.list 0
 
 -- a closed bus after the turns of a legal and finished list, which is the one that is kept, if one is
 pub record IsClosedBy {B : _} (tells : Bool) (b : Began) (keeps : Bool) (closed : Closed B) (kept : List ℕ) (rows : List TurnRow) : Type 0 where

@@ -1,6 +1,6 @@
 //! A bus whose turns each hart takes by itself, with their list.
 //! By its invariant a legal list led to it, so that a run in threads needs no comparison at its end.
-ghost use Rattle.std.specs.Prelude.{◌≡◌, ◌∷◌, ◌++◌, [], ℕ, List, true, false, ◌⊎◌, is_some, IfOk, IfSome, IfNone, OnOk, OnErr, IsTrue};
+ghost use Rattle.std.specs.Prelude.{◌≡◌, ◌∷◌, ◌++◌, [], ℕ, List, true, false, ◌⊎◌, is_some, IfOk, IfSome, IfNone, OnOk, MatchResult, OnErr, IsTrue};
 ghost use Rattle.run_model.specs.Turn.{Run, ask_at};
 ghost use Rattle.run_laws.specs.History.{ask_from, place_of};
 ghost use Rattle.bus_core.specs.Bus.{is_live, IsState};
@@ -48,6 +48,8 @@ pub struct ListedBus<J: Beginning, B: Book> {
     pub(crate) bus: Bus<B>,
     pub(crate) list: Vec<u8>,
     pub(crate) keeps: bool,
+    // Whether some hart found no memory.
+    pub(crate) out_of_memory: bool,
     pub(crate) of: PhantomData<J>,
 }
 
@@ -56,9 +58,9 @@ impl<J: Beginning, B: Book> Model for ListedBus<J, B> {
 
     ghost Value = { Taking };
 
-    ghost view = { λ b. record { bus = b.bus; keeps = b.keeps; list = b.list.items } };
+    ghost view = { λ b. record { bus = b.bus; keeps = b.keeps; list = b.list.items; out_of_memory = b.out_of_memory } };
 
-    ghost invariant = { λ b. IsTaking B.tells J.began J.keeps (record { bus = b.bus; keeps = b.keeps; list = b.list.items }) };
+    ghost invariant = { λ b. IsTaking B.tells J.began J.keeps (record { bus = b.bus; keeps = b.keeps; list = b.list.items; out_of_memory = b.out_of_memory }) };
 }
 
 // Whether a live hart of the bus is at this place, so that it asks next what it asks from there.
@@ -137,7 +139,7 @@ fn take_at<B: Book>(
     ensures kept { IfOk result (λ o. IfSome o (λ r. list.new.items ≡ kept_after keeps list.old.items hart)) }
     ensures at { is_live bus.old hart ≡ true → (run : Run) → IsState bus.old run → place_of (run.harts hart) ≡ place_at place.now → IfOk result (λ o. is_some o ≡ true) }
     ensures over { is_live bus.old hart ≡ false → (bus.new ≡ bus.old) × (list.new.items ≡ list.old.items) × (result ≡ Ok None) }
-    ensures none { IfOk result (λ o. IfNone o (((bus.new ≡ bus.old) × (list.new.items ≡ list.old.items)) ⊎ (bus.new.halted ≡ true))) }
+    ensures none { IfOk result (λ o. IfNone o ((is_live bus.old hart ≡ false) ⊎ (bus.new.halted ≡ true))) }
     ensures halted { OnErr result (bus.new.halted ≡ true) }
     ensures taken { bus.new.halted ≡ false → StaysTaken B.tells bus.old list.old.items bus.new list.new.items keeps }
     ensures began { bus.new.began ≡ bus.old.began }
@@ -166,11 +168,13 @@ impl<J: Beginning, B: Book> ListedBus<J, B> {
         requires start { HasTaken B.tells bus [] }
         ensures bus { result.bus ≡ bus }
         ensures list { result.list ≡ [] }
+        ensures out_of_memory { result.out_of_memory ≡ false }
     {
         ListedBus {
             bus,
             list: Vec::new(alloc),
             keeps,
+            out_of_memory: false,
             of: PhantomData,
         }
     }
@@ -179,6 +183,7 @@ impl<J: Beginning, B: Book> ListedBus<J, B> {
     pub fn halt(&mut self)
         ensures halted { self.new.bus.halted ≡ true }
         ensures list { self.new.list ≡ self.old.list }
+        ensures out_of_memory { self.new.out_of_memory ≡ self.old.out_of_memory }
     {
         self.bus.halt();
     }
@@ -187,7 +192,7 @@ impl<J: Beginning, B: Book> ListedBus<J, B> {
     /// was guarded. None if the hart isn't live, and then nothing changes. None too if the hart isn't at
     /// that place in the bus, and then no hart is live any more.
     ///
-    /// The only error is out of memory; then no hart is live any more.
+    /// The only error is out of memory; then no hart is live any more, and the bus knows why.
     pub fn take_own(
         &mut self,
         hart: HartId,
@@ -199,9 +204,16 @@ impl<J: Beginning, B: Book> ListedBus<J, B> {
         ensures at { is_live self.old.bus hart ≡ true → (run : Run) → IsState self.old.bus run → place_of (run.harts hart) ≡ place_at place.now → IfOk result (λ o. is_some o ≡ true) }
         ensures over { is_live self.old.bus hart ≡ false → (self.new ≡ self.old) × (result ≡ Ok None) }
         ensures keeps { self.new.keeps ≡ self.old.keeps }
-        ensures none { IfOk result (λ o. IfNone o ((self.new ≡ self.old) ⊎ (self.new.bus.halted ≡ true))) }
+        ensures none { IfOk result (λ o. IfNone o ((is_live self.old.bus hart ≡ false) ⊎ (self.new.bus.halted ≡ true))) }
         ensures halted { OnErr result (self.new.bus.halted ≡ true) }
+        ensures out_of_memory { MatchResult result (λ o. self.new.out_of_memory ≡ self.old.out_of_memory) (λ e. self.new.out_of_memory ≡ true) }
     {
-        take_at(&mut self.bus, &mut self.list, self.keeps, hart, place, ask)
+        match take_at(&mut self.bus, &mut self.list, self.keeps, hart, place, ask) {
+            Ok(taken) => Ok(taken),
+            Err(error) => {
+                self.out_of_memory = true;
+                Err(error)
+            }
+        }
     }
 }

@@ -6,7 +6,7 @@ ghost use Rattle.run_model.specs.Runs.{seeded};
 ghost use Rattle.bus_core.specs.Bus.{began_of};
 ghost use Rattle.whole_runs.specs.Closed.{IsOfRows};
 ghost use Rattle.whole_runs.specs.Lists.{seeded_after};
-ghost use Rattle.whole_runs.specs.Taking.{kept_with, Finishes, IsClosedBy};
+ghost use Rattle.whole_runs.specs.Taking.{kept_with, Finishes, GoesOn, IsClosedBy};
 
 use crate::listed::Listed;
 use crate::listed_bus::{Beginning, ListedBus};
@@ -56,7 +56,8 @@ fn any_failed(worked: &[Result<(), AllocError>]) -> bool
 /// Finishes the run of a bus by the turns of seed 0, if harts are still live. If it was halted, the run is
 /// made again by the turns of seed 0. Nothing is compared: the type of the bus says that a list led to it.
 ///
-/// The only error is out of memory, of a hart too: no run is made again in its place.
+/// The only error is out of memory, of a hart too: no run is made again in its place. The bus knows of it, whatever the
+/// hart's thread answered.
 pub fn finish_listed<J: Beginning, B: Book>(
     alloc: Global,
     code: &DecodedImage,
@@ -67,11 +68,11 @@ pub fn finish_listed<J: Beginning, B: Book>(
     requires began { began_of from.now ≡ J.began }
     requires code { code.now ≡ from.now.image }
     requires all { length worked.now ≡ from.now.settings.harts }
-    ensures found { OnOk result (list_any is_err worked.now ≡ false) }
+    ensures found { OnOk result ((list_any is_err worked.now ≡ false) × (own.out_of_memory ≡ false)) }
     ensures run { IfOk result (λ run. IsClosedBy B.tells (began_of from.now) J.keeps run.closed run.list.items (B.told run.closed.book)) }
     ensures of_rows { IfOk result (λ run. (rows : List TurnRow) × IsOfRows (began_of from.now) run.closed rows) }
     ensures by_seed { J.keeps ≡ true → IfOk result (λ run. (run.list.items ≡ seeded from.now.settings from.now.image from.now.input.items 0) ⊎ (run.list.items ≡ own.list ++ seeded_after (began_of from.now) own.list 0)) }
-    ensures keeps { own.bus.halted ≡ false → J.keeps ≡ true → IfOk result (λ run. run.list.items ≡ own.list ++ seeded_after (began_of from.now) own.list 0) }
+    ensures keeps { own.bus.halted ≡ false → IfOk result (λ run. GoesOn B.tells (began_of from.now) own run.closed run.list.items (B.told run.closed.book)) }
 {
     if any_failed(worked) {
         return Err(AllocError);
@@ -80,8 +81,12 @@ pub fn finish_listed<J: Beginning, B: Book>(
         bus,
         list,
         keeps,
+        out_of_memory,
         of: _,
     } = own;
+    if out_of_memory {
+        return Err(AllocError);
+    }
     let mut bus = bus;
     let list = finish_kept(alloc, code, &mut bus, list, keeps)?;
     let closed = close(bus);

@@ -19,7 +19,7 @@ pub returns-then-not-live-clause-over : goal.returns-then-not-live-clause-over
 returns-then-not-live-clause-over g c over = (refl, refl, refl)
 
 pub returns-then-not-live-clause-none : goal.returns-then-not-live-clause-none
-returns-then-not-live-clause-none g c = inl (refl, refl)
+returns-then-not-live-clause-none g c = inl (sym c.live.ensures.value ∙ c.if-not-live.true)
 
 pub returns-then-not-live-clause-taken : goal.returns-then-not-live-clause-taken
 returns-then-not-live-clause-taken g c running = record { running = running; more = λ list taken. (list, taken) }

@@ -1,8 +1,10 @@
-use Rattle.std.proofs.Common.{◌≡◌, ◌∙◌, ◌++◌, true, false, sym, ap, subst, inr}
-use Rattle.bus_core.specs.Bus.{Began, began_of}
+use Rattle.std.proofs.Common.{◌≡◌, ◌∙◌, ◌++◌, ℕ, List, true, false, sym, ap, subst, inr}
+use Rattle.std.specs.Prelude.{Result, Ok, Err, OnOk, is_err}
+use Rattle.std.specs.List.{list_any}
+use Rattle.bus_core.specs.Bus.{Began, Seen, began_of}
 use Rattle.whole_runs.specs.Closed.{IsClosed, IsOfRows}
 use Rattle.whole_runs.specs.Taking.{Taking}
-use Rattle.whole_runs.specs.Lists.{seeded_after}
+use Rattle.whole_runs.specs.Lists.{seeded_after, HasTaken}
 use Rattle.whole_runs.proofs.OwnTurns.{as_chosen, kept_all}
 use Rattle.whole_runs.proofs.listed_end.finish_listed.Goals as goal
 
@@ -20,11 +22,11 @@ returns-then-closed-clause-run g c =
     record {
       list = list ++ more;
       closed_is = subst (λ (b : Began). IsClosed g.B.Book.tells b (list ++ more) c.close-closed.result rows) began closed;
-      kept_is = kept_all own.keeps g.J.Beginning.keeps own.list.items c.in_ok-list.list.items list more c.own.invariant.same e.kept some.1.kept;
+      kept_is = kept_all own.keeps g.J.Beginning.keeps own.list.items c.in_ok-list.list.items list more c.own.invariant.same e.kept some.1.kept_is;
     }
 
 pub returns-clause-keeps : goal.returns-clause-keeps
-returns-clause-keeps g c = λ running keeps.
+returns-clause-keeps g c = λ running.
     let own = c.own.inside in
     let e = c.in_ok-list.ensures.finished in
     let more = e.more in
@@ -44,8 +46,8 @@ returns-then-closed-clause-by_seed g c = λ asked.
     let some = c.own.invariant.some running in
     let list = some.0 in
     let began = c.own.invariant.began ∙ sym c.requires.began in
-    let all = kept_all own.keeps g.J.Beginning.keeps own.list.items c.in_ok-list.list.items list more c.own.invariant.same e.kept some.1.kept asked in
-    let before = ap (λ (s : Taking). s.list) (sym c.own.view_is) ∙ some.1.kept (c.own.invariant.same ∙ asked) in
+    let all = kept_all own.keeps g.J.Beginning.keeps own.list.items c.in_ok-list.list.items list more c.own.invariant.same e.kept some.1.kept_is asked in
+    let before = ap (λ (s : Taking). s.list) (sym c.own.view_is) ∙ some.1.kept_is (c.own.invariant.same ∙ asked) in
     let chosen = subst (λ (b : Began). more ≡ seeded_after b list 0) began (e.chosen list some.1.taken) in
     inr (as_chosen (began_of c.args.from.now) list c.args.own.list more c.in_ok-list.list.items before all chosen)
 
@@ -56,15 +58,44 @@ returns-then-closed-clause-of_rows g c =
     (found.0, subst (λ (b : Began). IsOfRows b c.close-closed.result found.0) began found.1)
 
 pub returns-then-closed-clause-keeps : goal.returns-then-closed-clause-keeps
-returns-then-closed-clause-keeps g c = λ _ asked.
+returns-then-closed-clause-keeps g c = λ _.
     let own = c.own.inside in
     let e = c.in_ok-list.ensures.finished in
     let more = e.more in
+    let rows = g.B.Book.told c.close-closed.result.book in
+    let b = began_of c.args.from.now in
     let running : own.bus.halted ≡ false = sym c.finish_kept.ensures.halted ∙ c.close-closed.ensures.running c.if-closed.true in
     let some = c.own.invariant.some running in
     let list = some.0 in
     let began = c.own.invariant.began ∙ sym c.requires.began in
-    let all = kept_all own.keeps g.J.Beginning.keeps own.list.items c.in_ok-list.list.items list more c.own.invariant.same e.kept some.1.kept asked in
-    let before = ap (λ (s : Taking). s.list) (sym c.own.view_is) ∙ some.1.kept (c.own.invariant.same ∙ asked) in
-    let chosen = subst (λ (b : Began). more ≡ seeded_after b list 0) began (e.chosen list some.1.taken) in
-    as_chosen (began_of c.args.from.now) list c.args.own.list more c.in_ok-list.list.items before all chosen
+    let after = c.finish_kept.ensures.began ∙ began in
+    let bus = ap (λ (s : Taking). s.bus) (sym c.own.view_is) in
+    record {
+      closed_is = λ l taken.
+          let here = subst (λ (s : Seen). HasTaken g.B.Book.tells s l) bus taken in
+          let closed = c.close-closed.ensures.closed (l ++ more) (e.taken l here) (e.finished l here) in
+          let chosen = subst (λ (b : Began). more ≡ seeded_after b l 0) began (e.chosen l here) in
+          let is = subst (λ (b : Began). IsClosed g.B.Book.tells b (l ++ more) c.close-closed.result rows) after closed in
+          subst (λ (m : List ℕ). IsClosed g.B.Book.tells b (l ++ m) c.close-closed.result rows) chosen is;
+      kept_is = λ asked.
+          let keeps = ap (λ (s : Taking). s.keeps) (sym c.own.view_is) in
+          let kept : own.keeps ≡ true = sym keeps ∙ asked in
+          let all = kept_all own.keeps g.J.Beginning.keeps own.list.items c.in_ok-list.list.items list more c.own.invariant.same e.kept some.1.kept_is (sym c.own.invariant.same ∙ kept) in
+          let before = ap (λ (s : Taking). s.list) (sym c.own.view_is) ∙ some.1.kept_is kept in
+          let chosen = subst (λ (b : Began). more ≡ seeded_after b list 0) began (e.chosen list some.1.taken) in
+          as_chosen b list c.args.own.list more c.in_ok-list.list.items before all chosen;
+    }
+
+-- ---- no hart found no memory
+
+on_ok : {T E P : Type 0} → (r : Result T E) → P → OnOk r P
+on_ok (Ok v) p = p
+on_ok (Err e) p = tt
+
+pub returns-then-closed-clause-found : goal.returns-then-closed-clause-found
+returns-then-closed-clause-found g c = (sym c.any_failed.ensures ∙ c.if-any_failed.false, ap (λ (s : Taking). s.out_of_memory) (sym c.own.view_is) ∙ c.if-out_of_memory.false)
+
+pub returns-clause-found : goal.returns-clause-found
+returns-clause-found g c =
+    let found : (list_any is_err c.args.worked.now ≡ false) × (c.args.own.out_of_memory ≡ false) = (sym c.any_failed.ensures ∙ c.if-any_failed.false, ap (λ (s : Taking). s.out_of_memory) (sym c.own.view_is) ∙ c.if-out_of_memory.false) in
+    on_ok _ found
