@@ -69,12 +69,12 @@ returns-clause-answers g c =
     record {
       start = c.apply-reply.ensures.start ∙ c.prepare.ensures.start;
       served = λ run is.
-        let here = c.prepare.ensures.run run is in
-        let meant = subst (λ (x : Start). is_orderly x.settings x.image (run.harts k) ask ≡ true) (sym c.prepare.ensures.start) (c.requires.meant run is) in
-        let served = served_orderly s.settings s.image run k ask c.in_ok-call.call (c.in_ok-call.ensures.call run.machine here.machine) meant in
-        let guarded = c.is_guarded-guarded.ensures.run run is ∙ ap (λ (x : Start). is_guarded x.settings run k ask.want) (sym c.prepare.ensures.start) in
-        subst (λ (x : Start). IsServed q run (serve x.settings x.image run k ask) answer) c.prepare.ensures.start
-        (subst (λ (x : Served). IsServed q run x answer) served (c.apply-reply.ensures.reply run here, guarded, c.apply-reply.ensures.run run here));
+          let here = c.prepare.ensures.run run is in
+          let meant = subst (λ (x : Start). is_orderly x.settings x.image (run.harts k) ask ≡ true) (sym c.prepare.ensures.start) (c.requires.meant run is) in
+          let served = served_orderly s.settings s.image run k ask c.in_ok-call.call (c.in_ok-call.ensures.call run.machine here.machine) meant in
+          let guarded = c.is_guarded-guarded.ensures.run run is ∙ ap (λ (x : Start). is_guarded x.settings run k ask.want) (sym c.prepare.ensures.start) in
+          subst (λ (x : Start). IsServed q run (serve x.settings x.image run k ask) answer) c.prepare.ensures.start
+          (subst (λ (x : Served). IsServed q run x answer) served (c.apply-reply.ensures.reply run here, guarded, c.apply-reply.ensures.run run here));
     }
 
 pub returns-clause-rows : goal.returns-clause-rows
