@@ -1,8 +1,7 @@
 # Looks before a recording whether its files can be saved, and whether they would take the place of one that is needed:
 # it saves only when the run is over. Read by run.sh, once words.sh has read the words.
 
-# Sets `place` to the place that a file of this name has or would have, through a link too that leads to no file; and
-# `folder` to its folder.
+# Sets `place`, which a file of this name has or would have, through a link too that leads to no file; `folder`, its folder.
 find_place() { # NAME FILE
     place=$2
     [[ -e $2 || ! -L $2 ]] || place=$(readlink -f -- "$2") || stop 3 "$1 can't be saved: the link ${2@Q} leads nowhere"

@@ -1,10 +1,8 @@
-# Reads `words`, the words of a call, as the program does, so far as the script has to know them. read_words sets:
-#
+# Reads `words`, the words of a call, as the program does, so far as the script has to know them. read_words sets
 # - wanted     the names that the command takes
 # - names      the words that are no options, in their order
 # - values     the value of each option that is given
 # - complaint  why the program refuses the words, if that can be seen here
-#
 # What a command takes is told by tools/help/words.sh.
 declare -A values=()
 
