@@ -149,9 +149,10 @@ impl<'a> Trail<'a> {
         let place = (to / self.every) as usize;
         let past = to % self.every;
         let steps = &self.entries[(to - past) as usize..to as usize];
+        let taken = steps.len() as u64;
         self.joint = replay(&self.copies[place], steps)?;
         self.entries.truncate(to as usize);
         self.copies.truncate(place + 1);
-        Ok(past)
+        Ok(taken)
     }
 }

@@ -135,7 +135,7 @@ impl Image {
         }
     }
 
-    /// The aligned word of an address, as it stands before the run; 0 outside the segments.
+    /// The aligned word that holds an address, as it is before the run; 0 outside the segments.
     pub fn first(&self, addr: Addr) -> u32
         ensures { result ≡ first_at self.now addr }
     {

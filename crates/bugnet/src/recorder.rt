@@ -44,6 +44,7 @@ fn instructions_of(marks: &[Option<EndMark>]) -> u128
     sum
 }
 
+// Whether a hart ended in a fault.
 fn is_fault(mark: &Option<EndMark>) -> bool
     ensures { result ≡ is_fault mark.now }
 {
@@ -53,6 +54,7 @@ fn is_fault(mark: &Option<EndMark>) -> bool
     }
 }
 
+// Whether a hart ended because it met the limit of instructions; false of one without a mark.
 fn is_limit(mark: &Option<EndMark>) -> bool
     ensures { result ≡ is_limit mark.now }
 {

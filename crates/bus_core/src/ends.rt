@@ -25,7 +25,7 @@ impl Ends {
         })
     }
 
-    /// The last mark of each hart; None before one.
+    /// The last end mark of each hart; `None` of one that has not ended an interval. It takes no memory.
     pub fn of(self, harts: &Vec<Hart>) -> Vec<Option<EndMark>>
         requires { length harts.now.items ≤ HARTS }
         ensures { result.items ≡ map (λ (h : Hart). h.mark) harts.now.items }

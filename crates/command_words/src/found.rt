@@ -29,6 +29,7 @@ fn number_at(matches: &ArgMatches<'_>, id: &str) -> Option<u64>
     }
 }
 
+// The number of an option, or its default without it; `None` if its text is no number.
 fn number_or(matches: &ArgMatches<'_>, id: &str, default: u64) -> Option<u64>
     ensures { result ≡ number_or default id.now (rows_of (found_of matches.now)) }
 {
@@ -38,6 +39,7 @@ fn number_or(matches: &ArgMatches<'_>, id: &str, default: u64) -> Option<u64>
     }
 }
 
+// The number of an option that may be left out: `Some(None)` without it, `None` if its text is no number.
 fn number_if(matches: &ArgMatches<'_>, id: &str) -> Option<Option<u64>>
     ensures { result ≡ number_if id.now (rows_of (found_of matches.now)) }
 {

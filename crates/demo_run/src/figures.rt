@@ -31,7 +31,7 @@ pub struct Figures {
     pub digest: [u8; 32],
 }
 
-// Appends a number after a word. By its type it may pass 64 bits.
+// Appends a word and a number in decimal. A sum of counts may have more than 64 bits.
 #[tactic(auto, unfolding(crate::specs::Texts::counted))]
 fn push_counted(text: &mut Text, word: &str, n: u128) -> Result<(), AllocError>
     ensures { OnOk result (text.new ≡ text.old ++ counted word.now n) }

@@ -13,7 +13,7 @@ use log_order::KeptLog;
 use rv_text::{RowLines, Text};
 use std::alloc::{AllocError, Global};
 
-// Takes all steps, the lowest ready hart's first. No line of them is kept.
+// Takes all steps of a joint replay, each of the lowest hart that is ready, and drops their lines.
 fn go_through(alloc: Global, joint: &mut Joint) -> Result<(), AllocError>
     requires { (run_all joint.old).stopped ≡ None }
     ensures { OnOk result ((run_all joint.old).walk.now ≡ joint.new) }

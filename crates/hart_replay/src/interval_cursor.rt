@@ -516,7 +516,7 @@ impl<'a> IntervalCursor<'a> {
         }
     }
 
-    /// An equal cursor.
+    /// A copy at the same place of the interval, with pages of its own for the words that it knows.
     pub(crate) fn copy(&self) -> Result<IntervalCursor<'a>, AllocError>
         ensures words { IfOk result (λ c. c.words.pages ≡ self.now.words.pages) }
         ensures rest { IfOk result (λ c. c ≡ record self.now { words = c.words }) }

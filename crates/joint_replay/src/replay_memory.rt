@@ -43,7 +43,7 @@ impl ReplayMemory {
         }
     }
 
-    /// The known word at an address. None is at one that isn't a multiple of 4.
+    /// The word at an address, if the log or a row before gave it; an address that isn't a multiple of 4 has none.
     pub(crate) fn word(&self, addr: Addr) -> Option<u32>
         ensures { result ≡ word_in self.now.words addr }
     {

@@ -11,7 +11,7 @@ use le_numbers::laws::{
 use log_file::laws::settings_in_range_are_not_bad;
 use log_record::laws::{read_records_are_written, tags_tell_sizes, written_records_are_read};
 
-/// Bytes are read in one way.
+/// A law: bytes are the log file of one content, in either version, or are refused for one damage, and never both.
 pub fn readings_are_unique()
     ensures { ReadingsAreUnique }
 {

@@ -105,7 +105,8 @@ fn salvage_in(alloc: Global, bytes: &[u8], settings: Settings) -> Result<KeptLog
     }
 }
 
-// The file of version 2 of the blocks that a walk back over the bytes after a head kept, with its counts.
+// Makes the file of version 2 of the blocks that a walk back kept, with the counts of its records. `bytes` come after
+// the head.
 fn new_of(
     alloc: Global,
     head: Head,

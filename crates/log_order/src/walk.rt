@@ -20,7 +20,7 @@ pub struct OrderBreak {
 }
 
 impl OrderLimits {
-    /// What of the settings the order depends on.
+    /// The settings that the order of records depends on: the most instructions of an interval and of a hart.
     pub fn of(settings: &Settings) -> OrderLimits
         ensures { result ≡ order_limits_of settings.now }
     {

@@ -41,6 +41,7 @@ fn put_words(bytes: &mut Bytes, words: &[u32])
     }
 }
 
+// The bytes of a Header: place and registers at the start of an interval.
 fn header(hart: HartId, interval: u64, ic: Ic, pc: u32, x: &Registers) -> Bytes
     ensures bytes { result ≡ bytes_of (Header hart interval ic pc x.now) }
     ensures are { AreRegisters x.now }

@@ -161,9 +161,9 @@ fn latest_in(
     best
 }
 
-/// Puts into `edges`, in place of what it had, the sources of the edges into an access of `count` words from `first`, the
-/// latest first, at most `most` of them. Each is the latest that the times don't cover; then they take in the times after
-/// it.
+/// Puts into `edges`, in place of what it had, the sources of the edges into an access by `hart` of the `count` words
+/// from address `first`, at most `most` of them. Each is the latest conflicting access of another hart that the vector
+/// clock `times` doesn't include. That is merged with the clock after each, so no later source is implied by one before.
 pub fn find_sources(
     words: &KeptWords,
     times: &mut Times,

@@ -56,7 +56,7 @@ impl Gathered {
         self.found.count()
     }
 
-    // The place of the next point. There are fewer than 2^32 - 1 points; more are treated as out of
+    // The index of the next point, which is that of its row. A report of more than 2^32 - 1 points is treated as out of
     // memory.
     fn next_place(&self) -> Result<u32, AllocError>
         ensures { IfOk result (λ n. n ≡ length self.now.rows.items) }

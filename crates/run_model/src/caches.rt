@@ -167,7 +167,7 @@ fn access(caches: &mut [Cache], hart: HartId, span: Span) -> Warm
     warm
 }
 
-// Clears the bits of a hart's cache.
+// Makes all words cold for a hart, as at the start of an interval; its cache lists the same lines.
 fn clear(caches: &mut Vec<Cache>, hart: HartId)
     requires hart { hart < length caches.old.items }
     requires steps { steps_in caches.old.items hart < 2 ^ 42 }

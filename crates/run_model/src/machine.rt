@@ -281,7 +281,8 @@ impl Machine {
         }
     }
 
-    // The answer to what isn't a system call.
+    // The answer to an access of memory, or to a cut, which ends a hart at its limit. A fault ends its hart, as does a
+    // system call without a plan.
     fn answer_access(&mut self, settings: &Settings, hart: HartId, ask: &Ask) -> Reply
         requires hart { hart < HARTS }
         requires words { AreWordsReady self.old.memory (span_of None ask.now.want replies.ScOk) }

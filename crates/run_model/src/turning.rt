@@ -175,7 +175,7 @@ impl Plain {
         })
     }
 
-    /// Whether a hart is there and can take a turn.
+    /// Whether there is such a hart, and it has not ended.
     pub fn live(&self, hart: HartId) -> bool
         ensures value { result ≡ is_live (parts self.now) hart }
         ensures run { (run : Run) → IsRun (parts self.now) run → result ≡ runs.is_live self.now.start.settings run hart }

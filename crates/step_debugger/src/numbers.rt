@@ -9,7 +9,7 @@ fn is_from(low: u8, high: u8, byte: u8) -> bool
     low <= byte && byte <= high
 }
 
-// The value of a digit: 0 to 9, then a to f in either case.
+// The value of a hexadecimal digit, a to f in either case; `None` of any other byte.
 fn digit_value(byte: u8) -> Option<u32>
     ensures { result ≡ digit_value byte }
 {

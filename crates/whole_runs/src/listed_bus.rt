@@ -93,7 +93,7 @@ fn serve_own<B: Book>(
     bus.serve(hart, ask)
 }
 
-// Keeps the hart of a turn, if the list is kept.
+// Appends the hart of a turn, unless the recording keeps no list.
 fn keep(list: &mut Vec<u8>, keeps: bool, hart: HartId) -> Result<(), AllocError>
     ensures { OnOk result (list.new.items ≡ kept_after keeps list.old.items hart) }
 {

@@ -18,7 +18,7 @@ use run_model::Start;
 use rv_meaning::DecodedImage;
 use std::alloc::{AllocError, Global};
 
-// A list that is kept, and more turns.
+// The list with more turns, or as it was if the recording keeps none.
 fn joined(list: Vec<u8>, keeps: bool, more: &[u8]) -> Result<Vec<u8>, AllocError>
     ensures { IfOk result (λ all. all.items ≡ kept_with keeps list.items more.now) }
 {
