@@ -1,9 +1,10 @@
 #!/usr/bin/env python3
 """Counts what a crate promises and what that takes, so that two states of a crate can be compared.
 
-tools/sizes.py [TOP] [CRATE..]    at first all crates of its own checkout
+tools/sizes.py [TOP] [CRATE..]    all crates of its own checkout, if none is named
+tools/sizes.py --layers [TOP]     sums by the layers of crates.txt
 
-It prints by crate:
+It prints by crate, or by layer:
 
 - functions; their clauses (requires and ensures), and the characters of these
 - lines of code without clauses, imports of clauses, comments and empty lines; lines of comments in the code
@@ -68,8 +69,24 @@ def sizes_of(crate):
     return [functions, clauses, chars, code, comments, *lines, refuse, passed_on]
 
 
+def layers_of(top):
+    """The crates of each layer, by the headings of crates.txt."""
+    layers = {}
+    for line in (top / "crates.txt").read_text(encoding="utf-8").splitlines():
+        if line.startswith("# "):
+            layer = re.split("[: ]", line[2:])[0]
+        elif line:
+            layers.setdefault(layer, []).append(line.split(":")[0])
+    return layers
+
+
+def summed(rows):
+    return [sum(column) for column in zip(*rows)]
+
+
 def main(words):
-    top = OWN
+    top, by_layer = OWN, "--layers" in words
+    words = [word for word in words if word != "--layers"]
     if words and pathlib.Path(words[0]).is_dir():
         top = pathlib.Path(words.pop(0))
     names = words or sorted(folder.parent.name for folder in top.glob("crates/*/src"))
@@ -78,8 +95,12 @@ def main(words):
         print(f"tools/sizes.py: no crate: {' '.join(lacking)}", file=sys.stderr)
         return 2
     rows = [(name, sizes_of(top / "crates" / name)) for name in names]
-    rows.append(("all", [sum(column) for column in zip(*(sizes for _, sizes in rows))]))
-    print(f"{'crate':16s}" + "".join(f"{head:>10s}" for head in HEADS))
+    whole = ("all", summed(sizes for _, sizes in rows))
+    if by_layer:
+        sizes = dict(rows)
+        rows = [(layer, summed(sizes[name] for name in crates)) for layer, crates in layers_of(top).items()]
+    rows.append(whole)
+    print(f"{'layer' if by_layer else 'crate':16s}" + "".join(f"{head:>10s}" for head in HEADS))
     for name, sizes in rows:
         print(f"{name:16s}" + "".join(f"{size:10,d}" for size in sizes))
     return 0

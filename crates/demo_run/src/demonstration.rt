@@ -22,8 +22,8 @@ use rv_text::Text;
 use sha2::{Digest, Sha256};
 use std::alloc::{AllocError, Global};
 
-// A file that is well formed has one error alone: out of memory.
-fn wanting(error: FileError) -> AllocError
+// The error of reading a file that is well formed: out of memory, the only one that it can be.
+fn as_alloc_error(error: FileError) -> AllocError
     requires { error ≡ OutOfMemory }
 {
     match error {
@@ -41,7 +41,7 @@ fn read_back(alloc: Global, file: &[u8], seed: u64) -> Result<KeptLog, AllocErro
     logs_are_contents();
     match read_file(alloc, file) {
         Ok(log) => Ok(log),
-        Err(error) => Err(wanting(error)),
+        Err(error) => Err(as_alloc_error(error)),
     }
 }
 

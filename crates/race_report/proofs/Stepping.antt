@@ -30,7 +30,7 @@ use Rattle.log_record.specs.declared.record.Record.{Record}
 use Rattle.race_report.specs.declared.race.Race.{Race}
 use Rattle.race_report.specs.Races.{races_of}
 use Rattle.race_report.specs.Found.{total}
-use Rattle.race_report.specs.Reports.{IsReport, TellsReport, Stops, HasFoundNone, IsUnrefused, TakesRow, Advances, HasState, IsOnTheWay, Gathers, GathersRest, GathersInto}
+use Rattle.race_report.specs.Reports.{IsReport, TellsReport, Stops, RanOutOfMemory, IsUnrefused, TakesRow, Advances, HasState, IsOnTheWay, Gathers, GathersRest, GathersInto}
 
 -- ---- a step that did no row
 
@@ -191,7 +191,7 @@ row_unrefused law h row old new none lowest s = inl ((law.first old h (s.0, new)
 stuck_there : RunsByStep → (old : Joining) (stopped : Option JointError) → old.refused ≡ None → choice old ≡ NoneReady → (run_all old).stopped ≡ stopped → stopped ≡ Some (why.Stuck (positions_from 0 old.lanes))
 stuck_there law old stopped none stuck is = sym is ∙ ap (λ (x : Ran). x.stopped) (law.stuck old none stuck)
 
-pub stuck_done : RunsByStep → (old new : Joining) (u : Unit {0}) (out_old out_new : List ℕ) → old.refused ≡ None → choice old ≡ NoneReady → Runs old (Ok u) new out_old out_new → HasFoundNone new
+pub stuck_done : RunsByStep → (old new : Joining) (u : Unit {0}) (out_old out_new : List ℕ) → old.refused ≡ None → choice old ≡ NoneReady → Runs old (Ok u) new out_old out_new → RanOutOfMemory new
 stuck_done law old new u out_old out_new none stuck (inl f) = absurd (no (stuck_there law old None none stuck f.ends))
   where
     no : ◌≡◌ {A = Option JointError} None (Some (why.Stuck (positions_from 0 old.lanes))) → ⊥
@@ -201,7 +201,7 @@ stuck_done law old new u out_old out_new none stuck (inr f) = absurd (no f.0)
     no : ◌≡◌ {A = Result (Unit {0}) JointError} (Ok u) (Err why.OutOfMemory) → ⊥
     no e = cc
 
-pub stuck_memory : RunsByStep → (old new : Joining) (e : JointError) (r : RaceError) (out_old out_new : List ℕ) → old.refused ≡ None → choice old ≡ NoneReady → Runs old (Err e) new out_old out_new → TellsReport e r → r ≡ OutOfMemory → HasFoundNone new
+pub stuck_memory : RunsByStep → (old new : Joining) (e : JointError) (r : RaceError) (out_old out_new : List ℕ) → old.refused ≡ None → choice old ≡ NoneReady → Runs old (Err e) new out_old out_new → TellsReport e r → r ≡ OutOfMemory → RanOutOfMemory new
 stuck_memory law old new e r out_old out_new none stuck (inl f) t is = absurd (no (ap (λ (x : JointError). Some x) (sym (told_memory e r t is)) ∙ stuck_there law old (Some e) none stuck f.ends))
   where
     no : ◌≡◌ {A = Option JointError} (Some why.OutOfMemory) (Some (why.Stuck (positions_from 0 old.lanes))) → ⊥

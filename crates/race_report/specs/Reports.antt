@@ -49,12 +49,12 @@ Stops j (TooMany max) = ⊥
 Stops j OutOfMemory = Unit {0}
 
 -- a joint replay found no memory itself
-abbrev pub HasFoundNone : Joining → Type 0
-HasFoundNone j = j.refused ≡ Some replay.OutOfMemory
+abbrev pub RanOutOfMemory : Joining → Type 0
+RanOutOfMemory j = j.refused ≡ Some replay.OutOfMemory
 
 -- or it stopped for no refusal
 abbrev pub IsUnrefused : Joining → Type 0
-IsUnrefused j = (j.refused ≡ None) ⊎ HasFoundNone j
+IsUnrefused j = (j.refused ≡ None) ⊎ RanOutOfMemory j
 
 -- a row of a hart that asked this before it is taken in, if the hart was there
 abbrev pub TakesRow : ℕ → ℕ → Option Asked → Row → Gathered → Result (Unit {0}) RaceError → Gathered → Type 0

@@ -6,7 +6,7 @@ ghost use Rattle.joint_replay.specs.Joining.{Joining, choice};
 ghost use Rattle.joint_replay.specs.Calls.{state_at};
 ghost use Rattle.race_report.specs.declared.error.RaceError.TheVariants.{OutOfMemory};
 ghost use Rattle.race_report.specs.Points.{asked_by};
-ghost use Rattle.race_report.specs.Reports.{IsReport, TellsReport, Stops, HasFoundNone, IsUnrefused, Advances, TakesRow, HasState, IsOnTheWay, Gathers, GathersRest, GathersInto, joint_of};
+ghost use Rattle.race_report.specs.Reports.{IsReport, TellsReport, Stops, RanOutOfMemory, IsUnrefused, Advances, TakesRow, HasState, IsOnTheWay, Gathers, GathersRest, GathersInto, joint_of};
 ghost use Rattle.race_report.specs.Gathering.{IsGathered};
 
 use crate::calls::Asked;
@@ -92,7 +92,7 @@ fn stuck(alloc: Global, joint: &mut Joint) -> RaceError
     requires none { joint.old.refused ≡ None }
     requires stuck { choice joint.old ≡ NoneReady }
     ensures stops { Stops joint.old result }
-    ensures memory { result ≡ OutOfMemory → HasFoundNone joint.new }
+    ensures memory { result ≡ OutOfMemory → RanOutOfMemory joint.new }
 {
     runs_go_by_steps();
     let mut lines = RowLines::new(alloc);

@@ -11,7 +11,7 @@ use Rattle.run_files.specs.declared.verdict.Verdict.TheVariants.{Agree, Differ}
 use Rattle.run_model.specs.KeptRecords.{content_of}
 use Rattle.run_model.specs.Lists.{list_error}
 use Rattle.run_model.specs.Represents.Plain.{PlainParts, IsRun}
-use Rattle.run_model.specs.Runs.{run_from, run_of, is_live}
+use Rattle.run_model.specs.Runs.{start, run_from, run_of, is_live}
 use Rattle.run_model.specs.Turn.{Run}
 use Rattle.run_model.specs.Examples.{Recording, program_of}
 
@@ -76,6 +76,10 @@ pub record StandsBefore (c : RawSettings) (i : Program) (run : Run) (list : List
   pub within : at < length list
   pub stands : IsRun p (run_from c i run (take at list))
   pub live : is_live c (run_from c i run (take at list)) (get_or list at 0) ≡ true
+
+-- so it stands in a recording with this input, from its first turn on
+abbrev pub StandsWithin : RawSettings → Program → List ℕ → List ℕ → PlainParts → Type 0
+StandsWithin c i input list p = StandsBefore c i (start c i input) list p
 
 -- ---- small recordings
 

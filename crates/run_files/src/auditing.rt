@@ -4,7 +4,7 @@ ghost use Rattle.run_model.specs.declared.error.TurnError.TheVariants.{OutOfMemo
 ghost use Rattle.run_model.specs.Turn.{Run};
 ghost use Rattle.run_model.specs.Runs.{start, run_from, run_of, live_harts};
 ghost use Rattle.run_model.specs.Lists.{unfinished, error_from, list_error};
-ghost use Rattle.run_files.specs.Audits.{is_version2, audited_file, IsVerdict, StandsBefore};
+ghost use Rattle.run_files.specs.Audits.{is_version2, audited_file, IsVerdict, StandsBefore, StandsWithin};
 ghost use Rattle.run_model.specs.Represents.Plain.{IsRun};
 ghost use Rattle.run_model.specs.Represents.Turning.{parts};
 
@@ -62,7 +62,7 @@ fn follow_whole(
     ensures run { OnOk result (IsRun (parts plain.new) (run_of from.now.settings from.now.image from.now.input.items list.now)) }
     ensures whole { OnOk result (list_error from.now.settings from.now.image from.now.input.items list.now ≡ None) }
     ensures refused { IfErr result (λ e. (e ≡ OutOfMemory) ⊎ (list_error from.now.settings from.now.image from.now.input.items list.now ≡ Some e)) }
-    ensures memory { IfErr result (λ e. e ≡ OutOfMemory → (plain.new ≡ plain.old) ⊎ StandsBefore from.now.settings from.now.image (start from.now.settings from.now.image from.now.input.items) list.now (parts plain.new)) }
+    ensures memory { IfErr result (λ e. e ≡ OutOfMemory → (plain.new ≡ plain.old) ⊎ StandsWithin from.now.settings from.now.image from.now.input.items list.now (parts plain.new)) }
     ensures settings { (parts plain.new).start.settings ≡ from.now.settings }
 {
     let code = DecodedImage::new(alloc, &from.image)?;

@@ -65,7 +65,7 @@ pub record Finishes (tells : Bool) (old new : Seen) (keeps : Bool) (before after
 
 -- A run continues by seed 0 from a bus. Whatever list led to the bus, it is closed after that list and the turns of seed 0. If a
 -- list is kept, these are kept after it
-pub record GoesOn {B : _} (tells : Bool) (b : Began) (own : Taking) (closed : Closed B) (kept : List ℕ) (rows : List TurnRow) : Type 0 where
+pub record ContinuesBySeed0 {B : _} (tells : Bool) (b : Began) (own : Taking) (closed : Closed B) (kept : List ℕ) (rows : List TurnRow) : Type 0 where
   pub closed_is : (list : List ℕ) → HasTaken tells own.bus list → IsClosed tells b (list ++ seeded_after b list 0) closed rows
   pub kept_is : own.keeps ≡ true → kept ≡ own.list ++ seeded_after b own.list 0
 

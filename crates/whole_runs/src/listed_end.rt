@@ -6,7 +6,7 @@ ghost use Rattle.run_model.specs.Runs.{seeded};
 ghost use Rattle.bus_core.specs.Bus.{began_of};
 ghost use Rattle.whole_runs.specs.Closed.{IsOfRows};
 ghost use Rattle.whole_runs.specs.Lists.{seeded_after};
-ghost use Rattle.whole_runs.specs.Taking.{kept_with, Finishes, GoesOn, IsClosedBy};
+ghost use Rattle.whole_runs.specs.Taking.{kept_with, Finishes, ContinuesBySeed0, IsClosedBy};
 
 use crate::listed::Listed;
 use crate::listed_bus::{Beginning, ListedBus};
@@ -72,7 +72,7 @@ pub fn finish_listed<J: Beginning, B: Book>(
     ensures run { IfOk result (λ run. IsClosedBy B.tells (began_of from.now) J.keeps run.closed run.list.items (B.told run.closed.book)) }
     ensures of_rows { IfOk result (λ run. (rows : List TurnRow) × IsOfRows (began_of from.now) run.closed rows) }
     ensures by_seed { J.keeps ≡ true → IfOk result (λ run. (run.list.items ≡ seeded from.now.settings from.now.image from.now.input.items 0) ⊎ (run.list.items ≡ own.list ++ seeded_after (began_of from.now) own.list 0)) }
-    ensures keeps { own.bus.halted ≡ false → IfOk result (λ run. GoesOn B.tells (began_of from.now) own run.closed run.list.items (B.told run.closed.book)) }
+    ensures keeps { own.bus.halted ≡ false → IfOk result (λ run. ContinuesBySeed0 B.tells (began_of from.now) own run.closed run.list.items (B.told run.closed.book)) }
 {
     if any_failed(worked) {
         return Err(AllocError);
