@@ -1,5 +1,5 @@
 -- What it means that an audit is done.
-use Rattle.std.proofs.Common.{◌≡◌, ℕ, Bool, true, false, List, Option, Some, None, ◌∙◌, ap, subst, sym, refl, inl, inr, ◌⊎◌}
+use Rattle.std.proofs.Common.{◌≡◌, ℕ, Bool, true, false, List, [], ◌∷◌, Option, Some, None, ◌∙◌, ap, subst, sym, refl, inl, inr, ◌⊎◌}
 use Rattle.std.specs.Prelude.{Result, Ok, Err, is_some}
 use Rattle.std.specs.Str.{bytes_eq}
 use Rattle.std.proofs.lemmas.Slice.Eq.{bytes_eq-Decides}
@@ -20,13 +20,17 @@ use Rattle.run_files.specs.declared.verdict.Verdict.{Verdict}
 use Rattle.run_files.specs.declared.verdict.Verdict.TheVariants.{Agree, Differ}
 use Rattle.bus_core.specs.Bus.{Began}
 use Rattle.whole_runs.specs.Laws.{WholeRunsHaveNoError}
-use Rattle.command_words.specs.Words.{Line, RecordLine, ReplayLine, JointLine, DebugLine, ListLine, CheckLine, AuditLine, RacesLine, SliceLine, ConvertLine, SalvageLine, DemoLine}
+use Rattle.command_words.specs.Words.{Line, AuditLine}
 use Rattle.log_commands.specs.Names.{FileNames}
 use Rattle.log_commands.specs.Told.{Told}
-use Rattle.log_commands.specs.Commands.{WithFile, IsByLog, by_log}
+use Rattle.log_commands.specs.Commands.{WithFile, IsByLog, by_log, IsByInput}
 use Rattle.log_commands.specs.Pairs.{ByPair, pair_loaded, pair_same, pair_of}
-use Rattle.bugnet.specs.Answers.{names_in, names_by, IsAnswer}
-use Rattle.log_commands.specs.Audits.{turns_told, audited, IsAuditOf, IsAuditWith, IsAuditBy, IsAuditIn, IsAudit, Agrees}
+use Rattle.bugnet.specs.Answers.{names_in, names_by, IsByLine, IsAnswer}
+use Rattle.log_commands.specs.Answering.{IsByFiles}
+use Rattle.log_commands.specs.Audits.{by_turns, shown, audited, IsAuditOf, Agrees}
+use Rattle.log_commands.specs.Evaluated.{told_by}
+use Rattle.log_commands.specs.FileCalls.{input_roles}
+use Rattle.log_commands.specs.Inputs.{Bytes}
 use Rattle.bugnet.specs.Agreements.{AuditsAgree, AuditsRun}
 use Rattle.log_commands.specs.Outside.{WithFiles}
 use Rattle.log_commands.specs.Effects.{Call, Tells, SomeTold}
@@ -63,7 +67,7 @@ by-program go names elf d what true (Ok p) s l e is =
     (s, (p, l, e ∙ ap (λ (b : Bool). pair_same b go names elf d) s ∙ ap (λ (r : Result Program ElfError). pair_loaded go names d r) l))
 
 -- a whole run, and bytes that agree
-by-turns : (names : FileNames) (what : Told) (o : Option TurnError) (v : Verdict) → what ≡ turns_told o names v → IsRecorded what.status → (o ≡ None) × (v ≡ Agree)
+by-turns : (names : FileNames) (what : Told) (o : Option TurnError) (v : Verdict) → what ≡ told_by shown names (by_turns o v) → IsRecorded what.status → (o ≡ None) × (v ≡ Agree)
 by-turns names what (Some x) v e is = absurd (refused-apart names (BookRefused x) what e is)
 by-turns names what None (Differ place) e is = absurd (refused-apart names (FileDiffers place) what e is)
 by-turns names what None Agree e is = (refl, refl)
@@ -77,15 +81,27 @@ of-version : (second : Bool) (there : Option (List ℕ)) (c : RawSettings) (i : 
 of-version true there c i digest input turns e = inr e
 of-version false there c i digest input turns e = inl e
 
-agrees : AuditLaws → (log elf book : List ℕ) (input : Option (List ℕ)) (files : Files) (what : Told) → IsAudit files (names_in (AuditLine log elf book input)) (is_some input) what → IsRecorded what.status → Agrees log elf book input files
+-- the bytes that an audit loads, and what they come to
+abbrev pub given : (log elf book input : List ℕ) → Bytes
+given log elf book input = record { elf = elf; log = log; book = book; input = input; origin = [] }
+
+abbrev pub OnAudit : FileNames → Bytes → Told → Type 0
+OnAudit names b what = IsAuditOf names b.log b.elf b.book b.input what
+
+of-roles : (has : Bool) (files : Files) (names : FileNames) (log elf book : List ℕ) (what : Told) → IsByFiles files names (input_roles has) (given log elf book []) (OnAudit names) what
+    → IsByInput has files names (IsAuditOf names log elf book) what
+of-roles true files names log elf book what h = h
+of-roles false files names log elf book what h = h
+
+agrees : AuditLaws → (log elf book : List ℕ) (input : Option (List ℕ)) (files : Files) (what : Told) → IsByLine (AuditLine log elf book input) files what → IsRecorded what.status → Agrees log elf book input files
 unfolding WithFile
 agrees laws log elf book input files what h is =
     let names = names_in (AuditLine log elf book input) in
-    let has = is_some input in
-    let l = by-file (files log) names role.Log 272629760 (λ log what. IsAuditIn files names has log what) what h is in
-    let e = by-file (files elf) names role.Elf 67108864 (λ elf what. IsAuditBy files names has l.0 elf what) what l.2 is in
-    let b = by-file (files book) names role.Book 1073741824 (λ book what. IsAuditWith files names has l.0 e.0 book what) what e.2 is in
-    let i = by-input input elf log book files (IsAuditOf names l.0 e.0 b.0) what b.2 is in
+    let roles = input_roles (is_some input) in
+    let l = by-file (files log) names role.Log 272629760 (λ log what. IsByFiles files names (role.Elf ∷ role.Book ∷ roles) (given log [] [] []) (OnAudit names) what) what h is in
+    let e = by-file (files elf) names role.Elf 67108864 (λ elf what. IsByFiles files names (role.Book ∷ roles) (given l.0 elf [] []) (OnAudit names) what) what l.2 is in
+    let b = by-file (files book) names role.Book 1073741824 (λ book what. IsByFiles files names roles (given l.0 e.0 book []) (OnAudit names) what) what e.2 is in
+    let i = by-input input elf log book files (IsAuditOf names l.0 e.0 b.0) what (of-roles (is_some input) files names l.0 e.0 b.0 what b.2) is in
     let go = audited names l.0 b.0 i.0 in
     let d = by-log names l.0 (pair_of go names e.0) what i.2 is in
     let c = d.0.head.settings in
@@ -126,21 +142,10 @@ zero-told line what status k (inl d) done = sym d.status_is ∙ done
 zero-told line what status k (inr s) done = absurd (free-apart status (stopped-free (names_in line) what status k s) (inl done))
 
 audits-done : AuditsAgree → (line : Option Line) (files : Files) (status : ℕ) (k : Call) → SomeTold (IsAnswer line files) (λ what. Tells (names_by line) what status k) ⊎ StoppedEarly line files status k → AuditsRun line files status
-audits-done law None files status k a = tt
-audits-done law (Some (RecordLine r)) files status k a = tt
-audits-done law (Some (ReplayLine log elf hart interval)) files status k a = tt
-audits-done law (Some (JointLine log elf)) files status k a = tt
-audits-done law (Some (DebugLine log elf)) files status k a = tt
-audits-done law (Some (ListLine log)) files status k a = tt
-audits-done law (Some (CheckLine log)) files status k a = tt
 audits-done law (Some (AuditLine log elf book input)) files status k (inl (what, is, tells)) = λ done.
     law log elf book input files what is (zero-told (AuditLine log elf book input) what status k tells done)
 audits-done law (Some (AuditLine log elf book input)) files status k (inr early) = λ done. absurd (free-apart status (early-free (Some (AuditLine log elf book input)) files status k early) (inl done))
-audits-done law (Some (RacesLine log elf most)) files status k a = tt
-audits-done law (Some (SliceLine log elf hart interval ic)) files status k a = tt
-audits-done law (Some (ConvertLine log copy)) files status k a = tt
-audits-done law (Some (SalvageLine log copy)) files status k a = tt
-audits-done law (Some (DemoLine seed)) files status k a = tt
+audits-done law line files status k a = tt
 
 pub call-audits : AuditsAgree → (line : Option Line) (status : ℕ) (k : Call) → TellsAnswer line status k → WithFiles k.old.files (λ files. AuditsRun line files status)
 call-audits law line status k h =

@@ -16,7 +16,7 @@ use Rattle.bugnet.specs.Answers.{setting_refusal}
 use Rattle.bugnet.specs.Command.Record.{is_clash, IsByProgram, IsByNames, IsBySettings, IsRecord}
 use Rattle.log_commands.specs.Commands.{WithFile, IsByInput}
 use Rattle.log_commands.specs.Names.{FileNames, name_of}
-use Rattle.log_commands.specs.Outside.{WithFiles, FetchTells, ProgramTells, GivesBy, ResultCause, CauseBy, told_of, told_of_recording}
+use Rattle.log_commands.specs.Outside.{WithFiles, FetchTells, ProgramTells, GivesBy, CauseBy, told_of, told_of_recording}
 use Rattle.bugnet.specs.Recordings.{IsRun}
 use Rattle.bugnet.specs.Saves.{HoldsBytes}
 use Rattle.bugnet.specs.Starts.{BeginsBy}
@@ -29,7 +29,7 @@ use Rattle.log_commands.specs.declared.names.Role.{Role}
 use Rattle.log_commands.specs.declared.names.Role.TheVariants.{Input}
 use Rattle.log_commands.specs.declared.refusal.Refusal.{Refusal}
 use Rattle.log_commands.specs.declared.refusal.Refusal.TheVariants.{OutOfRange, SameName}
-use Rattle.log_commands.proofs.Commanded.{with-also}
+use Rattle.log_commands.proofs.Answered.{with-also}
 use Rattle.log_commands.proofs.Loads.{by-bytes, made-stopped, loaded}
 use Rattle.bugnet.proofs.RecordLoads.{program-refused, bad-one, none-bad}
 
@@ -123,9 +123,6 @@ pub words-cause : (o : Option BadSetting) (clash : Bool) (before now : Counts) (
 words-cause (Some bad) clash before now r e = subst (λ (x : Refusal). CauseBy {A = Answer} (Some (OutOfRange bad)) before now (Err x)) (same-refusal (OutOfRange bad) r e) (refl, refl)
 words-cause None true before now r e = subst (λ (x : Refusal). CauseBy {A = Answer} (Some SameName) before now (Err x)) (same-refusal SameName r e) (refl, refl)
 words-cause None false before now r e = absurd cc
-
-pub own-cause : (o : Option Refusal) (before now : Counts) (result : Result Answer Refusal) → o ≡ None → ResultCause before now result → CauseBy o before now result
-own-cause o before now result e h = subst (λ (x : Option Refusal). CauseBy x before now result) (sym e) h
 
 -- what the tests of the words find
 pub bad-refused : (c : RawSettings) (clash : Bool) (bad : BadSetting) → checked_by (first_bad c) c ≡ Err bad → setting_refusal (first_bad c) clash ≡ Some (OutOfRange bad)

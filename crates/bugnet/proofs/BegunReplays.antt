@@ -8,16 +8,15 @@ use Rattle.rv_meaning.specs.Access.{stored_word, amo_result}
 use Rattle.rv_meaning.specs.Execute.{Step, Quiet, Asks, step, absorbed}
 use Rattle.rv_meaning.specs.declared.asks.Ask.{Ask}
 use Rattle.rv_meaning.specs.declared.asks.Want.{Want}
-use Rattle.rv_meaning.specs.declared.asks.Want.TheVariants.{Load, Store, LoadReserved, StoreConditional, Amo, System, Cut, Faulted}
+use Rattle.rv_meaning.specs.declared.asks.Want.TheVariants.{Load, Store, LoadReserved, StoreConditional, Amo, System, Faulted}
 use Rattle.rv_meaning.specs.Rows.{row_of, call_row, fault_row}
 use Rattle.rv_meaning.specs.declared.asks.Reply.TheVariants.{Word, Stored, Answer, Over}
 use Rattle.log_record.specs.declared.record.Record.{Record}
 use Rattle.hart_replay.specs.Replay.{Outcome, Done, Refused, Replayed, Interval, Position, Next, On, Stop, slot, taken_from, word_for, after_ask, after_sc, missing, call_reason, found, system_step, ask_step, one_step, left_over, finish, fault_end, ended, steps, first, interval_of, replayed_in, replayed}
 use Rattle.hart_replay.specs.declared.error.ReplayError.{ReplayError}
-use Rattle.hart_replay.specs.declared.error.ReplayError.TheVariants.{NoInterval, LoadMissing, ScMissing, RecordsLeft, EndDiffers, OutOfMemory}
+use Rattle.hart_replay.specs.declared.error.ReplayError.TheVariants.{NoInterval, ScMissing, RecordsLeft, EndDiffers, OutOfMemory}
 use Rattle.joint_replay.specs.declared.error.JointError.{JointError}
 use Rattle.joint_replay.specs.declared.error.JointError.TheVariants.{Replay, Stuck}
-use Rattle.joint_replay.specs.declared.error.JointError.TheVariants as why
 use Rattle.joint_replay.specs.declared.kinds.Next.TheVariants.{Hart, AllDone, NoneReady}
 use Rattle.joint_replay.specs.declared.kinds.Next.{Next as Choice}
 use Rattle.joint_replay.specs.Points.{intervals_in}
@@ -29,11 +28,7 @@ use Rattle.joint_replay.specs.Joining.{Joining, Walk, Ran, lanes_from, fresh, be
 -- any error but that the interval isn't there
 abbrev pub is_found : ReplayError → Bool
 is_found (NoInterval h c) = false
-is_found (LoadMissing h ic a) = true
-is_found (ScMissing h ic) = true
-is_found (RecordsLeft h n) = true
-is_found (EndDiffers h said found) = true
-is_found OutOfMemory = true
+is_found other = true
 
 abbrev pub is_begun_end : Outcome → Bool
 is_begun_end Done = true
@@ -82,8 +77,7 @@ module _ (i : Program) (h : ℕ) (v : Interval) where
       (by_word h p a (word_for v p a) go (λ x. tt))
   asks_begun p (StoreConditional a rd y) = by_slot (slot v.conditionals p.conditionals) (Stop (Refused (ScMissing h p.state.ic))) (λ b. after_sc i h p (record { state = p.state; want = StoreConditional a rd y }) b a y) refl (λ b. tt)
   asks_begun p (System n args) = call_begun p (record { state = p.state; want = System n args }) n (slice_index args 0)
-  asks_begun p Cut = refl
-  asks_begun p (Faulted f y) = refl
+  asks_begun p k = refl
 
   step_begun : (p : Position) (s : Step) → IsBegunStep (elim s as (λ z. Next) [ Quiet t ↦ On (record { state = t; loads = p.loads; conditionals = p.conditionals; rows = row_of h i p.state t None None ∷ p.rows; called = false }) | Asks k ↦ ask_step i h v p k ])
   step_begun p (Quiet t) = tt
@@ -95,16 +89,10 @@ module _ (i : Program) (h : ℕ) (v : Interval) where
       by_test Outcome (λ o. is_begun_end o ≡ true) (n == 0) Done (Refused (RecordsLeft h n)) refl refl
 
   fault_begun : (p : Position) (k : Want) → IsBegunEnd (fault_end i h v p k)
-  fault_begun p (Load a w s rd) = refl
-  fault_begun p (LoadReserved a rd) = refl
-  fault_begun p (Amo a o rd y) = refl
-  fault_begun p (Store a w y) = refl
-  fault_begun p (StoreConditional a rd y) = refl
-  fault_begun p (System n args) = refl
-  fault_begun p Cut = refl
   fault_begun p (Faulted f y) =
       by_test Replayed IsBegunEnd (16 + fault_number f == v.mark.reason && (y == v.mark.value))
       (finish (fault_row h i p.state f y ∷ p.rows) (left_over h v p)) (finish p.rows (Refused (EndDiffers h v.mark (found p.state.ic (16 + fault_number f) y)))) (left_begun p) refl
+  fault_begun p k = refl
 
   asked_begun : (p : Position) (s : Step) (quiet : Replayed) → IsBegunEnd quiet → IsBegunEnd (elim s as (λ z. Replayed) [ Quiet t ↦ quiet | Asks k ↦ fault_end i h v p k ])
   asked_begun p (Quiet t) quiet q = q
@@ -225,18 +213,12 @@ next_goes j h all = at_refusal j h j.refused all.1 all
 
 -- it stops for another cause
 abbrev pub StopsBegun : Option JointError → Type 0
-StopsBegun None = Unit {0}
 StopsBegun (Some (Replay e)) = is_found e ≡ true
-StopsBegun (Some (Stuck positions)) = Unit {0}
-StopsBegun (Some why.OutOfMemory) = Unit {0}
+StopsBegun other = Unit {0}
 
 pub told_begun : (e : ReplayError) → is_found e ≡ true → StopsBegun (Some (error_of e))
-told_begun (NoInterval h c) f = f
-told_begun (LoadMissing h ic a) f = f
-told_begun (ScMissing h ic) f = f
-told_begun (RecordsLeft h n) f = f
-told_begun (EndDiffers h said found) f = f
 told_begun OutOfMemory f = tt
+told_begun e f = f
 
 abbrev pub step_then : Walk → (Walk → Ran) → ℕ → Option (Result (Item × Joining) ReplayError) → Ran
 step_then w go h o = elim o as (λ z. Ran) [
@@ -256,9 +238,8 @@ choice_stops : (w : Walk) (go : Walk → Ran) (c : Choice) → JoiningBegun w.no
       | NoneReady ↦ ran w (Some (Stuck (positions_from 0 w.now.lanes)))
       | Hart h ↦ step_then w go h (next_step w.now h)
     ]).stopped
-choice_stops w go AllDone all each = tt
-choice_stops w go NoneReady all each = tt
 choice_stops w go (Hart h) all each = step_stops w go h (next_step w.now h) (next_goes w.now h all) each
+choice_stops w go other all each = tt
 
 refusal_stops : (w : Walk) (go : Walk → Ran) (o : Option ReplayError) → NotAbsent o → JoiningBegun w.now → ((v : Walk) → JoiningBegun v.now → StopsBegun (go v).stopped)
     → StopsBegun (elim o as (λ z. Ran) [

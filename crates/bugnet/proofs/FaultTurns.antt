@@ -11,7 +11,7 @@ use Rattle.bn_base.specs.declared.state.HartState.{HartState}
 use Rattle.rv_meaning.specs.Execute.{absorbed}
 use Rattle.rv_meaning.specs.declared.asks.Ask.{Ask}
 use Rattle.rv_meaning.specs.declared.asks.Want.{Want}
-use Rattle.rv_meaning.specs.declared.asks.Want.TheVariants.{Load, Store, LoadReserved, StoreConditional, Amo, System, Cut, Faulted}
+use Rattle.rv_meaning.specs.declared.asks.Want.TheVariants.{Faulted}
 use Rattle.rv_meaning.specs.declared.asks.Reply.{Reply}
 use Rattle.rv_meaning.specs.declared.asks.Reply.TheVariants as replies
 use Rattle.system_calls.specs.declared.effect.Plan.{Plan}
@@ -54,46 +54,14 @@ calm_counted c h ic = by (nat_le c.limit ic) (nat_le c.interval (ic - h.begun))
     by false false = tt
 
 calm_access : (c : RawSettings) (h : Hart) (want : Want) (ic : ℕ) → ((kind : Fault) (value : ℕ) → want ≡ Faulted kind value → ⊥) → IsCalm (after_access c h want ic)
-calm_access c h (Load a width signed rd) ic none = calm_counted c h ic
-calm_access c h (Store a width v) ic none = calm_counted c h ic
-calm_access c h (LoadReserved a rd) ic none = calm_counted c h ic
-calm_access c h (StoreConditional a rd v) ic none = calm_counted c h ic
-calm_access c h (Amo a op rd v) ic none = calm_counted c h ic
-calm_access c h (System number args) ic none = calm_counted c h ic
-calm_access c h Cut ic none = calm_counted c h ic
 calm_access c h (Faulted kind value) ic none = absurd (none kind value refl)
+calm_access c h want ic none = calm_counted c h ic
 
 calm_call : (plan : Plan) (reply : Reply) → IsCalm (after_call plan reply)
-calm_call (plans.Fill a n) (replies.Word v) = tt
-calm_call (plans.Fill a n) replies.Stored = tt
-calm_call (plans.Fill a n) replies.ScOk = tt
-calm_call (plans.Fill a n) replies.ScFailed = tt
-calm_call (plans.Fill a n) (replies.Answer v) = refl
-calm_call (plans.Fill a n) replies.Went = tt
-calm_call (plans.Fill a n) replies.Over = tt
-calm_call (plans.Send s a n) (replies.Word v) = tt
-calm_call (plans.Send s a n) replies.Stored = tt
-calm_call (plans.Send s a n) replies.ScOk = tt
-calm_call (plans.Send s a n) replies.ScFailed = tt
-calm_call (plans.Send s a n) (replies.Answer v) = refl
-calm_call (plans.Send s a n) replies.Went = tt
-calm_call (plans.Send s a n) replies.Over = tt
-calm_call (plans.Break b) (replies.Word v) = tt
-calm_call (plans.Break b) replies.Stored = tt
-calm_call (plans.Break b) replies.ScOk = tt
-calm_call (plans.Break b) replies.ScFailed = tt
-calm_call (plans.Break b) (replies.Answer v) = refl
-calm_call (plans.Break b) replies.Went = tt
-calm_call (plans.Break b) replies.Over = tt
-calm_call (plans.Answer b) (replies.Word v) = tt
-calm_call (plans.Answer b) replies.Stored = tt
-calm_call (plans.Answer b) replies.ScOk = tt
-calm_call (plans.Answer b) replies.ScFailed = tt
-calm_call (plans.Answer b) (replies.Answer v) = refl
-calm_call (plans.Answer b) replies.Went = tt
-calm_call (plans.Answer b) replies.Over = tt
 calm_call (plans.EndHart code) reply = refl
 calm_call (plans.EndRun code) reply = refl
+calm_call plan (replies.Answer v) = refl
+calm_call plan reply = tt
 
 calm_next : (c : RawSettings) (call : Option Plan) (h : Hart) (want : Want) (reply : Reply) (ic : ℕ) → ((kind : Fault) (value : ℕ) → want ≡ Faulted kind value → ⊥) → IsCalm (next_of c call h want reply ic)
 calm_next c None h want reply ic none = calm_access c h want ic none
@@ -101,9 +69,7 @@ calm_next c (Some plan) h want reply ic none = calm_call plan reply
 
 calm_hart : (next : TurnEnd) (s : HartState) (skipped bytes : ℕ) (h : Hart) → IsCalm next → is_fault h.mark ≡ false → is_fault (hart_after next s skipped bytes h).mark ≡ false
 calm_hart GoesOn s skipped bytes h calm e = e
-calm_hart (NewInterval reason value) s skipped bytes h calm e = calm
-calm_hart (HartOver reason value) s skipped bytes h calm e = calm
-calm_hart (RunOver reason value) s skipped bytes h calm e = calm
+calm_hart next s skipped bytes h calm e = calm
 
 calm_other : (next : TurnEnd) (h : Hart) → is_fault h.mark ≡ false → is_fault (other_after next h).mark ≡ false
 calm_other GoesOn h e = e
@@ -202,14 +168,8 @@ abbrev IsUnfaulted : Want → Type 0
 IsUnfaulted want = (kind : Fault) (value : ℕ) → want ≡ Faulted kind value → ⊥
 
 faulted_or : (want : Want) → IsFaulted want ⊎ IsUnfaulted want
-faulted_or (Load a width signed rd) = inr (λ kind value e. absurd cc)
-faulted_or (Store a width v) = inr (λ kind value e. absurd cc)
-faulted_or (LoadReserved a rd) = inr (λ kind value e. absurd cc)
-faulted_or (StoreConditional a rd v) = inr (λ kind value e. absurd cc)
-faulted_or (Amo a op rd v) = inr (λ kind value e. absurd cc)
-faulted_or (System number args) = inr (λ kind value e. absurd cc)
-faulted_or Cut = inr (λ kind value e. absurd cc)
 faulted_or (Faulted kind value) = inl (kind, value, refl)
+faulted_or want = inr (λ kind value e. absurd cc)
 
 later_legal : (b legal : Bool) → elim b as (λ x. Bool) [ true ↦ legal | false ↦ false ] ≡ true → (b ≡ true) × (legal ≡ true)
 later_legal true legal e = (refl, e)

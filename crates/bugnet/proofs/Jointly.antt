@@ -26,7 +26,7 @@ use Rattle.joint_laws.specs.Laws.{SaysTheRun, JointReplaysSayTheRun}
 use Rattle.log_commands.specs.Names.{FileNames}
 use Rattle.log_commands.specs.Told.{Told, refused, printed, printed_until}
 use Rattle.log_commands.specs.Commands.{Either, WithFile, IsByLog}
-use Rattle.log_commands.specs.Joined.{ran_told, joint_with, IsJoint}
+use Rattle.log_commands.specs.Joined.{ran_told, joint_with}
 use Rattle.log_commands.specs.Refusals.{joint_refusal}
 use Rattle.log_commands.specs.Pairs.{ByPair, pair_loaded, pair_same, pair_of, IsPairOf, IsPair, HoldsLog, ArePair}
 use Rattle.bugnet.specs.Answers.{names_in, names_by, IsAnswer}
@@ -130,7 +130,7 @@ as-begun : (r : Recording) (d : Content) → d.head ≡ record { settings = r.se
 as-begun r d head names = ap (λ (h : Head). ran_told names (run_all (fresh r.program h.settings.harts d.records))) head
 
 joins : Grammar → JointReplaysSayTheRun → Sizes → (files : Files) (r : Recording) (line : Option Line) (j : JoinsRun line files r) (what : Told)
-    → IsJoint files (names_in (JointLine j.log_name j.elf_name)) what → IsJoined (Some (JointLine j.log_name j.elf_name)) r j.says.log.records what
+    → IsPair (joint_with (names_in (JointLine j.log_name j.elf_name))) files (names_in (JointLine j.log_name j.elf_name)) what → IsJoined (Some (JointLine j.log_name j.elf_name)) r j.says.log.records what
 joins g law sizes files r line j what is =
     let names = names_in (JointLine j.log_name j.elf_name) in
     let d = j.says.log in

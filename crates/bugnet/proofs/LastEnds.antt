@@ -136,10 +136,6 @@ follows t p k vs us v (r ∷ rs) e g =
 abbrev seen : HartView → Result HartView ℕ
 seen v = Ok v
 
-no_if : {P : Type 0} (b : Bool) (n : ℕ) (x : Result HartView ℕ) (w : HartView) → b ≡ false → (if not b then Err n else x) ≡ seen w → P
-no_if true n x w c e = not_both c
-no_if false n x w c e = absurd cc
-
 passes : (b : Bool) (n : ℕ) (x : Result HartView ℕ) (w : HartView) → (if b then Err n else x) ≡ seen w → (b ≡ false) × (x ≡ Ok w)
 passes true n x w e = absurd cc
 passes false n x w e = (refl, e)
@@ -202,11 +198,8 @@ closed w p m e = ap takes_other e ∙ closed_by (goes_on m.reason) p m.ic
 abbrev Direct : ℕ → EndMark → List Record → Type 0
 Direct k m [] = ⊥
 Direct k m (Header h n ic pc x ∷ rs) = elim (h == k) as (λ b. Type 0) [ true ↦ ⊥ | false ↦ Direct k m rs ]
-Direct k m (FirstLoad h skip value ∷ rs) = Direct k m rs
-Direct k m (ScOk h ∷ rs) = Direct k m rs
-Direct k m (ScFailed h ∷ rs) = Direct k m rs
-Direct k m (Edge h ic s j ∷ rs) = Direct k m rs
 Direct k m (End h e ∷ rs) = elim (h == k) as (λ b. Type 0) [ true ↦ e ≡ m | false ↦ Direct k m rs ]
+Direct k m (r ∷ rs) = Direct k m rs
 
 -- the view before the later records, where the first may follow
 some_view : (b : Bool) (s : Result HartView ℕ) (W : HartView → Type 0) (v : HartView) → elim b as (λ x. Type 0) [ true ↦ (w : HartView) × (s ≡ Ok w) × W w | false ↦ W v ] → (w : HartView) × W w
@@ -250,9 +243,6 @@ no_direct t k v m (Header h n ic pc x ∷ rs) c f d = by (h == k) (no_direct t k
         → elim b as (λ x. Type 0) [ true ↦ ⊥ | false ↦ Direct k m rs ] → ⊥
     by true later f d = d
     by false later f d = later f d
-no_direct t k v m (FirstLoad h skip value ∷ rs) c f d = no_direct t k v m rs c (unheard (h == k) (after_other v) v (λ w. Follows t k w rs) (λ w e. ends_first (takes_other v.phase) c (other_goes v w e).0) f) d
-no_direct t k v m (ScOk h ∷ rs) c f d = no_direct t k v m rs c (unheard (h == k) (after_other v) v (λ w. Follows t k w rs) (λ w e. ends_first (takes_other v.phase) c (other_goes v w e).0) f) d
-no_direct t k v m (ScFailed h ∷ rs) c f d = no_direct t k v m rs c (unheard (h == k) (after_other v) v (λ w. Follows t k w rs) (λ w e. ends_first (takes_other v.phase) c (other_goes v w e).0) f) d
 no_direct t k v m (Edge h ic s j ∷ rs) c f d = no_direct t k v m rs c (unheard (h == k) (after_edge t v ic j) v (λ w. Follows t k w rs) (λ w e. ends_first (takes_other v.phase) c (edge_goes t v w ic j e).0) f) d
 no_direct t k v m (End h e ∷ rs) c f d = by (h == k) (no_direct t k v m rs c) f d
   where
@@ -260,6 +250,7 @@ no_direct t k v m (End h e ∷ rs) c f d = by (h == k) (no_direct t k v m rs c) 
         → elim b as (λ x. Type 0) [ true ↦ e ≡ m | false ↦ Direct k m rs ] → ⊥
     by true later f d = ends_first (takes_other v.phase) c (end_goes t v f.0 e f.1).0
     by false later f d = later f d
+no_direct t k v m (r ∷ rs) c f d = no_direct t k v m rs c (unheard (hart_of r == k) (after_other v) v (λ w. Follows t k w rs) (λ w e. ends_first (takes_other v.phase) c (other_goes v w e).0) f) d
 
 -- ---- where the last End is
 
@@ -313,18 +304,6 @@ ended t k v m [] f e = absurd cc
 ended t k v m (Header h n ic pc x ∷ rs) f e =
     let g = some_view (h == k) (after_header t v n ic) (λ w. Follows t k w rs) v f in
     at_header k h n ic pc x m rs (h == k) refl (ended t k g.0 m rs g.1 (or_none (last_end k rs) m e))
-ended t k v m (FirstLoad h skip value ∷ rs) f e =
-    let g = some_view (h == k) (after_other v) (λ w. Follows t k w rs) v f in
-    passed k m (FirstLoad h skip value) rs (λ d. d) (ended t k g.0 m rs g.1 (or_none (last_end k rs) m e))
-ended t k v m (ScOk h ∷ rs) f e =
-    let g = some_view (h == k) (after_other v) (λ w. Follows t k w rs) v f in
-    passed k m (ScOk h) rs (λ d. d) (ended t k g.0 m rs g.1 (or_none (last_end k rs) m e))
-ended t k v m (ScFailed h ∷ rs) f e =
-    let g = some_view (h == k) (after_other v) (λ w. Follows t k w rs) v f in
-    passed k m (ScFailed h) rs (λ d. d) (ended t k g.0 m rs g.1 (or_none (last_end k rs) m e))
-ended t k v m (Edge h ic s j ∷ rs) f e =
-    let g = some_view (h == k) (after_edge t v ic j) (λ w. Follows t k w rs) v f in
-    passed k m (Edge h ic s j) rs (λ d. d) (ended t k g.0 m rs g.1 (or_none (last_end k rs) m e))
 ended t k v m (End h mark ∷ rs) f e = by (last_end k rs) refl e (λ q. let g = some_view (h == k) (after_end t v mark) (λ w. Follows t k w rs) v f in ended t k g.0 m rs g.1 q)
   where
     by : (o : Option EndMark) → last_end k rs ≡ o → option_or o (elim (k == h) as (λ x. Option EndMark) [ true ↦ Some mark | false ↦ None ]) ≡ Some m
@@ -333,36 +312,36 @@ ended t k v m (End h mark ∷ rs) f e = by (last_end k rs) refl e (λ q. let g =
     by None q e rest =
         let own = own_end (k == h) mark m e in
         inl (chosen (h == k) (mark ≡ m) (Direct k m rs) (turned k h own.0) own.1)
+ended t k v m (r ∷ rs) f e =
+    let g = some_view (hart_of r == k) (after_one t v r) (λ w. Follows t k w rs) v f in
+    passed k m r rs (λ d. d) (ended t k g.0 m rs g.1 (or_none (last_end k rs) m e))
 
 -- ---- numbers ascend
 
 -- the next Header has this number at least
 abbrev IsPast : ℕ → Phase → Type 0
-IsPast low Unknown = ⊥
-IsPast low (Awaiting None ic) = ⊥
 IsPast low (Awaiting (Some next) ic) = low ≤ next
 IsPast low (Open next since) = low ≤ next
 IsPast low Done = Unit {0}
+IsPast low other = ⊥
 
 both : (a b : Bool) → (a && b) ≡ true → (a ≡ true) × (b ≡ true)
 both true b e = (refl, e)
 both false b e = absurd cc
 
 past_header : (low n ic : ℕ) (p : Phase) → IsPast low p → takes_header p ≡ true → is_awaited p n ic ≡ true → low ≤ n
-past_header low n ic Unknown past takes is = absurd past
-past_header low n ic (Awaiting None count) past takes is = absurd past
 past_header low n ic (Awaiting (Some next) count) past takes is =
     let same = same_number next n (both (count == ic) (next == n) is).1 in
     omega (arith, past, same)
 past_header low n ic (Open next since) past takes is = not_both (sym takes)
 past_header low n ic Done past takes is = not_both (sym takes)
+past_header low n ic p past takes is = absurd past
 
 past_end_by : (low : ℕ) (b : Bool) (p : Phase) (ic : ℕ) → IsPast low p → takes_other p ≡ true → IsPast low (if b then Awaiting (next_number p) ic else Done)
 past_end_by low false p ic past takes = tt
 past_end_by low true Unknown ic past takes = absurd past
-past_end_by low true (Awaiting next count) ic past takes = not_both (sym takes)
 past_end_by low true (Open next since) ic past takes = past
-past_end_by low true Done ic past takes = not_both (sym takes)
+past_end_by low true p ic past takes = not_both (sym takes)
 
 up_one : (low n : ℕ) → low ≤ n → low ≤ n + 1
 up_one low n e = omega (arith, e)
@@ -371,13 +350,11 @@ past_one : (t : OrderLimits) (low : ℕ) (v w : HartView) (r : Record) → IsPas
 past_one t low v w (Header h n ic pc x) past e =
     let g = header_goes t v w n ic e in
     subst (IsPast low) (sym g.2) (up_one low n (past_header low n ic v.phase past g.0 g.1))
-past_one t low v w (FirstLoad h skip value) past e = subst (IsPast low) (sym (other_goes v w e).1) past
-past_one t low v w (ScOk h) past e = subst (IsPast low) (sym (other_goes v w e).1) past
-past_one t low v w (ScFailed h) past e = subst (IsPast low) (sym (other_goes v w e).1) past
 past_one t low v w (Edge h ic s j) past e = subst (IsPast low) (sym (edge_goes t v w ic j e).1) past
 past_one t low v w (End h m) past e =
     let g = end_goes t v w m e in
     subst (IsPast low) (sym g.1) (past_end_by low (goes_on m.reason) v.phase m.ic past g.0)
+past_one t low v w r past e = subst (IsPast low) (sym (other_goes v w e).1) past
 
 ascends : (t : OrderLimits) (k low : ℕ) (v : HartView) (front : List Record) (n ic pc : ℕ) (x : List ℕ) (back : List Record) → IsPast low v.phase → Follows t k v (front ++ Header k n ic pc x ∷ back) → low ≤ n
 ascends t k low v [] n ic pc x back past f =
@@ -444,24 +421,8 @@ found t k v m (Header h j c p y ∷ front) n ic pc x back f d =
         let opened = (header_goes t v g.0 j c g.1).2 in
         let more = ascends t k (j + 1) g.0 front n ic pc x back (subst (IsPast (j + 1)) (sym opened) (same_least (j + 1))) g.2 in
         absurd (too_many j n (same_number j n own.1) more)
-found t k v m (FirstLoad h skip value ∷ front) n ic pc x back f d =
-    let g = some_view (h == k) (after_other v) (λ w. Follows t k w (front ++ Header k n ic pc x ∷ back)) v f in
-    let rest = found t k g.0 m front n ic pc x back g.1 d in
-    record { interval = rest.interval; is = rest.is; mark_is = rest.mark_is; begins = rest.begins }
-found t k v m (ScOk h ∷ front) n ic pc x back f d =
-    let g = some_view (h == k) (after_other v) (λ w. Follows t k w (front ++ Header k n ic pc x ∷ back)) v f in
-    let rest = found t k g.0 m front n ic pc x back g.1 d in
-    record { interval = rest.interval; is = rest.is; mark_is = rest.mark_is; begins = rest.begins }
-found t k v m (ScFailed h ∷ front) n ic pc x back f d =
-    let g = some_view (h == k) (after_other v) (λ w. Follows t k w (front ++ Header k n ic pc x ∷ back)) v f in
-    let rest = found t k g.0 m front n ic pc x back g.1 d in
-    record { interval = rest.interval; is = rest.is; mark_is = rest.mark_is; begins = rest.begins }
-found t k v m (Edge h c s j ∷ front) n ic pc x back f d =
-    let g = some_view (h == k) (after_edge t v c j) (λ w. Follows t k w (front ++ Header k n ic pc x ∷ back)) v f in
-    let rest = found t k g.0 m front n ic pc x back g.1 d in
-    record { interval = rest.interval; is = rest.is; mark_is = rest.mark_is; begins = rest.begins }
-found t k v m (End h e ∷ front) n ic pc x back f d =
-    let g = some_view (h == k) (after_end t v e) (λ w. Follows t k w (front ++ Header k n ic pc x ∷ back)) v f in
+found t k v m (r ∷ front) n ic pc x back f d =
+    let g = some_view (hart_of r == k) (after_one t v r) (λ w. Follows t k w (front ++ Header k n ic pc x ∷ back)) v f in
     let rest = found t k g.0 m front n ic pc x back g.1 d in
     record { interval = rest.interval; is = rest.is; mark_is = rest.mark_is; begins = rest.begins }
 

@@ -7,7 +7,7 @@ use Rattle.bn_base.specs.Ranges.{first_bad}
 use Rattle.bn_outside.specs.Counts.{Counts}
 use Rattle.bn_outside.specs.Files.{Files}
 use Rattle.bn_outside.specs.StoreCalls.{StoreCall}
-use Rattle.command_words.specs.Words.{Line, RecordLine, ReplayLine, JointLine, DebugLine, ListLine, CheckLine, AuditLine, RacesLine, SliceLine, ConvertLine, SalvageLine, DemoLine, seen_recording}
+use Rattle.command_words.specs.Words.{Line, RecordLine, ReplayLine, JointLine, DebugLine, ConvertLine, SalvageLine, DemoLine, seen_recording}
 use Rattle.command_words.specs.declared.commands.RecordOptions.{RecordOptions}
 use Rattle.demo_run.specs.Demonstration.{demo_text}
 use Rattle.hart_replay.specs.Replay.{Outcome, Refused, interval_of, replayed}
@@ -15,20 +15,19 @@ use Rattle.hart_replay.specs.Replay as rows
 use Rattle.hart_replay.specs.declared.error.ReplayError.{ReplayError}
 use Rattle.hart_replay.specs.declared.error.ReplayError.TheVariants as replay
 use Rattle.joint_replay.specs.declared.error.JointError.{JointError}
-use Rattle.joint_replay.specs.declared.error.JointError.TheVariants.{Replay, Stuck}
-use Rattle.joint_replay.specs.declared.error.JointError.TheVariants as joint
+use Rattle.joint_replay.specs.declared.error.JointError.TheVariants.{Replay}
 use Rattle.joint_replay.specs.Joining.{run_all}
 use Rattle.joint_replay.specs.Texts.{joint_text}
 use Rattle.log_order.specs.Content.{Content}
 use Rattle.bn_base.specs.Programs.{Program}
 use Rattle.bn_base.specs.declared.end_mark.EndMark.{EndMark}
 use Rattle.log_commands.specs.Names.{FileNames, no_names}
-use Rattle.bugnet.specs.Answers.{names_in, names_by, manner_of, setting_refusal, refusal_in, refusal_by, IsAnswer}
+use Rattle.bugnet.specs.Answers.{names_in, names_by, manner_of, setting_refusal, refusal_in, refusal_by, IsAnswer, line_roles}
 use Rattle.log_commands.specs.Refusals.{replay_status, joint_refusal}
 use Rattle.log_commands.specs.SaveCounts.{IsRenewed, IsRecordedRun, IsMade}
 use Rattle.bugnet.specs.Asks.{FitsLine}
 use Rattle.log_commands.specs.FileCalls.{FileCall, Note, Saves, noted_after, loads_of, saves_of, has_save, input_roles, record_roles, elf_roles, saved_in, saves_in, IsOfContent, StopsAt, LoadsUpTo, CallsTo, LoadsTo, CallsBy, IsOfSave, SaveRefused, SavesTold}
-use Rattle.bugnet.specs.LineCalls.{line_roles, needed_roles, IsSaved, MaySave, calls_of, needed_of, is_printed, is_replayed, is_recorded, line_past, past_of, RefusedAfter, CallsSo, CallsOnly, TellsRefusal, HasShape, AnswersDemo, TellsDemo}
+use Rattle.bugnet.specs.LineCalls.{needed_roles, IsSaved, MaySave, calls_of, needed_of, is_printed, is_replayed, is_recorded, line_past, past_of, RefusedAfter, CallsSo, CallsOnly, TellsRefusal, HasShape, AnswersDemo, TellsDemo}
 use Rattle.bugnet.specs.Command.Record.{is_clash}
 use Rattle.log_commands.specs.Commands.{replay_found, ended}
 use Rattle.log_commands.specs.Joined.{ran_told, joined, joint_with}
@@ -50,7 +49,7 @@ use Rattle.log_commands.specs.declared.refusal.Refusal.TheVariants.{OutOfMemory,
 use Rattle.bugnet.proofs.BegunReplays.{is_found, is_begun_end, StopsBegun, replays_begin, joint_replays_begin}
 use Rattle.log_commands.proofs.Prints.{part-longer, part-whole}
 use Rattle.log_commands.proofs.Tells.{from, stopped-free, memory-names, wanting, same-files}
-use Rattle.log_commands.proofs.FileCalls.{CalledSoFar, ends-behind, noted-append, loads-alone}
+use Rattle.log_commands.proofs.FileCalls.{ends-behind, noted-append, loads-alone}
 use Rattle.log_commands.proofs.Shows.{found-saved}
 
 -- ---- the last of the calls
@@ -87,17 +86,6 @@ pub input-loads : (A : Type 0) (note : ℕ → StoreCall → ℕ) (names : FileN
     → CallsTo names (input_roles true) needed note before after result → CallsTo names (input_roles has) needed note before after result
 input-loads A note names has needed before after result e h = subst (λ (b : Bool). CallsTo names (input_roles b) needed note before after result) (sym e) h
 
--- ---- a loop over roles
-
-pub called-first : (note : ℕ → StoreCall → ℕ) (names : FileNames) (roles : List Role) (n : ℕ) → CalledSoFar note names roles roles n n
-called-first note names roles n = record { made = []; parts = refl; noted = refl }
-
-pub called-last : (note : ℕ → StoreCall → ℕ) (names : FileNames) (roles left : List Role) (before now : ℕ) → left ≡ [] → CalledSoFar note names roles left before now
-    → now ≡ noted_after note names before (loads_of roles)
-called-last note names roles left before now e so_far =
-    so_far.noted ∙ ap (λ (calls : List FileCall). noted_after note names before calls)
-    (sym (so_far.parts ∙ ap (λ (rs : List Role). so_far.made ++ loads_of rs) e ∙ append-nil so_far.made))
-
 -- ---- words that are tested first
 
 -- they are refused
@@ -125,35 +113,16 @@ record-calls A note names r how has before after result e m input h =
     (subst (λ (b : Bool). CallsBy (setting_refusal (first_bad s.settings) (is_clash s.lean names.log names.book)) names (record_roles b) elf_roles note before after result) there
     (subst (λ (x : Manner). CallsBy (setting_refusal (first_bad s.settings) (is_clash x.lean names.log names.book)) names (record_roles has) elf_roles note before after result) m h))
 
--- ---- saves
-
--- a recording's end is none of the store
-pub end-other : (e : RunEnd) → end_status e ≢ 3
-end-other run_end.Done = λ e. omega (arith, e)
-end-other run_end.Fault = λ e. omega (arith, e)
-end-other run_end.Limit = λ e. omega (arith, e)
-
 -- ---- what an answer saves is what its line may save
 
 printed-none : (answer : Answer) → IsPrinted answer → saved_in answer ≡ None
 printed-none (Recorded r) p = absurd p
-printed-none (Interval r) p = refl
-printed-none (Joined r) p = refl
-printed-none (Listed d) p = refl
-printed-none (Checked d) p = refl
-printed-none Agreed p = refl
 printed-none (Renewed n) p = absurd p
-printed-none (Shown text) p = refl
+printed-none answer p = refl
 
 renewed-one : (answer : Answer) → IsRenewed answer → IsSaved true (saved_in answer)
-renewed-one (Recorded r) is = absurd is
-renewed-one (Interval r) is = absurd is
-renewed-one (Joined r) is = absurd is
-renewed-one (Listed d) is = absurd is
-renewed-one (Checked d) is = absurd is
-renewed-one Agreed is = absurd is
 renewed-one (Renewed n) is = refl
-renewed-one (Shown text) is = absurd is
+renewed-one answer is = absurd is
 
 listed-so : {A B : Type 0} (f : A → B) (o : Option A) (lean : Bool) → not (is_some o) ≡ lean → is_some (option_map f o) ≡ not lean
 listed-so f None lean e = ap not e
@@ -161,27 +130,13 @@ listed-so f (Some a) lean e = ap not e
 
 recorded-so : (lean : Bool) (answer : Answer) → IsRecordedRun lean answer → IsSaved lean (saved_in answer)
 recorded-so lean (Recorded r) is = listed-so _ r.book lean is
-recorded-so lean (Interval r) is = absurd is
-recorded-so lean (Joined r) is = absurd is
-recorded-so lean (Listed d) is = absurd is
-recorded-so lean (Checked d) is = absurd is
-recorded-so lean Agreed is = absurd is
-recorded-so lean (Renewed n) is = absurd is
-recorded-so lean (Shown text) is = absurd is
+recorded-so lean answer is = absurd is
 
 answer-saves : (line : Line) (answer : Answer) → FitsLine line answer → (IsReadOnly (Some line) → IsPrinted answer) → MaySave (Some line) (saved_in answer)
 answer-saves (RecordLine r) answer records prints = recorded-so r.lean answer records
-answer-saves (ReplayLine log elf hart interval) answer records prints = printed-none answer (prints tt)
-answer-saves (JointLine log elf) answer records prints = printed-none answer (prints tt)
-answer-saves (DebugLine log elf) answer records prints = printed-none answer (prints tt)
-answer-saves (ListLine log) answer records prints = printed-none answer (prints tt)
-answer-saves (CheckLine log) answer records prints = printed-none answer (prints tt)
-answer-saves (AuditLine log elf book input) answer records prints = printed-none answer (prints tt)
-answer-saves (RacesLine log elf most) answer records prints = printed-none answer (prints tt)
-answer-saves (SliceLine log elf hart interval ic) answer records prints = printed-none answer (prints tt)
 answer-saves (ConvertLine log copy) answer records prints = renewed-one answer records
 answer-saves (SalvageLine log copy) answer records prints = renewed-one answer records
-answer-saves (DemoLine seed) answer records prints = printed-none answer (prints tt)
+answer-saves line answer records prints = printed-none answer (prints tt)
 
 -- and what it tells says so
 until-saved : (names : FileNames) (text : List ℕ) (o : Option Refusal) → (printed_until names text o).saved ≡ None
@@ -190,14 +145,9 @@ until-saved names text (Some refusal) = refl
 
 answer-told : (names : FileNames) (answer : Answer) → (told_of names answer).saved ≡ saved_in answer
 unfolding ran_told
-answer-told names (Recorded r) = refl
 answer-told names (Interval r) = found-saved names r (interval_of r.hart r.interval r.log.records)
 answer-told names (Joined r) = until-saved names _ _
-answer-told names (Listed d) = refl
-answer-told names (Checked n) = refl
-answer-told names Agreed = refl
-answer-told names (Renewed n) = refl
-answer-told names (Shown text) = refl
+answer-told names answer = refl
 
 -- before there is an answer: something that the line may save
 abbrev a_log : (lean : Bool) → Option Saved
@@ -209,19 +159,10 @@ log-fits true = refl
 log-fits false = refl
 
 sample : (line : Option Line) → (saved : Option Saved) × MaySave line saved
-sample None = (None, refl)
 sample (Some (RecordLine r)) = (a_log r.lean, log-fits r.lean)
-sample (Some (ReplayLine log elf hart interval)) = (None, refl)
-sample (Some (JointLine log elf)) = (None, refl)
-sample (Some (DebugLine log elf)) = (None, refl)
-sample (Some (ListLine log)) = (None, refl)
-sample (Some (CheckLine log)) = (None, refl)
-sample (Some (AuditLine log elf book input)) = (None, refl)
-sample (Some (RacesLine log elf most)) = (None, refl)
-sample (Some (SliceLine log elf hart interval ic)) = (None, refl)
 sample (Some (ConvertLine log copy)) = (a_log true, refl)
 sample (Some (SalvageLine log copy)) = (a_log true, refl)
-sample (Some (DemoLine seed)) = (None, refl)
+sample line = (None, refl)
 
 -- no save was made
 no-save : {A : Type 0} (b : Bool) → b ≡ false → b ≡ true → A
@@ -231,12 +172,8 @@ pub made-printed : {E : Type 0} (result : Result Answer E) → IfOk result IsMad
 made-printed (Ok (Recorded r)) p = absurd p
 made-printed (Ok (Interval r)) p = absurd p
 made-printed (Ok (Joined r)) p = absurd p
-made-printed (Ok (Listed d)) p = tt
-made-printed (Ok (Checked n)) p = tt
-made-printed (Ok Agreed) p = tt
 made-printed (Ok (Renewed n)) p = absurd p
-made-printed (Ok (Shown text)) p = tt
-made-printed (Err e) p = tt
+made-printed result p = tt
 
 -- ---- what an answer ends with
 
@@ -245,8 +182,7 @@ past-at past status n e h = ap past e ∙ h
 
 end-past : (e : RunEnd) → is_recorded (end_status e) ≡ true
 end-past run_end.Done = refl
-end-past run_end.Fault = refl
-end-past run_end.Limit = refl
+end-past e = refl
 
 -- it is refused by what its files hold, before it prints
 record Unbegun (names : FileNames) (status : ℕ) (k : Call) : Type 0 where
@@ -261,17 +197,11 @@ Replays names status k = (is_replayed status ≡ true) ⊎ Unbegun names status 
 
 replay-past : (e : ReplayError) → is_found e ≡ true → is_replayed (replay_status e) ≡ true
 replay-past (replay.NoInterval hart interval) begun = absurd (cc begun)
-replay-past (replay.LoadMissing hart ic addr) begun = refl
-replay-past (replay.ScMissing hart ic) begun = refl
-replay-past (replay.RecordsLeft hart left) begun = refl
-replay-past (replay.EndDiffers hart said found) begun = refl
-replay-past replay.OutOfMemory begun = refl
+replay-past e begun = refl
 
 until-past : (names : FileNames) (text : List ℕ) (o : Option JointError) → StopsBegun o → is_replayed (printed_until names text (option_map joint_refusal o)).status ≡ true
-until-past names text None begun = refl
 until-past names text (Some (Replay e)) begun = replay-past e begun
-until-past names text (Some (Stuck positions)) begun = refl
-until-past names text (Some joint.OutOfMemory) begun = refl
+until-past names text o begun = refl
 
 outcome-past : (names : FileNames) (hart interval : ℕ) (mark : EndMark) (text : List ℕ) (o : Outcome) → is_begun_end o ≡ true → is_replayed (ended names hart interval mark text o).status ≡ true
 unfolding ended
@@ -295,41 +225,23 @@ printed-past : (names : FileNames) (answer : Answer) (status : ℕ) (k : Call) �
 printed-past names (Recorded r) status k p done = absurd p
 printed-past names (Interval r) status k p done = found-past names r.hart r.interval r.log r.image (interval_of r.hart r.interval r.log.records) status k refl done
 printed-past names (Joined r) status k p done = joined-past names r.log r.image status k done
-printed-past names (Listed d) status k p done = inl (past-at is_replayed status 0 done.status_is refl)
-printed-past names (Checked n) status k p done = inl (past-at is_replayed status 0 done.status_is refl)
-printed-past names Agreed status k p done = inl (past-at is_replayed status 0 done.status_is refl)
 printed-past names (Renewed n) status k p done = absurd p
-printed-past names (Shown text) status k p done = inl (past-at is_replayed status 0 done.status_is refl)
+printed-past names answer status k p done = inl (past-at is_replayed status 0 done.status_is refl)
 
 made-past : (names : FileNames) (answer : Answer) → IsMade answer → is_printed (told_of names answer).status ≡ true
-made-past names (Recorded r) p = absurd p
-made-past names (Interval r) p = absurd p
-made-past names (Joined r) p = absurd p
 made-past names (Listed d) p = refl
 made-past names (Checked n) p = refl
 made-past names Agreed p = refl
-made-past names (Renewed n) p = absurd p
 made-past names (Shown text) p = refl
+made-past names answer p = absurd p
 
 renewed-past : (names : FileNames) (answer : Answer) → IsRenewed answer → is_printed (told_of names answer).status ≡ true
-renewed-past names (Recorded r) p = absurd p
-renewed-past names (Interval r) p = absurd p
-renewed-past names (Joined r) p = absurd p
-renewed-past names (Listed d) p = absurd p
-renewed-past names (Checked n) p = absurd p
-renewed-past names Agreed p = absurd p
 renewed-past names (Renewed n) p = refl
-renewed-past names (Shown text) p = absurd p
+renewed-past names answer p = absurd p
 
 recorded-past : (lean : Bool) (names : FileNames) (answer : Answer) → IsRecordedRun lean answer → is_recorded (told_of names answer).status ≡ true
 recorded-past lean names (Recorded r) p = end-past r.end
-recorded-past lean names (Interval r) p = absurd p
-recorded-past lean names (Joined r) p = absurd p
-recorded-past lean names (Listed d) p = absurd p
-recorded-past lean names (Checked n) p = absurd p
-recorded-past lean names Agreed p = absurd p
-recorded-past lean names (Renewed n) p = absurd p
-recorded-past lean names (Shown text) p = absurd p
+recorded-past lean names answer p = absurd p
 
 -- once all its calls are made a line ends so, or it is refused before it prints, and then these are the calls that it needs
 abbrev Ends : (past : ℕ → Bool) → (calls needed : List FileCall) → FileNames → (status : ℕ) → Call → Type 0
@@ -357,42 +269,17 @@ line-ends (RecordLine r) names answer status k fits prints other done = inl (ans
 line-ends (ReplayLine log elf hart interval) names answer status k fits prints other done = printed-ends names answer status k (prints tt) done
 line-ends (JointLine log elf) names answer status k fits prints other done = printed-ends names answer status k (prints tt) done
 line-ends (DebugLine log elf) names answer status k fits prints other done = absurd other
-line-ends (ListLine log) names answer status k fits prints other done = inl (answer-past is_printed names answer status k done (made-past names answer fits))
-line-ends (CheckLine log) names answer status k fits prints other done = inl (answer-past is_printed names answer status k done (made-past names answer fits))
-line-ends (AuditLine log elf book input) names answer status k fits prints other done = inl (answer-past is_printed names answer status k done (made-past names answer fits))
-line-ends (RacesLine log elf most) names answer status k fits prints other done = inl (answer-past is_printed names answer status k done (made-past names answer fits))
-line-ends (SliceLine log elf hart interval ic) names answer status k fits prints other done = inl (answer-past is_printed names answer status k done (made-past names answer fits))
 line-ends (ConvertLine log copy) names answer status k fits prints other done = inl (answer-past is_printed names answer status k done (renewed-past names answer fits))
 line-ends (SalvageLine log copy) names answer status k fits prints other done = inl (answer-past is_printed names answer status k done (renewed-past names answer fits))
-line-ends (DemoLine seed) names answer status k fits prints other done = inl (answer-past is_printed names answer status k done (made-past names answer fits))
+line-ends line names answer status k fits prints other done = inl (answer-past is_printed names answer status k done (made-past names answer fits))
 
 memory-past : (line : Line) → line_past line 9 ≡ true
 memory-past (RecordLine r) = refl
-memory-past (ReplayLine log elf hart interval) = refl
-memory-past (JointLine log elf) = refl
-memory-past (DebugLine log elf) = refl
-memory-past (ListLine log) = refl
-memory-past (CheckLine log) = refl
-memory-past (AuditLine log elf book input) = refl
-memory-past (RacesLine log elf most) = refl
-memory-past (SliceLine log elf hart interval ic) = refl
-memory-past (ConvertLine log copy) = refl
-memory-past (SalvageLine log copy) = refl
-memory-past (DemoLine seed) = refl
+memory-past line = refl
 
 write-past : (line : Line) → line_past line 13 ≡ true
 write-past (RecordLine r) = refl
-write-past (ReplayLine log elf hart interval) = refl
-write-past (JointLine log elf) = refl
-write-past (DebugLine log elf) = refl
-write-past (ListLine log) = refl
-write-past (CheckLine log) = refl
-write-past (AuditLine log elf book input) = refl
-write-past (RacesLine log elf most) = refl
-write-past (SliceLine log elf hart interval ic) = refl
-write-past (ConvertLine log copy) = refl
-write-past (SalvageLine log copy) = refl
-write-past (DemoLine seed) = refl
+write-past line = refl
 
 free-past : (line : Line) (status : ℕ) → IsFree status → status ≢ 3 → line_past line status ≡ true
 free-past line status (inl e) other = absurd (other e)
@@ -532,18 +419,8 @@ session-named log elf note names status before after k e h =
 
 pub session-calls : (line : Line) (note : ℕ → StoreCall → ℕ) (names : FileNames) (status : ℕ) (before after : ℕ) (k : Call) → (IsNoSession (Some line) → ⊥) → names ≡ names_in line
     → CallsSo names (loads_of pair_roles) (loads_of pair_roles) None is_begun status note before after k → CallsOnly (Some line) status note before after k
-session-calls (RecordLine r) note names status before after k is e h = absurd (is tt)
-session-calls (ReplayLine log elf hart interval) note names status before after k is e h = absurd (is tt)
-session-calls (JointLine log elf) note names status before after k is e h = absurd (is tt)
 session-calls (DebugLine log elf) note names status before after k is e h = session-named log elf note names status before after k e h
-session-calls (ListLine log) note names status before after k is e h = absurd (is tt)
-session-calls (CheckLine log) note names status before after k is e h = absurd (is tt)
-session-calls (AuditLine log elf book input) note names status before after k is e h = absurd (is tt)
-session-calls (RacesLine log elf most) note names status before after k is e h = absurd (is tt)
-session-calls (SliceLine log elf hart interval ic) note names status before after k is e h = absurd (is tt)
-session-calls (ConvertLine log copy) note names status before after k is e h = absurd (is tt)
-session-calls (SalvageLine log copy) note names status before after k is e h = absurd (is tt)
-session-calls (DemoLine seed) note names status before after k is e h = absurd (is tt)
+session-calls line note names status before after k is e h = absurd (is tt)
 
 -- ---- words
 
@@ -581,54 +458,24 @@ call-shape note line status before after k calls other = by calls.so.ends
 
 demo-memory : (line : Line) (names : FileNames) (status : ℕ) (k : Call) → names ≡ names_in line → Appends k.old.out k.new.out [] → k.new.files ≡ k.old.files
     → ToldRefusal names OutOfMemory status k.old.err k.new.err k.old.err_faults k.new.err_faults → TellsDemo (Some line) status k
-demo-memory (RecordLine r) names status k e out same told = tt
-demo-memory (ReplayLine log elf hart interval) names status k e out same told = tt
-demo-memory (JointLine log elf) names status k e out same told = tt
-demo-memory (DebugLine log elf) names status k e out same told = tt
-demo-memory (ListLine log) names status k e out same told = tt
-demo-memory (CheckLine log) names status k e out same told = tt
-demo-memory (AuditLine log elf book input) names status k e out same told = tt
-demo-memory (RacesLine log elf most) names status k e out same told = tt
-demo-memory (SliceLine log elf hart interval ic) names status k e out same told = tt
-demo-memory (ConvertLine log copy) names status k e out same told = tt
-demo-memory (SalvageLine log copy) names status k e out same told = tt
 demo-memory (DemoLine seed) names status k e out same told =
     inr (wanting no_names (printed (demo_text seed)) status k (part-longer k.old.out k.new.out [] (demo_text seed) (part-whole k.old.out k.new.out [] out)) (same-files k.old.files k.new.files same)
     (memory-names names no_names status k.old.err k.new.err k.old.err_faults k.new.err_faults told))
+demo-memory line names status k e out same told = tt
 
 -- it is refused
 pub demo-refused : (line : Line) (names : FileNames) (r : Refusal) (status : ℕ) (k : Call) → names ≡ names_in line → AnswersDemo line names (Err r) → Appends k.old.out k.new.out [] → k.new.files ≡ k.old.files
     → ToldRefusal names r status k.old.err k.new.err k.old.err_faults k.new.err_faults → TellsDemo (Some line) status k
-demo-refused (RecordLine recording) names r status k e shows out same told = tt
-demo-refused (ReplayLine log elf hart interval) names r status k e shows out same told = tt
-demo-refused (JointLine log elf) names r status k e shows out same told = tt
-demo-refused (DebugLine log elf) names r status k e shows out same told = tt
-demo-refused (ListLine log) names r status k e shows out same told = tt
-demo-refused (CheckLine log) names r status k e shows out same told = tt
-demo-refused (AuditLine log elf book input) names r status k e shows out same told = tt
-demo-refused (RacesLine log elf most) names r status k e shows out same told = tt
-demo-refused (SliceLine log elf hart interval ic) names r status k e shows out same told = tt
-demo-refused (ConvertLine log copy) names r status k e shows out same told = tt
-demo-refused (SalvageLine log copy) names r status k e shows out same told = tt
 demo-refused (DemoLine seed) names r status k e shows out same told =
     demo-memory (DemoLine seed) names status k e out same (subst (λ (x : Refusal). ToldRefusal names x status k.old.err k.new.err k.old.err_faults k.new.err_faults) shows told)
+demo-refused line names r status k e shows out same told = tt
 
 -- it has its answer
 pub demo-answers : (line : Line) (names : FileNames) (answer : Answer) (status : ℕ) (k : Call) → names ≡ names_in line → AnswersDemo line names (Ok answer) → Tells names (told_of names answer) status k
     → TellsDemo (Some line) status k
-demo-answers (RecordLine r) names answer status k e shows told = tt
-demo-answers (ReplayLine log elf hart interval) names answer status k e shows told = tt
-demo-answers (JointLine log elf) names answer status k e shows told = tt
-demo-answers (DebugLine log elf) names answer status k e shows told = tt
-demo-answers (ListLine log) names answer status k e shows told = tt
-demo-answers (CheckLine log) names answer status k e shows told = tt
-demo-answers (AuditLine log elf book input) names answer status k e shows told = tt
-demo-answers (RacesLine log elf most) names answer status k e shows told = tt
-demo-answers (SliceLine log elf hart interval ic) names answer status k e shows told = tt
-demo-answers (ConvertLine log copy) names answer status k e shows told = tt
-demo-answers (SalvageLine log copy) names answer status k e shows told = tt
 demo-answers (DemoLine seed) names answer status k e shows told =
     subst (λ (n : FileNames). Tells n (printed (demo_text seed)) status k) e (subst (λ (what : Told). Tells names what status k) shows told)
+demo-answers line names answer status k e shows told = tt
 
 -- no memory to read the words
 pub demo-unread : (line : Option Line) (status : ℕ) (k : Call) → Appends k.old.out k.new.out [] → k.new.files ≡ k.old.files

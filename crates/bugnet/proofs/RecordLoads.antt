@@ -1,6 +1,6 @@
 -- What a recording answers after its loads.
 use Rattle.std.proofs.Common.{◌≡◌, ℕ, List, Option, Some, None, ◌∙◌, ap, subst, sym, refl, arith, Bool, inl, inr}
-use Rattle.std.specs.Prelude.{Result, Ok, Err, is_some, option_map}
+use Rattle.std.specs.Prelude.{Result, Ok, Err, is_some}
 use Rattle.bn_outside.specs.Counts.{Counts}
 use Rattle.bn_outside.specs.Files.{Files}
 use Rattle.bn_base.specs.Programs.{Program}
@@ -22,6 +22,7 @@ use Rattle.bugnet.specs.Saves.{HoldsBytes, HasElf}
 use Rattle.log_commands.specs.Outside.{WithFiles, ProgramTells, GivesBy, CauseBy}
 use Rattle.log_commands.specs.declared.answer.Answer.{Answer}
 use Rattle.log_commands.specs.declared.refusal.Refusal.{Refusal}
+use Rattle.bugnet.proofs.LineCalls.{mapped}
 
 -- ---- what a recording loads
 
@@ -45,10 +46,6 @@ none-bad None s x e = (refl, grind arith)
 none-bad (Some other) s x e = grind arith
 
 -- ---- a recording
-
-mapped : (A : Type 0) (B : Type 0) (f : A → B) (o : Option A) → is_some (option_map f o) ≡ is_some o
-mapped A B f None = refl
-mapped A B f (Some a) = refl
 
 -- what a recording's line asks for, by the names in it
 pub record-answers : (known : Option Files) (names : FileNames) (r : RecordOptions) (how : Manner) (has : Bool) (result : Result Answer Refusal) → names ≡ names_in (RecordLine (seen_recording r))

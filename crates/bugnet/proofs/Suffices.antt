@@ -32,7 +32,8 @@ use Rattle.file_laws.specs.Given.{IsRecording}
 use Rattle.file_laws.specs.Laws.{LogsAreContents}
 use Rattle.log_commands.specs.Names.{FileNames}
 use Rattle.log_commands.specs.Told.{Told, refused, printed}
-use Rattle.log_commands.specs.Commands.{Either, IsByFile, WithFile, by_log, IsByLog, replay_same, replay_loaded, replay_found, replay_of, interval_told, ended, IsReplayOf, IsReplay}
+use Rattle.log_commands.specs.Commands.{Either, IsByFile, WithFile, by_log, IsByLog, replay_with, replay_found, interval_told, ended}
+use Rattle.log_commands.specs.Pairs.{pair_loaded, pair_same, pair_of, IsPairOf, IsPair}
 use Rattle.bugnet.specs.Answers.{names_in, names_by, IsAnswer}
 use Rattle.bugnet.specs.Headline.{Part, interval_rows, run_text, SaysEnd, ReplaysRun, IsReplayed, Headline, part_of, RecordingsAreReplayed, RecordingsSayEnds, PrintsRun}
 use Rattle.log_commands.specs.Outside.{WithFiles}
@@ -94,7 +95,7 @@ Together = EndsSuffice × RowsStandTogether
 
 -- the replay of what a log says
 pub answer : Together → (names : FileNames) (p : Part) (v : Interval) (line : Option Line) (files : Files) (r : ReplaysRun line files p v)
-    → replay_of names p.hart p.number p.elf r.says.log ≡ printed (run_text p v)
+    → pair_of (replay_with names p.hart p.number) names p.elf r.says.log ≡ printed (run_text p v)
 unfolding ended
 answer laws names p v line files r =
     let d = r.says.log in
@@ -105,8 +106,8 @@ answer laws names p v line files r =
     laws.0 p.settings p.program p.input p.turns p.hart p.number small (record { legal = r.recording.legal; over = r.recording.over }) d.records r.says.end v r.kept in
     let together : rows_in p.settings p.program (start p.settings p.program p.input) p.turns p.hart p.number ≡ interval_rows p v =
     laws.1 p.settings p.program p.input p.turns p.hart p.number small (record { legal = r.recording.legal; over = r.recording.over }) d.records r.says.end v r.kept in
-    ap (λ (b : Bool). replay_same b names p.hart p.number p.elf d) digest
-    ∙ ap (λ (i : Result Program ElfError). replay_loaded names p.hart p.number d i) loaded
+    ap (λ (b : Bool). pair_same b (replay_with names p.hart p.number) names p.elf d) digest
+    ∙ ap (λ (i : Result Program ElfError). pair_loaded (replay_with names p.hart p.number) names d i) loaded
     ∙ ap (λ (o : Option Interval). replay_found names p.hart p.number d p.program o) r.kept
     ∙ ap (λ (x : Replayed). interval_told names p.hart p.number v x) rows
     ∙ ap (λ (rs : List Row). interval_told names p.hart p.number v (record { rows = rs; outcome = Done })) together
@@ -116,17 +117,17 @@ pub by-content : Grammar → (names : FileNames) (bytes : List ℕ) (d : Content
 by-content g names bytes d go what reads by = by.is ∙ ap (λ (r : Result Content Damage). by_log names go r) (g.one_reading bytes by.says (Ok d) by.reads reads)
 
 replays : Grammar → Together → Sizes → (files : Files) (p : Part) (v : Interval) (line : Option Line) (r : ReplaysRun line files p v) (what : Told)
-    → IsReplay files (names_in (ReplayLine r.log_name r.elf_name p.hart p.number)) p.hart p.number what → IsReplayed (Some (ReplayLine r.log_name r.elf_name p.hart p.number)) p v what
+    → IsPair (replay_with (names_in (ReplayLine r.log_name r.elf_name p.hart p.number)) p.hart p.number) files (names_in (ReplayLine r.log_name r.elf_name p.hart p.number)) what → IsReplayed (Some (ReplayLine r.log_name r.elf_name p.hart p.number)) p v what
 unfolding WithFile
 replays g laws sizes files p v line r what is =
     let names = names_in (ReplayLine r.log_name r.elf_name p.hart p.number) in
     let log = r.bytes in
     let d = r.says.log in
-    let first : IsReplayOf files names p.hart p.number log what =
-    by-file (files r.log_name) names role.Log 272629760 log (λ log what. IsReplayOf files names p.hart p.number log what) what r.log (read-size sizes log d r.says.reads) is in
-    let second = by-size (files r.elf_name) names role.Elf 67108864 p.elf (λ elf what. IsByLog names log (replay_of names p.hart p.number elf) what) what r.program first in
-    then-so (nat_lt 67108864 (length p.elf)) _ _ _ (λ (by : IsByLog names log (replay_of names p.hart p.number p.elf) what).
-    by-content g names log d (replay_of names p.hart p.number p.elf) what r.says.reads by ∙ answer laws names p v line files r) second
+    let first : IsPairOf (replay_with names p.hart p.number) files names log what =
+    by-file (files r.log_name) names role.Log 272629760 log (λ log what. IsPairOf (replay_with names p.hart p.number) files names log what) what r.log (read-size sizes log d r.says.reads) is in
+    let second = by-size (files r.elf_name) names role.Elf 67108864 p.elf (λ elf what. IsByLog names log (pair_of (replay_with names p.hart p.number) names elf) what) what r.program first in
+    then-so (nat_lt 67108864 (length p.elf)) _ _ _ (λ (by : IsByLog names log (pair_of (replay_with names p.hart p.number) names p.elf) what).
+    by-content g names log d (pair_of (replay_with names p.hart p.number) names p.elf) what r.says.reads by ∙ answer laws names p v line files r) second
 
 pub headline : Grammar → Together → Sizes → Headline
 headline g laws sizes line files p v r what is =

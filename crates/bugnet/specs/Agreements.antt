@@ -5,13 +5,14 @@ use Rattle.command_words.specs.Words.{Line, AuditLine}
 use Rattle.log_commands.specs.Told.{Told}
 use Rattle.bugnet.specs.Answers.{IsAnswer}
 use Rattle.log_commands.specs.Audits.{Agrees}
+use Rattle.log_commands.specs.Statuses.{code}
+use Rattle.log_commands.specs.declared.status.Status.TheVariants as exit
 
--- if the answer to `audit` has status 0, the log is the file of the run of the book's turns, in its own version or in
--- version 2
+-- if what `audit` has to answer is done, the log is the file of the run of the book's turns, in its own version or in version 2
 abbrev pub AuditsAgree : Type 0
-AuditsAgree = (log elf book : List ℕ) (input : Option (List ℕ)) (files : Files) (what : Told) → IsAnswer (Some (AuditLine log elf book input)) files what → what.status ≡ 0 → Agrees log elf book input files
+AuditsAgree = (log elf book : List ℕ) (input : Option (List ℕ)) (files : Files) (what : Told) → IsAnswer (Some (AuditLine log elf book input)) files what → what.status ≡ code exit.Done → Agrees log elf book input files
 
--- if a call of `audit` ended with status 0, the log is the file of the run of the book's turns
+-- if a call of `audit` is done, the log is the file of the run of the book's turns
 abbrev pub AuditsRun : Option Line → Files → ℕ → Type 0
-AuditsRun (Some (AuditLine log elf book input)) files status = status ≡ 0 → Agrees log elf book input files
+AuditsRun (Some (AuditLine log elf book input)) files status = status ≡ code exit.Done → Agrees log elf book input files
 AuditsRun line files status = Unit {0}

@@ -1,29 +1,34 @@
 -- What the program answers to its words.
-use Rattle.std.specs.Prelude.{◌≡◌, [], Bool, Option, Some, None, is_some, unwrap_or}
+use Rattle.std.specs.Prelude.{◌≡◌, List, [], Bool, Option, Some, None, is_some, unwrap_or}
 use Rattle.std.specs.Str.{bytes_eq}
 use Rattle.bn_base.specs.Ranges.{first_bad}
 use Rattle.bn_base.specs.declared.settings.BadSetting.{BadSetting}
 use Rattle.bn_outside.specs.Files.{Files}
 use Rattle.command_words.specs.Words.{Line, RecordingLine, RecordLine, ReplayLine, JointLine, DebugLine, ListLine, CheckLine, AuditLine, RacesLine, SliceLine, ConvertLine, SalvageLine, DemoLine}
+use Rattle.command_words.specs.declared.error.WordsError.{WordsError}
+use Rattle.command_words.specs.declared.error.WordsError.TheVariants as words_error
 use Rattle.log_commands.specs.Names.{FileNames, no_names}
 use Rattle.demo_run.specs.Demonstration.{demo_text}
 use Rattle.log_commands.specs.Told.{Told, refused, printed}
 use Rattle.bugnet.specs.Command.Record.{is_clash, IsRecord}
-use Rattle.log_commands.specs.Commands.{IsByLog, list_of, check_of, replay_with, IsReplay, IsList, IsCheck}
+use Rattle.log_commands.specs.Answering.{IsByFiles}
+use Rattle.log_commands.specs.Commands.{IsByLog, list_of, check_of, replay_with}
+use Rattle.log_commands.specs.FileCalls.{log_roles, origin_roles, record_roles}
 use Rattle.bugnet.specs.declared.manner.Manner.{Manner}
-use Rattle.log_commands.specs.Joined.{joint_with, IsJoint}
-use Rattle.log_commands.specs.RaceAnswers.{races_with, IsRaces}
-use Rattle.log_commands.specs.SliceAnswers.{slice_with, IsSlice}
+use Rattle.log_commands.specs.Joined.{joint_with}
+use Rattle.log_commands.specs.RaceAnswers.{races_with}
+use Rattle.log_commands.specs.SliceAnswers.{slice_with}
 use Rattle.bugnet.specs.Sessions.{IsDebug}
-use Rattle.log_commands.specs.Audits.{IsAuditOf, IsAudit}
-use Rattle.log_commands.specs.Inputs.{Bytes}
+use Rattle.log_commands.specs.Audits.{IsAuditOf, roles_of}
+use Rattle.log_commands.specs.Inputs.{Bytes, no_bytes}
 use Rattle.log_commands.specs.Outside.{IsPrinted}
-use Rattle.log_commands.specs.Pairs.{pair_of}
+use Rattle.log_commands.specs.Pairs.{pair_of, pair_roles}
 use Rattle.log_commands.specs.SaveCounts.{IsMade, IsRenewed}
 use Rattle.log_commands.specs.declared.answer.Answer.{Answer}
-use Rattle.log_commands.specs.NewLogs.{renewed, IsBySalvage, IsConvert, IsSalvage}
+use Rattle.log_commands.specs.NewLogs.{renewed, IsBySalvage}
+use Rattle.log_commands.specs.declared.names.Role.{Role}
 use Rattle.log_commands.specs.declared.refusal.Refusal.{Refusal}
-use Rattle.log_commands.specs.declared.refusal.Refusal.TheVariants.{WordsRefused, OutOfRange}
+use Rattle.log_commands.specs.declared.refusal.Refusal.TheVariants.{WordsRefused, OutOfRange, OutOfMemory}
 use Rattle.log_commands.specs.Refusals.{name_refusal}
 
 -- the names of the files of a line
@@ -59,34 +64,31 @@ refusal_in (ConvertLine log copy) = name_refusal (bytes_eq log copy)
 refusal_in (SalvageLine log copy) = name_refusal (bytes_eq log copy)
 refusal_in line = None
 
+-- why words give no command
+abbrev pub words_refusal : WordsError → Refusal
+words_refusal words_error.Refused = WordsRefused
+words_refusal words_error.OutOfMemory = OutOfMemory
+
 -- what the words alone refuse, if they do
 abbrev pub refusal_by : Option Line → Option Refusal
 refusal_by None = Some WordsRefused
 refusal_by (Some line) = refusal_in line
 
--- what words have to answer, by the line that they say; words that say none are refused
-abbrev pub IsAnswer : Option Line → Files → Told → Type 0
-IsAnswer None files what = what ≡ refused no_names WordsRefused
-IsAnswer (Some (RecordLine r)) files what = IsRecord files (names_in (RecordLine r)) r.settings (manner_of r) (is_some r.input) what
-IsAnswer (Some (ReplayLine log elf hart interval)) files what = IsReplay files (names_in (ReplayLine log elf hart interval)) hart interval what
-IsAnswer (Some (JointLine log elf)) files what = IsJoint files (names_in (JointLine log elf)) what
-IsAnswer (Some (DebugLine log elf)) files what = IsDebug files (names_in (DebugLine log elf)) what
-IsAnswer (Some (ListLine log)) files what = IsList files (names_in (ListLine log)) what
-IsAnswer (Some (CheckLine log)) files what = IsCheck files (names_in (CheckLine log)) what
-IsAnswer (Some (AuditLine log elf book input)) files what = IsAudit files (names_in (AuditLine log elf book input)) (is_some input) what
-IsAnswer (Some (RacesLine log elf most)) files what = IsRaces files (names_in (RacesLine log elf most)) most what
-IsAnswer (Some (SliceLine log elf hart interval ic)) files what = IsSlice files (names_in (SliceLine log elf hart interval ic)) hart interval ic what
-IsAnswer (Some (ConvertLine log copy)) files what = IsConvert files (names_in (ConvertLine log copy)) what
-IsAnswer (Some (SalvageLine log copy)) files what = IsSalvage files (names_in (SalvageLine log copy)) what
-IsAnswer (Some (DemoLine seed)) files what = what ≡ printed (demo_text seed)
+-- what a line loads, in this order
+abbrev pub line_roles : Line → List Role
+line_roles (RecordLine r) = record_roles (is_some r.input)
+line_roles (ListLine log) = log_roles
+line_roles (CheckLine log) = log_roles
+line_roles (AuditLine log elf book input) = roles_of (is_some input)
+line_roles (ConvertLine log copy) = origin_roles
+line_roles (SalvageLine log copy) = origin_roles
+line_roles (DemoLine seed) = []
+line_roles other = pair_roles
 
--- ---- what a line has to answer by the bytes that are loaded for it
-
+-- what a line has to answer by the bytes that are loaded for it
 abbrev pub IsOn : Line → FileNames → Bytes → Told → Type 0
-IsOn (RecordLine r) names b what = ⊥
 IsOn (ReplayLine log elf hart interval) names b what = IsByLog names b.log (pair_of (replay_with names hart interval) names b.elf) what
 IsOn (JointLine log elf) names b what = IsByLog names b.log (pair_of (joint_with names) names b.elf) what
-IsOn (DebugLine log elf) names b what = ⊥
 IsOn (ListLine log) names b what = IsByLog names b.log list_of what
 IsOn (CheckLine log) names b what = IsByLog names b.log check_of what
 IsOn (AuditLine log elf book input) names b what = IsAuditOf names b.log b.elf b.book b.input what
@@ -95,6 +97,23 @@ IsOn (SliceLine log elf hart interval ic) names b what = IsByLog names b.log (pa
 IsOn (ConvertLine log copy) names b what = IsByLog names b.origin renewed what
 IsOn (SalvageLine log copy) names b what = IsBySalvage names b.origin what
 IsOn (DemoLine seed) names b what = what ≡ printed (demo_text seed)
+IsOn other names b what = ⊥
+
+-- a refusal if there is one, else this
+abbrev pub UnlessRefused : Option Refusal → FileNames → (Told → Type 0) → Told → Type 0
+UnlessRefused (Some refusal) names Is what = what ≡ refused names refusal
+UnlessRefused None names Is what = Is what
+
+-- what a line that records nothing and reads no commands has to answer by the files that are there
+abbrev pub IsByLine : Line → Files → Told → Type 0
+IsByLine line files what = UnlessRefused (refusal_in line) (names_in line) (λ what. IsByFiles files (names_in line) (line_roles line) no_bytes (IsOn line (names_in line)) what) what
+
+-- what words have to answer, by the line that they say; words that say none are refused
+abbrev pub IsAnswer : Option Line → Files → Told → Type 0
+IsAnswer None files what = what ≡ refused no_names WordsRefused
+IsAnswer (Some (RecordLine r)) files what = IsRecord files (names_in (RecordLine r)) r.settings (manner_of r) (is_some r.input) what
+IsAnswer (Some (DebugLine log elf)) files what = IsDebug files (names_in (DebugLine log elf)) what
+IsAnswer (Some line) files what = IsByLine line files what
 
 -- what kind of answer that is
 abbrev pub KindOf : Line → Answer → Type 0

@@ -28,8 +28,6 @@ use Rattle.bugnet.specs.Saves.{HoldsBytes}
 
 -- the log of a line that loads one is bytes
 abbrev pub HasBytes : Option Line → Files → Type 0
-HasBytes None files = Unit {0}
-HasBytes (Some (RecordLine r)) files = Unit {0}
 HasBytes (Some (ReplayLine log elf hart interval)) files = HoldsBytes (files log)
 HasBytes (Some (JointLine log elf)) files = HoldsBytes (files log)
 HasBytes (Some (DebugLine log elf)) files = HoldsBytes (files log)
@@ -40,7 +38,7 @@ HasBytes (Some (RacesLine log elf most)) files = HoldsBytes (files log)
 HasBytes (Some (SliceLine log elf hart interval ic)) files = HoldsBytes (files log)
 HasBytes (Some (ConvertLine log copy)) files = HoldsBytes (files log)
 HasBytes (Some (SalvageLine log copy)) files = HoldsBytes (files log)
-HasBytes (Some (DemoLine seed)) files = Unit {0}
+HasBytes other files = Unit {0}
 
 -- then there is an answer
 abbrev pub EachHasAnAnswer : Type 0

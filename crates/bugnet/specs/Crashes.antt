@@ -17,6 +17,8 @@ use Rattle.bugnet.specs.Headline.{run_text, part_of}
 use Rattle.bugnet.specs.Saves.{Leaves, TellsEnd}
 use Rattle.log_commands.specs.Texts.{interval_text}
 use Rattle.log_commands.specs.Told.{Told, printed}
+use Rattle.log_commands.specs.Statuses.{code}
+use Rattle.log_commands.specs.declared.status.Status.TheVariants as exit
 
 -- the last turn of a run is a fault: of this hart, of this kind and with this value
 pub record IsCrash (c : RawSettings) (i : Program) (input turns : List ℕ) : Type 0 where
@@ -59,5 +61,5 @@ pub record ShowsCrash {r : RecordingLine} {old new : Files} (l : Leaves r old ne
 -- With format 2, if the recording's status is 10, the run's last turn is a crash, and it is shown so. This is so whatever the
 -- program, the input, the number of harts, and what the other harts logged
 abbrev pub CrashesAreShown : Type 0
-CrashesAreShown = (r : RecordingLine) (old new : Files) (l : Leaves r old new) → r.settings.format ≡ 2 → TellsEnd l 10
+CrashesAreShown = (r : RecordingLine) (old new : Files) (l : Leaves r old new) → r.settings.format ≡ 2 → TellsEnd l (code exit.Fault)
     → (k : IsCrash r.settings l.program l.input l.turns) × ShowsCrash l k

@@ -25,6 +25,8 @@ use Rattle.bugnet.specs.Run.{StoppedEarly}
 use Rattle.log_commands.specs.Joined.{joined}
 use Rattle.log_commands.specs.Pairs.{LoadedPair, HasPair}
 use Rattle.bugnet.specs.Sessions.{Commands, AreRead, IsUnread, SessionOver, whole_input, input_in, session_status, IsSession, CanDebug}
+use Rattle.log_commands.specs.Statuses.{code}
+use Rattle.log_commands.specs.declared.status.Status.TheVariants as exit
 
 -- ---- a recording
 
@@ -58,13 +60,13 @@ pub record DoneSession (r : Recording) (records : List Record) (c : Commands) (s
   pub goes_on : (e : JointError) → (session_of r records c).result ≢ Err (Joint e)
   pub shows : (lines : List (List ℕ)) → ShowsRun r records lines
   -- if they keep to their limits with all that may follow them, and no read failed, it wasn't stopped
-  pub whole : (more : List ℕ) → c.failed ≡ false → (input_of (c.bytes ++ more)).refused ≡ None → status ≡ 0
+  pub whole : (more : List ℕ) → c.failed ≡ false → (input_of (c.bytes ++ more)).refused ≡ None → status ≡ code exit.Done
 
 -- a session over a recording's log is done so, unless memory ran out, the store or a write failed, or the program file is
 -- too long
 abbrev pub ShowsSession : Commands → (log elf : List ℕ) → Files → ℕ → Option (List ℕ) → Option (List ℕ) → Type 0
 ShowsSession c log elf files status out_old out_new = (r : Recording) (h : HasRun log elf files r)
-    → IsFree status ⊎ Either (nat_lt 67108864 (length r.elf)) (status ≡ 5) (DoneSession r h.says.log.records c status out_old out_new)
+    → IsFree status ⊎ Either (nat_lt 67108864 (length r.elf)) (status ≡ code exit.TooLong) (DoneSession r h.says.log.records c status out_old out_new)
 
 -- A session has all that it needs, if the log file that is there says an end of a recording, and the recording's program
 -- file is there and isn't too long. Its commands have to be read whole, and to keep to their limits
@@ -101,12 +103,12 @@ SessionIs c log elf files status left now_left before now reads now_reads k =
 pub record DebugsFiles (c : Commands) (log elf : List ℕ) (files : Files) (status : ℕ) (left now_left : Option (List ℕ)) (before now reads now_reads : ℕ) (k : Call) : Type 0 where
   pub tells : SomeTold (IsSession c files (names_in (DebugLine log elf))) (λ what. Tells (names_in (DebugLine log elf)) what status k)
       ⊎ StoppedEarly (Some (DebugLine log elf)) files status k
-  pub done : CanDebug c log elf files → IsFree status ⊎ (status ≡ 0)
+  pub done : CanDebug c log elf files → IsFree status ⊎ (status ≡ code exit.Done)
   pub shows : ShowsSession c log elf files status k.old.out k.new.out
   -- what was read was read by a session with the log and the program that are there, no further than its end says
   pub session : SessionIs c log elf files status left now_left before now reads now_reads k
   -- if a session with all that the source had left isn't stopped, no prefix stops it: it is done, or a read failed
-  pub whole : (all : List ℕ) → left ≡ Some all → CanDebug (whole_input all) log elf files → IsFree status ⊎ ((status ≡ 12) ⊎ (status ≡ 0))
+  pub whole : (all : List ℕ) → left ≡ Some all → CanDebug (whole_input all) log elf files → IsFree status ⊎ ((status ≡ code exit.ReadFailed) ⊎ (status ≡ code exit.Done))
 
 -- a session reads commands, and does so by them
 abbrev pub Debugs : Option Line → (status : ℕ) → (left now_left : Option (List ℕ)) → (before now reads now_reads : ℕ) → Call → Type 0

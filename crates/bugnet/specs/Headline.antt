@@ -26,6 +26,8 @@ use Rattle.log_commands.specs.Effects.{IsFree}
 use Rattle.bugnet.specs.Saves.{Leaves}
 use Rattle.log_commands.specs.declared.names.Role.TheVariants as role
 use Rattle.log_commands.specs.declared.refusal.Refusal.TheVariants.{TooLong}
+use Rattle.log_commands.specs.Statuses.{code}
+use Rattle.log_commands.specs.declared.status.Status.TheVariants as exit
 
 -- an interval of a run: the settings, the program file and its program, the input, the list of turns, the hart and number
 pub record Part : Type 0 where
@@ -91,7 +93,7 @@ RecordingsAreReplayed = (r : RecordingLine) (old new : Files) (l : Leaves r old 
 -- then out gains that text, unless memory ran out, the outside failed, or the program file is too long
 abbrev pub PrintsRun : Option Line → Files → ℕ → Option (List ℕ) → Option (List ℕ) → Type 0
 PrintsRun line files status out_old out_new = (p : Part) (v : Interval) → ReplaysRun line files p v
-    → IsFree status ⊎ Either (nat_lt 67108864 (length p.elf)) (status ≡ 5) ((status ≡ 0) × Appends out_old out_new (run_text p v))
+    → IsFree status ⊎ Either (nat_lt 67108864 (length p.elf)) (status ≡ code exit.TooLong) ((status ≡ code exit.Done) × Appends out_old out_new (run_text p v))
 
 -- ---- which files say an end
 

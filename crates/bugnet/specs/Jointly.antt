@@ -17,6 +17,8 @@ use Rattle.log_commands.specs.Effects.{IsFree}
 use Rattle.bugnet.specs.Saves.{Leaves}
 use Rattle.log_commands.specs.declared.names.Role.TheVariants as role
 use Rattle.log_commands.specs.declared.refusal.Refusal.TheVariants.{TooLong}
+use Rattle.log_commands.specs.Statuses.{code}
+use Rattle.log_commands.specs.declared.status.Status.TheVariants as exit
 
 -- the joint replay of a recording's records, the lowest ready hart first
 abbrev pub joint_run : Recording → List Record → Ran
@@ -73,7 +75,7 @@ RecordingsAreJoined = (r : RecordingLine) (old new : Files) (l : Leaves r old ne
 
 -- the command is done: out gains the text of that joint replay, and it says the run
 pub record DoneJointly (r : Recording) (records : List Record) (status : ℕ) (out_old out_new : Option (List ℕ)) : Type 0 where
-  pub done : status ≡ 0
+  pub done : status ≡ code exit.Done
   pub text : Appends out_old out_new (joint_text (run_all (begin r records)))
   pub says : SaysTheRun r records (run_all (begin r records))
 
@@ -81,4 +83,4 @@ pub record DoneJointly (r : Recording) (records : List Record) (status : ℕ) (o
 -- long
 abbrev pub PrintsJointly : Option Line → Files → ℕ → Option (List ℕ) → Option (List ℕ) → Type 0
 PrintsJointly line files status out_old out_new = (r : Recording) (j : JoinsRun line files r)
-    → IsFree status ⊎ Either (nat_lt 67108864 (length r.elf)) (status ≡ 5) (DoneJointly r j.says.log.records status out_old out_new)
+    → IsFree status ⊎ Either (nat_lt 67108864 (length r.elf)) (status ≡ code exit.TooLong) (DoneJointly r j.says.log.records status out_old out_new)

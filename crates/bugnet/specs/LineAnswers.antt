@@ -2,10 +2,10 @@
 use Rattle.std.specs.Prelude.{◌≡◌, Some, Result, IfOk}
 use Rattle.bn_outside.specs.Counts.{NoneFell}
 use Rattle.command_words.specs.Words.{Line}
-use Rattle.bugnet.specs.Answers.{refusal_in, IsAnswer}
+use Rattle.bugnet.specs.Answers.{refusal_in, IsAnswer, line_roles}
 use Rattle.bugnet.specs.Asks.{FitsLine}
 use Rattle.bugnet.specs.Laws.{IsReadOnly}
-use Rattle.bugnet.specs.LineCalls.{line_roles, needed_roles, AnswersDemo}
+use Rattle.bugnet.specs.LineCalls.{needed_roles, AnswersDemo}
 use Rattle.log_commands.specs.FileCalls.{Note, CallsBy}
 use Rattle.log_commands.specs.Inputs.{Stored}
 use Rattle.log_commands.specs.Names.{FileNames}

@@ -2,12 +2,10 @@
 use Rattle.std.specs.Prelude.{◌≡◌, ◌⊎◌, ℕ, ◌==◌, ◌||◌, Bool, true, false, List, [], ◌++◌, Option, Some, None, Result, Ok, Err, is_some, not, IsSomeAnd}
 use Rattle.std.specs.Io.KnownBytes.{Appends}
 use Rattle.demo_run.specs.Demonstration.{demo_text}
-use Rattle.command_words.specs.Words.{Line, RecordLine, ReplayLine, JointLine, DebugLine, ListLine, CheckLine, AuditLine, RacesLine, SliceLine, ConvertLine, SalvageLine, DemoLine}
+use Rattle.command_words.specs.Words.{Line, RecordLine, ReplayLine, JointLine, DebugLine, ConvertLine, SalvageLine, DemoLine}
 use Rattle.log_commands.specs.Names.{FileNames, no_names}
-use Rattle.bugnet.specs.Answers.{names_by, refusal_by, IsAnswer}
-use Rattle.log_commands.specs.Command.Audit.{roles_of}
+use Rattle.bugnet.specs.Answers.{names_by, refusal_by, line_roles, IsAnswer}
 use Rattle.log_commands.specs.Outside.{WithFiles, Wrote, ToldRefusal, told_of}
-use Rattle.log_commands.specs.Pairs.{pair_roles}
 use Rattle.log_commands.specs.Refusals.{status_of, line_of}
 use Rattle.log_commands.specs.Effects.{Call, SomeTold, Tells}
 use Rattle.bugnet.specs.Sessions.{is_begun}
@@ -16,24 +14,11 @@ use Rattle.log_commands.specs.declared.answer.Answer.{Answer}
 use Rattle.log_commands.specs.declared.names.Role.{Role}
 use Rattle.log_commands.specs.declared.refusal.Refusal.{Refusal}
 use Rattle.log_commands.specs.declared.refusal.Refusal.TheVariants as why
-use Rattle.log_commands.specs.FileCalls.{FileCall, Note, StopsAt, elf_roles, has_save, loads_of, log_roles, noted_after, origin_roles, record_roles, saves_of}
+use Rattle.log_commands.specs.FileCalls.{FileCall, Note, StopsAt, elf_roles, has_save, loads_of, noted_after, saves_of}
+use Rattle.log_commands.specs.Statuses.{code}
+use Rattle.log_commands.specs.declared.status.Status.TheVariants as exit
 
 -- ---- the calls of a line
-
--- what a line loads, in this order
-abbrev pub line_roles : Line → List Role
-line_roles (RecordLine r) = record_roles (is_some r.input)
-line_roles (ReplayLine log elf hart interval) = pair_roles
-line_roles (JointLine log elf) = pair_roles
-line_roles (DebugLine log elf) = pair_roles
-line_roles (ListLine log) = log_roles
-line_roles (CheckLine log) = log_roles
-line_roles (AuditLine log elf book input) = roles_of (is_some input)
-line_roles (RacesLine log elf most) = pair_roles
-line_roles (SliceLine log elf hart interval ic) = pair_roles
-line_roles (ConvertLine log copy) = origin_roles
-line_roles (SalvageLine log copy) = origin_roles
-line_roles (DemoLine seed) = []
 
 -- what it loads before it reads what it loaded: all, but a recording reads its program before it loads the input
 abbrev pub needed_roles : Line → List Role
@@ -64,15 +49,15 @@ needed_of (Some line) = loads_of (needed_roles line)
 
 -- it is done, or memory ran out or a write failed
 abbrev pub is_printed : ℕ → Bool
-is_printed status = (status == 0) || (status == 9) || (status == 13)
+is_printed status = (status == code exit.Done) || (status == code exit.OutOfMemory) || (status == code exit.WriteFailed)
 
 -- the same of a replay, which may also stop once it is begun
 abbrev pub is_replayed : ℕ → Bool
-is_replayed status = is_printed status || (status == 15)
+is_replayed status = is_printed status || (status == code exit.ReplayStopped)
 
 -- the same of a recording, which is also done if its run ended in a fault, or by the limit
 abbrev pub is_recorded : ℕ → Bool
-is_recorded status = is_printed status || (status == 10) || (status == 11)
+is_recorded status = is_printed status || (status == code exit.Fault) || (status == code exit.Limit)
 
 -- what a command may end with once all its calls are made, if it isn't refused by what the files hold: a replay may stop too,
 -- and the reading of commands

@@ -6,6 +6,8 @@ use Rattle.bugnet.specs.Answers.{names_by, refusal_by, IsAnswer}
 use Rattle.log_commands.specs.Outside.{WithFiles, SameFiles, KeptFiles, MayChange}
 use Rattle.log_commands.specs.Effects.{Call, IsByWords, IsUnsaved, SomeTold, StoppedBy, Tells, WriteRose, NoWriteFell}
 use Rattle.bn_outside.specs.Counts.{Rose, NoneFell}
+use Rattle.log_commands.specs.Statuses.{code}
+use Rattle.log_commands.specs.declared.status.Status.TheVariants as exit
 
 -- ---- any command
 
@@ -36,9 +38,9 @@ ChangesFew line old new =
 pub record Obeys (line : Option Line) (status : ℕ) (k : Call) : Type 0 where
   pub told : TellsAnswer line status k
   pub words : ByWords line status k
-  pub failed : status ≡ 3 → Rose k.old.counts.faults k.new.counts.faults
-  pub missing : status ≡ 4 → Rose k.old.counts.misses k.new.counts.misses
-  pub long : status ≡ 5 → Rose k.old.counts.longs k.new.counts.longs
-  pub write : status ≡ 13 → WriteRose k
+  pub failed : status ≡ code exit.StoreFailed → Rose k.old.counts.faults k.new.counts.faults
+  pub missing : status ≡ code exit.Missing → Rose k.old.counts.misses k.new.counts.misses
+  pub long : status ≡ code exit.TooLong → Rose k.old.counts.longs k.new.counts.longs
+  pub write : status ≡ code exit.WriteFailed → WriteRose k
   pub later : NoWriteFell k
   pub counts : NoneFell k.old.counts k.new.counts

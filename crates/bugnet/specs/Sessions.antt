@@ -23,6 +23,8 @@ use Rattle.log_commands.specs.Pairs.{IsPair, ArePair}
 use Rattle.log_commands.specs.Joined.{joined}
 use Rattle.log_commands.specs.declared.refusal.Refusal.{Refusal}
 use Rattle.log_commands.specs.declared.refusal.Refusal.TheVariants as why
+use Rattle.log_commands.specs.Statuses.{code}
+use Rattle.log_commands.specs.declared.status.Status.TheVariants as exit
 
 -- ---- the commands
 
@@ -90,13 +92,13 @@ abbrev pub stop_status : DebugError → ℕ
 stop_status e = status_of (stop_refusal e)
 
 abbrev pub session_status : Result (Unit {0}) DebugError → ℕ
-session_status (Ok u) = 0
+session_status (Ok u) = code exit.Done
 session_status (Err e) = stop_status e
 
 -- a session that ended so has this status; or 9, if memory ran out for the line on err
 abbrev pub EndsBy : Result (Unit {0}) DebugError → ℕ → Type 0
-EndsBy (Ok u) status = status ≡ 0
-EndsBy (Err e) status = (status ≡ stop_status e) ⊎ (status ≡ 9)
+EndsBy (Ok u) status = status ≡ code exit.Done
+EndsBy (Err e) status = (status ≡ stop_status e) ⊎ (status ≡ code exit.OutOfMemory)
 
 -- ---- how far a session reads
 
@@ -137,9 +139,9 @@ pub record AreRead (c : Commands) (status : ℕ) (left now_left : Option (List �
   pub taken : Consumes left now_left c.bytes
   -- a read failed only if the source's count rose, and no `quit` was read before
   pub failed : c.failed ≡ true → Rose before now × NoQuit (input_of c.bytes).lines
-  pub cause : status ≡ 12 → c.failed ≡ true
+  pub cause : status ≡ code exit.ReadFailed → c.failed ≡ true
   -- a session that is done has read nothing after the first `quit`; or all, and then no line that ends with LF is `quit`
-  pub done : status ≡ 0 → EndsWithQuit c.bytes ⊎ ReadsAll left now_left c.bytes
+  pub done : status ≡ code exit.Done → EndsWithQuit c.bytes ⊎ ReadsAll left now_left c.bytes
   -- however it ended, it has read no further than its end says, and each byte once; before a session nothing is read
   pub up_to : IsUnread c reads now_reads ⊎ SessionReads c.bytes status left now_left reads now_reads
 
@@ -177,7 +179,7 @@ IsDebug files names what = (c : Commands) × IsSession c files names what
 
 -- the statuses of a session that was begun; before it nothing is read
 abbrev pub is_begun : ℕ → Bool
-is_begun status = (status == 0) || (status == 9) || (status == 12) || (status == 13) || (status == 15) || (status == 18)
+is_begun status = (status == code exit.Done) || (status == code exit.OutOfMemory) || (status == code exit.ReadFailed) || (status == code exit.WriteFailed) || (status == code exit.ReplayStopped) || (status == code exit.CommandsTooLong)
 
 -- what it needs: a log and its program are there, and the session isn't stopped
 pub record CanDebug (c : Commands) (log elf : List ℕ) (files : Files) : Type 0 where

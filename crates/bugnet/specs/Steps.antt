@@ -17,6 +17,8 @@ use Rattle.bugnet.specs.DebugSessions.{SessionIs}
 use Rattle.bugnet.specs.LineCalls.{CallsSo}
 use Rattle.bugnet.specs.Replies.{Reading}
 use Rattle.bugnet.specs.Sessions.{Commands, AreRead, IsUnread, SessionOver, input_in, stop_refusal, session_told, is_begun, IsSession, IsDebug}
+use Rattle.log_commands.specs.Statuses.{code}
+use Rattle.log_commands.specs.declared.status.Status.TheVariants as exit
 
 -- the end of a session was told
 abbrev pub ToldStop : FileNames → DebugError → ℕ → Option (List ℕ) → Option (List ℕ) → ℕ → ℕ → Type 0
@@ -32,8 +34,8 @@ DebugsPair names j status left now_left before now reads now_reads out printed e
 -- so it is once the refusal, if there is one, is told; a write is refused only if a count rose
 pub record SessionEnds {I : Type 0} (names : FileNames) (j : Joining) (status : ℕ) (i : Reading I) (out printed err end : Stream) : Type 0 where
   pub told : DebugsPair names j status i.left_old i.left_new i.faults_old i.faults_new i.reads_old i.reads_new out printed err end
-  pub begun : (is_begun status ≡ true) ⊎ (status ≡ 14)
-  pub write : status ≡ 13 → Rose out.faults printed.faults ⊎ Rose err.faults end.faults
+  pub begun : (is_begun status ≡ true) ⊎ (status ≡ code exit.NoInterval)
+  pub write : status ≡ code exit.WriteFailed → Rose out.faults printed.faults ⊎ Rose err.faults end.faults
   pub read_later : i.faults_old ≤ i.faults_new
   pub out_later : out.faults ≤ printed.faults
   pub err_later : err.faults ≤ end.faults
@@ -57,11 +59,11 @@ pub record DebugsEnds {I : Type 0} (names : FileNames) (status : ℕ) (note : No
   pub same : new.store.files ≡ old.store.files
   pub asks : new.store.saves ≡ old.store.saves
   pub calls : CallsSo names (loads_of pair_roles) (loads_of pair_roles) None is_begun status note old.store.noted new.store.noted (between old new)
-  pub words : status ≢ 2
-  pub failed : status ≡ 3 → Rose old.store.counts.faults new.store.counts.faults
-  pub missing : status ≡ 4 → Rose old.store.counts.misses new.store.counts.misses
-  pub long : status ≡ 5 → Rose old.store.counts.longs new.store.counts.longs
-  pub write : status ≡ 13 → WriteRose (between old new)
+  pub words : status ≢ code exit.WordsRefused
+  pub failed : status ≡ code exit.StoreFailed → Rose old.store.counts.faults new.store.counts.faults
+  pub missing : status ≡ code exit.Missing → Rose old.store.counts.misses new.store.counts.misses
+  pub long : status ≡ code exit.TooLong → Rose old.store.counts.longs new.store.counts.longs
+  pub write : status ≡ code exit.WriteFailed → WriteRose (between old new)
   pub later : NoWriteFell (between old new)
   pub counts : NoneFell old.store.counts new.store.counts
   pub read_later : i.faults_old ≤ i.faults_new

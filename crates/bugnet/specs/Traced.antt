@@ -22,6 +22,8 @@ use Rattle.bugnet.specs.Answers.{names_in, IsAnswer}
 use Rattle.bugnet.specs.Jointly.{joint_run, HasRun}
 use Rattle.log_commands.specs.declared.names.Role.TheVariants as role
 use Rattle.log_commands.specs.declared.refusal.Refusal.TheVariants.{TooLong, ReplayStopped}
+use Rattle.log_commands.specs.Statuses.{code}
+use Rattle.log_commands.specs.declared.status.Status.TheVariants as exit
 
 -- a program file of more than 2 ^ 26 bytes is too long for any command, also for the one that records
 abbrev pub UnlessLong : FileNames → Recording → Told → Type 0 → Type 0
@@ -51,7 +53,7 @@ pub record ListsRaces (r : Recording) (records : List Record) (what : Told) : Ty
 -- what `races` prints of a recording's log are the races of the run's own points
 abbrev pub PrintedRacesSayTheRun : Type 0
 PrintedRacesSayTheRun = (log elf : List ℕ) (most : ℕ) (files : Files) (r : Recording) (h : HasRun log elf files r)
-    → (what : Told) → IsAnswer (Some (RacesLine log elf most)) files what → what.status ≡ 0 → ListsRaces r h.says.log.records what
+    → (what : Told) → IsAnswer (Some (RacesLine log elf most)) files what → what.status ≡ code exit.Done → ListsRaces r h.says.log.records what
 
 -- the slice of the row of a count among the recorded run's own rows of the interval, or that there is no such row; or that the
 -- log doesn't keep the interval

@@ -184,7 +184,7 @@ pub fn recordings_are_replayed()
     kept_records_are_an_end();
 }
 
-/// With format 2 a crash is shown. If a recording's run ended in a fault, status 10, its last turn is that
+/// With format 2 a crash is shown. If a recording's run ended in a fault, its last turn is that
 /// fault. The log that it leaves has an interval of the fault's hart that ends with it: `list` prints that
 /// interval's line, and its replay the recorded run's rows up to the fault's.
 pub fn crashes_are_shown()

@@ -18,5 +18,6 @@ pub use laws::{
     salvaged_logs_are_replayed, salvaged_logs_say_ends, seeds_are_whole, sessions_show_the_run,
     slices_are_told,
 };
+pub use log_commands::status::Status;
 pub use manner::Manner;
 pub use program::{perform, run};

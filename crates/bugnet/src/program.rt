@@ -5,15 +5,16 @@ ghost use Rattle.bn_outside.specs.Counts.{Rose, NoneFell};
 ghost use Rattle.command_words.specs.Words.{command_in, seen, seen_recording, RecordLine};
 ghost use Rattle.std.specs.Str.{bytes_eq};
 ghost use Rattle.bugnet.specs.ClosedRuns.{IsRecordingBy, MakesRecordings};
-ghost use Rattle.bugnet.specs.Answers.{manner_of, names_in, refusal_in, IsOn, KindOf};
+ghost use Rattle.bugnet.specs.Answers.{manner_of, names_in, refusal_in, words_refusal, IsOn, KindOf, line_roles};
 ghost use Rattle.bugnet.specs.LineAnswers.{AnswersLine};
 ghost use Rattle.bugnet.specs.Replies.{RepliesAs, DoesAs, DoneAs, world_of, reading};
 ghost use Rattle.log_commands.specs.Answering.{Answers};
 ghost use Rattle.log_commands.specs.Inputs.{bytes_of};
 ghost use Rattle.log_commands.specs.Names.{FileNames};
 ghost use Rattle.log_commands.specs.Refusals.{name_refusal};
+ghost use Rattle.log_commands.specs.Statuses.{code};
 ghost use Rattle.bugnet.specs.Asks.{LineSaves};
-ghost use Rattle.bugnet.specs.LineCalls.{line_roles, CallsOnly, HasShape, AnswersDemo, TellsDemo};
+ghost use Rattle.bugnet.specs.LineCalls.{CallsOnly, HasShape, AnswersDemo, TellsDemo};
 ghost use Rattle.bugnet.specs.Laws.{NeedsNoThreads, IsReadOnly, IsNoSession, IsNoRecording};
 ghost use Rattle.bugnet.specs.Sessions.{is_begun};
 ghost use Rattle.bugnet.specs.DebugSessions.{CanBegin, Debugs};
@@ -46,6 +47,7 @@ use log_commands::names::{Names, Role};
 use log_commands::outside::{SinkExt, StoreExt};
 use log_commands::refusal::Refusal;
 use log_commands::send::{close, done, refuse};
+use log_commands::status::Status;
 use run_model::Start;
 use std::alloc::{AllocError, Global};
 use std::sync::Wait;
@@ -227,7 +229,7 @@ fn reply<S: StoreExt, O: SinkExt, X: SinkExt>(
     store: &mut S,
     out: &mut O,
     err: &mut X,
-) -> Result<u8, Refusal>
+) -> Result<Status, Refusal>
     requires named { names.now ≡ names_in (seen command.now) }
     requires no_session { IsNoSession (Some (seen command.now)) }
     requires no_recording { IsNoRecording (Some (seen command.now)) }
@@ -251,7 +253,7 @@ fn keep_recording<
     out: &mut O,
     err: &mut X,
     make: F,
-) -> Result<u8, Refusal>
+) -> Result<Status, Refusal>
     requires named { names.now ≡ names_in (RecordLine (seen_recording options.now)) }
     requires callable { F.IsAlwaysCallable make }
     requires made { MakesRecordings F.FnOnce make (manner_of (seen_recording options.now)) }
@@ -288,7 +290,7 @@ pub fn perform<S: Store, I: Source, O: Sink, X: Sink>(
     input: &mut I,
     out: &mut O,
     err: &mut X,
-) -> Result<u8, Refusal>
+) -> Result<Status, Refusal>
     requires named { names.now ≡ names_in (seen command.now) }
     requires no_threads { NeedsNoThreads (Some (seen command.now)) }
     ensures { DoesAs (world_of S.files S.saves S.counts S.noted O.written O.faults X.written X.faults) (reading I.left I.faults I.reads input.old input.new)
@@ -337,7 +339,7 @@ fn attempt<S: Store, I: Source, O: Sink, X: Sink, G: Gate, R: Threads + Wait + S
     out: &mut O,
     err: &mut X,
     gate: &G,
-) -> Result<u8, Refusal>
+) -> Result<Status, Refusal>
     requires { names.now ≡ names_in (seen command.now) }
     ensures { DoesAs (world_of S.files S.saves S.counts S.noted O.written O.faults X.written X.faults) (reading I.left I.faults I.reads input.old input.new)
         (seen command.now) names.now S.note store.old out.old err.old store.new out.new err.new result }
@@ -361,23 +363,38 @@ fn attempt<S: Store, I: Source, O: Sink, X: Sink, G: Gate, R: Threads + Wait + S
     }
 }
 
-// Does what a command asks for, and tells its refusal: each error but that of reading the words ends here.
+// Why words give no command.
+fn words_refusal(error: WordsError) -> Refusal
+    ensures { result ≡ words_refusal error }
+{
+    match error {
+        WordsError::Refused => Refusal::WordsRefused,
+        WordsError::OutOfMemory => Refusal::OutOfMemory,
+    }
+}
+
+// Reads the words, and does what they ask for. Each error ends here: it is told, and gives the status.
 fn obey<S: Store, I: Source, O: Sink, X: Sink, G: Gate, R: Threads + Wait + Sync>(
     rt: &R,
     alloc: Global,
-    command: &Command,
+    words: &[String],
     store: &mut S,
     input: &mut I,
     out: &mut O,
     err: &mut X,
     gate: &G,
-) -> u8
+) -> Status
     ensures { DoneAs (world_of S.files S.saves S.counts S.noted O.written O.faults X.written X.faults) (reading I.left I.faults I.reads input.old input.new)
-        (seen command.now) result S.note store.old out.old err.old store.new out.new err.new }
+        (command_in words.now) (code result) S.note store.old out.old err.old store.new out.new err.new }
 {
-    let names = names_of(command);
-    let ending = attempt(rt, alloc, command, &names, store, input, out, err, gate);
-    close(alloc, &names, ending, err)
+    match read_words(alloc, words) {
+        Err(error) => refuse(alloc, &Names::none(), &words_refusal(error), err),
+        Ok(command) => {
+            let names = names_of(&command);
+            let ending = attempt(rt, alloc, &command, &names, store, input, out, err, gate);
+            close(alloc, &names, ending, err)
+        }
+    }
 }
 
 /// The program. It reads its words, of which the first is its own name, loads what they name,
@@ -526,9 +543,5 @@ pub fn run<S: Store, I: Source, O: Sink, X: Sink, G: Gate, R: Threads + Wait + S
     one_answer();
     each_can_be_done();
     audits_agree();
-    match read_words(alloc, words) {
-        Err(WordsError::Refused) => refuse(alloc, &Names::none(), &Refusal::WordsRefused, err),
-        Err(WordsError::OutOfMemory) => refuse(alloc, &Names::none(), &Refusal::OutOfMemory, err),
-        Ok(command) => obey(rt, alloc, &command, store, input, out, err, gate),
-    }
+    obey(rt, alloc, words, store, input, out, err, gate).code()
 }

@@ -10,26 +10,17 @@ mod schedule;
 
 use crate::schedule::turns_of;
 use bn_outside::{LoadError, send_all};
+use bugnet::Status;
 use host_outside::{FileStore, ReaderSource, Writing, words_of};
 use std::process::ExitCode;
 
-// The statuses with which the program ends before it begins: a file that can't be loaded, isn't there or is too long, and
-// out of memory.
-const FAILED: u8 = 3;
-
-const MISSING: u8 = 4;
-
-const TOO_LONG: u8 = 5;
-
-const OUT_OF_MEMORY: u8 = 9;
-
 // The status and the line of a list of turns that isn't loaded.
-fn refusal_of(error: LoadError) -> (u8, &'static [u8]) {
+fn refusal_of(error: LoadError) -> (Status, &'static [u8]) {
     match error {
-        LoadError::Missing => (MISSING, b"bugnet: missing list of turns\n"),
-        LoadError::TooLong => (TOO_LONG, b"bugnet: too long list of turns\n"),
-        LoadError::Failed => (FAILED, b"bugnet: store failed list of turns\n"),
-        LoadError::OutOfMemory => (OUT_OF_MEMORY, b"bugnet: out of memory\n"),
+        LoadError::Missing => (Status::Missing, b"bugnet: missing list of turns\n"),
+        LoadError::TooLong => (Status::TooLong, b"bugnet: too long list of turns\n"),
+        LoadError::Failed => (Status::StoreFailed, b"bugnet: store failed list of turns\n"),
+        LoadError::OutOfMemory => (Status::OutOfMemory, b"bugnet: out of memory\n"),
     }
 }
 
@@ -37,7 +28,7 @@ fn main(rt: HostRuntime) -> ExitCode {
     let mut err = Writing::new(rt.stderr());
     let Ok(words) = words_of(&rt) else {
         let _ = send_all(&mut err, b"bugnet: out of memory\n");
-        return ExitCode::from(OUT_OF_MEMORY);
+        return ExitCode::from(Status::OutOfMemory.code());
     };
     let mut store = FileStore::new(&rt);
     let turns = match turns_of(&rt, rt.alloc(), &words, &mut store) {
@@ -45,7 +36,7 @@ fn main(rt: HostRuntime) -> ExitCode {
         Err(error) => {
             let (status, line) = refusal_of(error);
             let _ = send_all(&mut err, line);
-            return ExitCode::from(status);
+            return ExitCode::from(status.code());
         }
     };
     let mut input = ReaderSource::new(rt.stdin());

@@ -1,8 +1,8 @@
 -- How a command that has its answer ends, from how its text was sent and what was told.
-use Rattle.std.proofs.Common.{◌≡◌, ◌≢◌, ◌≤◌, ◌⊎◌, ℕ, List, Option, Some, None, refl, sym, subst, arith, inl, inr}
+use Rattle.std.proofs.Common.{◌≡◌, ◌≤◌, ◌⊎◌, ℕ, List, Option, Some, None, sym, subst, arith, inl, inr}
 use Rattle.std.specs.Prelude.{Result, Ok, Err}
 use Rattle.std.specs.Io.KnownBytes.{Appends}
-use Rattle.bn_outside.specs.Counts.{Counts, Rose, NoneFell}
+use Rattle.bn_outside.specs.Counts.{Counts, NoneFell}
 use Rattle.bn_outside.specs.Files.{Files}
 use Rattle.bn_outside.specs.Streams.{AppendsPart}
 use Rattle.log_commands.specs.Names.{FileNames}
@@ -10,7 +10,7 @@ use Rattle.log_commands.specs.Outside.{Stream, SendStops, Sends, SendsUntil, Alw
 use Rattle.log_commands.specs.Told.{Told, printed, printed_until}
 use Rattle.log_commands.specs.declared.refusal.Refusal.{Refusal}
 use Rattle.log_commands.specs.declared.refusal.Refusal.TheVariants.{OutOfMemory}
-use Rattle.log_commands.specs.Effects.{Call, Tells, NoWriteFell, Prints, Acts, printing_to, printing_on, PrintsTo}
+use Rattle.log_commands.specs.Effects.{Call, Tells, NoWriteFell, Prints, Acts, printing_on, PrintsTo}
 use Rattle.log_commands.proofs.Causes.{Sends as Stops, sends-told, IsStop, sends-stop}
 use Rattle.log_commands.proofs.Prints.{appends-nothing, part-none, part-whole}
 use Rattle.log_commands.proofs.Tells.{untouched, printed-told, stopped-told, wanting}

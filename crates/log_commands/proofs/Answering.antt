@@ -2,12 +2,14 @@
 use Rattle.std.proofs.Common.{◌≡◌, ℕ, List, ◌∙◌, ap, subst, sym, refl, inl, inr}
 use Rattle.std.specs.Prelude.{Result, Ok, Err, IsErrAnd}
 use Rattle.bn_outside.specs.Counts.{Counts}
+use Rattle.std.specs.Str.{bytes_eq}
+use Rattle.sha2.specs.Sha256.{sha256}
 use Rattle.log_order.specs.Content.{Content}
 use Rattle.log_commands.specs.Answering.{Answers}
-use Rattle.log_commands.specs.Commands.{IsByLog, by_log}
-use Rattle.log_commands.specs.Evaluated.{Makes, IsPairOfBytes, pair_by, told_by}
+use Rattle.log_commands.specs.Commands.{IsByLog}
+use Rattle.log_commands.specs.Evaluated.{Makes, where_same, IsPairOfBytes, told_by}
 use Rattle.log_commands.specs.Names.{FileNames}
-use Rattle.log_commands.specs.Outside.{LogTells, Gives, RefusalCause}
+use Rattle.log_commands.specs.Outside.{LogTells, Gives, GivesTo, RefusalCause}
 use Rattle.log_commands.specs.PairAnswers.{by_reading}
 use Rattle.log_commands.specs.Pairs.{ByPair, pair_of}
 use Rattle.log_commands.specs.Told.{Told}
@@ -41,6 +43,23 @@ by-pair log elf pair go names what p e = record {
   reads = p.reads;
   is = e ∙ ap (λ (r : Result JointReading Refusal). told_by (by_reading go) names r) p.is ∙ same-log go names elf p.says;
 }
+
+-- a log that was read leads to the pair
+pub paired : (log elf : List ℕ) (d : Content) (result : Result JointReading Refusal) → LogTells log (Ok d) → Makes (λ x. x ≡ where_same (bytes_eq (sha256 elf) d.head.digest) elf d) result → Makes (IsPairOfBytes log elf) result
+paired log elf d (Ok r) reads e = record { says = Ok d; reads = reads; is = e }
+paired log elf d (Err x) reads (inl memory) = inl memory
+paired log elf d (Err x) reads (inr e) = inr (record { says = Ok d; reads = reads; is = e })
+
+-- one that is refused doesn't
+pub unpaired : (log elf : List ℕ) (x : Refusal) → LogTells log (Err x) → Makes (IsPairOfBytes log elf) (Err x)
+unpaired log elf x (inl memory) = inl memory
+unpaired log elf x (inr h) = inr (record { says = Err h.0; reads = h.2; is = ap (λ (y : Refusal). Err y) h.1 })
+
+-- whatever is told by the two
+pub pair-gives : (log elf : List ℕ) (go : ByPair) (names : FileNames) (result : Result JointReading Refusal) → Makes (IsPairOfBytes log elf) result → GivesTo (by_reading go) names (IsByLog names log (pair_of go names elf)) result
+pair-gives log elf go names (Ok p) m = by-pair log elf (Ok p) go names _ m refl
+pair-gives log elf go names (Err r) (inl memory) = inl memory
+pair-gives log elf go names (Err r) (inr m) = inr (by-pair log elf (Err r) go names _ m refl)
 
 -- a pair that isn't read
 pub unpaired-so : (Kind : Answer → Type 0) (log elf : List ℕ) (go : FileNames → ByPair) (r : Refusal) → Makes (IsPairOfBytes log elf) (Err r) → ((before now : Counts) → RefusalCause before now r)

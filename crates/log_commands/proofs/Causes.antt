@@ -12,7 +12,7 @@ use Rattle.log_commands.specs.Refusals.{status_of, replay_status, joint_refusal}
 use Rattle.log_commands.specs.Outside.{SendStops, ToldRefusal, RefusalCause, CauseBy}
 use Rattle.log_commands.specs.Effects.{Call, IsByWords}
 use Rattle.log_commands.specs.declared.refusal.Refusal.{Refusal}
-use Rattle.log_commands.specs.declared.refusal.Refusal.TheVariants.{WordsRefused, OutOfRange, SameName, StoreFailed, Missing, TooLong, ElfRefused, LogRefused, ProgramDiffers, OutOfMemory, WriteFailed, ReplayStopped, JointStuck, ReadFailed, LineTooLong, CommandsTooLong, BookRefused, FileDiffers, NothingLeft, TooManyRaces, NoRow}
+use Rattle.log_commands.specs.declared.refusal.Refusal.TheVariants.{WordsRefused, OutOfRange, SameName, StoreFailed, Missing, TooLong, OutOfMemory, WriteFailed, ReplayStopped, ReadFailed, LineTooLong, CommandsTooLong}
 
 -- the statuses of the store come where its counts rose, and this isn't that of a write or of a read
 pub record Causes (before now : Counts) (status : ℕ) : Type 0 where
@@ -45,16 +45,9 @@ high before now status n is low d f = record {
 
 replay-high : (e : ReplayError) → (6 ≤ replay_status e) × (replay_status e ≢ 13) × (replay_status e ≢ 12)
 replay-high (replay.NoInterval hart interval) = (omega arith, λ e. omega (arith, e), λ e. omega (arith, e))
-replay-high (replay.LoadMissing hart ic addr) = (omega arith, λ e. omega (arith, e), λ e. omega (arith, e))
-replay-high (replay.ScMissing hart ic) = (omega arith, λ e. omega (arith, e), λ e. omega (arith, e))
-replay-high (replay.RecordsLeft hart left) = (omega arith, λ e. omega (arith, e), λ e. omega (arith, e))
-replay-high (replay.EndDiffers hart said found) = (omega arith, λ e. omega (arith, e), λ e. omega (arith, e))
-replay-high replay.OutOfMemory = (omega arith, λ e. omega (arith, e), λ e. omega (arith, e))
+replay-high other = (omega arith, λ e. omega (arith, e), λ e. omega (arith, e))
 
 by-files : (before now : Counts) (r : Refusal) (status : ℕ) → RefusalCause before now r → status ≡ status_of r → Caused before now status
-by-files before now WordsRefused status c h = absurd c
-by-files before now (OutOfRange bad) status c h = absurd c
-by-files before now SameName status c h = absurd c
 by-files before now (StoreFailed role) status c h = record {
   words = λ e. omega (arith, e, h);
   causes = record { three = λ e. c; four = λ e. absurd (omega (arith, e, h)); five = λ e. absurd (omega (arith, e, h)); write = λ e. omega (arith, e, h); read = λ e. omega (arith, e, h) };
@@ -67,21 +60,15 @@ by-files before now (TooLong role) status c h = record {
   words = λ e. omega (arith, e, h);
   causes = record { three = λ e. absurd (omega (arith, e, h)); four = λ e. absurd (omega (arith, e, h)); five = λ e. c; write = λ e. omega (arith, e, h); read = λ e. omega (arith, e, h) };
 }
-by-files before now (ElfRefused x) status c h = high before now status 6 h (omega arith) (λ e. omega (arith, e)) (λ e. omega (arith, e))
-by-files before now (LogRefused x) status c h = high before now status 7 h (omega arith) (λ e. omega (arith, e)) (λ e. omega (arith, e))
-by-files before now (ProgramDiffers kept found) status c h = high before now status 8 h (omega arith) (λ e. omega (arith, e)) (λ e. omega (arith, e))
-by-files before now OutOfMemory status c h = high before now status 9 h (omega arith) (λ e. omega (arith, e)) (λ e. omega (arith, e))
+by-files before now WordsRefused status c h = absurd c
+by-files before now (OutOfRange bad) status c h = absurd c
+by-files before now SameName status c h = absurd c
 by-files before now WriteFailed status c h = absurd c
-by-files before now (ReplayStopped x) status c h = high before now status (replay_status x) h (replay-high x).0 (replay-high x).1 (replay-high x).2
-by-files before now (JointStuck positions) status c h = high before now status 15 h (omega arith) (λ e. omega (arith, e)) (λ e. omega (arith, e))
 by-files before now ReadFailed status c h = absurd c
 by-files before now LineTooLong status c h = absurd c
 by-files before now CommandsTooLong status c h = absurd c
-by-files before now (BookRefused x) status c h = high before now status 17 h (omega arith) (λ e. omega (arith, e)) (λ e. omega (arith, e))
-by-files before now (FileDiffers place) status c h = high before now status 16 h (omega arith) (λ e. omega (arith, e)) (λ e. omega (arith, e))
-by-files before now NothingLeft status c h = high before now status 19 h (omega arith) (λ e. omega (arith, e)) (λ e. omega (arith, e))
-by-files before now (TooManyRaces most) status c h = high before now status 20 h (omega arith) (λ e. omega (arith, e)) (λ e. omega (arith, e))
-by-files before now (NoRow ic) status c h = high before now status 21 h (omega arith) (λ e. omega (arith, e)) (λ e. omega (arith, e))
+by-files before now (ReplayStopped x) status c h = high before now status (replay_status x) h (replay-high x).0 (replay-high x).1 (replay-high x).2
+by-files before now r status c h = high before now status (status_of r) h (omega arith) (λ e. omega (arith, e)) (λ e. omega (arith, e))
 
 memory : (before now : Counts) (status : ℕ) → status ≡ 9 → Caused before now status
 memory before now status h = high before now status 9 h (omega arith) (λ e. omega (arith, e)) (λ e. omega (arith, e))
@@ -158,27 +145,9 @@ pub sends-told : (names : FileNames) (r : Refusal) (status : ℕ) (old new : Opt
 sends-told names r status old new m n before now s (inl h) = by r s h.0
   where
     by : (r : Refusal) → SendStops before now r → status ≡ status_of r → Sends before now status
-    by WordsRefused s h = absurd s
-    by (OutOfRange bad) s h = absurd s
-    by SameName s h = absurd s
-    by (StoreFailed role) s h = absurd s
-    by (Missing role) s h = absurd s
-    by (TooLong role) s h = absurd s
-    by (ElfRefused e) s h = absurd s
-    by (LogRefused e) s h = absurd s
-    by (ProgramDiffers kept found) s h = absurd s
     by OutOfMemory s h = sends-memory before now status h
     by WriteFailed s h = sends-high before now status 13 h (omega arith) (λ e. omega (arith, e)) (λ e. s)
-    by (ReplayStopped e) s h = absurd s
-    by (JointStuck positions) s h = absurd s
-    by ReadFailed s h = absurd s
-    by LineTooLong s h = absurd s
-    by CommandsTooLong s h = absurd s
-    by (BookRefused x) s h = absurd s
-    by (FileDiffers place) s h = absurd s
-    by NothingLeft s h = absurd s
-    by (TooManyRaces most) s h = absurd s
-    by (NoRow ic) s h = absurd s
+    by r s h = absurd s
 sends-told names r status old new m n before now s (inr h) = sends-memory before now status h.0
 
 -- a replay that stopped
@@ -200,8 +169,7 @@ IsStop r = (6 ≤ status_of r) × (status_of r ≢ 13) × (status_of r ≢ 12)
 
 pub joint-stop : (e : JointError) → IsStop (joint_refusal e)
 joint-stop (joint.Replay e) = replay-high e
-joint-stop (joint.Stuck positions) = (omega arith, λ e. omega (arith, e), λ e. omega (arith, e))
-joint-stop joint.OutOfMemory = (omega arith, λ e. omega (arith, e), λ e. omega (arith, e))
+joint-stop other = (omega arith, λ e. omega (arith, e), λ e. omega (arith, e))
 
 pub sends-stop : (names : FileNames) (r : Refusal) (status : ℕ) (old new : Option (List ℕ)) (m n before now : ℕ) → IsStop r → ToldRefusal names r status old new m n → Sends before now status
 sends-stop names r status old new m n before now is (inl h) = sends-high before now status (status_of r) h.0 is.0 is.2 (λ e. absurd (is.1 e))

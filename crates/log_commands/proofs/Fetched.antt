@@ -1,5 +1,5 @@
 -- The loads of a command's files, one after another.
-use Rattle.std.proofs.Common.{◌≡◌, ℕ, ◌≤◌, ◌<◌, length, List, [], ◌∷◌, Option, Some, None, ◌∙◌, ap, subst, sym, refl, arith, true, false, Bool, inl, inr, ◌⊎◌, Vec, Global}
+use Rattle.std.proofs.Common.{◌≡◌, ℕ, ◌≤◌, ◌<◌, length, List, ◌∷◌, Option, Some, None, ◌∙◌, ap, subst, sym, refl, arith, true, false, Bool, inl, inr, ◌⊎◌, Vec, Global}
 use Rattle.std.specs.Prelude.{Result, Ok, Err, IsSomeAnd}
 use Rattle.std.specs.Str.{bytes_eq}
 use Rattle.std.proofs.lemmas.Slice.Eq.{bytes_eq-Decides}
@@ -7,12 +7,12 @@ use Rattle.bn_outside.specs.Counts.{Counts, NoneFell}
 use Rattle.bn_outside.specs.Files.{Files}
 use Rattle.bn_outside.specs.StoreCalls.{StoreCall}
 use Rattle.log_commands.specs.Names.{FileNames, name_of}
-use Rattle.log_commands.specs.Inputs.{Bytes, no_bytes, bytes_of, put, limit_of, unless_long, file_bytes, on_bytes, loaded_with, loaded, Misses, IsLoaded, Stored, OnlyLoads}
+use Rattle.log_commands.specs.Inputs.{Bytes, bytes_of, put, limit_of, unless_long, file_bytes, on_bytes, loaded_with, loaded, Misses, IsLoaded, Stored, OnlyLoads}
 use Rattle.log_commands.specs.Outside.{WithFiles, FetchTells, unless, without, ResultCause}
 use Rattle.log_commands.specs.declared.inputs.Inputs.{Inputs}
 use Rattle.log_commands.specs.declared.names.Role.{Role}
 use Rattle.log_commands.specs.declared.refusal.Refusal.{Refusal}
-use Rattle.log_commands.specs.declared.refusal.Refusal.TheVariants.{WordsRefused, OutOfRange, SameName, StoreFailed, Missing, TooLong, ElfRefused, LogRefused, ProgramDiffers, OutOfMemory, WriteFailed, ReplayStopped, JointStuck, ReadFailed, LineTooLong, CommandsTooLong, BookRefused, FileDiffers, NothingLeft, TooManyRaces, NoRow}
+use Rattle.log_commands.specs.declared.refusal.Refusal.TheVariants.{WordsRefused, OutOfRange, SameName, StoreFailed, Missing, TooLong, WriteFailed, ReadFailed, LineTooLong, CommandsTooLong}
 use Rattle.log_commands.proofs.Loads.{passes, fits}
 use Rattle.log_commands.proofs.Prints.{rose-later}
 use Rattle.log_commands.proofs.FileCalls.{CalledSoFar}
@@ -77,10 +77,6 @@ reached-stopped files names roles r rest had refusal so_far (inr (inr h)) =
 
 -- ---- if the store's files are known
 
-pub so_far-first : (known : Option Files) (names : FileNames) (roles : List Role) (had : Bytes) → had ≡ no_bytes → WithFiles known (λ files. Reached files names roles roles had)
-so_far-first None names roles had e = tt
-so_far-first (Some files) names roles had e = subst (λ (b : Bytes). Reached files names roles roles b) (sym e) (record { is = refl; lacking = λ name. inr refl })
-
 pub so_far-more : (known now : Option Files) (names : FileNames) (roles : List Role) (r : Role) (limit : ℕ) (left rest : List Role) (had new : Bytes) (bytes : Vec ℕ Global) → now ≡ known → limit ≡ limit_of r → left ≡ r ∷ rest
     → new ≡ put had r bytes.items → WithFiles known (λ files. Reached files names roles left had) → WithFiles now (λ files. FetchTells r limit (files (name_of names r)) (Ok bytes))
     → WithFiles known (λ files. Reached files names roles rest new)
@@ -100,11 +96,6 @@ so_far-stopped (Some files) now names roles r limit left rest had refusal same l
     (subst (λ (n : ℕ). FetchTells r n (files (name_of names r)) (Err refusal)) l
     (subst (λ (k : Option Files). WithFiles k (λ files. FetchTells r limit (files (name_of names r)) (Err refusal))) same h))
 
-pub so_far-last : (known : Option Files) (names : FileNames) (roles left : List Role) (inputs : Inputs) → left ≡ [] → WithFiles known (λ files. Reached files names roles left (bytes_of inputs))
-    → WithFiles known (λ files. IsLoaded names roles files (Ok inputs))
-so_far-last None names roles left inputs e so_far = tt
-so_far-last (Some files) names roles left inputs e so_far = so_far.is ∙ ap (λ (l : List Role). loaded_with files names l (bytes_of inputs)) e
-
 -- ---- the store
 
 pub only-first : {A : Type 0} (s : Stored) (a : A) → OnlyLoads s s (Ok a)
@@ -114,7 +105,6 @@ pub fell-later : (a b c : Counts) → NoneFell a b → NoneFell b c → NoneFell
 fell-later a b c h k = record { misses = omega (arith, h.misses, k.misses); longs = omega (arith, h.longs, k.longs); faults = omega (arith, h.faults, k.faults) }
 
 pub cause-later : {A : Type 0} (a b c : Counts) (result : Result A Refusal) → NoneFell a b → ResultCause b c result → ResultCause a c result
-cause-later a b c (Ok x) h k = tt
 cause-later a b c (Err (StoreFailed role)) h k = rose-later a.faults b.faults c.faults h.faults k
 cause-later a b c (Err (Missing role)) h k = rose-later a.misses b.misses c.misses h.misses k
 cause-later a b c (Err (TooLong role)) h k = rose-later a.longs b.longs c.longs h.longs k
@@ -125,17 +115,7 @@ cause-later a b c (Err WriteFailed) h k = absurd k
 cause-later a b c (Err ReadFailed) h k = absurd k
 cause-later a b c (Err LineTooLong) h k = absurd k
 cause-later a b c (Err CommandsTooLong) h k = absurd k
-cause-later a b c (Err (ElfRefused e)) h k = tt
-cause-later a b c (Err (LogRefused e)) h k = tt
-cause-later a b c (Err (ProgramDiffers kept found)) h k = tt
-cause-later a b c (Err OutOfMemory) h k = tt
-cause-later a b c (Err (ReplayStopped e)) h k = tt
-cause-later a b c (Err (JointStuck positions)) h k = tt
-cause-later a b c (Err (BookRefused e)) h k = tt
-cause-later a b c (Err (FileDiffers place)) h k = tt
-cause-later a b c (Err NothingLeft) h k = tt
-cause-later a b c (Err (TooManyRaces most)) h k = tt
-cause-later a b c (Err (NoRow ic)) h k = tt
+cause-later a b c result h k = tt
 
 -- a store that was read, and then read again
 pub only-then : {A C : Type 0} (a b c : Stored) (x : A) (after : Result C Refusal) → OnlyLoads a b (Ok x) → c.files ≡ b.files → c.saves ≡ b.saves → NoneFell b.counts c.counts → ResultCause b.counts c.counts after → OnlyLoads a c after

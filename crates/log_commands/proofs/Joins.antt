@@ -11,7 +11,6 @@ use Rattle.joint_replay.specs.Memory.{known_from}
 use Rattle.joint_replay.specs.Joining.{Joining, Ran, begun, ran, run_all}
 use Rattle.joint_replay.specs.Texts.{item_text, known_text, steps_text, memory_text, joint_text}
 use Rattle.joint_replay.specs.Runs.{one_step, Advanced, Advances, IsFirstTaken, RunsGoOn, RunsEnd}
-use Rattle.log_commands.specs.Names.{FileNames}
 use Rattle.log_commands.specs.Joined.{stop_of, ran_told, joined}
 use Rattle.log_commands.specs.JointEnds.{told_of_joint, SendsSteps}
 use Rattle.log_commands.specs.Outside.{Stream, Sends, SendsUntil, SentUntil, SendStops, Always}
@@ -21,7 +20,7 @@ use Rattle.log_commands.specs.Told.{printed_until}
 use Rattle.log_commands.specs.declared.pairs.JointReading.{JointReading}
 use Rattle.log_commands.specs.declared.refusal.Refusal.{Refusal}
 use Rattle.log_commands.specs.declared.refusal.Refusal.TheVariants.{OutOfMemory}
-use Rattle.log_commands.proofs.Prints.{SoFar, so_far-none, so_far-more, so_far-gathered, so_far-done, so_far-stopped, so_far-ends, part-longer, part-none, part-whole, part-behind, stops-later, appends-both}
+use Rattle.log_commands.proofs.Prints.{SoFar, so_far-none, so_far-more, so_far-gathered, so_far-done, so_far-stopped, so_far-ends, part-longer, part-behind, stops-later, appends-both}
 use Rattle.log_commands.proofs.Acts.{until-prints, memory-prints}
 use Rattle.log_commands.proofs.Causes.{IsStop, joint-stop}
 
@@ -123,14 +122,11 @@ pub walks-ended : RunsEnd → (whole now new : Joining) (waiting text : List ℕ
     → Appends here there text → after ≤ last → SentUntil {A = Unit {0}} old there before last (text_of whole) (stop_of (run_all whole)) (Err (joint_refusal e))
 walks-ended end whole now new waiting text old here there before after last joint.OutOfMemory a w h fell =
     inr (so_far-ends (text_of whole) (text_of now) old there before last (last-sent whole now waiting text old here there before after last a.0 w h fell), tt)
-walks-ended end whole now new waiting text old here there before after last (Replay r) (same, inl f) w h fell =
-    let x = ended end whole now new (Some (Replay r)) old there before last waiting here after f w (last-sent whole now waiting text old here there before after last same w h fell) in
-    inl (x.0, refused-so (run_all whole) (Replay r) x.1.0)
 walks-ended end whole now new waiting text old here there before after last (Replay r) (same, inr m) w h fell = other-replay r m.0
-walks-ended end whole now new waiting text old here there before after last (Stuck ps) (same, inl f) w h fell =
-    let x = ended end whole now new (Some (Stuck ps)) old there before last waiting here after f w (last-sent whole now waiting text old here there before after last same w h fell) in
-    inl (x.0, refused-so (run_all whole) (Stuck ps) x.1.0)
 walks-ended end whole now new waiting text old here there before after last (Stuck ps) (same, inr m) w h fell = other-stuck ps m.0
+walks-ended end whole now new waiting text old here there before after last e (same, inl f) w h fell =
+    let x = ended end whole now new (Some e) old there before last waiting here after f w (last-sent whole now waiting text old here there before after last same w h fell) in
+    inl (x.0, refused-so (run_all whole) e x.1.0)
 
 -- ---- known words
 

@@ -1,7 +1,6 @@
 -- What is done with an answer, from how its files were saved and its texts sent.
-use Rattle.std.proofs.Common.{◌≡◌, ◌≢◌, ◌≤◌, ◌<◌, ◌∙◌, ℕ, Bool, true, false, List, [], ◌∷◌, Option, Some, None, ap, refl, sym, subst, arith, inl, inr, ◌⊎◌}
-use Rattle.std.specs.Prelude.{Result, Ok, Err, OnErr}
-use Rattle.std.specs.Io.KnownBytes.{Appends}
+use Rattle.std.proofs.Common.{◌≡◌, ◌≢◌, ◌≤◌, ◌<◌, ◌∙◌, ℕ, Bool, true, false, List, [], Option, Some, None, ap, refl, sym, subst, arith, inl, inr, ◌⊎◌}
+use Rattle.std.specs.Prelude.{Result, Ok, Err}
 use Rattle.std.proofs.lemmas.Bool.{cases_lt}
 use Rattle.bn_outside.specs.Counts.{Counts, Rose, counted}
 use Rattle.bn_outside.specs.Files.{Files, WhereTold}
@@ -25,7 +24,9 @@ use Rattle.log_commands.specs.declared.answer.RunToTell.{RunToTell}
 use Rattle.log_commands.specs.declared.names.Role.{Role}
 use Rattle.log_commands.specs.declared.names.Role.TheVariants as role
 use Rattle.log_commands.specs.declared.refusal.Refusal.{Refusal}
-use Rattle.log_commands.specs.declared.refusal.Refusal.TheVariants.{StoreFailed, OutOfMemory, WriteFailed}
+use Rattle.log_commands.specs.declared.refusal.Refusal.TheVariants.{StoreFailed, OutOfMemory}
+use Rattle.log_commands.specs.Statuses.{code}
+use Rattle.log_commands.specs.declared.status.Status.{Status}
 use Rattle.log_commands.proofs.Acts.{closed-done, prints-so, acts-so, none-fell, sends-done}
 use Rattle.log_commands.proofs.Causes.{Sends as Stops, sends-told, sends-high}
 use Rattle.log_commands.proofs.Fetched.{fell-later}
@@ -253,10 +254,10 @@ run-half names r note old new out printed err mid x s h last = λ status end clo
     record { acts = kept.acts; still = λ p. absurd p; saves = kept.saves; calls = kept.calls }
 
 -- all of it is done
-pub run-kept : (names : FileNames) (r : RunToTell) (note : Note) (old new : Stored) (out printed err mid : Stream) → SavesAll names (saved_of r) (is_lean r) note old new (Ok tt) → SendsBytes r.out.items out printed (Ok tt)
-    → SendsBytes r.err.items err mid (Ok tt) → ActsTo names (Recorded r) note (world old out err) (world new printed mid) (Ok (end_status r.end))
-run-kept names r note old new out printed err mid s h last = λ status end closed.
-    subst (λ (n : ℕ). ActsOn names (Recorded r) n note (world old out err) (with_err (world new printed mid) end)) (sym closed.0)
+pub run-kept : (names : FileNames) (r : RunToTell) (value : Status) (note : Note) (old new : Stored) (out printed err mid : Stream) → code value ≡ end_status r.end → SavesAll names (saved_of r) (is_lean r) note old new (Ok tt) → SendsBytes r.out.items out printed (Ok tt)
+    → SendsBytes r.err.items err mid (Ok tt) → ActsTo names (Recorded r) note (world old out err) (world new printed mid) (Ok value)
+run-kept names r value note old new out printed err mid is s h last = λ status end closed.
+    subst (λ (n : ℕ). ActsOn names (Recorded r) n note (world old out err) (with_err (world new printed mid) end)) (sym (closed.0 ∙ is))
     (subst (λ (e : Stream). ActsOn names (Recorded r) (end_status r.end) note (world old out err) (world new printed e)) (sym closed.1) ended)
   where
     done : (e : RunEnd) → Stops out.faults printed.faults (end_status e)

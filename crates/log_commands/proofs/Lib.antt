@@ -12,7 +12,6 @@ pub mod Slices
 pub mod Joins
 pub mod Renewals
 pub mod Fetched
-pub mod Commanded
 pub mod SameAudit
 pub mod SamePair
 pub mod FileCalls

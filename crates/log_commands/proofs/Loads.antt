@@ -1,6 +1,6 @@
 -- What a command answers after its loads.
 use Rattle.std.proofs.Common.{◌≡◌, ℕ, ◌≤◌, ◌<◌, length, List, [], ◌++◌, Option, Some, None, ap, subst, sym, refl, arith, true, false, Bool, nat_lt, inl, inr, ◌⊎◌, Vec, Global}
-use Rattle.std.specs.Prelude.{Result, Ok, Err, IfOk, IsSomeAnd, codes}
+use Rattle.std.specs.Prelude.{Result, Ok, Err, IsSomeAnd, codes}
 use Rattle.std.specs.Str.{bytes_eq}
 use Rattle.std.proofs.lemmas.Slice.Eq.{bytes_eq-Decides}
 use Rattle.std.proofs.lemmas.Bool.Decides.{nat_tests}
@@ -15,7 +15,7 @@ use Rattle.log_commands.specs.Names.{FileNames, name_of}
 use Rattle.log_commands.specs.Refusals.{line_of, said_of, log_refusal}
 use Rattle.log_commands.specs.Told.{Told, refused}
 use Rattle.log_commands.specs.Commands.{Either, IsByFile, WithFile, IsByLog}
-use Rattle.log_commands.specs.Outside.{WithFiles, FetchTells, LogTells, Gives, unless, without, GivesTo, GivesOf, GivesBy, RefusalCause, told_of}
+use Rattle.log_commands.specs.Outside.{WithFiles, FetchTells, LogTells, Gives, unless, without, GivesTo, GivesOf, RefusalCause, told_of}
 use Rattle.log_commands.specs.declared.names.Role.{Role}
 use Rattle.log_commands.specs.declared.answer.Answer.{Answer}
 use Rattle.log_commands.specs.declared.refusal.Refusal.{Refusal}
@@ -69,7 +69,7 @@ gone : (name : List ℕ) (files : Files) → without name files name ≡ None
 gone name files = ap (λ (b : Bool). unless b (files name)) (same_name name)
 
 -- the line that a file is missing says its name alone
-missing-named : (names : FileNames) (a b : Role) → name_of names a ≡ name_of names b → refused names (Missing a) ≡ refused names (Missing b)
+pub missing-named : (names : FileNames) (a b : Role) → name_of names a ≡ name_of names b → refused names (Missing a) ≡ refused names (Missing b)
 unfolding refused line_of said_of
 missing-named names a b e = ap (λ (name : List ℕ). told_missing name) e
   where
@@ -109,24 +109,6 @@ loaded A tells files names here limit bytes (Err r) Go h (inl (inr failed)) =
     inl (inr (failed.0, failed.1, apart (bytes_eq (name_of names here) n) names here failed.0 (files (name_of names here)) bytes.items limit (Go (without n files)) (λ e. (bytes_eq-Decides (name_of names here) n).0 e) h.0 h.1 failed.2))
 loaded A tells files names here limit bytes (Err r) Go h (inr go) = inr (by-bytes (files (name_of names here)) names here bytes.items limit (Go files) (refused names r) h.0 h.1 go)
 
-pub made-loaded : (A : Type 0) (tells : A → Told) (known : Option Files) (names : FileNames) (role : Role) (limit : ℕ) (bytes : Vec ℕ Global) (result : Result A Refusal) (Go : Files → List ℕ → Told → Type 0)
-    → WithFiles known (λ files. FetchTells role limit (files (name_of names role)) (Ok bytes))
-    → WithFiles known (λ files. GivesOf tells names (λ f. Go f bytes.items) files result)
-    → WithFiles known (λ files. GivesOf tells names (λ f. WithFile f names role limit (Go f)) files result)
-made-loaded A tells None names role limit bytes result Go h rest = tt
-made-loaded A tells (Some files) names role limit bytes result Go h rest = loaded A tells files names role limit bytes result Go h rest
-
--- an answer whatever the files are
-own : (A : Type 0) (tells : A → Told) (files : Files) (names : FileNames) (Is : Told → Type 0) (result : Result A Refusal) → GivesTo tells names Is result → GivesOf tells names (λ f. Is) files result
-own A tells files names Is (Ok answer) h = h
-own A tells files names Is (Err r) (inl memory) = inl (inl memory)
-own A tells files names Is (Err r) (inr is) = inr is
-
-pub made-any : (A : Type 0) (tells : A → Told) (known : Option Files) (names : FileNames) (Is : Told → Type 0) (result : Result A Refusal)
-    → GivesTo tells names Is result → WithFiles known (λ files. GivesOf tells names (λ f. Is) files result)
-made-any A tells None names Is result h = tt
-made-any A tells (Some files) names Is result h = own A tells files names Is result h
-
 -- ---- logs
 
 -- a log that is refused ends the command
@@ -148,16 +130,8 @@ refused-log bytes (File (file.BadOrder at rule)) r is h = inr (File (file.BadOrd
 refused-log bytes (File file.OutOfMemory) r is h = inl is
 
 own-refusal : (before now : Counts) (e : Damage) → RefusalCause before now (log_refusal e)
-own-refusal before now (BadBlock at) = tt
 own-refusal before now (File (file.Short length)) = tt
-own-refusal before now (File file.BadMagic) = tt
-own-refusal before now (File (file.BadVersion found)) = tt
-own-refusal before now (File (file.BadHead field value)) = tt
-own-refusal before now (File (file.LengthDiffers said found)) = tt
-own-refusal before now (File (file.DigestDiffers kept found)) = tt
-own-refusal before now (File (file.BadRecord at)) = tt
-own-refusal before now (File (file.BadOrder at rule)) = tt
-own-refusal before now (File file.OutOfMemory) = tt
+own-refusal before now e = tt
 
 -- it comes of no store
 pub own-log : (e : Damage) (r : Refusal) (before now : Counts) → r ≡ log_refusal e → RefusalCause before now r
@@ -176,10 +150,3 @@ log-refused names bytes go r h = made-refused Answer (told_of names) names bytes
 pub log-read : (names : FileNames) (bytes : List ℕ) (d : Content) (go : Content → Told) (result : Result Answer Refusal)
     → LogTells bytes (Ok d) → Gives names (λ what. what ≡ go d) result → Gives names (IsByLog names bytes go) result
 log-read names bytes d go result h e = made-read Answer (told_of names) names bytes d go result h e
-
--- ---- a recording
-
--- by the names that a line says
-pub by-names : (known : Option Files) (names own : FileNames) (Is : FileNames → Files → Told → Type 0) (result : Result Answer Refusal) → names ≡ own
-    → WithFiles known (λ files. GivesBy names (Is names) files result) → WithFiles known (λ files. GivesBy names (Is own) files result)
-by-names known names own Is result e h = subst (λ (n : FileNames). WithFiles known (λ files. GivesBy names (Is n) files result)) e h

@@ -8,7 +8,7 @@ use Rattle.bn_outside.specs.Counts.{Rose}
 use Rattle.bn_outside.specs.Streams.{AppendsPart}
 use Rattle.log_commands.specs.Outside.{Sent, SendStops, Gathered, Wrote}
 use Rattle.log_commands.specs.declared.refusal.Refusal.{Refusal}
-use Rattle.log_commands.specs.declared.refusal.Refusal.TheVariants.{WordsRefused, OutOfRange, SameName, StoreFailed, Missing, TooLong, ElfRefused, LogRefused, ProgramDiffers, OutOfMemory, WriteFailed, ReplayStopped, JointStuck, ReadFailed, LineTooLong, CommandsTooLong, BookRefused, FileDiffers, NothingLeft, TooManyRaces, NoRow}
+use Rattle.log_commands.specs.declared.refusal.Refusal.TheVariants.{OutOfMemory, WriteFailed}
 
 pub appends-nothing : (known : Option (List ℕ)) → Appends known known []
 appends-nothing None = tt
@@ -53,27 +53,9 @@ rose-later a b c h (inl less) = inl (omega (arith, h, less))
 rose-later a b c h (inr last) = inr last
 
 pub stops-later : (a b c : ℕ) (r : Refusal) → a ≤ b → SendStops b c r → SendStops a c r
-stops-later a b c WordsRefused h s = absurd s
-stops-later a b c (OutOfRange bad) h s = absurd s
-stops-later a b c SameName h s = absurd s
-stops-later a b c (StoreFailed role) h s = absurd s
-stops-later a b c (Missing role) h s = absurd s
-stops-later a b c (TooLong role) h s = absurd s
-stops-later a b c (ElfRefused e) h s = absurd s
-stops-later a b c (LogRefused e) h s = absurd s
-stops-later a b c (ProgramDiffers kept found) h s = absurd s
 stops-later a b c OutOfMemory h s = tt
 stops-later a b c WriteFailed h s = rose-later a b c h s
-stops-later a b c (ReplayStopped e) h s = absurd s
-stops-later a b c (JointStuck positions) h s = absurd s
-stops-later a b c ReadFailed h s = absurd s
-stops-later a b c LineTooLong h s = absurd s
-stops-later a b c CommandsTooLong h s = absurd s
-stops-later a b c (BookRefused x) h s = absurd s
-stops-later a b c (FileDiffers place) h s = absurd s
-stops-later a b c NothingLeft h s = absurd s
-stops-later a b c (TooManyRaces most) h s = absurd s
-stops-later a b c (NoRow ic) h s = absurd s
+stops-later a b c r h s = absurd s
 
 -- what `send_all` did
 pub wrote : {A E : Type 0} (old new : Option (List ℕ)) (before now : ℕ) (line : List ℕ) (result : Result A E)

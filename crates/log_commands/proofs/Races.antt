@@ -36,5 +36,4 @@ races-halted names most harts r e is = sym (ap (λ (o : Option JointError). race
 -- it is no refusal by a store
 pub own-joint : (e : JointError) (before now : Counts) → RefusalCause before now (joint_refusal e)
 own-joint (joint.Replay e) before now = tt
-own-joint (joint.Stuck positions) before now = tt
-own-joint joint.OutOfMemory before now = tt
+own-joint e before now = tt

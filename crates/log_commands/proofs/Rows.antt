@@ -86,16 +86,8 @@ stopped-so whole rest old now before after e is s =
 pub stands-refused : (whole rest : Replayed) (old now : Option (List ℕ)) (before after : ℕ) (e : ReplayError) → (rest ≡ over (Refused e)) ⊎ (e ≡ replay.OutOfMemory) → RowsSoFar whole rest [] old now before after
     → Sent old now before after (rows_text whole.rows) (λ x. outcome_of x ≡ whole.outcome) (ending_of e)
 stands-refused whole rest old now before after replay.OutOfMemory h s = (so_far-ends (rows_text whole.rows) (rows_text rest.rows) old now before after s.sent, tt)
-stands-refused whole rest old now before after (replay.NoInterval hart interval) (inl h) s = stopped-so whole rest old now before after (replay.NoInterval hart interval) h s
-stands-refused whole rest old now before after (replay.LoadMissing hart ic addr) (inl h) s = stopped-so whole rest old now before after (replay.LoadMissing hart ic addr) h s
-stands-refused whole rest old now before after (replay.ScMissing hart ic) (inl h) s = stopped-so whole rest old now before after (replay.ScMissing hart ic) h s
-stands-refused whole rest old now before after (replay.RecordsLeft hart left) (inl h) s = stopped-so whole rest old now before after (replay.RecordsLeft hart left) h s
-stands-refused whole rest old now before after (replay.EndDiffers hart said found) (inl h) s = stopped-so whole rest old now before after (replay.EndDiffers hart said found) h s
-stands-refused whole rest old now before after (replay.NoInterval hart interval) (inr h) s = grind arith
-stands-refused whole rest old now before after (replay.LoadMissing hart ic addr) (inr h) s = grind arith
-stands-refused whole rest old now before after (replay.ScMissing hart ic) (inr h) s = grind arith
-stands-refused whole rest old now before after (replay.RecordsLeft hart left) (inr h) s = grind arith
-stands-refused whole rest old now before after (replay.EndDiffers hart said found) (inr h) s = grind arith
+stands-refused whole rest old now before after e (inr h) s = grind arith
+stands-refused whole rest old now before after e (inl h) s = stopped-so whole rest old now before after e h s
 
 -- the line after the rows wasn't sent whole
 pub sent-last : (old now next : Option (List ℕ)) (before after last : ℕ) (s : List ℕ) (hart interval : ℕ) (mark : EndMark) (whole o : Outcome) (r : Refusal)

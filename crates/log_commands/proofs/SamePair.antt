@@ -1,5 +1,5 @@
--- What is loaded by two roles and read is an answer by a log and its program.
-use Rattle.std.proofs.Common.{◌≡◌, ◌≤◌, nat_lt, length, List, [], Bool, true, false, Option, Some, None, ◌∙◌, ap, sym, subst, refl, arith}
+-- A log and its program that were loaded and read.
+use Rattle.std.proofs.Common.{◌≡◌, ◌≤◌, nat_lt, length, List, [], Bool, true, false, Option, Some, None, sym, subst, refl, arith}
 use Rattle.std.specs.Prelude.{ℕ, Result, Ok, Err, IfOk}
 use Rattle.std.specs.Str.{bytes_eq}
 use Rattle.std.proofs.lemmas.Bool.Decides.{nat_tests}
@@ -11,23 +11,17 @@ use Rattle.elf_loader.specs.declared.error.ElfError.{ElfError}
 use Rattle.log_order.specs.Content.{Content}
 use Rattle.log_blocks.specs.declared.damage.Damage.{Damage}
 use Rattle.log_commands.specs.Names.{FileNames}
-use Rattle.log_commands.specs.Told.{Told}
-use Rattle.log_commands.specs.Commands.{IsByLog, by_log}
-use Rattle.log_commands.specs.Evaluated.{with_image, where_same, pair_by, IsPairOfBytes, told_by, IsCommand, Makes}
+use Rattle.log_commands.specs.Commands.{by_log}
+use Rattle.log_commands.specs.Evaluated.{with_image, where_same, pair_by, IsPairOfBytes, told_by, Makes}
 use Rattle.log_blocks.specs.Readings.{Reads}
-use Rattle.log_commands.specs.Inputs.{Bytes, no_bytes, bytes_of, unless_long, file_bytes, on_bytes, IsLoaded}
+use Rattle.log_commands.specs.Inputs.{Bytes, bytes_of, unless_long, file_bytes, on_bytes, IsLoaded}
 use Rattle.log_commands.specs.Outside.{WithFiles}
-use Rattle.log_commands.specs.Pairs.{ByPair, pair_roles, pair_loaded, pair_same, pair_of, IsPairOf, IsPair, LoadedPair}
+use Rattle.log_commands.specs.Pairs.{ByPair, pair_roles, pair_loaded, pair_same, pair_of, LoadedPair}
 use Rattle.log_commands.specs.PairAnswers.{by_reading}
 use Rattle.log_commands.specs.declared.inputs.Inputs.{Inputs}
 use Rattle.log_commands.specs.declared.names.Role.TheVariants as role
 use Rattle.log_commands.specs.declared.pairs.JointReading.{JointReading}
 use Rattle.log_commands.specs.declared.refusal.Refusal.{Refusal}
-use Rattle.log_commands.proofs.Commanded.{Rest, file-there}
-
--- what is read of it
-abbrev pub IsReadPair : Bytes → Result JointReading Refusal → Type 0
-IsReadPair b result = IsPairOfBytes b.log b.elf result
 
 same-image : (go : ByPair) (names : FileNames) (d : Content) (i : Result Program ElfError) → told_by (by_reading go) names (with_image d i) ≡ pair_loaded go names d i
 same-image go names d (Err e) = refl
@@ -40,22 +34,6 @@ same-digest go names elf d false = refl
 pub same-log : (go : ByPair) (names : FileNames) (elf : List ℕ) (says : Result Content Damage) → told_by (by_reading go) names (pair_by elf says) ≡ by_log names (pair_of go names elf) says
 same-log go names elf (Err e) = refl
 same-log go names elf (Ok d) = same-digest go names elf d (bytes_eq (sha256 elf) d.head.digest)
-
-bytes-say : (go : ByPair) (files : Files) (names : FileNames) (b : Bytes) (what : Told) → Rest IsReadPair (by_reading go) files names [] b what → IsByLog names b.log (pair_of go names b.elf) what
-bytes-say go files names b what h =
-    let p : IsPairOfBytes b.log b.elf h.result = h.comes in
-    record {
-      says = p.says;
-      reads = p.reads;
-      is = h.told ∙ ap (λ (r : Result JointReading Refusal). told_by (by_reading go) names r) p.is ∙ same-log go names b.elf p.says;
-    }
-
-pub says-pair : (go : ByPair) (names : FileNames) (files : Files) (what : Told) → IsCommand pair_roles IsReadPair (by_reading go) files names what → IsPair go files names what
-says-pair go names files what h =
-    file-there IsReadPair (by_reading go) files names role.Log _ no_bytes what (λ log what. IsPairOf go files names log what)
-    (λ log. file-there IsReadPair (by_reading go) files names role.Elf [] _ what (λ elf what. IsByLog names log (pair_of go names elf) what)
-    (λ elf. bytes-say go files names (record { elf = elf; log = log; book = []; input = []; origin = [] }) what))
-    (record { result = h.result; comes = h.comes; told = h.told })
 
 -- ---- the pair that was loaded
 
@@ -117,7 +95,7 @@ reads-so log elf p (Ok d) reads is = digest-so log elf p d (bytes_eq (sha256 elf
 
 -- what was loaded and read is a log and its program
 pub pair-there : (known : Option Files) (names : FileNames) (inputs : Inputs) (result : Result JointReading Refusal) → WithFiles known (λ files. IsLoaded names pair_roles files (Ok inputs))
-    → Makes (IsReadPair (bytes_of inputs)) result → WithFiles known (λ files. IfOk result (λ p. LoadedPair names.log names.elf files p.log p.image))
+    → Makes (IsPairOfBytes inputs.log.items inputs.elf.items) result → WithFiles known (λ files. IfOk result (λ p. LoadedPair names.log names.elf files p.log p.image))
 pair-there None names inputs result h m = tt
 pair-there (Some files) names inputs (Err r) h m = tt
 pair-there (Some files) names inputs (Ok p) h m =

@@ -7,9 +7,8 @@ use Rattle.log_commands.specs.Refusals.{status_of, replay_status}
 use Rattle.log_commands.specs.Told.{Told, refused}
 use Rattle.log_commands.specs.Outside.{ToldRefusal}
 use Rattle.log_commands.specs.RunEnds.{IsRecorded}
-use Rattle.log_commands.specs.declared.names.Role.TheVariants as role
 use Rattle.log_commands.specs.declared.refusal.Refusal.{Refusal}
-use Rattle.log_commands.specs.declared.refusal.Refusal.TheVariants.{WordsRefused, OutOfRange, SameName, StoreFailed, Missing, TooLong, ElfRefused, LogRefused, ProgramDiffers, OutOfMemory, WriteFailed, ReplayStopped, JointStuck, ReadFailed, LineTooLong, CommandsTooLong, BookRefused, FileDiffers, NothingLeft, TooManyRaces, NoRow}
+use Rattle.log_commands.specs.declared.refusal.Refusal.TheVariants.{OutOfMemory, ReplayStopped}
 
 -- ---- no refusal has the status of a recording
 
@@ -19,38 +18,12 @@ apart status n is a b c (inr (inl e)) = b (sym is ∙ e)
 apart status n is a b c (inr (inr e)) = c (sym is ∙ e)
 
 replays-apart : (e : ReplayError) → IsRecorded (replay_status e) → ⊥
-replays-apart (replay.NoInterval hart interval) = apart 14 14 refl (λ e. omega (arith, e)) (λ e. omega (arith, e)) (λ e. omega (arith, e))
-replays-apart (replay.LoadMissing hart ic addr) = apart 15 15 refl (λ e. omega (arith, e)) (λ e. omega (arith, e)) (λ e. omega (arith, e))
-replays-apart (replay.ScMissing hart ic) = apart 15 15 refl (λ e. omega (arith, e)) (λ e. omega (arith, e)) (λ e. omega (arith, e))
-replays-apart (replay.RecordsLeft hart left) = apart 15 15 refl (λ e. omega (arith, e)) (λ e. omega (arith, e)) (λ e. omega (arith, e))
-replays-apart (replay.EndDiffers hart said found) = apart 15 15 refl (λ e. omega (arith, e)) (λ e. omega (arith, e)) (λ e. omega (arith, e))
-replays-apart replay.OutOfMemory = apart 15 15 refl (λ e. omega (arith, e)) (λ e. omega (arith, e)) (λ e. omega (arith, e))
-
-two : IsRecorded 2 → ⊥
-two = apart 2 2 refl (λ e. omega (arith, e)) (λ e. omega (arith, e)) (λ e. omega (arith, e))
+replays-apart (replay.NoInterval hart interval) is = apart 14 14 refl (λ e. omega (arith, e)) (λ e. omega (arith, e)) (λ e. omega (arith, e)) is
+replays-apart other is = apart 15 15 refl (λ e. omega (arith, e)) (λ e. omega (arith, e)) (λ e. omega (arith, e)) is
 
 refusals-apart : (r : Refusal) → IsRecorded (status_of r) → ⊥
-refusals-apart WordsRefused = two
-refusals-apart (OutOfRange bad) = two
-refusals-apart SameName = two
-refusals-apart (StoreFailed role) = apart 3 3 refl (λ e. omega (arith, e)) (λ e. omega (arith, e)) (λ e. omega (arith, e))
-refusals-apart (Missing role) = apart 4 4 refl (λ e. omega (arith, e)) (λ e. omega (arith, e)) (λ e. omega (arith, e))
-refusals-apart (TooLong role) = apart 5 5 refl (λ e. omega (arith, e)) (λ e. omega (arith, e)) (λ e. omega (arith, e))
-refusals-apart (ElfRefused e) = apart 6 6 refl (λ e. omega (arith, e)) (λ e. omega (arith, e)) (λ e. omega (arith, e))
-refusals-apart (LogRefused e) = apart 7 7 refl (λ e. omega (arith, e)) (λ e. omega (arith, e)) (λ e. omega (arith, e))
-refusals-apart (ProgramDiffers kept found) = apart 8 8 refl (λ e. omega (arith, e)) (λ e. omega (arith, e)) (λ e. omega (arith, e))
-refusals-apart OutOfMemory = apart 9 9 refl (λ e. omega (arith, e)) (λ e. omega (arith, e)) (λ e. omega (arith, e))
-refusals-apart WriteFailed = apart 13 13 refl (λ e. omega (arith, e)) (λ e. omega (arith, e)) (λ e. omega (arith, e))
-refusals-apart (ReplayStopped e) = replays-apart e
-refusals-apart (JointStuck positions) = apart 15 15 refl (λ e. omega (arith, e)) (λ e. omega (arith, e)) (λ e. omega (arith, e))
-refusals-apart ReadFailed = apart 12 12 refl (λ e. omega (arith, e)) (λ e. omega (arith, e)) (λ e. omega (arith, e))
-refusals-apart LineTooLong = apart 18 18 refl (λ e. omega (arith, e)) (λ e. omega (arith, e)) (λ e. omega (arith, e))
-refusals-apart CommandsTooLong = apart 18 18 refl (λ e. omega (arith, e)) (λ e. omega (arith, e)) (λ e. omega (arith, e))
-refusals-apart (BookRefused e) = apart 17 17 refl (λ e. omega (arith, e)) (λ e. omega (arith, e)) (λ e. omega (arith, e))
-refusals-apart (FileDiffers place) = apart 16 16 refl (λ e. omega (arith, e)) (λ e. omega (arith, e)) (λ e. omega (arith, e))
-refusals-apart NothingLeft = apart 19 19 refl (λ e. omega (arith, e)) (λ e. omega (arith, e)) (λ e. omega (arith, e))
-refusals-apart (TooManyRaces most) = apart 20 20 refl (λ e. omega (arith, e)) (λ e. omega (arith, e)) (λ e. omega (arith, e))
-refusals-apart (NoRow ic) = apart 21 21 refl (λ e. omega (arith, e)) (λ e. omega (arith, e)) (λ e. omega (arith, e))
+refusals-apart (ReplayStopped e) is = replays-apart e is
+refusals-apart r is = apart (status_of r) (status_of r) refl (λ e. omega (arith, e)) (λ e. omega (arith, e)) (λ e. omega (arith, e)) is
 
 -- the status of a refusal that was told
 pub told-apart : (names : FileNames) (r : Refusal) (status : ℕ) (err_old err_new : Option (List ℕ)) (before now : ℕ) → ToldRefusal names r status err_old err_new before now → IsRecorded status → ⊥

@@ -15,7 +15,7 @@ use Rattle.log_commands.specs.declared.names.Role.{Role}
 use Rattle.log_commands.specs.declared.names.Role.TheVariants as role
 use Rattle.log_commands.specs.declared.answer.RunToTell.{RunToTell}
 use Rattle.log_commands.specs.declared.refusal.Refusal.{Refusal}
-use Rattle.log_commands.specs.declared.refusal.Refusal.TheVariants.{WordsRefused, OutOfRange, SameName, StoreFailed, Missing, TooLong, ElfRefused, LogRefused, ProgramDiffers, OutOfMemory, WriteFailed, ReplayStopped, JointStuck, ReadFailed, LineTooLong, CommandsTooLong, BookRefused, FileDiffers, NothingLeft, TooManyRaces, NoRow}
+use Rattle.log_commands.specs.declared.refusal.Refusal.TheVariants.{StoreFailed, OutOfMemory, WriteFailed}
 use Rattle.log_commands.proofs.Prints.{part-whole, rose-later}
 
 -- ---- a refusal
@@ -49,50 +49,15 @@ FreeRefusal r = ⊥
 free-status : (names : FileNames) (r : Refusal) (status : ℕ) (err_old err_new : Option (List ℕ)) (before now : ℕ)
     → FreeRefusal r → ToldRefusal names r status err_old err_new before now → IsFree status
 free-status names r status err_old err_new before now o (inr h) = inr (inl h.0)
-free-status names WordsRefused status err_old err_new before now o (inl h) = absurd o
-free-status names (OutOfRange bad) status err_old err_new before now o (inl h) = absurd o
-free-status names SameName status err_old err_new before now o (inl h) = absurd o
 free-status names (StoreFailed role) status err_old err_new before now o (inl h) = inl h.0
-free-status names (Missing role) status err_old err_new before now o (inl h) = absurd o
-free-status names (TooLong role) status err_old err_new before now o (inl h) = absurd o
-free-status names (ElfRefused e) status err_old err_new before now o (inl h) = absurd o
-free-status names (LogRefused e) status err_old err_new before now o (inl h) = absurd o
-free-status names (ProgramDiffers kept found) status err_old err_new before now o (inl h) = absurd o
 free-status names OutOfMemory status err_old err_new before now o (inl h) = inr (inl h.0)
 free-status names WriteFailed status err_old err_new before now o (inl h) = inr (inr h.0)
-free-status names (ReplayStopped e) status err_old err_new before now o (inl h) = absurd o
-free-status names (JointStuck positions) status err_old err_new before now o (inl h) = absurd o
-free-status names ReadFailed status err_old err_new before now o (inl h) = absurd o
-free-status names LineTooLong status err_old err_new before now o (inl h) = absurd o
-free-status names CommandsTooLong status err_old err_new before now o (inl h) = absurd o
-free-status names (BookRefused x) status err_old err_new before now o (inl h) = absurd o
-free-status names (FileDiffers place) status err_old err_new before now o (inl h) = absurd o
-free-status names NothingLeft status err_old err_new before now o (inl h) = absurd o
-free-status names (TooManyRaces most) status err_old err_new before now o (inl h) = absurd o
-free-status names (NoRow ic) status err_old err_new before now o (inl h) = absurd o
+free-status names r status err_old err_new before now o (inl h) = absurd o
 
 sends-free : (r : Refusal) (before now : ℕ) → SendStops before now r → FreeRefusal r
-sends-free WordsRefused before now s = absurd s
-sends-free (OutOfRange bad) before now s = absurd s
-sends-free SameName before now s = absurd s
-sends-free (StoreFailed role) before now s = absurd s
-sends-free (Missing role) before now s = absurd s
-sends-free (TooLong role) before now s = absurd s
-sends-free (ElfRefused e) before now s = absurd s
-sends-free (LogRefused e) before now s = absurd s
-sends-free (ProgramDiffers kept found) before now s = absurd s
 sends-free OutOfMemory before now s = tt
 sends-free WriteFailed before now s = tt
-sends-free (ReplayStopped e) before now s = absurd s
-sends-free (JointStuck positions) before now s = absurd s
-sends-free ReadFailed before now s = absurd s
-sends-free LineTooLong before now s = absurd s
-sends-free CommandsTooLong before now s = absurd s
-sends-free (BookRefused x) before now s = absurd s
-sends-free (FileDiffers place) before now s = absurd s
-sends-free NothingLeft before now s = absurd s
-sends-free (TooManyRaces most) before now s = absurd s
-sends-free (NoRow ic) before now s = absurd s
+sends-free r before now s = absurd s
 
 -- ---- saves
 
@@ -136,11 +101,9 @@ kept-few None log book x y s = s
 kept-few (Some saved) log book x y s = kept-saved-few saved.log saved.book log book x y s
 
 broke-few : (role : Role) (saved : Saved) (log book : List ℕ) (x y : Files) → SaveBroke role saved log book x y → MayChange (Some saved) log book x y
-broke-few role.Elf saved log book x y b = absurd b
 broke-few role.Log saved log book x y b = inl b
 broke-few role.Book saved log book x y b = inr b
-broke-few role.Input saved log book x y b = absurd b
-broke-few role.Origin saved log book x y b = absurd b
+broke-few role saved log book x y b = absurd b
 
 unsaved-few : (saved : Option Saved) (names : FileNames) (old new : Option Files) (before now : Counts) (r : Refusal) → Unsaved saved names old new before now r
     → WhereTold old new (MayChange saved names.log names.book)

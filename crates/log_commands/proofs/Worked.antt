@@ -1,5 +1,5 @@
 -- The saves of small logs, worked out.
-use Rattle.std.proofs.Common.{◌≡◌, ◌∷◌, ◌++◌, [], ℕ, List, ap, ◌∙◌, sym, refl, arith}
+use Rattle.std.proofs.Common.{◌≡◌, ◌∷◌, ◌++◌, [], List, ap, ◌∙◌, sym, refl, arith}
 use Rattle.log_commands.specs.Effects.{Call}
 use Rattle.log_commands.specs.Examples.{by_size, a_log, a_recording}
 use Rattle.log_commands.specs.FileCalls.{FileCall, Saves, SavesTold, saves_of, noted_after}

@@ -13,6 +13,7 @@ use Rattle.log_commands.specs.declared.answer.Answer.{Answer}
 use Rattle.log_commands.specs.declared.names.Role.{Role}
 use Rattle.log_commands.specs.declared.refusal.Refusal.{Refusal}
 use Rattle.log_commands.specs.declared.refusal.Refusal.TheVariants.{StoreFailed, OutOfMemory}
+use Rattle.log_commands.specs.declared.status.Status.{Status}
 
 -- ---- the store
 
@@ -69,5 +70,5 @@ pub record ActsOn (names : FileNames) (answer : Answer) (status : ℕ) (note : N
   pub calls : SavesTold names (saves_in answer) status note old.store.noted new.store.noted (between old new)
 
 -- so it is once the refusal, if there is one, is told
-abbrev pub ActsTo : FileNames → Answer → Note → (old new : World) → Result ℕ Refusal → Type 0
+abbrev pub ActsTo : FileNames → Answer → Note → (old new : World) → Result Status Refusal → Type 0
 ActsTo names answer note old new result = (status : ℕ) (end : Stream) → IsClosed names result status new.err end → ActsOn names answer status note old (with_err new end)

@@ -1,11 +1,13 @@
 -- What a command makes of the bytes that were loaded, before anything is printed or saved.
-use Rattle.std.specs.Prelude.{◌≡◌, ℕ, List, [], Vec, Result, Ok, Err, IfOk, IfErr}
+use Rattle.std.specs.Prelude.{◌≡◌, ℕ, List, [], ◌∷◌, Vec, Result, IfOk, IfErr}
 use Rattle.std.specs.declared.alloc.Global.{Global}
 use Rattle.bn_outside.specs.Counts.{NoneFell}
+use Rattle.bn_outside.specs.Files.{Files}
+use Rattle.log_commands.specs.Commands.{WithFile}
 use Rattle.log_commands.specs.FileCalls.{Note, Loads, store_call, LoadsTo, IsOfLoad}
-use Rattle.log_commands.specs.Inputs.{Bytes, Stored, limit_of, IsLoaded, OnlyLoads}
+use Rattle.log_commands.specs.Inputs.{Bytes, put, Stored, limit_of, IsLoaded, OnlyLoads}
 use Rattle.log_commands.specs.Names.{FileNames, name_of}
-use Rattle.log_commands.specs.Told.{Told, refused}
+use Rattle.log_commands.specs.Told.{Told}
 use Rattle.log_commands.specs.Outside.{Gives, IsOwn, WithFiles, FetchTells, ResultCause}
 use Rattle.log_commands.specs.declared.answer.Answer.{Answer}
 use Rattle.log_commands.specs.declared.inputs.Inputs.{Inputs}
@@ -19,10 +21,11 @@ pub record Answers (Kind : Answer → Type 0) (Is : FileNames → Told → Type 
   pub own : IsOwn result
   pub kind : IfOk result Kind
 
--- what is loaded decides: a refusal is told, or what the bytes come to
-abbrev pub ByLoads : (Bytes → Told → Type 0) → FileNames → Result Bytes Refusal → Told → Type 0
-ByLoads Is names (Err refusal) what = what ≡ refused names refusal
-ByLoads Is names (Ok bytes) what = Is bytes what
+-- an answer by the files in these roles, loaded in this order, beside the bytes that were: one that is missing or too long is the
+-- answer, or else what all the bytes come to
+abbrev pub IsByFiles : Files → FileNames → List Role → Bytes → (Bytes → Told → Type 0) → Told → Type 0
+IsByFiles files names [] had Is what = Is had what
+IsByFiles files names (r ∷ roles) had Is what = WithFile files names r (limit_of r) (λ bytes what. IsByFiles files names roles (put had r bytes) Is what) what
 
 -- ---- the store
 

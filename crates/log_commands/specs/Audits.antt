@@ -1,5 +1,5 @@
 -- What the command `audit` answers: whether a log is the file of the run of a book's turns.
-use Rattle.std.specs.Prelude.{◌≡◌, ◌≤◌, ◌⊎◌, ℕ, Bool, List, length, Option, Some, None, Ok}
+use Rattle.std.specs.Prelude.{◌≡◌, ◌≤◌, ◌⊎◌, ℕ, Bool, List, ◌∷◌, length, Option, Some, None, Result, Ok, Err}
 use Rattle.sha2.specs.Sha256.{sha256}
 use Rattle.bn_base.specs.Programs.{Program}
 use Rattle.bn_base.specs.declared.settings.RawSettings.{RawSettings}
@@ -16,47 +16,43 @@ use Rattle.run_files.specs.declared.verdict.Verdict.TheVariants.{Agree, Differ}
 use Rattle.replay_laws.specs.Law.{IsWhole}
 use Rattle.log_commands.specs.Names.{FileNames}
 use Rattle.log_commands.specs.Texts.{agree_text}
-use Rattle.log_commands.specs.Told.{Told, refused, printed}
-use Rattle.log_commands.specs.Commands.{WithFile, IsByLog, IsByInput}
+use Rattle.log_commands.specs.Told.{Told, printed}
+use Rattle.log_commands.specs.Commands.{IsByLog}
+use Rattle.log_commands.specs.Evaluated.{told_by}
+use Rattle.log_commands.specs.FileCalls.{input_roles}
 use Rattle.log_commands.specs.Pairs.{pair_of}
 use Rattle.log_commands.specs.Inputs.{input_by}
+use Rattle.log_commands.specs.declared.names.Role.{Role}
 use Rattle.log_commands.specs.declared.names.Role.TheVariants as role
+use Rattle.log_commands.specs.declared.refusal.Refusal.{Refusal}
 use Rattle.log_commands.specs.declared.refusal.Refusal.TheVariants.{BookRefused, FileDiffers}
 
--- ---- what is told
+-- what is loaded, in this order
+abbrev pub roles_of : (has_input : Bool) → List Role
+roles_of has_input = role.Log ∷ role.Elf ∷ role.Book ∷ input_roles has_input
 
-abbrev pub verdict_told : FileNames → Verdict → Told
-verdict_told names Agree = printed agree_text
-verdict_told names (Differ place) = refused names (FileDiffers place)
+abbrev pub by_verdict : Verdict → Result (Unit {0}) Refusal
+by_verdict Agree = Ok tt
+by_verdict (Differ place) = Err (FileDiffers place)
 
 -- the book's turns come first: they have to be a whole run
-abbrev pub turns_told : Option TurnError → FileNames → Verdict → Told
-turns_told (Some e) names verdict = refused names (BookRefused e)
-turns_told None names verdict = verdict_told names verdict
+abbrev pub by_turns : Option TurnError → Verdict → Result (Unit {0}) Refusal
+by_turns (Some e) verdict = Err (BookRefused e)
+by_turns None verdict = by_verdict verdict
 
--- the bytes of a log are compared with the file of the run of a book's turns, which has the settings and the digest that the
--- log says, its program and this input
+-- the bytes of a log are compared with the file of the run of a book's turns
+abbrev pub audit_by : RawSettings → Program → (digest input book log : List ℕ) → Result (Unit {0}) Refusal
+audit_by c i digest input book log = by_turns (list_error c i input book) (verdict_of (audited_file (is_version2 log) c i digest input book) log)
+
+abbrev pub shown : Unit {0} → Told
+shown agreed = printed agree_text
+
+-- the run has the settings and the digest that the log says, its program and this input
 abbrev pub audited : FileNames → (log book input : List ℕ) → Content → Program → Told
-audited names log book input d i =
-    turns_told (list_error d.head.settings i input book) names (verdict_of (audited_file (is_version2 log) d.head.settings i d.head.digest input book) log)
-
--- ---- the command: all files are loaded before the first is read
+audited names log book input d i = told_by shown names (audit_by d.head.settings i d.head.digest input book log)
 
 abbrev pub IsAuditOf : FileNames → (log elf book input : List ℕ) → Told → Type 0
 IsAuditOf names log elf book input what = IsByLog names log (pair_of (audited names log book input) names elf) what
-
-abbrev pub IsAuditWith : Files → FileNames → (has_input : Bool) → (log elf book : List ℕ) → Told → Type 0
-IsAuditWith files names has_input log elf book what = IsByInput has_input files names (IsAuditOf names log elf book) what
-
-abbrev pub IsAuditBy : Files → FileNames → (has_input : Bool) → (log elf : List ℕ) → Told → Type 0
-IsAuditBy files names has_input log elf what = WithFile files names role.Book 1073741824 (λ book what. IsAuditWith files names has_input log elf book what) what
-
-abbrev pub IsAuditIn : Files → FileNames → (has_input : Bool) → (log : List ℕ) → Told → Type 0
-IsAuditIn files names has_input log what = WithFile files names role.Elf 67108864 (λ elf what. IsAuditBy files names has_input log elf what) what
-
--- what `audit` has to answer
-abbrev pub IsAudit : Files → FileNames → (has_input : Bool) → Told → Type 0
-IsAudit files names has_input what = WithFile files names role.Log 272629760 (λ log what. IsAuditIn files names has_input log what) what
 
 -- ---- what agrees
 

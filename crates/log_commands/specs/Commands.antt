@@ -2,13 +2,9 @@
 -- read by the grammar of its bytes, which is a relation, in the version that they name. But for a recording without a seed no command has two answers
 -- (`one_answer`).
 use Rattle.std.specs.Prelude.{◌≡◌, ℕ, nat_lt, Bool, true, false, List, [], ◌++◌, length, Option, Some, None, Result, Ok, Err}
-use Rattle.std.specs.Str.{bytes_eq}
-use Rattle.sha2.specs.Sha256.{sha256}
 use Rattle.bn_base.specs.Programs.{Program}
 use Rattle.bn_base.specs.declared.end_mark.EndMark.{EndMark}
 use Rattle.bn_outside.specs.Files.{Files}
-use Rattle.elf_loader.specs.Loaded.{image_of}
-use Rattle.elf_loader.specs.declared.error.ElfError.{ElfError}
 use Rattle.log_order.specs.Content.{Content}
 use Rattle.log_blocks.specs.Readings.{Reads}
 use Rattle.log_blocks.specs.declared.damage.Damage.{Damage}
@@ -21,7 +17,7 @@ use Rattle.log_commands.specs.Texts.{begin_text, rows_text, list_text, check_tex
 use Rattle.log_commands.specs.Told.{Told, refused, printed}
 use Rattle.log_commands.specs.declared.names.Role.{Role}
 use Rattle.log_commands.specs.declared.names.Role.TheVariants as role
-use Rattle.log_commands.specs.declared.refusal.Refusal.TheVariants.{Missing, TooLong, ElfRefused, LogRefused, ProgramDiffers, ReplayStopped}
+use Rattle.log_commands.specs.declared.refusal.Refusal.TheVariants.{Missing, TooLong, LogRefused, ReplayStopped}
 
 -- ---- files
 
@@ -74,36 +70,7 @@ replay_found names hart interval d i (Some v) = interval_told names hart interva
 abbrev pub replay_with : FileNames → (hart interval : ℕ) → Content → Program → Told
 replay_with names hart interval d i = replay_found names hart interval d i (interval_of hart interval d.records)
 
-abbrev pub replay_loaded : FileNames → (hart interval : ℕ) → Content → Result Program ElfError → Told
-replay_loaded names hart interval d (Err e) = refused names (ElfRefused e)
-replay_loaded names hart interval d (Ok i) = replay_with names hart interval d i
-
-abbrev pub replay_same : Bool → FileNames → (hart interval : ℕ) → List ℕ → Content → Told
-replay_same true names hart interval elf d = replay_loaded names hart interval d (image_of elf d.head.settings)
-replay_same false names hart interval elf d = refused names (ProgramDiffers d.head.digest (sha256 elf))
-
--- the replay of an interval of a log with a program file: its digest is compared with the log's, and it is loaded with the
--- log's settings
-abbrev pub replay_of : FileNames → (hart interval : ℕ) → List ℕ → Content → Told
-replay_of names hart interval elf d = replay_same (bytes_eq (sha256 elf) d.head.digest) names hart interval elf d
-
--- ---- the commands
-
--- what `list` has to answer, by the files that are there
-abbrev pub IsList : Files → FileNames → Told → Type 0
-IsList files names what = WithFile files names role.Log 272629760 (λ log what. IsByLog names log list_of what) what
-
--- what `check` has to answer
-abbrev pub IsCheck : Files → FileNames → Told → Type 0
-IsCheck files names what = WithFile files names role.Log 272629760 (λ log what. IsByLog names log check_of what) what
-
-abbrev pub IsReplayOf : Files → FileNames → (hart interval : ℕ) → List ℕ → Told → Type 0
-IsReplayOf files names hart interval log what =
-    WithFile files names role.Elf 67108864 (λ elf what. IsByLog names log (replay_of names hart interval elf) what) what
-
--- what `replay` has to answer: LOG is loaded first, then ELF
-abbrev pub IsReplay : Files → FileNames → (hart interval : ℕ) → Told → Type 0
-IsReplay files names hart interval what = WithFile files names role.Log 272629760 (λ log what. IsReplayOf files names hart interval log what) what
+-- ---- an input
 
 -- a recording's input is that of a file, or empty
 abbrev pub IsByInput : Bool → Files → FileNames → (List ℕ → Told → Type 0) → Told → Type 0

@@ -9,6 +9,9 @@ use Rattle.log_commands.specs.Told.{Told, Saved}
 use Rattle.log_commands.specs.Outside.{Stream, Refuses, Wrote, SendStops, ToldRefusal, IsEarly, KeptFiles, Unsaved}
 use Rattle.log_commands.specs.declared.refusal.Refusal.{Refusal}
 use Rattle.log_commands.specs.declared.refusal.Refusal.TheVariants as why
+use Rattle.log_commands.specs.Statuses.{code}
+use Rattle.log_commands.specs.declared.status.Status.{Status}
+use Rattle.log_commands.specs.declared.status.Status.TheVariants as exit
 
 -- ---- what is around a call
 
@@ -34,22 +37,15 @@ call files counts out out_faults err err_faults s o e t p f = record {
   new = record { files = files t; counts = counts t; out = out p; out_faults = out_faults p; err = err f; err_faults = err_faults f };
 }
 
--- a call that leaves a store alone
-abbrev pub printing : {O X : Type 0} → Option Files → Counts → (O → Option (List ℕ)) → (O → ℕ) → (X → Option (List ℕ)) → (X → ℕ) → O → X → O → X → Call
-printing files counts out out_faults err err_faults o e p f = record {
-  old = record { files = files; counts = counts; out = out o; out_faults = out_faults o; err = err e; err_faults = err_faults e };
-  new = record { files = files; counts = counts; out = out p; out_faults = out_faults p; err = err f; err_faults = err_faults f };
-}
-
 -- ---- the statuses
 
 -- those that neither words nor files explain: the store failed, memory ran out, a write failed
 abbrev pub IsFree : ℕ → Type 0
-IsFree status = (status ≡ 3) ⊎ ((status ≡ 9) ⊎ (status ≡ 13))
+IsFree status = (status ≡ code exit.StoreFailed) ⊎ ((status ≡ code exit.OutOfMemory) ⊎ (status ≡ code exit.WriteFailed))
 
 -- those at which something may not be saved: the store failed, memory ran out
 abbrev pub IsUnsaved : ℕ → Type 0
-IsUnsaved status = (status ≡ 3) ⊎ (status ≡ 9)
+IsUnsaved status = (status ≡ code exit.StoreFailed) ⊎ (status ≡ code exit.OutOfMemory)
 
 -- ---- a command that has its answer
 
@@ -125,9 +121,9 @@ pub record StoppedBy (names : FileNames) (Is : Files → Told → Type 0) (files
 abbrev pub SomeTold : (Told → Type 0) → (Told → Type 0) → Type 0
 SomeTold Is Also = (what : Told) × Is what × Also what
 
--- a refusal by the words alone is told, and nothing is printed; without one the status isn't 2
+-- a refusal by the words alone is told, and nothing is printed; without one the status is another
 abbrev pub IsByWords : Option Refusal → FileNames → ℕ → Call → Type 0
-IsByWords None names status k = status ≢ 2
+IsByWords None names status k = status ≢ code exit.WordsRefused
 IsByWords (Some refusal) names status k = Appends k.old.out k.new.out [] × ToldRefusal names refusal status k.old.err k.new.err k.old.err_faults k.new.err_faults
 
 -- ---- a command that has its answer, and how it ends
@@ -144,24 +140,24 @@ WriteRose k = Rose k.old.out_faults k.new.out_faults ⊎ Rose k.old.err_faults k
 -- a text is printed, or it was stopped: not by words, the store or what it reads, and by a write only if one failed
 pub record Prints (names : FileNames) (what : Told) (status : ℕ) (k : Call) : Type 0 where
   pub told : Tells names what status k
-  pub words : status ≢ 2
-  pub failed : status ≢ 3
-  pub missing : status ≢ 4
-  pub long : status ≢ 5
-  pub read : status ≢ 12
-  pub write : status ≡ 13 → WriteRose k
+  pub words : status ≢ code exit.WordsRefused
+  pub failed : status ≢ code exit.StoreFailed
+  pub missing : status ≢ code exit.Missing
+  pub long : status ≢ code exit.TooLong
+  pub read : status ≢ code exit.ReadFailed
+  pub write : status ≡ code exit.WriteFailed → WriteRose k
   pub later : NoWriteFell k
 
 -- an answer is saved and printed, or it was stopped: not by words or what it reads, and by the store or a write only if one
 -- failed
 pub record Acts (names : FileNames) (what : Told) (status : ℕ) (k : Call) : Type 0 where
   pub told : Tells names what status k
-  pub words : status ≢ 2
-  pub failed : status ≡ 3 → Rose k.old.counts.faults k.new.counts.faults
-  pub missing : status ≢ 4
-  pub long : status ≢ 5
-  pub read : status ≢ 12
-  pub write : status ≡ 13 → WriteRose k
+  pub words : status ≢ code exit.WordsRefused
+  pub failed : status ≡ code exit.StoreFailed → Rose k.old.counts.faults k.new.counts.faults
+  pub missing : status ≢ code exit.Missing
+  pub long : status ≢ code exit.TooLong
+  pub read : status ≢ code exit.ReadFailed
+  pub write : status ≡ code exit.WriteFailed → WriteRose k
   pub later : NoWriteFell k
   pub counts : NoneFell k.old.counts k.new.counts
 
@@ -175,14 +171,14 @@ printing_to files counts out_old out_new before now err_old err_new err_before e
 
 -- ---- before a refusal is told
 
--- what was printed ends with 0
-abbrev pub done_of : {A : Type 0} → Result A Refusal → Result ℕ Refusal
-done_of (Ok value) = Ok 0
+-- what was printed ends as done
+abbrev pub done_of : {A : Type 0} → Result A Refusal → Result Status Refusal
+done_of (Ok value) = Ok exit.Done
 done_of (Err refusal) = Err refusal
 
 -- a status is the end, and err stays; a refusal is told on err, and gives the status
-abbrev pub IsClosed : FileNames → Result ℕ Refusal → (status : ℕ) → (err end : Stream) → Type 0
-IsClosed names (Ok value) status err end = (status ≡ value) × (end ≡ err)
+abbrev pub IsClosed : FileNames → Result Status Refusal → (status : ℕ) → (err end : Stream) → Type 0
+IsClosed names (Ok value) status err end = (status ≡ code value) × (end ≡ err)
 IsClosed names (Err refusal) status err end = Refuses names refusal status err end
 
 -- a call that leaves a store alone

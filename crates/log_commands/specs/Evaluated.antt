@@ -3,24 +3,16 @@ use Rattle.std.specs.Prelude.{◌≡◌, ◌⊎◌, ℕ, Bool, true, false, List
 use Rattle.std.specs.Str.{bytes_eq}
 use Rattle.sha2.specs.Sha256.{sha256}
 use Rattle.bn_base.specs.Programs.{Program}
-use Rattle.bn_outside.specs.Files.{Files}
 use Rattle.elf_loader.specs.Loaded.{image_of}
 use Rattle.elf_loader.specs.declared.error.ElfError.{ElfError}
 use Rattle.log_order.specs.Content.{Content}
 use Rattle.log_blocks.specs.Readings.{Reads}
 use Rattle.log_blocks.specs.declared.damage.Damage.{Damage}
-use Rattle.log_commands.specs.Inputs.{Bytes, loaded}
 use Rattle.log_commands.specs.Names.{FileNames}
 use Rattle.log_commands.specs.Told.{Told, refused}
-use Rattle.log_commands.specs.declared.names.Role.{Role}
 use Rattle.log_commands.specs.declared.pairs.JointReading.{JointReading}
 use Rattle.log_commands.specs.declared.refusal.Refusal.{Refusal}
 use Rattle.log_commands.specs.declared.refusal.Refusal.TheVariants.{OutOfMemory, LogRefused, ElfRefused, ProgramDiffers}
-
--- what is made next of what was made; a refusal stays
-abbrev pub on_ok : {A B : Type 0} → (A → Result B Refusal) → Result A Refusal → Result B Refusal
-on_ok go (Err refusal) = Err refusal
-on_ok go (Ok made) = go made
 
 -- what was made is what it has to be, or memory ran out
 abbrev pub Makes : {A : Type 0} → (Result A Refusal → Type 0) → Result A Refusal → Type 0
@@ -48,19 +40,6 @@ pub record IsPairOfBytes (log elf : List ℕ) (result : Result JointReading Refu
   pub reads : Reads log says
   pub is : result ≡ pair_by elf says
 
--- ---- the whole command
-
--- what is loaded decides: a refusal, or what the bytes come to
-abbrev pub ComesTo : {A : Type 0} → (Bytes → Result A Refusal → Type 0) → Result Bytes Refusal → Result A Refusal → Type 0
-ComesTo Is (Err refusal) result = result ≡ Err refusal
-ComesTo Is (Ok bytes) result = Is bytes result
-
 abbrev pub told_by : {A : Type 0} → (A → Told) → FileNames → Result A Refusal → Told
 told_by show names (Ok made) = show made
 told_by show names (Err refusal) = refused names refusal
-
--- a command that loads these files, in this order
-pub record IsCommand {A : Type 0} (roles : List Role) (Is : Bytes → Result A Refusal → Type 0) (show : A → Told) (files : Files) (names : FileNames) (what : Told) : Type 0 where
-  pub result : Result A Refusal
-  pub comes : ComesTo Is (loaded files names roles) result
-  pub told : what ≡ told_by show names result

@@ -1,6 +1,6 @@
 -- A store that notes how much it was given, and the saves of small logs.
-use Rattle.std.specs.Prelude.{ℕ, ◌+◌, List, [], ◌∷◌, length, Option, Some, None}
-use Rattle.bn_outside.specs.StoreCalls.{StoreCall, LoadCall, SaveCall}
+use Rattle.std.specs.Prelude.{◌+◌, [], ◌∷◌, length, Option, Some, None}
+use Rattle.bn_outside.specs.StoreCalls.{LoadCall, SaveCall}
 use Rattle.log_commands.specs.FileCalls.{Note}
 use Rattle.log_commands.specs.Told.{Saved}
 

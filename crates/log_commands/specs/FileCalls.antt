@@ -14,6 +14,8 @@ use Rattle.log_commands.specs.declared.names.Role.{Role}
 use Rattle.log_commands.specs.declared.names.Role.TheVariants as role
 use Rattle.log_commands.specs.declared.refusal.Refusal.{Refusal}
 use Rattle.log_commands.specs.declared.refusal.Refusal.TheVariants as why
+use Rattle.log_commands.specs.Statuses.{code}
+use Rattle.log_commands.specs.declared.status.Status.TheVariants as exit
 
 -- ---- the calls
 
@@ -176,4 +178,4 @@ pub record SavesTold (names : FileNames) (saves : List FileCall) (status : ℕ) 
   pub left : List FileCall
   pub parts : saves ≡ made ++ left
   pub noted : after ≡ noted_after note names before made
-  pub ends : ((left ≡ []) × (status ≢ 3)) ⊎ SaveRefused names made status k
+  pub ends : ((left ≡ []) × (status ≢ code exit.StoreFailed)) ⊎ SaveRefused names made status k

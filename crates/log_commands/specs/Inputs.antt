@@ -36,9 +36,9 @@ put b role.Origin bytes = record b { origin = bytes }
 -- the most bytes of a file
 abbrev pub limit_of : Role → ℕ
 limit_of role.Elf = 67108864
-limit_of role.Log = 272629760
 limit_of role.Book = 1073741824
 limit_of role.Input = 16777216
+limit_of role.Log = 272629760
 limit_of role.Origin = 272629760
 
 -- ---- the loads

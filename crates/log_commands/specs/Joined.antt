@@ -8,7 +8,7 @@ use Rattle.joint_replay.specs.Texts.{joint_text}
 use Rattle.log_commands.specs.Names.{FileNames}
 use Rattle.log_commands.specs.Refusals.{joint_refusal}
 use Rattle.log_commands.specs.Told.{Told, printed_until}
-use Rattle.log_commands.specs.Pairs.{IsPair, ArePair}
+use Rattle.log_commands.specs.Pairs.{ArePair}
 use Rattle.log_commands.specs.declared.refusal.Refusal.{Refusal}
 
 -- ---- what is told
@@ -29,9 +29,6 @@ abbrev pub joint_with : FileNames → Content → Program → Told
 joint_with names d i = ran_told names (run_all (joined d i))
 
 -- ---- the command
-
-abbrev pub IsJoint : Files → FileNames → Told → Type 0
-IsJoint files names what = IsPair (joint_with names) files names what
 
 -- what it needs: a log and its program are there, and their joint replay isn't stopped
 pub record CanJoin (log elf : List ℕ) (files : Files) : Type 0 where

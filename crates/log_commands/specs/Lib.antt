@@ -17,11 +17,11 @@ pub mod Audits
 pub mod NewLogs
 pub mod Inputs
 pub mod Evaluated
-pub mod Command
 pub mod Answering
 pub mod Acting
 pub mod Effects
 pub mod FileCalls
 pub mod RunEnds
+pub mod Statuses
 pub mod SaveCounts
 pub mod Examples

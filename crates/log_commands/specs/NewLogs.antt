@@ -1,7 +1,5 @@
 -- What the commands `convert` and `salvage` answer: a log is saved that is made of another.
-use Rattle.std.specs.Prelude.{◌≡◌, Bool, true, false, ℕ, List, [], Some, None, Result, Ok, Err}
-use Rattle.std.specs.Str.{bytes_eq}
-use Rattle.bn_outside.specs.Files.{Files}
+use Rattle.std.specs.Prelude.{◌≡◌, ℕ, List, [], Some, None, Result, Ok, Err}
 use Rattle.log_order.specs.Content.{Content}
 use Rattle.log_file.specs.Layout.{file_bytes2}
 use Rattle.log_blocks.specs.Readings.{Salvages}
@@ -10,14 +8,14 @@ use Rattle.log_blocks.specs.declared.damage.SalvageError.TheVariants as salvage
 use Rattle.log_commands.specs.Names.{FileNames}
 use Rattle.log_commands.specs.Texts.{check_text}
 use Rattle.log_commands.specs.Told.{Told, refused}
-use Rattle.log_commands.specs.Commands.{WithFile, IsByLog}
-use Rattle.log_commands.specs.declared.names.Role.TheVariants as role
 use Rattle.log_commands.specs.declared.refusal.Refusal.{Refusal}
-use Rattle.log_commands.specs.declared.refusal.Refusal.TheVariants.{SameName, LogRefused, NothingLeft, OutOfMemory}
+use Rattle.log_commands.specs.declared.refusal.Refusal.TheVariants.{LogRefused, NothingLeft, OutOfMemory}
+use Rattle.log_commands.specs.Statuses.{code}
+use Rattle.log_commands.specs.declared.status.Status.TheVariants as exit
 
 -- the file of version 2 of a log is saved, and what `check` says of it is told
 abbrev pub renewed : Content → Told
-renewed d = record { status = 0; out = check_text d; err = []; saved = Some (record { log = file_bytes2 d; book = None }) }
+renewed d = record { status = code exit.Done; out = check_text d; err = []; saved = Some (record { log = file_bytes2 d; book = None }) }
 
 -- ---- what is salvaged
 
@@ -35,18 +33,3 @@ pub record IsBySalvage (names : FileNames) (bytes : List ℕ) (what : Told) : Ty
   pub says : Result Content SalvageError
   pub salvages : Salvages bytes says
   pub is : what ≡ by_salvage names says
-
--- ---- the commands
-
--- LOG and NEW have to be two names; then LOG is loaded
-abbrev pub IsByOrigin : Bool → Files → FileNames → (List ℕ → Told → Type 0) → Told → Type 0
-IsByOrigin true files names Go what = what ≡ refused names SameName
-IsByOrigin false files names Go what = WithFile files names role.Origin 272629760 Go what
-
--- what `convert` has to answer: what LOG says is saved in version 2 under NEW
-abbrev pub IsConvert : Files → FileNames → Told → Type 0
-IsConvert files names what = IsByOrigin (bytes_eq names.origin names.log) files names (λ log what. IsByLog names log renewed what) what
-
--- what `salvage` has to answer: what is salvaged of LOG is saved in version 2 under NEW
-abbrev pub IsSalvage : Files → FileNames → Told → Type 0
-IsSalvage files names what = IsByOrigin (bytes_eq names.origin names.log) files names (λ log what. IsBySalvage names log what) what

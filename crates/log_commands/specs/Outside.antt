@@ -30,6 +30,8 @@ use Rattle.log_commands.specs.declared.answer.IntervalToReplay.{IntervalToReplay
 use Rattle.log_commands.specs.declared.answer.RunToTell.{RunToTell}
 use Rattle.log_commands.specs.declared.answer.NewLog.{NewLog}
 use Rattle.log_commands.specs.declared.answer.Answer.TheVariants.{Recorded, Interval, Joined, Listed, Checked, Agreed, Renewed, Shown}
+use Rattle.log_commands.specs.Statuses.{code}
+use Rattle.log_commands.specs.declared.status.Status.TheVariants as exit
 
 -- ---- what is loaded
 
@@ -76,7 +78,7 @@ saved_new file = record { log = file; book = None }
 
 -- a log that was made of another is saved, and then the line of its log is told
 abbrev pub told_of_new : NewLog → Told
-told_of_new n = record { status = 0; out = check_line n.counts; err = []; saved = Some (saved_new n.file.items) }
+told_of_new n = record { status = code exit.Done; out = check_line n.counts; err = []; saved = Some (saved_new n.file.items) }
 
 -- what an answer tells
 abbrev pub told_of : FileNames → Answer → Told
@@ -92,13 +94,8 @@ told_of names (Shown text) = printed text
 -- an answer that saves nothing
 abbrev pub IsPrinted : Answer → Type 0
 IsPrinted (Recorded r) = ⊥
-IsPrinted (Interval r) = Unit {0}
-IsPrinted (Joined r) = Unit {0}
-IsPrinted (Listed d) = Unit {0}
-IsPrinted (Checked n) = Unit {0}
-IsPrinted Agreed = Unit {0}
 IsPrinted (Renewed n) = ⊥
-IsPrinted (Shown text) = Unit {0}
+IsPrinted other = Unit {0}
 
 -- what was made of loaded bytes, by what it tells, is what the command has to answer, or memory ran out
 abbrev pub GivesTo : {A : Type 0} → (A → Told) → FileNames → (Told → Type 0) → Result A Refusal → Type 0
@@ -151,7 +148,7 @@ ResultCause before now (Err refusal) = RefusalCause before now refusal
 
 -- the words alone decide that a command is refused, and else nothing like it comes
 abbrev pub CauseBy : {A : Type 0} → Option Refusal → Counts → Counts → Result A Refusal → Type 0
-CauseBy (Some refusal) before now result = (result ≡ Err refusal) × (status_of refusal ≡ 2)
+CauseBy (Some refusal) before now result = (result ≡ Err refusal) × (status_of refusal ≡ code exit.WordsRefused)
 CauseBy None before now result = ResultCause before now result
 
 -- no refusal by a store, of words, of a write, or of the commands of a session
@@ -190,7 +187,7 @@ Gathered old new before now text waiting (Err refusal) = AppendsPart old new tex
 abbrev pub ToldRefusal : FileNames → Refusal → ℕ → Option (List ℕ) → Option (List ℕ) → ℕ → ℕ → Type 0
 ToldRefusal names refusal status old new before now =
     ((status ≡ status_of refusal) × Wrote old new before now (line_of names refusal))
-    ⊎ ((status ≡ 9) × Wrote old new before now (line_of names why.OutOfMemory))
+    ⊎ ((status ≡ code exit.OutOfMemory) × Wrote old new before now (line_of names why.OutOfMemory))
 
 -- ---- what is saved
 
@@ -230,11 +227,9 @@ pub record LogAlone (bytes : List ℕ) (log book : List ℕ) (old new : Files) :
 -- the save under one name was refused, of which nothing is known then. The log's comes first: after it was refused the book's
 -- name has what it had, and after the book's was refused the log is under its name
 abbrev pub SaveBroke : Role → Saved → (log book : List ℕ) → Files → Files → Type 0
-SaveBroke role.Elf saved log book old new = ⊥
 SaveBroke role.Log saved log book old new = SameElsewhere log old new
 SaveBroke role.Book saved log book old new = IsSomeAnd saved.book (λ list. LogAlone saved.log log book old new)
-SaveBroke role.Input saved log book old new = ⊥
-SaveBroke role.Origin saved log book old new = ⊥
+SaveBroke other saved log book old new = ⊥
 
 -- What a command may have done to the files, whatever happened. Nothing, if nothing was to be saved; else the save of the
 -- log may have been refused, or that of the book, if there is one, or none

@@ -1,5 +1,5 @@
 -- What the command `races` answers: the races of what a log keeps, or that there are more than asked for.
-use Rattle.std.specs.Prelude.{◌≡◌, ◌≤◌, ℕ, nat_lt, Bool, true, false, List, [], Option, Some, None}
+use Rattle.std.specs.Prelude.{◌≡◌, ◌≤◌, ℕ, nat_lt, Bool, true, false, List, Option, Some, None}
 use Rattle.bn_base.specs.Programs.{Program}
 use Rattle.bn_outside.specs.Files.{Files}
 use Rattle.log_order.specs.Content.{Content}
@@ -11,7 +11,7 @@ use Rattle.race_report.specs.Texts.{races_text}
 use Rattle.race_report.specs.declared.race.Race.{Race}
 use Rattle.log_commands.specs.Names.{FileNames}
 use Rattle.log_commands.specs.Told.{Told, refused, printed}
-use Rattle.log_commands.specs.Pairs.{IsPair, ArePair}
+use Rattle.log_commands.specs.Pairs.{ArePair}
 use Rattle.log_commands.specs.Joined.{joined}
 use Rattle.log_commands.specs.Refusals.{joint_refusal}
 use Rattle.log_commands.specs.declared.refusal.Refusal.TheVariants.{TooManyRaces}
@@ -36,10 +36,6 @@ abbrev pub races_with : FileNames → (most : ℕ) → Content → Program → T
 races_with names most d i = races_in names most d.head.settings.harts (run_all (joined d i))
 
 -- ---- the command
-
--- what `races` has to answer
-abbrev pub IsRaces : Files → FileNames → (most : ℕ) → Told → Type 0
-IsRaces files names most what = IsPair (races_with names most) files names what
 
 -- what it needs: a log and its program are there, their joint replay isn't stopped, and there are at most so many races
 pub record CanRace (log elf : List ℕ) (most : ℕ) (files : Files) : Type 0 where

@@ -21,35 +21,35 @@ use Rattle.log_commands.specs.Names.{FileNames, name_of}
 use Rattle.log_commands.specs.Marks.{counted}
 use Rattle.log_commands.specs.declared.refusal.Refusal.{Refusal}
 use Rattle.log_commands.specs.declared.refusal.Refusal.TheVariants.{WordsRefused, OutOfRange, SameName, StoreFailed, Missing, TooLong, ElfRefused, LogRefused, ProgramDiffers, OutOfMemory, WriteFailed, ReplayStopped, JointStuck, ReadFailed, LineTooLong, CommandsTooLong, BookRefused, FileDiffers, NothingLeft, TooManyRaces, NoRow}
+use Rattle.log_commands.specs.Statuses.{code}
+use Rattle.log_commands.specs.declared.status.Status.TheVariants as exit
 
 -- ---- the status
 
 abbrev pub replay_status : ReplayError → ℕ
-replay_status (replay.NoInterval hart interval) = 14
-replay_status error = 15
+replay_status (replay.NoInterval hart interval) = code exit.NoInterval
+replay_status error = code exit.ReplayStopped
 
 abbrev pub status_of : Refusal → ℕ
-status_of WordsRefused = 2
-status_of (OutOfRange bad) = 2
-status_of SameName = 2
-status_of (StoreFailed role) = 3
-status_of (Missing role) = 4
-status_of (TooLong role) = 5
-status_of (ElfRefused error) = 6
-status_of (LogRefused error) = 7
-status_of (ProgramDiffers kept found) = 8
-status_of OutOfMemory = 9
-status_of WriteFailed = 13
+status_of (StoreFailed role) = code exit.StoreFailed
+status_of (Missing role) = code exit.Missing
+status_of (TooLong role) = code exit.TooLong
+status_of (ElfRefused error) = code exit.ElfRefused
+status_of (LogRefused error) = code exit.LogRefused
+status_of (ProgramDiffers kept found) = code exit.ProgramDiffers
+status_of OutOfMemory = code exit.OutOfMemory
+status_of WriteFailed = code exit.WriteFailed
 status_of (ReplayStopped error) = replay_status error
-status_of (JointStuck positions) = 15
-status_of ReadFailed = 12
-status_of LineTooLong = 18
-status_of CommandsTooLong = 18
-status_of (BookRefused error) = 17
-status_of (FileDiffers place) = 16
-status_of NothingLeft = 19
-status_of (TooManyRaces most) = 20
-status_of (NoRow ic) = 21
+status_of (JointStuck positions) = code exit.ReplayStopped
+status_of ReadFailed = code exit.ReadFailed
+status_of LineTooLong = code exit.CommandsTooLong
+status_of CommandsTooLong = code exit.CommandsTooLong
+status_of (BookRefused error) = code exit.BookRefused
+status_of (FileDiffers place) = code exit.FileDiffers
+status_of NothingLeft = code exit.NothingLeft
+status_of (TooManyRaces most) = code exit.TooManyRaces
+status_of (NoRow ic) = code exit.NoRow
+status_of other = code exit.WordsRefused
 
 -- the refusal of a log file by its damage; out of memory is its own
 abbrev pub log_refusal : Damage → Refusal

@@ -2,11 +2,13 @@
 use Rattle.std.specs.Prelude.{◌≡◌, ℕ, List, codes, ◌⊎◌}
 use Rattle.log_commands.specs.declared.answer.RunEnd.{RunEnd}
 use Rattle.log_commands.specs.declared.answer.RunEnd.TheVariants as ends
+use Rattle.log_commands.specs.Statuses.{code}
+use Rattle.log_commands.specs.declared.status.Status.TheVariants as exit
 
 abbrev pub end_status : RunEnd → ℕ
-end_status ends.Done = 0
-end_status ends.Fault = 10
-end_status ends.Limit = 11
+end_status ends.Done = code exit.Done
+end_status ends.Fault = code exit.Fault
+end_status ends.Limit = code exit.Limit
 
 unfoldable pub end_word : RunEnd → List ℕ
 end_word ends.Done = codes "done"
@@ -15,4 +17,4 @@ end_word ends.Limit = codes "limit"
 
 -- a recording is done: the run ended in no fault and no limit, in a fault, or by the limit
 abbrev pub IsRecorded : ℕ → Type 0
-IsRecorded status = (status ≡ 0) ⊎ ((status ≡ 10) ⊎ (status ≡ 11))
+IsRecorded status = (status ≡ code exit.Done) ⊎ ((status ≡ code exit.Fault) ⊎ (status ≡ code exit.Limit))

@@ -4,7 +4,9 @@ use Rattle.bn_outside.specs.Counts.{counted}
 use Rattle.log_commands.specs.RunEnds.{IsRecorded}
 use Rattle.log_commands.specs.declared.answer.Answer.{Answer}
 use Rattle.log_commands.specs.declared.answer.RunToTell.{RunToTell}
-use Rattle.log_commands.specs.declared.answer.Answer.TheVariants.{Recorded, Interval, Joined, Listed, Checked, Agreed, Renewed, Shown}
+use Rattle.log_commands.specs.declared.answer.Answer.TheVariants.{Recorded, Listed, Checked, Agreed, Renewed, Shown}
+use Rattle.log_commands.specs.Statuses.{code}
+use Rattle.log_commands.specs.declared.status.Status.TheVariants as exit
 
 -- a recording saves two files; a lean one saves one, as does what makes a log of another
 abbrev pub saves_after : (lean : Bool) → ℕ → ℕ
@@ -18,7 +20,7 @@ AtMostSaves false before after = (after ≡ before) ⊎ ((after ≡ counted befo
 
 -- all files of a recording are saved: it is done, or a write of its texts failed
 abbrev pub SavedAll : ℕ → Type 0
-SavedAll status = IsRecorded status ⊎ (status ≡ 13)
+SavedAll status = IsRecorded status ⊎ (status ≡ code exit.WriteFailed)
 
 -- each file is saved once: with what is said of the files, so many saves are no more than that
 pub record SavesEach (lean : Bool) (status before after : ℕ) : Type 0 where
@@ -32,43 +34,23 @@ is_lean r = not (is_some r.book)
 -- what an answer saves: a recording its files, a log that is made of another one file, all else none
 abbrev pub AnswerSaves : Answer → (status before after : ℕ) → Type 0
 AnswerSaves (Recorded r) status before after = SavesEach (is_lean r) status before after
-AnswerSaves (Interval r) status before after = after ≡ before
-AnswerSaves (Joined r) status before after = after ≡ before
-AnswerSaves (Listed d) status before after = after ≡ before
-AnswerSaves (Checked d) status before after = after ≡ before
-AnswerSaves Agreed status before after = after ≡ before
 AnswerSaves (Renewed n) status before after = SavesEach true status before after
-AnswerSaves (Shown text) status before after = after ≡ before
+AnswerSaves other status before after = after ≡ before
 
 -- an answer that is a recording, lean or not
 abbrev pub IsRecordedRun : (lean : Bool) → Answer → Type 0
 IsRecordedRun lean (Recorded r) = is_lean r ≡ lean
-IsRecordedRun lean (Interval r) = ⊥
-IsRecordedRun lean (Joined r) = ⊥
-IsRecordedRun lean (Listed d) = ⊥
-IsRecordedRun lean (Checked d) = ⊥
-IsRecordedRun lean Agreed = ⊥
-IsRecordedRun lean (Renewed n) = ⊥
-IsRecordedRun lean (Shown text) = ⊥
+IsRecordedRun lean other = ⊥
 
 -- an answer that is a log made of another
 abbrev pub IsRenewed : Answer → Type 0
-IsRenewed (Recorded r) = ⊥
-IsRenewed (Interval r) = ⊥
-IsRenewed (Joined r) = ⊥
-IsRenewed (Listed d) = ⊥
-IsRenewed (Checked d) = ⊥
-IsRenewed Agreed = ⊥
 IsRenewed (Renewed n) = Unit {0}
-IsRenewed (Shown text) = ⊥
+IsRenewed other = ⊥
 
 -- an answer that is printed and saves nothing, and whose replay, if it comes of one, has ended
 abbrev pub IsMade : Answer → Type 0
-IsMade (Recorded r) = ⊥
-IsMade (Interval r) = ⊥
-IsMade (Joined r) = ⊥
 IsMade (Listed d) = Unit {0}
 IsMade (Checked d) = Unit {0}
 IsMade Agreed = Unit {0}
-IsMade (Renewed n) = ⊥
 IsMade (Shown text) = Unit {0}
+IsMade other = ⊥

@@ -10,7 +10,7 @@ use Rattle.slice_back.specs.declared.error.SliceError.TheVariants as back
 use Rattle.slice_back.specs.declared.lists.Slice.{Slice}
 use Rattle.log_commands.specs.Names.{FileNames}
 use Rattle.log_commands.specs.Told.{Told, refused, printed}
-use Rattle.log_commands.specs.Pairs.{IsPair, ArePair}
+use Rattle.log_commands.specs.Pairs.{ArePair}
 use Rattle.log_commands.specs.declared.refusal.Refusal.TheVariants.{OutOfMemory, ReplayStopped, NoRow}
 
 -- ---- what is told
@@ -27,10 +27,6 @@ abbrev pub slice_with : FileNames → (hart interval ic : ℕ) → Content → P
 slice_with names hart interval ic d i = slice_told names (text_of hart ic (sliced i d.records hart interval ic))
 
 -- ---- the command
-
--- what `slice` has to answer
-abbrev pub IsSlice : Files → FileNames → (hart interval ic : ℕ) → Told → Type 0
-IsSlice files names hart interval ic what = IsPair (slice_with names hart interval ic) files names what
 
 -- what it needs: a log and its program are there, and the row has a slice
 pub record CanSlice (log elf : List ℕ) (hart interval ic : ℕ) (files : Files) : Type 0 where

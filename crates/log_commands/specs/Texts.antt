@@ -5,7 +5,7 @@ use Rattle.bn_base.specs.declared.end_mark.EndMark.{EndMark}
 use Rattle.bn_base.specs.declared.row.Row.{Row}
 use Rattle.rv_text.specs.Rows.{row_text}
 use Rattle.log_record.specs.declared.record.Record.{Record}
-use Rattle.log_record.specs.declared.record.Record.TheVariants.{Header, FirstLoad, ScOk, ScFailed, Edge, End}
+use Rattle.log_record.specs.declared.record.Record.TheVariants.{Header}
 use Rattle.log_order.specs.Content.{Content}
 use Rattle.hart_replay.specs.Scans.{mark_in}
 use Rattle.rv_text.specs.Marks.{mark_text}
@@ -32,11 +32,7 @@ interval_text hart interval ic mark = decimal hart ++ codes " " ++ decimal inter
 -- the line of a record before others: only a Header has one
 abbrev pub record_text : Record → List Record → List ℕ
 record_text (Header hart interval ic pc x) rs = interval_text hart interval ic (mark_in hart rs)
-record_text (FirstLoad hart skip value) rs = []
-record_text (ScOk hart) rs = []
-record_text (ScFailed hart) rs = []
-record_text (Edge hart ic from from_ic) rs = []
-record_text (End hart mark) rs = []
+record_text other rs = []
 
 -- the lines of all intervals that have their Header there, in the order of these
 unfoldable pub list_text : List Record → List ℕ

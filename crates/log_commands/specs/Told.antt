@@ -3,6 +3,8 @@ use Rattle.std.specs.Prelude.{ℕ, List, [], Option, Some, None}
 use Rattle.log_commands.specs.Names.{FileNames}
 use Rattle.log_commands.specs.Refusals.{status_of, line_of}
 use Rattle.log_commands.specs.declared.refusal.Refusal.{Refusal}
+use Rattle.log_commands.specs.Statuses.{code}
+use Rattle.log_commands.specs.declared.status.Status.TheVariants as exit
 
 -- a log file that is saved, and a recording's turn list if that is saved too
 pub record Saved : Type 0 where
@@ -22,7 +24,7 @@ refused names refusal = record { status = status_of refusal; out = []; err = lin
 
 -- a text on out
 abbrev pub printed : List ℕ → Told
-printed text = record { status = 0; out = text; err = []; saved = None }
+printed text = record { status = code exit.Done; out = text; err = []; saved = None }
 
 -- a text on out, and then a refusal, if there is one
 abbrev pub printed_until : FileNames → List ℕ → Option Refusal → Told

@@ -1,5 +1,4 @@
 //! What is done with an answer: its files are saved, and then its texts printed.
-ghost use Rattle.std.specs.Prelude.{◌≡◌};
 ghost use Rattle.log_commands.specs.Acting.{SavesAll, world, ActsTo};
 ghost use Rattle.log_commands.specs.Effects.{done_of};
 ghost use Rattle.log_commands.specs.Outside.{Stream, saved_of};
@@ -12,6 +11,7 @@ use crate::names::{Names, Role};
 use crate::outside::{SinkExt, StoreExt};
 use crate::refusal::Refusal;
 use crate::send::{done, send};
+use crate::status::Status;
 use std::alloc::Global;
 
 // Saves the log of a recording, and then the list of its turns, if there is one.
@@ -32,7 +32,7 @@ fn keep_run<S: StoreExt, O: SinkExt, X: SinkExt>(
     store: &mut S,
     out: &mut O,
     err: &mut X,
-) -> Result<u8, Refusal>
+) -> Result<Status, Refusal>
     ensures { ActsTo names.now (Recorded run.now) S.note (world (S.stored store.old) (O.stream out.old) (X.stream err.old)) (world (S.stored store.new) (O.stream out.new) (X.stream err.new)) result }
 {
     save_run(names, run, store)?;
@@ -63,7 +63,7 @@ pub fn act<S: StoreExt, O: SinkExt, X: SinkExt>(
     store: &mut S,
     out: &mut O,
     err: &mut X,
-) -> Result<u8, Refusal>
+) -> Result<Status, Refusal>
     ensures { ActsTo names.now answer.now S.note (world (S.stored store.old) (O.stream out.old) (X.stream err.old)) (world (S.stored store.new) (O.stream out.new) (X.stream err.new)) result }
 {
     match answer {

@@ -3,10 +3,11 @@ ghost use Rattle.std.specs.Prelude.{◌≡◌};
 ghost use Rattle.sha2.specs.Sha256.{sha256};
 ghost use Rattle.log_commands.specs.RunEnds.{end_status, end_word};
 ghost use Rattle.log_commands.specs.Outside.{IsOwn, LogTells, ProgramTells};
+ghost use Rattle.log_commands.specs.Statuses.{code};
 
 use crate::pairs::JointReading;
 use crate::refusal::Refusal;
-use crate::statuses;
+use crate::status::Status;
 use bn_base::{Image, Settings};
 use elf_loader::{ElfError, load};
 use log_blocks::read_file;
@@ -29,13 +30,13 @@ pub enum RunEnd {
 
 impl RunEnd {
     /// The status that the program ends with.
-    pub fn status(&self) -> u8
-        ensures { result ≡ end_status self.now }
+    pub fn status(&self) -> Status
+        ensures { code result ≡ end_status self.now }
     {
         match self {
-            RunEnd::Done => statuses::DONE,
-            RunEnd::Fault => statuses::FAULT,
-            RunEnd::Limit => statuses::LIMIT,
+            RunEnd::Done => Status::Done,
+            RunEnd::Fault => Status::Fault,
+            RunEnd::Limit => Status::Limit,
         }
     }
 

@@ -15,7 +15,7 @@ pub mod pairs;
 pub mod refusal;
 pub mod replay_lines;
 pub mod send;
-pub mod statuses;
+pub mod status;
 pub mod texts;
 
 pub use answer::{Answer, IntervalToReplay, NewLog, RunEnd, RunToTell};
@@ -23,4 +23,5 @@ pub use names::{Names, Role};
 pub use pairs::JointReading;
 pub use refusal::Refusal;
 pub use replay_lines::ReplayEnd;
+pub use status::Status;
 pub use texts::RunCounts;

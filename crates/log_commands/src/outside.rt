@@ -5,6 +5,7 @@ use crate::inputs::{fetch, limit_of};
 use crate::names::{Names, Role};
 use crate::refusal::Refusal;
 use crate::send::{refuse, send_bytes};
+use crate::status::Status;
 use bn_outside::{SaveError, Sink, Store};
 use std::alloc::Global;
 
@@ -52,6 +53,7 @@ impl<S: Store> StoreExt for S {
 /// An output.
 pub trait SinkExt {
     ghost use Rattle.log_commands.specs.Outside.{Stream, SendsBytes, Refuses};
+    ghost use Rattle.log_commands.specs.Statuses.{code};
 
     /// What it was given, if it tells that, and how often a write failed.
     ghost stream: { Self → Stream };
@@ -60,9 +62,9 @@ pub trait SinkExt {
     fn send_bytes(&mut self, bytes: &[u8]) -> Result<(), Refusal>
         ensures { SendsBytes bytes.now (stream self.old) (stream self.new) result };
 
-    /// Tells a refusal, and answers its status; 9 if its line finds no memory.
-    fn refuse(&mut self, alloc: Global, names: &Names, refusal: &Refusal) -> u8
-        ensures { Refuses names.now refusal.now result (stream self.old) (stream self.new) };
+    /// Tells a refusal, and answers its status; out of memory if its line finds no memory.
+    fn refuse(&mut self, alloc: Global, names: &Names, refusal: &Refusal) -> Status
+        ensures { Refuses names.now refusal.now (code result) (stream self.old) (stream self.new) };
 }
 
 impl<K: Sink> SinkExt for K {
@@ -72,7 +74,7 @@ impl<K: Sink> SinkExt for K {
         send_bytes(self, bytes)
     }
 
-    fn refuse(&mut self, alloc: Global, names: &Names, refusal: &Refusal) -> u8 {
+    fn refuse(&mut self, alloc: Global, names: &Names, refusal: &Refusal) -> Status {
         refuse(alloc, names, refusal, self)
     }
 }

@@ -1,10 +1,11 @@
 //! Why a command is refused, and the status of each refusal. Its line is in `lines.rt`.
 ghost use Rattle.std.specs.Prelude.{◌≡◌};
 ghost use Rattle.log_commands.specs.Refusals.{status_of, replay_status, log_refusal, joint_refusal};
+ghost use Rattle.log_commands.specs.Statuses.{code};
 ghost use Rattle.log_commands.specs.declared.refusal.Refusal.TheVariants.{OutOfMemory};
 
 use crate::names::Role;
-use crate::statuses;
+use crate::status::Status;
 use bn_base::{BadSetting, HartId, Ic, List};
 use elf_loader::ElfError;
 use hart_replay::ReplayError;
@@ -69,16 +70,16 @@ impl From<AllocError> for Refusal {
     }
 }
 
-fn replay_status(error: &ReplayError) -> u8
-    ensures { result ≡ replay_status error.now }
+fn replay_status(error: &ReplayError) -> Status
+    ensures { code result ≡ replay_status error.now }
 {
     match error {
-        ReplayError::NoInterval { .. } => statuses::NO_INTERVAL,
-        ReplayError::LoadMissing { .. } => statuses::REPLAY_STOPPED,
-        ReplayError::ScMissing { .. } => statuses::REPLAY_STOPPED,
-        ReplayError::RecordsLeft { .. } => statuses::REPLAY_STOPPED,
-        ReplayError::EndDiffers { .. } => statuses::REPLAY_STOPPED,
-        ReplayError::OutOfMemory => statuses::REPLAY_STOPPED,
+        ReplayError::NoInterval { .. } => Status::NoInterval,
+        ReplayError::LoadMissing { .. } => Status::ReplayStopped,
+        ReplayError::ScMissing { .. } => Status::ReplayStopped,
+        ReplayError::RecordsLeft { .. } => Status::ReplayStopped,
+        ReplayError::EndDiffers { .. } => Status::ReplayStopped,
+        ReplayError::OutOfMemory => Status::ReplayStopped,
     }
 }
 
@@ -105,30 +106,30 @@ impl Refusal {
     }
 
     /// The status that the program ends with.
-    pub fn status(&self) -> u8
-        ensures { result ≡ status_of self.now }
+    pub fn status(&self) -> Status
+        ensures { code result ≡ status_of self.now }
     {
         match self {
             Refusal::WordsRefused | Refusal::OutOfRange(_) | Refusal::SameName =>
-                statuses::WORDS_REFUSED,
-            Refusal::StoreFailed(_) => statuses::STORE_FAILED,
-            Refusal::Missing(_) => statuses::MISSING,
-            Refusal::TooLong(_) => statuses::TOO_LONG,
-            Refusal::ElfRefused(_) => statuses::ELF_REFUSED,
-            Refusal::LogRefused(_) => statuses::LOG_REFUSED,
-            Refusal::ProgramDiffers { .. } => statuses::PROGRAM_DIFFERS,
-            Refusal::OutOfMemory => statuses::OUT_OF_MEMORY,
-            Refusal::WriteFailed => statuses::WRITE_FAILED,
+                Status::WordsRefused,
+            Refusal::StoreFailed(_) => Status::StoreFailed,
+            Refusal::Missing(_) => Status::Missing,
+            Refusal::TooLong(_) => Status::TooLong,
+            Refusal::ElfRefused(_) => Status::ElfRefused,
+            Refusal::LogRefused(_) => Status::LogRefused,
+            Refusal::ProgramDiffers { .. } => Status::ProgramDiffers,
+            Refusal::OutOfMemory => Status::OutOfMemory,
+            Refusal::WriteFailed => Status::WriteFailed,
             Refusal::ReplayStopped(error) => replay_status(error),
-            Refusal::JointStuck { .. } => statuses::REPLAY_STOPPED,
-            Refusal::ReadFailed => statuses::READ_FAILED,
-            Refusal::LineTooLong => statuses::COMMANDS_TOO_LONG,
-            Refusal::CommandsTooLong => statuses::COMMANDS_TOO_LONG,
-            Refusal::BookRefused(_) => statuses::BOOK_REFUSED,
-            Refusal::FileDiffers { .. } => statuses::FILE_DIFFERS,
-            Refusal::NothingLeft => statuses::NOTHING_LEFT,
-            Refusal::TooManyRaces { .. } => statuses::TOO_MANY_RACES,
-            Refusal::NoRow { .. } => statuses::NO_ROW,
+            Refusal::JointStuck { .. } => Status::ReplayStopped,
+            Refusal::ReadFailed => Status::ReadFailed,
+            Refusal::LineTooLong => Status::CommandsTooLong,
+            Refusal::CommandsTooLong => Status::CommandsTooLong,
+            Refusal::BookRefused(_) => Status::BookRefused,
+            Refusal::FileDiffers { .. } => Status::FileDiffers,
+            Refusal::NothingLeft => Status::NothingLeft,
+            Refusal::TooManyRaces { .. } => Status::TooManyRaces,
+            Refusal::NoRow { .. } => Status::NoRow,
         }
     }
 }

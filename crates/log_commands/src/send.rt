@@ -4,12 +4,13 @@ ghost use Rattle.bn_outside.specs.Counts.{Rose};
 ghost use Rattle.bn_outside.specs.Streams.{AppendsShort};
 ghost use Rattle.log_commands.specs.Effects.{done_of, IsClosed};
 ghost use Rattle.log_commands.specs.Outside.{Sent, Sends, Gathers, Always, ToldRefusal};
+ghost use Rattle.log_commands.specs.Statuses.{code};
 ghost use Rattle.log_commands.specs.declared.refusal.Refusal.TheVariants.{WriteFailed};
 
 use crate::names::Names;
 use crate::outside::SinkExt;
 use crate::refusal::Refusal;
-use crate::statuses;
+use crate::status::Status;
 use bn_outside::{Sink, send_all};
 use rv_text::Text;
 use std::alloc::Global;
@@ -37,9 +38,9 @@ pub fn send<K: SinkExt>(sink: &mut K, text: &Text) -> Result<(), Refusal>
     sink.send_bytes(text.as_bytes())
 }
 
-/// Tells a refusal on err, and answers its status; 9 if its line finds no memory.
-pub fn refuse<X: Sink>(alloc: Global, names: &Names, refusal: &Refusal, err: &mut X) -> u8
-    ensures told { ToldRefusal names.now refusal.now result (X.written err.old) (X.written err.new) (X.faults err.old) (X.faults err.new) }
+/// Tells a refusal on err, and answers its status; out of memory if its line finds no memory.
+pub fn refuse<X: Sink>(alloc: Global, names: &Names, refusal: &Refusal, err: &mut X) -> Status
+    ensures told { ToldRefusal names.now refusal.now (code result) (X.written err.old) (X.written err.new) (X.faults err.old) (X.faults err.new) }
     ensures later { X.faults err.old ≤ X.faults err.new }
 {
     let mut line = Text::new(alloc);
@@ -50,27 +51,27 @@ pub fn refuse<X: Sink>(alloc: Global, names: &Names, refusal: &Refusal, err: &mu
         }
         Err(_) => {
             let _ = send_all(err, b"bugnet: out of memory\n");
-            statuses::OUT_OF_MEMORY
+            Status::OutOfMemory
         }
     }
 }
 
 /// A text that was printed ends its command as done.
-pub fn done(printed: Result<(), Refusal>) -> Result<u8, Refusal>
+pub fn done(printed: Result<(), Refusal>) -> Result<Status, Refusal>
     ensures { result ≡ done_of printed }
 {
     printed?;
-    Ok(statuses::DONE)
+    Ok(Status::Done)
 }
 
 /// Ends a command: a refusal, if there is one, is told on err, and gives the status.
 pub fn close<X: SinkExt>(
     alloc: Global,
     names: &Names,
-    ending: Result<u8, Refusal>,
+    ending: Result<Status, Refusal>,
     err: &mut X,
-) -> u8
-    ensures { IsClosed names.now ending result (X.stream err.old) (X.stream err.new) }
+) -> Status
+    ensures { IsClosed names.now ending (code result) (X.stream err.old) (X.stream err.new) }
 {
     match ending {
         Ok(status) => status,

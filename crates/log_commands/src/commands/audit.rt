@@ -1,11 +1,10 @@
 //! The command `audit`: whether a log is the file of the run of a list of turns.
 ghost use Rattle.std.specs.Prelude.{◌≡◌};
 ghost use Rattle.log_commands.specs.SaveCounts.{IsMade};
-ghost use Rattle.log_commands.specs.Command.Audit.{roles_of, audit_by};
 ghost use Rattle.log_commands.specs.Evaluated.{Makes};
 ghost use Rattle.log_commands.specs.Texts.{agree_text};
 ghost use Rattle.log_commands.specs.Answering.{Answers};
-ghost use Rattle.log_commands.specs.Audits.{IsAuditOf};
+ghost use Rattle.log_commands.specs.Audits.{IsAuditOf, audit_by, roles_of};
 ghost use Rattle.log_commands.specs.Outside.{IsOwn, Sends, Always};
 
 use crate::answer::Answer;

@@ -6,9 +6,9 @@ use Rattle.log_commands.specs.declared.answer.Answer.{Answer}
 use Rattle.log_commands.specs.declared.names.Role.{Role}
 use Rattle.log_commands.proofs.Answering.{passed-on}
 use Rattle.log_commands.proofs.FileCalls.{own-loads}
-use Rattle.bugnet.specs.Answers.{refusal_in}
+use Rattle.bugnet.specs.Answers.{refusal_in, line_roles}
 use Rattle.bugnet.specs.LineAnswers.{AnswersLine}
-use Rattle.bugnet.specs.LineCalls.{line_roles, needed_roles}
+use Rattle.bugnet.specs.LineCalls.{needed_roles}
 use Rattle.bugnet.proofs.LineAnswers.{stops-line, gives-line, cause-line, needed-same, demo-loads, kind-fits, kind-printed}
 use Rattle.bugnet.proofs.LineCalls.{words-pass}
 use Rattle.bugnet.proofs.program.answer_loaded.Goals as goal

@@ -3,8 +3,8 @@ use Rattle.std.specs.Prelude.{Some, Err}
 use Rattle.command_words.specs.Words.{seen}
 use Rattle.log_commands.specs.declared.answer.Answer.{Answer}
 use Rattle.log_commands.proofs.Acts.{none-fell}
-use Rattle.bugnet.specs.Answers.{refusal_in}
-use Rattle.bugnet.specs.LineCalls.{line_roles, needed_roles}
+use Rattle.bugnet.specs.Answers.{refusal_in, line_roles}
+use Rattle.bugnet.specs.LineCalls.{needed_roles}
 use Rattle.bugnet.proofs.LineAnswers.{words-line, words-cause, demo-words}
 use Rattle.bugnet.proofs.LineCalls.{words-first}
 use Rattle.bugnet.proofs.program.answer_to.Goals as goal

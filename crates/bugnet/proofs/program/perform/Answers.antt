@@ -1,10 +1,11 @@
-use Rattle.std.proofs.Common.{ℕ, Some, inl, inr, refl, rules, arith, subst}
+use Rattle.std.proofs.Common.{Some, inl, inr, refl, rules, arith, subst}
 use Rattle.std.specs.Prelude.{Result}
 use Rattle.command_words.specs.Words.{seen}
 use Rattle.log_commands.specs.Acting.{between, with_err}
 use Rattle.log_commands.specs.Effects.{IsClosed}
 use Rattle.log_commands.specs.Outside.{Stream}
 use Rattle.log_commands.specs.declared.refusal.Refusal.{Refusal}
+use Rattle.log_commands.specs.declared.status.Status.{Status}
 use Rattle.bugnet.specs.Laws.{IsNoSession}
 use Rattle.bugnet.specs.Replies.{world_of, reading}
 use Rattle.bugnet.proofs.Debugs.{debugs-any, answers-any, begins-any}
@@ -22,7 +23,7 @@ returns-in-Debug g c = λ status end closed.
     let old = world_of (g.S.Store.files) (g.S.Store.saves) (g.S.Store.counts) (g.S.Store.noted) (g.O.Sink.written) (g.O.Sink.faults) (g.X.Sink.written) (g.X.Sink.faults) c.args.store.now c.args.out.now c.args.err.now in
     let new = world_of (g.S.Store.files) (g.S.Store.saves) (g.S.Store.counts) (g.S.Store.noted) (g.O.Sink.written) (g.O.Sink.faults) (g.X.Sink.written) (g.X.Sink.faults) c.debug_files.new.store c.debug_files.new.out c.args.err.now in
     let k = between old (with_err new end) in
-    let d = c.debug_files.ensures status err end (subst (λ (r : Result ℕ Refusal). IsClosed c.args.names.now r status err end) c.done.ensures closed) in
+    let d = c.debug_files.ensures status err end (subst (λ (r : Result Status Refusal). IsClosed c.args.names.now r status err end) c.done.ensures closed) in
     let session : IsNoSession (Some line) → ⊥ = λ n. rw c.in-Debug.is at n in
     let grammar : Grammar = record { one_reading = c.readings_are_unique.ensures } in
     let laws : FileLaws = record { contents = c.logs_are_contents.ensures; limit = c.saved_files_keep_to_the_limit.ensures; read = c.files_are_read.ensures } in

@@ -1,10 +1,9 @@
 use Rattle.std.proofs.Common.{List, ℕ, subst}
-use Rattle.std.specs.Prelude.{Result, Ok, Err}
+use Rattle.std.specs.Prelude.{Ok, Err}
 use Rattle.log_commands.specs.Acting.{SavesFile, ActsTo, world}
 use Rattle.log_commands.specs.Effects.{done_of}
 use Rattle.log_commands.specs.declared.answer.Answer.TheVariants.{Renewed}
 use Rattle.log_commands.specs.declared.names.Role.TheVariants.{Log}
-use Rattle.log_commands.specs.declared.refusal.Refusal.{Refusal}
 use Rattle.log_commands.proofs.Answering.{passed-on}
 use Rattle.log_commands.proofs.Kept.{new-unsaved, new-kept}
 use Rattle.log_commands.proofs.acting.keep_new.Goals as goal

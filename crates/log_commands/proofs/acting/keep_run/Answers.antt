@@ -1,9 +1,8 @@
-use Rattle.std.proofs.Common.{List, ℕ, subst, sym}
-use Rattle.std.specs.Prelude.{Result, Ok, Err}
+use Rattle.std.proofs.Common.{List, ℕ, subst}
+use Rattle.std.specs.Prelude.{Ok, Err}
 use Rattle.log_commands.specs.Acting.{ActsTo, world}
 use Rattle.log_commands.specs.Outside.{SendsBytes}
 use Rattle.log_commands.specs.declared.answer.Answer.TheVariants.{Recorded}
-use Rattle.log_commands.specs.declared.refusal.Refusal.{Refusal}
 use Rattle.log_commands.proofs.Answering.{passed-on}
 use Rattle.log_commands.proofs.Kept.{run-unsaved, run-stopped, run-half, run-kept}
 use Rattle.log_commands.proofs.acting.keep_run.Goals as goal
@@ -59,7 +58,6 @@ returns g c =
     let printed = g.O.SinkExt.stream c.send_bytes.new.self in
     let err = g.X.SinkExt.stream c.args.err.now in
     let mid = g.X.SinkExt.stream c.send_bytes-2.new.self in
-    subst (λ (n : ℕ). ActsTo names (Recorded run) g.S.StoreExt.note (world old out err) (world new printed mid) (Ok n)) (sym c.status.ensures)
-    (run-kept names run g.S.StoreExt.note old new out printed err mid c.in_ok-save_run.ensures
+    run-kept names run c.status.result g.S.StoreExt.note old new out printed err mid c.status.ensures c.in_ok-save_run.ensures
     (subst (λ (bytes : List ℕ). SendsBytes bytes out printed (Ok tt)) c.deref.ensures.value c.in_ok-send_bytes.ensures)
-    (subst (λ (bytes : List ℕ). SendsBytes bytes err mid (Ok tt)) c.deref-2.ensures.value c.in_ok-send_bytes-2.ensures))
+    (subst (λ (bytes : List ℕ). SendsBytes bytes err mid (Ok tt)) c.deref-2.ensures.value c.in_ok-send_bytes-2.ensures)

@@ -1,5 +1,5 @@
-use Rattle.std.proofs.Common.{◌≡◌, List, true, false, ap, subst}
-use Rattle.std.specs.Prelude.{ℕ, Bool, Option, None, Some, Ok, Err, option_map, not, is_some}
+use Rattle.std.proofs.Common.{List, ap, subst}
+use Rattle.std.specs.Prelude.{ℕ, Option, Ok, Err, option_map, not, is_some}
 use Rattle.std.specs.declared.vec.Vec.{Vec}
 use Rattle.std.specs.declared.alloc.Global.{Global}
 use Rattle.log_commands.specs.Acting.{SavesFile, SavesAll}

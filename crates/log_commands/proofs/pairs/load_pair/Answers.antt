@@ -1,18 +1,18 @@
 use Rattle.std.proofs.Common.{List, subst, ◌≡◌}
 use Rattle.std.specs.Prelude.{Ok, Err}
-use Rattle.log_commands.specs.Evaluated.{IsCommand, Makes}
+use Rattle.log_commands.specs.Commands.{IsByLog}
 use Rattle.log_commands.specs.FileCalls.{LoadsUpTo, noted_after, loads_of}
 use Rattle.log_commands.specs.Inputs.{IsLoaded}
 use Rattle.log_commands.specs.Outside.{WithFiles}
 use Rattle.log_commands.specs.PairAnswers.{by_reading, LoadsPair}
-use Rattle.log_commands.specs.Pairs.{pair_roles, IsPair}
+use Rattle.log_commands.specs.Pairs.{pair_roles, pair_of}
 use Rattle.log_commands.specs.declared.names.Role.{Role}
 use Rattle.log_commands.specs.declared.pairs.JointReading.{JointReading}
-use Rattle.log_commands.proofs.Answering.{passed-on}
-use Rattle.log_commands.proofs.Commanded.{load-refused, loaded-made, with-also}
+use Rattle.log_commands.proofs.Answered.{loads-stop, loads-give}
+use Rattle.log_commands.proofs.Answering.{passed-on, pair-gives}
 use Rattle.log_commands.proofs.Fetched.{only-own}
 use Rattle.log_commands.proofs.FileCalls.{own-loads}
-use Rattle.log_commands.proofs.SamePair.{IsReadPair, says-pair, pair-there}
+use Rattle.log_commands.proofs.SamePair.{pair-there}
 use Rattle.log_commands.proofs.Tells.{with-any}
 use Rattle.log_commands.proofs.pairs.load_pair.Goals as goal
 
@@ -26,9 +26,8 @@ returns-in_err-inputs g c =
     passed-on (LoadsPair names g.S.StoreExt.note old new) x c.from_residual.result c.from_residual.ensures.1
     (record {
       told = λ go.
-          with-also (by_reading go) names (λ f what. IsCommand pair_roles IsReadPair (by_reading go) f names what) (λ f what. IsPair go f names what) (says-pair go names) old.files (Err x)
-          (load-refused pair_roles IsReadPair (by_reading go) old.files names x
-          (subst (λ (rs : List Role). WithFiles old.files (λ files. IsLoaded names rs files (Err x))) c.pair_roles.ensures h.loads));
+          loads-stop (by_reading go) (λ b what. IsByLog names b.log (pair_of go names b.elf) what) pair_roles old.files names x
+          (subst (λ (rs : List Role). WithFiles old.files (λ files. IsLoaded names rs files (Err x))) c.pair_roles.ensures h.loads);
       loaded = with-any old.files _ (λ files. tt);
       only = record { same = h.only.same; asks = h.only.asks; later = h.only.later; cause = h.only.cause };
       calls = subst (λ (rs : List Role). LoadsUpTo names rs rs g.S.StoreExt.note old.noted new.noted x) c.pair_roles.ensures h.calls;
@@ -45,8 +44,8 @@ returns g c =
     let made = rw c.deref-2.ensures.value at (rw c.deref.ensures.value at c.read_pair.ensures.is) in
     record {
       told = λ go.
-          with-also (by_reading go) names (λ f what. IsCommand pair_roles IsReadPair (by_reading go) f names what) (λ f what. IsPair go f names what) (says-pair go names) old.files c.read_pair.result
-          (loaded-made pair_roles IsReadPair (by_reading go) old.files names inputs c.read_pair.result there made);
+          loads-give (by_reading go) (λ b what. IsByLog names b.log (pair_of go names b.elf) what) pair_roles old.files names inputs c.read_pair.result there
+          (pair-gives inputs.log.items inputs.elf.items go names c.read_pair.result made);
       loaded = pair-there old.files names inputs c.read_pair.result there made;
       only = only-own old new inputs c.read_pair.result h.only c.read_pair.ensures.own;
       calls = own-loads JointReading g.S.StoreExt.note names pair_roles old.noted new.noted c.read_pair.result

@@ -1,8 +1,7 @@
 use Rattle.log_commands.specs.Evaluated.{Makes, IsPairOfBytes}
 use Rattle.log_commands.specs.Outside.{IsOwn}
 use Rattle.log_commands.specs.declared.pairs.JointReading.{JointReading}
-use Rattle.log_commands.proofs.Answering.{passed-on}
-use Rattle.log_commands.proofs.Commanded.{paired, unpaired}
+use Rattle.log_commands.proofs.Answering.{passed-on, paired, unpaired}
 use Rattle.log_commands.proofs.pairs.read_pair.Goals as goal
 
 pub returns-in_err-log-clause-is : goal.returns-in_err-log-clause-is

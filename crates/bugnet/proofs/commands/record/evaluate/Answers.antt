@@ -14,7 +14,8 @@ use Rattle.bugnet.specs.ClosedRuns.{IsRecordingBy}
 use Rattle.bugnet.specs.Command.Record.{is_clash}
 use Rattle.bugnet.specs.LineAnswers.{AnswersLine}
 use Rattle.bugnet.specs.declared.manner.Manner.{Manner}
-use Rattle.bugnet.proofs.Begins.{words-refused, words-cause, own-cause, start-refused, run-recorded}
+use Rattle.bugnet.proofs.LineAnswers.{cause-line}
+use Rattle.bugnet.proofs.Begins.{words-refused, words-cause, start-refused, run-recorded}
 use Rattle.bugnet.proofs.LineCalls.{words-first, words-pass, memory-loads, record-calls}
 use Rattle.bugnet.proofs.RecordLoads.{record-answers, record-cause, record-lean}
 use Rattle.bugnet.proofs.commands.record.evaluate.Goals as goal
@@ -61,7 +62,7 @@ returns-in_err-start-clause-answers g c =
       same = h.only.same;
       asks = h.only.asks;
       later = h.only.later;
-      cause = record-cause names r how old.counts new.counts (Err x) c.requires.named c.manner_of-how.ensures (own-cause words old.counts new.counts (Err x) ok.1 h.only.cause);
+      cause = record-cause names r how old.counts new.counts (Err x) c.requires.named c.manner_of-how.ensures (cause-line words old.counts new.counts (Err x) ok.1 h.only.cause);
       calls = record-calls Answer g.S.StoreExt.note names r how has old.noted new.noted (Err x) c.requires.named c.manner_of-how.ensures c.is_some.ensures
           (words-pass Answer g.S.StoreExt.note names words (record_roles has) elf_roles old.noted new.noted (Err x) ok.1 h.calls);
       prints = λ p. absurd p;
@@ -86,7 +87,7 @@ returns-in_err-run-clause-answers g c =
       same = h.only.same;
       asks = h.only.asks;
       later = h.only.later;
-      cause = record-cause names r how old.counts new.counts (Err OutOfMemory) c.requires.named c.manner_of-how.ensures (own-cause words old.counts new.counts (Err OutOfMemory) ok.1 tt);
+      cause = record-cause names r how old.counts new.counts (Err OutOfMemory) c.requires.named c.manner_of-how.ensures (cause-line words old.counts new.counts (Err OutOfMemory) ok.1 tt);
       calls = record-calls Answer g.S.StoreExt.note names r how has old.noted new.noted (Err OutOfMemory) c.requires.named c.manner_of-how.ensures c.is_some.ensures
           (words-pass Answer g.S.StoreExt.note names words (record_roles has) elf_roles old.noted new.noted (Err OutOfMemory) ok.1 (memory-loads g.S.StoreExt.note names (record_roles has) elf_roles old.noted new.noted h.calls));
       prints = λ p. absurd p;
@@ -113,7 +114,7 @@ returns-clause-answers g c =
       same = h.only.same;
       asks = h.only.asks;
       later = h.only.later;
-      cause = record-cause names r how old.counts new.counts (Ok (Recorded run)) c.requires.named c.manner_of-how.ensures (own-cause words old.counts new.counts (Ok (Recorded run)) ok.1 tt);
+      cause = record-cause names r how old.counts new.counts (Ok (Recorded run)) c.requires.named c.manner_of-how.ensures (cause-line words old.counts new.counts (Ok (Recorded run)) ok.1 tt);
       calls = record-calls Answer g.S.StoreExt.note names r how has old.noted new.noted (Ok (Recorded run)) c.requires.named c.manner_of-how.ensures c.is_some.ensures
           (words-pass Answer g.S.StoreExt.note names words (record_roles has) elf_roles old.noted new.noted (Ok (Recorded run)) ok.1 h.calls);
       prints = λ p. absurd p;

@@ -1,4 +1,4 @@
-use Rattle.std.proofs.Common.{ℕ, List, subst, ap, ◌∙◌}
+use Rattle.std.proofs.Common.{ℕ, subst, ap, ◌∙◌}
 use Rattle.bn_outside.specs.StoreCalls.{LoadCall}
 use Rattle.log_commands.specs.Names.{name_of}
 use Rattle.log_commands.specs.Outside.{WithFiles, FetchTells}
