@@ -105,6 +105,11 @@ MUTANTS = [
         "A session reads a line after an answer that could not be written.",
         edit("step_debugger", "a_line_is_read_after_a_failed_write"),
     ),
+    ("A session keeps its answers until `quit`.", edit("step_debugger", "answers_are_kept_until_quit")),
+    (
+        "A session answers a line after one more read.",
+        edit("step_debugger", "a_line_is_answered_after_one_more_read"),
+    ),
     (
         "A step that the log refuses is told as out of memory.",
         edit("step_debugger", "a_refused_step_is_told_as_out_of_memory"),

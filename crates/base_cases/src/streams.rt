@@ -1,7 +1,7 @@
 //! Stores and streams in memory, whose calls fail as a line says.
 use crate::words::{wide, word};
 use bn_outside::{
-    MemorySink, MemorySource, MemoryStore, Sink, Source, Store, read_to_end, send_all,
+    MemorySink, MemorySource, MemoryStore, NoSink, Sink, Source, Store, read_to_end, send_all,
 };
 use std::alloc::{AllocError, Global};
 use std::str::from_utf8;
@@ -146,8 +146,8 @@ fn source_of(
 }
 
 // Prints what a read of one byte gives.
-fn print_byte<R: Print, I: Source>(rt: &R, source: &mut I) -> anyhow::Result<()> {
-    println!(rt; "read {:?}", source.read(&mut [0u8]))?;
+fn print_byte<R: Print, I: Source<NoSink>>(rt: &R, source: &mut I) -> anyhow::Result<()> {
+    println!(rt; "read {:?}", source.read(&NoSink, &mut [0u8]))?;
     Ok(())
 }
 

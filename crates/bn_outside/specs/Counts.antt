@@ -1,5 +1,5 @@
 -- Counts of failed calls: they never fall, and a refusal comes only in a call in which its count rose.
-use Rattle.std.specs.Prelude.{◌≡◌, ℕ, zero, suc, ◌+◌, ◌-◌, ◌^◌, ◌<◌, ◌≤◌, ◌⊎◌, min, Result, Ok, Err, ⊤}
+use Rattle.std.specs.Prelude.{◌≡◌, ℕ, ◌+◌, ◌-◌, ◌^◌, ◌<◌, ◌≤◌, ◌⊎◌, min, Result, Ok, Err, ⊤}
 use Rattle.bn_outside.specs.declared.loops.ReadError.{ReadError}
 use Rattle.bn_outside.specs.declared.loops.ReadError.TheVariants as read
 use Rattle.bn_outside.specs.declared.store.LoadError.{LoadError}
@@ -14,11 +14,6 @@ last_count = 2 ^ 64 - 1
 -- a count after one more was counted
 abbrev pub counted : ℕ → ℕ
 counted count = min (count + 1) last_count
-
--- a count after so many more were counted
-abbrev pub counted_by : ℕ → ℕ → ℕ
-counted_by zero count = count
-counted_by (suc n) count = counted (counted_by n count)
 
 -- a count rose in a call: it is greater after it, or stands at its last value
 abbrev pub Rose : ℕ → ℕ → Type 0

@@ -1,5 +1,5 @@
 -- What a source has left and what a sink was given, if they tell it.
-use Rattle.std.specs.Prelude.{◌≡◌, ◌↔◌, ℕ, ◌<◌, ◌≤◌, List, [], Option, Some, None, length, take, ⊤}
+use Rattle.std.specs.Prelude.{◌≡◌, ◌↔◌, ℕ, ◌<◌, ◌≤◌, List, [], ◌∷◌, Option, Some, None, length, take, ⊤}
 use Rattle.std.specs.Io.KnownBytes.{Appends, Consumes}
 
 -- a read that found these bytes left, into a buffer with room, answered 0 exactly if there were none
@@ -23,3 +23,16 @@ AppendsPart old new text = (n : ℕ) × Appends old new (take n text)
 -- a prefix of a text was added, and not all of it
 abbrev pub AppendsShort : Option (List ℕ) → Option (List ℕ) → List ℕ → Type 0
 AppendsShort old new text = (n : ℕ) × (n < length text) × Appends old new (take n text)
+
+-- what a source notes of a read: of what it has noted before, and of what out has been given by then
+abbrev pub ReadNote : Type 0
+ReadNote = ℕ → Option (List ℕ) → ℕ
+
+-- what it has noted after reads, at each of which out had been given one of these
+abbrev pub noted_after : ReadNote → ℕ → List (Option (List ℕ)) → ℕ
+noted_after note noted [] = noted
+noted_after note noted (had ∷ given) = noted_after note (note noted had) given
+
+-- the same of a source that has noted something before
+abbrev pub Notes : Type 0
+Notes = List (Option (List ℕ)) → ℕ

@@ -5,7 +5,7 @@ ghost use Rattle.bn_outside.specs.Counts.{CountsFault, ReadCounts, Rose};
 ghost use Rattle.bn_outside.specs.Streams.{AppendsPart, AppendsShort, ConsumesAll, ConsumesWithin};
 ghost use Rattle.bn_outside.specs.declared.loops.ReadError.TheVariants as read_error;
 
-use crate::{Failed, Sink, Source};
+use crate::{Failed, NoSink, Sink, Source};
 use std::alloc::{AllocError, Global};
 use thiserror::Error;
 
@@ -104,7 +104,7 @@ fn gather_within(
 /// It stops once more than `limit` bytes have come, so at most 65,536 bytes past the limit are
 /// gone, whatever the answer. `Failed` comes if a read failed, which isn't made again. It runs out of
 /// memory only if some bytes were left and some may come.
-pub fn read_to_end<I: Source>(
+pub fn read_to_end<I: Source<NoSink>>(
     alloc: Global,
     source: &mut I,
     expected: usize,
@@ -126,7 +126,7 @@ pub fn read_to_end<I: Source>(
     let mut bytes = Vec::new(alloc);
     let mut piece = [0u8; PIECE];
     'pieces: loop {
-        let count = source.read(&mut piece)?;
+        let count = source.read(&NoSink, &mut piece)?;
         if count == 0 {
             return Ok(bytes);
         }

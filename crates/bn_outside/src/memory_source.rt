@@ -6,7 +6,7 @@ ghost use Rattle.bn_outside.specs.InMemory.{source_over};
 ghost use Rattle.bn_outside.specs.Streams.{EndsExactly};
 
 use crate::calls::FailingCalls;
-use crate::{Failed, Source};
+use crate::{Failed, Sink, Source};
 use std::marker::Model;
 
 /// A source over bytes in memory. Exactly the reads whose numbers are listed fail; the first read
@@ -82,20 +82,22 @@ impl MemorySource {
     }
 }
 
-impl Source for MemorySource {
+impl<O: Sink> Source<O> for MemorySource {
     ghost left = { λ s. Some s.left };
 
     ghost faults = { λ s. s.faults };
 
-    ghost reads = { λ s. s.calls.made };
+    ghost noted = { λ s. s.calls.made };
 
-    fn read(&mut self, buffer: &mut [u8]) -> Result<usize, Failed>
+    ghost note = { λ made _. counted made };
+
+    fn read(&mut self, _: &O, buffer: &mut [u8]) -> Result<usize, Failed>
         ensures bound { IfOk result (λ n. n ≤ length buffer.new) }
         ensures moved { IfOk result (λ n. self.old.left ≡ take n buffer.new ++ self.new.left) }
         ensures end { IfOk result (λ n. EndsExactly (Some self.old.left) n buffer.new) }
         ensures kept { OnErr result (self.new.left ≡ self.old.left) }
         ensures later { self.old.faults ≤ self.new.faults }
-        ensures counted { self.new.calls.made ≡ counted self.old.calls.made }
+        ensures called { self.new.calls.made ≡ counted self.old.calls.made }
         ensures once { CountsFault self.old.faults self.new.faults result }
         ensures cause { OnErr result (Rose self.old.faults self.new.faults) }
 

@@ -30,6 +30,7 @@ use Rattle.step_debugger.specs.declared.error.DebugError.TheVariants as stop
 use Rattle.step_debugger.specs.declared.session.Ending.{Ending}
 use Rattle.step_debugger.specs.declared.session.Ending.TheVariants as ending
 use Rattle.bn_outside.specs.Counts.{Counts}
+use Rattle.bn_outside.specs.Streams.{Notes}
 use Rattle.bugnet.specs.Steps.{DebugsPair}
 use Rattle.log_commands.specs.Effects.{Call, IsFree, Tells}
 use Rattle.log_commands.specs.Joined.{joined}
@@ -228,7 +229,7 @@ pub session-begun : (names : FileNames) (d : Content) (i : Program) (c : Command
 session-begun names d i c status k told (inl begun) = begun
 session-begun names d i c status k told (inr e) = absurd (told-14 names d i c status k told e)
 
-pub pair-begun : (names : FileNames) (d : Content) (i : Program) (status : ℕ) (left now_left : Option (List ℕ)) (before now reads now_reads : ℕ) (out printed err end : Stream) → DebugsPair names (joined d i) status left now_left before now reads now_reads out printed err end → (is_begun status ≡ true) ⊎ (status ≡ 14) → is_begun status ≡ true
-pair-begun names d i status left now_left before now reads now_reads out printed err end told begun =
+pub pair-begun : (names : FileNames) (d : Content) (i : Program) (status : ℕ) (left now_left : Option (List ℕ)) (before now : ℕ) (notes : Notes) (noted : ℕ) (out printed err end : Stream) → DebugsPair names (joined d i) status left now_left before now notes noted out printed err end → (is_begun status ≡ true) ⊎ (status ≡ 14) → is_begun status ≡ true
+pair-begun names d i status left now_left before now notes noted out printed err end told begun =
     let none : Counts = record { misses = 0; longs = 0; faults = 0 } in
     session-begun names d i told.0 status _ (told.2 None none) begun

@@ -9,7 +9,7 @@ use Rattle.log_record.specs.declared.record.Record.{Record}
 use Rattle.log_order.specs.Content.{Content}
 use Rattle.bn_outside.specs.Counts.{Counts, Rose}
 use Rattle.bn_outside.specs.Files.{Files, WhereTold}
-use Rattle.bn_outside.specs.Streams.{AppendsPart}
+use Rattle.bn_outside.specs.Streams.{AppendsPart, Notes}
 use Rattle.command_words.specs.Words.{Line, RecordLine, ReplayLine, JointLine, DebugLine, ListLine, CheckLine, AuditLine, RacesLine, SliceLine, ConvertLine, SalvageLine, DemoLine}
 use Rattle.hart_replay.specs.declared.error.ReplayError.TheVariants as replay
 use Rattle.joint_replay.specs.declared.error.JointError.{JointError}
@@ -154,30 +154,30 @@ commands_of bytes e = record { bytes = bytes; failed = failed_by e }
 abbrev pub no_commands : Commands
 no_commands = record { bytes = []; failed = false }
 
-module _ (left now_left : Option (List ℕ)) (before now reads now_reads : ℕ) where
-  unfailed : (bytes : List ℕ) (status : ℕ) → Consumes left now_left bytes → status ≢ 12 → status ≢ 0 → IsUnread (record { bytes = bytes; failed = false }) reads now_reads ⊎ SessionReads bytes status left now_left reads now_reads
-      → AreRead (record { bytes = bytes; failed = false }) status left now_left before now reads now_reads
+module _ (left now_left : Option (List ℕ)) (before now : ℕ) (notes : Notes) (noted : ℕ) where
+  unfailed : (bytes : List ℕ) (status : ℕ) → Consumes left now_left bytes → status ≢ 12 → status ≢ 0 → IsUnread (record { bytes = bytes; failed = false }) notes noted ⊎ SessionReads bytes status left now_left notes noted
+      → AreRead (record { bytes = bytes; failed = false }) status left now_left before now notes noted
   unfailed bytes status taken read zero up_to = record { taken = taken; failed = λ f. absurd cc; cause = λ e. absurd (read e); done = λ e. absurd (zero e); up_to = up_to }
 
 -- nothing
-pub none-read : (status : ℕ) (left : Option (List ℕ)) (faults reads : ℕ) → status ≢ 12 → status ≢ 0 → AreRead no_commands status left left faults faults reads reads
-none-read status left faults reads read zero = unfailed left left faults faults reads reads [] status (Consumes-nil left) read zero (inl (refl, refl, refl))
+pub none-read : (status : ℕ) (left : Option (List ℕ)) (faults : ℕ) (notes : Notes) → status ≢ 12 → status ≢ 0 → AreRead no_commands status left left faults faults notes (notes [])
+none-read status left faults notes read zero = unfailed left left faults faults notes (notes []) [] status (Consumes-nil left) read zero (inl (refl, refl, refl))
 
-module _ (j : Trace) (left now_left : Option (List ℕ)) (before now reads now_reads : ℕ) (written now_written : Option (List ℕ)) (b n : ℕ) where
+module _ (j : Trace) (left now_left : Option (List ℕ)) (before now : ℕ) (notes : Notes) (noted : ℕ) (written now_written : Option (List ℕ)) (b n : ℕ) where
   -- a session that is done
-  pub done-read : (u : Unit {0}) (c : CountedSession j left now_left before now reads now_reads written now_written b n (Ok u)) → AreRead (record { bytes = c.session.gone; failed = false }) 0 left now_left before now reads now_reads
+  pub done-read : (u : Unit {0}) (c : CountedSession j left now_left before now notes noted written now_written b n (Ok u)) → AreRead (record { bytes = c.session.gone; failed = false }) 0 left now_left before now notes noted
   done-read u c = record {
     taken = c.session.taken;
     failed = λ f. absurd cc;
     cause = λ e. absurd (omega (arith, e));
     done = λ e. quits-or-all j c.session.gone left now_left c.session.done.2;
-    up_to = inr (session-reads j 0 left now_left before now reads now_reads written now_written b n (Ok u) c refl);
+    up_to = inr (session-reads j 0 left now_left before now notes noted written now_written b n (Ok u) c refl);
   }
 
   -- one that stopped
-  pub stop-read : (e : DebugError) (status : ℕ) (c : CountedSession j left now_left before now reads now_reads written now_written b n (Err e)) → StatusOf e status
-      → AreRead (commands_of c.session.gone e) status left now_left before now reads now_reads
-  stop-read e status c h = by e c.session.gone c.session.taken c.session.done h (session-reads j status left now_left before now reads now_reads written now_written b n (Err e) c h)
+  pub stop-read : (e : DebugError) (status : ℕ) (c : CountedSession j left now_left before now notes noted written now_written b n (Err e)) → StatusOf e status
+      → AreRead (commands_of c.session.gone e) status left now_left before now notes noted
+  stop-read e status c h = by e c.session.gone c.session.taken c.session.done h (session-reads j status left now_left before now notes noted written now_written b n (Err e) c h)
     where
       -- a read or a write that failed isn't a session that is done
       apart : (m : ℕ) → m ≢ 0 → (status ≡ m) ⊎ (status ≡ 9) → status ≢ 0
@@ -188,11 +188,11 @@ module _ (j : Trace) (left now_left : Option (List ℕ)) (before now reads now_r
       unread (inl x) f = omega (arith, x, f)
       unread (inr x) f = omega (arith, x, f)
 
-      other : (e : DebugError) (gone : List ℕ) → Consumes left now_left gone → Ends status → SessionReads gone status left now_left reads now_reads → AreRead (record { bytes = gone; failed = false }) status left now_left before now reads now_reads
-      other e gone taken o r = unfailed left now_left before now reads now_reads gone status taken o.read o.zero (inr r)
+      other : (e : DebugError) (gone : List ℕ) → Consumes left now_left gone → Ends status → SessionReads gone status left now_left notes noted → AreRead (record { bytes = gone; failed = false }) status left now_left before now notes noted
+      other e gone taken o r = unfailed left now_left before now notes noted gone status taken o.read o.zero (inr r)
 
-      by : (e : DebugError) (gone : List ℕ) → Consumes left now_left gone → Debugs j gone left now_left before now written now_written b n (Err e) → StatusOf e status → SessionReads gone status left now_left reads now_reads
-          → AreRead (commands_of gone e) status left now_left before now reads now_reads
+      by : (e : DebugError) (gone : List ℕ) → Consumes left now_left gone → Debugs j gone left now_left before now written now_written b n (Err e) → StatusOf e status → SessionReads gone status left now_left notes noted
+          → AreRead (commands_of gone e) status left now_left before now notes noted
       by stop.ReadFault gone taken d h r = record {
         taken = taken;
         failed = λ f. (d.3, no-quit (input_of gone).lines (begin_at j) d.0);
@@ -200,7 +200,7 @@ module _ (j : Trace) (left now_left : Option (List ℕ)) (before now reads now_r
         done = λ f. absurd (apart 12 (λ z. omega (arith, z)) h f);
         up_to = inr r;
       }
-      by stop.WriteFault gone taken d h r = unfailed left now_left before now reads now_reads gone status taken (unread h) (apart 13 (λ z. omega (arith, z)) h) (inr r)
+      by stop.WriteFault gone taken d h r = unfailed left now_left before now notes noted gone status taken (unread h) (apart 13 (λ z. omega (arith, z)) h) (inr r)
       by (stop.LineTooLong m) gone taken d h r = other (stop.LineTooLong m) gone taken (other-ends (stop.LineTooLong m) status tt h) r
       by (stop.TooMuch m) gone taken d h r = other (stop.TooMuch m) gone taken (other-ends (stop.TooMuch m) status tt h) r
       by (stop.Joint x) gone taken d h r = other (stop.Joint x) gone taken (other-ends (stop.Joint x) status tt h) r
@@ -282,36 +282,36 @@ stop-writes j names e status gone left now_left before now written now_written b
 
 -- ---- a session over a joint replay
 
-pub pair-done : (names : FileNames) (first : Joining) (j : Trace) (u : Unit {0}) (left now_left : Option (List ℕ)) (before now reads now_reads : ℕ) (out printed err : Stream) → j ≡ at_start first → CountedSession j left now_left before now reads now_reads out.text printed.text out.faults printed.faults (Ok u)
-    → DebugsPair names first 0 left now_left before now reads now_reads out printed err err
-pair-done names first j u left now_left before now reads now_reads out printed err same c =
+pub pair-done : (names : FileNames) (first : Joining) (j : Trace) (u : Unit {0}) (left now_left : Option (List ℕ)) (before now : ℕ) (notes : Notes) (noted : ℕ) (out printed err : Stream) → j ≡ at_start first → CountedSession j left now_left before now notes noted out.text printed.text out.faults printed.faults (Ok u)
+    → DebugsPair names first 0 left now_left before now notes noted out printed err err
+pair-done names first j u left now_left before now notes noted out printed err same c =
     let d = c.session in (
       record { bytes = d.gone; failed = false },
-      done-read j left now_left before now reads now_reads out.text printed.text out.faults printed.faults u c,
+      done-read j left now_left before now notes noted out.text printed.text out.faults printed.faults u c,
       λ files had.
           subst (λ (x : Trace). Tells names (session_told names (transcript_from x (input_of d.gone))) 0 (printing_on files had out printed err err)) same
           (done-told names (transcript_from j (input_of d.gone)) (printing_on files had out printed err err) d.done.0 d.done.1 (appends-nothing err.text) (untouched files)),
-      inr (session-over j 0 left now_left before now reads now_reads out.text printed.text out.faults printed.faults (Ok u) c refl first same),
+      inr (session-over j 0 left now_left before now notes noted out.text printed.text out.faults printed.faults (Ok u) c refl first same),
     )
 
-pub pair-stopped : (names : FileNames) (first : Joining) (j : Trace) (why : DebugError) (status : ℕ) (left now_left : Option (List ℕ)) (before now reads now_reads : ℕ) (out printed err end : Stream) → j ≡ at_start first → CountedSession j left now_left before now reads now_reads out.text printed.text out.faults printed.faults (Err why) → ToldStop names why status err.text end.text err.faults end.faults
-    → DebugsPair names first status left now_left before now reads now_reads out printed err end
-pair-stopped names first j why status left now_left before now reads now_reads out printed err end same c told =
+pub pair-stopped : (names : FileNames) (first : Joining) (j : Trace) (why : DebugError) (status : ℕ) (left now_left : Option (List ℕ)) (before now : ℕ) (notes : Notes) (noted : ℕ) (out printed err end : Stream) → j ≡ at_start first → CountedSession j left now_left before now notes noted out.text printed.text out.faults printed.faults (Err why) → ToldStop names why status err.text end.text err.faults end.faults
+    → DebugsPair names first status left now_left before now notes noted out printed err end
+pair-stopped names first j why status left now_left before now notes noted out printed err end same c told =
     let d = c.session in
     let ends = status-of names why status err.text end.text err.faults end.faults told in (
       commands_of d.gone why,
-      stop-read j left now_left before now reads now_reads out.text printed.text out.faults printed.faults why status c ends,
+      stop-read j left now_left before now notes noted out.text printed.text out.faults printed.faults why status c ends,
       λ files had.
           subst (λ (x : Trace). Tells names (session_told names (transcript_from x (input_in (commands_of d.gone why)))) status (printing_on files had out printed err end)) same
           (stop-told names j why status d.gone left now_left before now (printing_on files had out printed err end) d.done (untouched files) told),
-      inr (session-over j status left now_left before now reads now_reads out.text printed.text out.faults printed.faults (Err why) c ends first same),
+      inr (session-over j status left now_left before now notes noted out.text printed.text out.faults printed.faults (Err why) c ends first same),
     )
 
-pub pair-unbegun : (names : FileNames) (j : Joining) (status : ℕ) (left : Option (List ℕ)) (faults reads : ℕ) (out err end : Stream) → ToldRefusal names why.OutOfMemory status err.text end.text err.faults end.faults → DebugsPair names j status left left faults faults reads reads out out err end
-pair-unbegun names j status left faults reads out err end told =
+pub pair-unbegun : (names : FileNames) (j : Joining) (status : ℕ) (left : Option (List ℕ)) (faults : ℕ) (notes : Notes) (out err end : Stream) → ToldRefusal names why.OutOfMemory status err.text end.text err.faults end.faults → DebugsPair names j status left left faults faults notes (notes []) out out err end
+pair-unbegun names j status left faults notes out err end told =
     let nine = memory-status names status err.text end.text err.faults end.faults told in (
       no_commands,
-      none-read status left faults reads (λ x. omega (arith, x, nine)) (λ x. omega (arith, x, nine)),
+      none-read status left faults notes (λ x. omega (arith, x, nine)) (λ x. omega (arith, x, nine)),
       λ files had. unbegun-told names j status (printing_on files had out out err end) refl (untouched files) told,
       inl (refl, refl, refl),
     )
@@ -367,17 +367,17 @@ with-both None P Q R f x y = tt
 with-both (Some files) P Q R f x y = f files x y
 
 -- it was one with the log and the program that are there
-pub named-session : (c : Commands) (log elf : List ℕ) (reading : JointReading) (known : Option Files) (status : ℕ) (left now_left : Option (List ℕ)) (before now reads now_reads : ℕ) (k : Call) → known ≡ k.old.files
+pub named-session : (c : Commands) (log elf : List ℕ) (reading : JointReading) (known : Option Files) (status : ℕ) (left now_left : Option (List ℕ)) (before now : ℕ) (notes : Notes) (noted : ℕ) (k : Call) → known ≡ k.old.files
     → WithFiles known (λ files. LoadedPair log elf files reading.log reading.image)
-    → IsUnread c reads now_reads ⊎ SessionOver (joined reading.log reading.image) c.bytes status left now_left before now reads now_reads k.old.out k.new.out k.old.out_faults k.new.out_faults
-    → WithFiles k.old.files (λ files. SessionIs c log elf files status left now_left before now reads now_reads k)
-named-session c log elf reading known status left now_left before now reads now_reads k e pair s =
-    with-files k.old.files (λ files. LoadedPair log elf files reading.log reading.image) (λ files. SessionIs c log elf files status left now_left before now reads now_reads k) (λ files p. so files p s)
+    → IsUnread c notes noted ⊎ SessionOver (joined reading.log reading.image) c.bytes status left now_left before now notes noted k.old.out k.new.out k.old.out_faults k.new.out_faults
+    → WithFiles k.old.files (λ files. SessionIs c log elf files status left now_left before now notes noted k)
+named-session c log elf reading known status left now_left before now notes noted k e pair s =
+    with-files k.old.files (λ files. LoadedPair log elf files reading.log reading.image) (λ files. SessionIs c log elf files status left now_left before now notes noted k) (λ files p. so files p s)
     (subst (λ (x : Option Files). WithFiles x (λ files. LoadedPair log elf files reading.log reading.image)) e pair)
   where
     so : (files : Files) → LoadedPair log elf files reading.log reading.image
-        → IsUnread c reads now_reads ⊎ SessionOver (joined reading.log reading.image) c.bytes status left now_left before now reads now_reads k.old.out k.new.out k.old.out_faults k.new.out_faults
-        → SessionIs c log elf files status left now_left before now reads now_reads k
+        → IsUnread c notes noted ⊎ SessionOver (joined reading.log reading.image) c.bytes status left now_left before now notes noted k.old.out k.new.out k.old.out_faults k.new.out_faults
+        → SessionIs c log elf files status left now_left before now notes noted k
     so files p (inl none) = inl none
     so files p (inr over) = inr (record { content = reading.log; program = reading.image; pair = p; over = over })
 
@@ -500,38 +500,38 @@ unread-done g laws limits c log elf files status k x none whole all can =
     session-done (one-session g) laws limits.converted c log elf files status k x (record { content = can.content; program = can.program; pair = can.pair; goes_on = goes_on })
 
 -- where all that the source had left isn't stopped it is done, unless a read failed
-all-done : Grammar → FileLaws → Limits → (c : Commands) (log elf : List ℕ) (files : Files) (status : ℕ) (left now_left : Option (List ℕ)) (before now reads now_reads : ℕ) (k : Call)
+all-done : Grammar → FileLaws → Limits → (c : Commands) (log elf : List ℕ) (files : Files) (status : ℕ) (left now_left : Option (List ℕ)) (before now : ℕ) (notes : Notes) (noted : ℕ) (k : Call)
     → SomeTold (IsSession c files (names_in (DebugLine log elf))) (λ what. Tells (names_in (DebugLine log elf)) what status k) ⊎ StoppedEarly (Some (DebugLine log elf)) files status k
-    → SessionIs c log elf files status left now_left before now reads now_reads k → (all : List ℕ) → left ≡ Some all → CanDebug (whole_input all) log elf files → IsFree status ⊎ ((status ≡ 12) ⊎ (status ≡ 0))
-all-done g laws limits c log elf files status left now_left before now reads now_reads k x (inl none) all is can =
+    → SessionIs c log elf files status left now_left before now notes noted k → (all : List ℕ) → left ≡ Some all → CanDebug (whole_input all) log elf files → IsFree status ⊎ ((status ≡ 12) ⊎ (status ≡ 0))
+all-done g laws limits c log elf files status left now_left before now notes noted k x (inl none) all is can =
     elim (unread-done g laws limits c log elf files status k x none.0 none.1 (whole_input all) can) [ inl free ↦ inl free | inr zero ↦ inr (inr zero) ]
-all-done g laws limits c log elf files status left now_left before now reads now_reads k x (inr s) all is can =
-    whole-done g laws log elf files s.content s.program c.bytes status left now_left before now reads now_reads k.old.out k.new.out k.old.out_faults k.new.out_faults s.pair s.over all is can
+all-done g laws limits c log elf files status left now_left before now notes noted k x (inr s) all is can =
+    whole-done g laws log elf files s.content s.program c.bytes status left now_left before now notes noted k.old.out k.new.out k.old.out_faults k.new.out_faults s.pair s.over all is can
 
 -- all that a session does
-pub debugs-so : Grammar → FileLaws → Limits → SessionsShowTheRun → RefusalsStay → (names : FileNames) (log elf : List ℕ) (status : ℕ) (left now_left : Option (List ℕ)) (before now reads now_reads : ℕ) (k : Call) → names ≡ names_in (DebugLine log elf)
-    → DebugsNamed names status left now_left before now reads now_reads k → DebugsLine (Some (DebugLine log elf)) status left now_left before now reads now_reads k
-debugs-so g laws limits show stay names log elf status left now_left before now reads now_reads k e h =
+pub debugs-so : Grammar → FileLaws → Limits → SessionsShowTheRun → RefusalsStay → (names : FileNames) (log elf : List ℕ) (status : ℕ) (left now_left : Option (List ℕ)) (before now : ℕ) (notes : Notes) (noted : ℕ) (k : Call) → names ≡ names_in (DebugLine log elf)
+    → DebugsNamed names status left now_left before now notes noted k → DebugsLine (Some (DebugLine log elf)) status left now_left before now notes noted k
+debugs-so g laws limits show stay names log elf status left now_left before now notes noted k e h =
     let c = h.0 in
     let own = names_in (DebugLine log elf) in (
       c,
       h.1,
       with-both k.old.files (λ files. SomeTold (IsSession c files own) (λ what. Tells own what status k) ⊎ StoppedBy own (λ files. IsDebug files own) files status k)
-          (λ files. SessionIs c log elf files status left now_left before now reads now_reads k) (λ files. DebugsFiles c log elf files status left now_left before now reads now_reads k)
+          (λ files. SessionIs c log elf files status left now_left before now notes noted k) (λ files. DebugsFiles c log elf files status left now_left before now notes noted k)
           (λ files x y. record {
             tells = x;
             done = session-done (one-session g) laws limits.converted c log elf files status k x;
             shows = shows-session g limits show stay c log elf files status k x;
             session = y;
-            whole = all-done g laws limits c log elf files status left now_left before now reads now_reads k x y;
+            whole = all-done g laws limits c log elf files status left now_left before now notes noted k x y;
           })
           (subst (λ (n : FileNames). WithFiles k.old.files (λ files. SomeTold (IsSession c files n) (λ what. Tells n what status k) ⊎ StoppedBy n (λ files. IsDebug files n) files status k)) e h.2)
-          (subst (λ (n : FileNames). WithFiles k.old.files (λ files. SessionIs c n.log n.elf files status left now_left before now reads now_reads k)) e h.3),
+          (subst (λ (n : FileNames). WithFiles k.old.files (λ files. SessionIs c n.log n.elf files status left now_left before now notes noted k)) e h.3),
     )
 
-pub answers-so : (names : FileNames) (log elf : List ℕ) (status : ℕ) (left now_left : Option (List ℕ)) (before now reads now_reads : ℕ) (k : Call) → names ≡ names_in (DebugLine log elf)
-    → DebugsNamed names status left now_left before now reads now_reads k → TellsAnswer (Some (DebugLine log elf)) status k
-answers-so names log elf status left now_left before now reads now_reads k e h =
+pub answers-so : (names : FileNames) (log elf : List ℕ) (status : ℕ) (left now_left : Option (List ℕ)) (before now : ℕ) (notes : Notes) (noted : ℕ) (k : Call) → names ≡ names_in (DebugLine log elf)
+    → DebugsNamed names status left now_left before now notes noted k → TellsAnswer (Some (DebugLine log elf)) status k
+answers-so names log elf status left now_left before now notes noted k e h =
     let c = h.0 in
     let own = names_in (DebugLine log elf) in
     with-files k.old.files (λ files. SomeTold (IsSession c files own) (λ what. Tells own what status k) ⊎ StoppedBy own (λ files. IsDebug files own) files status k)
@@ -544,35 +544,35 @@ answers-so names log elf status left now_left before now reads now_reads k e h =
     so files (inr early) = inr early
 
 -- of a line that is a session
-pub debugs-any : Grammar → FileLaws → Limits → SessionsShowTheRun → RefusalsStay → (line : Line) (names : FileNames) (status : ℕ) (left now_left : Option (List ℕ)) (before now reads now_reads : ℕ) (k : Call) → (IsNoSession (Some line) → ⊥) → names ≡ names_in line
-    → DebugsNamed names status left now_left before now reads now_reads k → DebugsLine (Some line) status left now_left before now reads now_reads k
-debugs-any g laws limits show stay (DebugLine log elf) names status left now_left before now reads now_reads k is e h = debugs-so g laws limits show stay names log elf status left now_left before now reads now_reads k e h
-debugs-any g laws limits show stay (RecordLine r) names status left now_left before now reads now_reads k is e h = tt
-debugs-any g laws limits show stay (ReplayLine log elf hart interval) names status left now_left before now reads now_reads k is e h = tt
-debugs-any g laws limits show stay (JointLine log elf) names status left now_left before now reads now_reads k is e h = tt
-debugs-any g laws limits show stay (ListLine log) names status left now_left before now reads now_reads k is e h = tt
-debugs-any g laws limits show stay (CheckLine log) names status left now_left before now reads now_reads k is e h = tt
-debugs-any g laws limits show stay (AuditLine log elf book input) names status left now_left before now reads now_reads k is e h = tt
-debugs-any g laws limits show stay (RacesLine log elf most) names status left now_left before now reads now_reads k is e h = tt
-debugs-any g laws limits show stay (SliceLine log elf hart interval ic) names status left now_left before now reads now_reads k is e h = tt
-debugs-any g laws limits show stay (ConvertLine log copy) names status left now_left before now reads now_reads k is e h = tt
-debugs-any g laws limits show stay (SalvageLine log copy) names status left now_left before now reads now_reads k is e h = tt
-debugs-any g laws limits show stay (DemoLine seed) names status left now_left before now reads now_reads k is e h = tt
+pub debugs-any : Grammar → FileLaws → Limits → SessionsShowTheRun → RefusalsStay → (line : Line) (names : FileNames) (status : ℕ) (left now_left : Option (List ℕ)) (before now : ℕ) (notes : Notes) (noted : ℕ) (k : Call) → (IsNoSession (Some line) → ⊥) → names ≡ names_in line
+    → DebugsNamed names status left now_left before now notes noted k → DebugsLine (Some line) status left now_left before now notes noted k
+debugs-any g laws limits show stay (DebugLine log elf) names status left now_left before now notes noted k is e h = debugs-so g laws limits show stay names log elf status left now_left before now notes noted k e h
+debugs-any g laws limits show stay (RecordLine r) names status left now_left before now notes noted k is e h = tt
+debugs-any g laws limits show stay (ReplayLine log elf hart interval) names status left now_left before now notes noted k is e h = tt
+debugs-any g laws limits show stay (JointLine log elf) names status left now_left before now notes noted k is e h = tt
+debugs-any g laws limits show stay (ListLine log) names status left now_left before now notes noted k is e h = tt
+debugs-any g laws limits show stay (CheckLine log) names status left now_left before now notes noted k is e h = tt
+debugs-any g laws limits show stay (AuditLine log elf book input) names status left now_left before now notes noted k is e h = tt
+debugs-any g laws limits show stay (RacesLine log elf most) names status left now_left before now notes noted k is e h = tt
+debugs-any g laws limits show stay (SliceLine log elf hart interval ic) names status left now_left before now notes noted k is e h = tt
+debugs-any g laws limits show stay (ConvertLine log copy) names status left now_left before now notes noted k is e h = tt
+debugs-any g laws limits show stay (SalvageLine log copy) names status left now_left before now notes noted k is e h = tt
+debugs-any g laws limits show stay (DemoLine seed) names status left now_left before now notes noted k is e h = tt
 
-pub answers-any : (line : Line) (names : FileNames) (status : ℕ) (left now_left : Option (List ℕ)) (before now reads now_reads : ℕ) (k : Call) → (IsNoSession (Some line) → ⊥) → names ≡ names_in line
-    → DebugsNamed names status left now_left before now reads now_reads k → TellsAnswer (Some line) status k
-answers-any (DebugLine log elf) names status left now_left before now reads now_reads k is e h = answers-so names log elf status left now_left before now reads now_reads k e h
-answers-any (RecordLine r) names status left now_left before now reads now_reads k is e h = absurd (is tt)
-answers-any (ReplayLine log elf hart interval) names status left now_left before now reads now_reads k is e h = absurd (is tt)
-answers-any (JointLine log elf) names status left now_left before now reads now_reads k is e h = absurd (is tt)
-answers-any (ListLine log) names status left now_left before now reads now_reads k is e h = absurd (is tt)
-answers-any (CheckLine log) names status left now_left before now reads now_reads k is e h = absurd (is tt)
-answers-any (AuditLine log elf book input) names status left now_left before now reads now_reads k is e h = absurd (is tt)
-answers-any (RacesLine log elf most) names status left now_left before now reads now_reads k is e h = absurd (is tt)
-answers-any (SliceLine log elf hart interval ic) names status left now_left before now reads now_reads k is e h = absurd (is tt)
-answers-any (ConvertLine log copy) names status left now_left before now reads now_reads k is e h = absurd (is tt)
-answers-any (SalvageLine log copy) names status left now_left before now reads now_reads k is e h = absurd (is tt)
-answers-any (DemoLine seed) names status left now_left before now reads now_reads k is e h = absurd (is tt)
+pub answers-any : (line : Line) (names : FileNames) (status : ℕ) (left now_left : Option (List ℕ)) (before now : ℕ) (notes : Notes) (noted : ℕ) (k : Call) → (IsNoSession (Some line) → ⊥) → names ≡ names_in line
+    → DebugsNamed names status left now_left before now notes noted k → TellsAnswer (Some line) status k
+answers-any (DebugLine log elf) names status left now_left before now notes noted k is e h = answers-so names log elf status left now_left before now notes noted k e h
+answers-any (RecordLine r) names status left now_left before now notes noted k is e h = absurd (is tt)
+answers-any (ReplayLine log elf hart interval) names status left now_left before now notes noted k is e h = absurd (is tt)
+answers-any (JointLine log elf) names status left now_left before now notes noted k is e h = absurd (is tt)
+answers-any (ListLine log) names status left now_left before now notes noted k is e h = absurd (is tt)
+answers-any (CheckLine log) names status left now_left before now notes noted k is e h = absurd (is tt)
+answers-any (AuditLine log elf book input) names status left now_left before now notes noted k is e h = absurd (is tt)
+answers-any (RacesLine log elf most) names status left now_left before now notes noted k is e h = absurd (is tt)
+answers-any (SliceLine log elf hart interval ic) names status left now_left before now notes noted k is e h = absurd (is tt)
+answers-any (ConvertLine log copy) names status left now_left before now notes noted k is e h = absurd (is tt)
+answers-any (SalvageLine log copy) names status left now_left before now notes noted k is e h = absurd (is tt)
+answers-any (DemoLine seed) names status left now_left before now notes noted k is e h = absurd (is tt)
 
 -- its log and program are there
 pub begins-any : (line : Line) (names : FileNames) (known : Option Files) → (IsNoSession (Some line) → ⊥) → names ≡ names_in line → WithFiles known (λ files. HasPair names.log names.elf files) → WithFiles known (λ files. CanBegin (Some line) files)
@@ -590,18 +590,18 @@ begins-any (SalvageLine log copy) names known is e h = absurd (is tt)
 begins-any (DemoLine seed) names known is e h = absurd (is tt)
 
 -- there was no memory for the words
-pub debugs-early : (line : Option Line) (status : ℕ) (left : Option (List ℕ)) (faults reads : ℕ) (k : Call) → Appends k.old.out k.new.out [] → k.new.files ≡ k.old.files
-    → ToldRefusal (names_by line) why.OutOfMemory status k.old.err k.new.err k.old.err_faults k.new.err_faults → DebugsLine line status left left faults faults reads reads k
-debugs-early None status left faults reads k out same told = tt
-debugs-early (Some (RecordLine r)) status left faults reads k out same told = tt
-debugs-early (Some (ReplayLine log elf hart interval)) status left faults reads k out same told = tt
-debugs-early (Some (JointLine log elf)) status left faults reads k out same told = tt
-debugs-early (Some (DebugLine log elf)) status left faults reads k out same told =
+pub debugs-early : (line : Option Line) (status : ℕ) (left : Option (List ℕ)) (faults : ℕ) (notes : Notes) (k : Call) → Appends k.old.out k.new.out [] → k.new.files ≡ k.old.files
+    → ToldRefusal (names_by line) why.OutOfMemory status k.old.err k.new.err k.old.err_faults k.new.err_faults → DebugsLine line status left left faults faults notes (notes []) k
+debugs-early None status left faults notes k out same told = tt
+debugs-early (Some (RecordLine r)) status left faults notes k out same told = tt
+debugs-early (Some (ReplayLine log elf hart interval)) status left faults notes k out same told = tt
+debugs-early (Some (JointLine log elf)) status left faults notes k out same told = tt
+debugs-early (Some (DebugLine log elf)) status left faults notes k out same told =
     let nine = memory-status (names_in (DebugLine log elf)) status k.old.err k.new.err k.old.err_faults k.new.err_faults told in
     let early : (files : Files) → StoppedEarly (Some (DebugLine log elf)) files status k = λ files. record { refusal = why.OutOfMemory; early = inl refl; out = out; same = same; told = told } in (
       no_commands,
-      none-read status left faults reads (λ f. omega (arith, f, nine)) (λ f. omega (arith, f, nine)),
-      with-any k.old.files (λ files. DebugsFiles no_commands log elf files status left left faults faults reads reads k) (λ files. record {
+      none-read status left faults notes (λ f. omega (arith, f, nine)) (λ f. omega (arith, f, nine)),
+      with-any k.old.files (λ files. DebugsFiles no_commands log elf files status left left faults faults notes (notes []) k) (λ files. record {
         tells = inr (early files);
         done = λ h. inl (early-free (Some (DebugLine log elf)) files status k (early files));
         shows = λ r has. inl (early-free (Some (DebugLine log elf)) files status k (early files));
@@ -609,11 +609,11 @@ debugs-early (Some (DebugLine log elf)) status left faults reads k out same told
         whole = λ all is can. inl (early-free (Some (DebugLine log elf)) files status k (early files));
       }),
     )
-debugs-early (Some (ListLine log)) status left faults reads k out same told = tt
-debugs-early (Some (CheckLine log)) status left faults reads k out same told = tt
-debugs-early (Some (AuditLine log elf book input)) status left faults reads k out same told = tt
-debugs-early (Some (RacesLine log elf most)) status left faults reads k out same told = tt
-debugs-early (Some (SliceLine log elf hart interval ic)) status left faults reads k out same told = tt
-debugs-early (Some (ConvertLine log copy)) status left faults reads k out same told = tt
-debugs-early (Some (SalvageLine log copy)) status left faults reads k out same told = tt
-debugs-early (Some (DemoLine seed)) status left faults reads k out same told = tt
+debugs-early (Some (ListLine log)) status left faults notes k out same told = tt
+debugs-early (Some (CheckLine log)) status left faults notes k out same told = tt
+debugs-early (Some (AuditLine log elf book input)) status left faults notes k out same told = tt
+debugs-early (Some (RacesLine log elf most)) status left faults notes k out same told = tt
+debugs-early (Some (SliceLine log elf hart interval ic)) status left faults notes k out same told = tt
+debugs-early (Some (ConvertLine log copy)) status left faults notes k out same told = tt
+debugs-early (Some (SalvageLine log copy)) status left faults notes k out same told = tt
+debugs-early (Some (DemoLine seed)) status left faults notes k out same told = tt

@@ -2,6 +2,7 @@
 use Rattle.std.proofs.Common.{◌≡◌, ◌≤◌, ◌∙◌, ℕ, List, Option, Some, None, subst, sym, refl, arith, inl, inr}
 use Rattle.std.specs.Prelude.{Result, Ok, Err}
 use Rattle.bn_outside.specs.Files.{Files}
+use Rattle.bn_outside.specs.Streams.{ReadNote, noted_after}
 use Rattle.command_words.specs.Words.{Line, RecordLine}
 use Rattle.command_words.specs.declared.error.WordsError.{WordsError}
 use Rattle.command_words.specs.declared.error.WordsError.TheVariants as words_error
@@ -87,9 +88,9 @@ line-acted line names note old mid out err new answer result named session leave
 -- ---- words that give no command
 
 -- they say none
-words-refused : {I : Type 0} (note : Note) (left : I → Option (List ℕ)) (faults reads : I → ℕ) (input : I) (w : World) (status : ℕ) (end : Stream) → ToldRefusal no_names WordsRefused status w.err.text end.text w.err.faults end.faults
-    → w.err.faults ≤ end.faults → Does None status note (reading left faults reads input input) w (with_err w end)
-words-refused note left faults reads input w status end told later =
+words-refused : {I : Type 0} (note : Note) (left : I → Option (List ℕ)) (faults : I → ℕ) (gives : ReadNote) (noted : I → ℕ) (input : I) (w : World) (status : ℕ) (end : Stream) → ToldRefusal no_names WordsRefused status w.err.text end.text w.err.faults end.faults
+    → w.err.faults ≤ end.faults → Does None status note (reading left faults gives noted input input) w (with_err w end)
+words-refused note left faults gives noted input w status end told later =
     let k = between w (with_err w end) in
     let causes = by-words w.store.counts w.store.counts no_names WordsRefused status w.err.text end.text w.err.faults end.faults refl told in
     record {
@@ -117,9 +118,9 @@ words-refused note left faults reads input w status end told later =
     }
 
 -- no memory to read them
-words-unread : {I : Type 0} (line : Option Line) (note : Note) (left : I → Option (List ℕ)) (faults reads : I → ℕ) (input : I) (w : World) (status : ℕ) (end : Stream)
-    → ToldRefusal no_names OutOfMemory status w.err.text end.text w.err.faults end.faults → w.err.faults ≤ end.faults → Does line status note (reading left faults reads input input) w (with_err w end)
-words-unread line note left faults reads input w status end early later =
+words-unread : {I : Type 0} (line : Option Line) (note : Note) (left : I → Option (List ℕ)) (faults : I → ℕ) (gives : ReadNote) (noted : I → ℕ) (input : I) (w : World) (status : ℕ) (end : Stream)
+    → ToldRefusal no_names OutOfMemory status w.err.text end.text w.err.faults end.faults → w.err.faults ≤ end.faults → Does line status note (reading left faults gives noted input input) w (with_err w end)
+words-unread line note left faults gives noted input w status end early later =
     let k = between w (with_err w end) in
     let told = memory-names no_names (names_by line) status w.err.text end.text w.err.faults end.faults early in
     let causes = (caused no_names w.store.counts w.store.counts OutOfMemory status w.err.text end.text w.err.faults end.faults tt early).causes in
@@ -139,7 +140,7 @@ words-unread line note left faults reads input w status end early later =
       calls = unread-calls note line status w.store.noted k (appends-nothing w.out.text) told;
       demo = demo-unread line status k (appends-nothing w.out.text) refl told;
       recorded = leaves-none line status w.store.files w.store.files (told-apart no_names OutOfMemory status w.err.text end.text w.err.faults end.faults early);
-      session = debugs-early line status (left input) (faults input) (reads input) k (appends-nothing w.out.text) refl told;
+      session = debugs-early line status (left input) (faults input) (noted_after gives (noted input)) k (appends-nothing w.out.text) refl told;
       first = inr refl;
       begins = inl refl;
       unread = λ p. refl;
@@ -147,8 +148,8 @@ words-unread line note left faults reads input w status end early later =
       read_later = omega arith;
     }
 
-pub words-answered : {I : Type 0} (line : Option Line) (e : WordsError) (note : Note) (left : I → Option (List ℕ)) (faults reads : I → ℕ) (input : I) (w : World) (status : ℕ) (end : Stream) → (e ≡ words_error.Refused → line ≡ None)
-    → ToldRefusal no_names (words_refusal e) status w.err.text end.text w.err.faults end.faults → w.err.faults ≤ end.faults → Does line status note (reading left faults reads input input) w (with_err w end)
-words-answered line words_error.Refused note left faults reads input w status end none told later =
-    subst (λ (l : Option Line). Does l status note (reading left faults reads input input) w (with_err w end)) (sym (none refl)) (words-refused note left faults reads input w status end told later)
-words-answered line words_error.OutOfMemory note left faults reads input w status end none told later = words-unread line note left faults reads input w status end told later
+pub words-answered : {I : Type 0} (line : Option Line) (e : WordsError) (note : Note) (left : I → Option (List ℕ)) (faults : I → ℕ) (gives : ReadNote) (noted : I → ℕ) (input : I) (w : World) (status : ℕ) (end : Stream) → (e ≡ words_error.Refused → line ≡ None)
+    → ToldRefusal no_names (words_refusal e) status w.err.text end.text w.err.faults end.faults → w.err.faults ≤ end.faults → Does line status note (reading left faults gives noted input input) w (with_err w end)
+words-answered line words_error.Refused note left faults gives noted input w status end none told later =
+    subst (λ (l : Option Line). Does l status note (reading left faults gives noted input input) w (with_err w end)) (sym (none refl)) (words-refused note left faults gives noted input w status end told later)
+words-answered line words_error.OutOfMemory note left faults gives noted input w status end none told later = words-unread line note left faults gives noted input w status end told later

@@ -1,6 +1,7 @@
 -- How far a session of the debugger reads, and how often.
 use Rattle.std.proofs.Common.{◌≡◌, ◌≢◌, ◌⊎◌, ℕ, List, [], ◌∷◌, ◌++◌, Option, Some, None, ◌∙◌, ap, subst, sym, refl, inl, inr}
 use Rattle.std.specs.Prelude.{Result, Ok, Err}
+use Rattle.bn_outside.specs.Streams.{Notes}
 use Rattle.joint_replay.specs.declared.error.JointError.{JointError}
 use Rattle.joint_replay.specs.Joining.{Joining}
 use Rattle.back_step.specs.Traces.{Trace, at_start}
@@ -78,33 +79,35 @@ module _ (t : Trace) (gone : List ℕ) (left now_left : Option (List ℕ)) where
 
   -- ---- how often it reads
 
-  more-or-all : (reads now_reads same one : ℕ) → (now_reads ≡ same) ⊎ (EndsAll t left now_left gone × (now_reads ≡ one)) → (now_reads ≡ same) ⊎ (ReadsAll left now_left gone × (now_reads ≡ one))
-  more-or-all reads now_reads same one (inl h) = inl h
-  more-or-all reads now_reads same one (inr h) = inr (reads-all h.0, h.1)
+  more-or-all : (reads same one : ℕ) → (reads ≡ same) ⊎ (EndsAll t left now_left gone × (reads ≡ one)) → (reads ≡ same) ⊎ (ReadsAll left now_left gone × (reads ≡ one))
+  more-or-all reads same one (inl h) = inl h
+  more-or-all reads same one (inr h) = inr (reads-all h.0, h.1)
 
-  once : (reads now_reads : ℕ) (result : Result (Unit {0}) DebugError) → IsReadOnce t gone left now_left reads now_reads result → ReadsOnce gone left now_left reads now_reads result
-  once reads now_reads (Ok u) h = more-or-all reads now_reads _ _ h
-  once reads now_reads (Err stop.ReadFault) h = h
-  once reads now_reads (Err stop.WriteFault) h = more-or-all reads now_reads _ _ h
-  once reads now_reads (Err (stop.LineTooLong m)) h = h
-  once reads now_reads (Err (stop.TooMuch m)) h = h
-  once reads now_reads (Err (stop.Joint e)) h = more-or-all reads now_reads _ _ h
-  once reads now_reads (Err stop.OutOfMemory) h = more-or-all reads now_reads _ _ h
+  once : (reads : ℕ) (result : Result (Unit {0}) DebugError) → IsReadOnce t gone left now_left reads result → ReadsOnce gone left now_left reads result
+  once reads (Ok u) h = more-or-all reads _ _ h
+  once reads (Err stop.ReadFault) h = h
+  once reads (Err stop.WriteFault) h = more-or-all reads _ _ h
+  once reads (Err (stop.LineTooLong m)) h = h
+  once reads (Err (stop.TooMuch m)) h = h
+  once reads (Err (stop.Joint e)) h = more-or-all reads _ _ h
+  once reads (Err stop.OutOfMemory) h = more-or-all reads _ _ h
 
 -- ---- a session
 
-module _ (t : Trace) (status : ℕ) (left now_left : Option (List ℕ)) (before now reads now_reads : ℕ) (written now_written : Option (List ℕ)) (b n : ℕ) (result : Result (Unit {0}) DebugError)
-    (c : CountedSession t left now_left before now reads now_reads written now_written b n result) (ends : EndsBy result status) where
-  pub session-reads : SessionReads c.session.gone status left now_left reads now_reads
+module _ (t : Trace) (status : ℕ) (left now_left : Option (List ℕ)) (before now : ℕ) (notes : Notes) (noted : ℕ) (written now_written : Option (List ℕ)) (b n : ℕ) (result : Result (Unit {0}) DebugError)
+    (c : CountedSession t left now_left before now notes noted written now_written b n result) (ends : EndsBy result status) where
+  pub session-reads : SessionReads c.session.gone status left now_left notes noted
   session-reads = record {
     result = result;
     ends = ends;
     up_to = up-to t c.session.gone left now_left before now written now_written b n result c.session.done c.session.up_to;
-    count = once t c.session.gone left now_left reads now_reads result c.count;
+    given = c.in_turn.given;
+    noted_is = c.in_turn.noted_is;
+    count = subst (λ (n : ℕ). ReadsOnce c.session.gone left now_left n result) (sym c.in_turn.reads_is) (once t c.session.gone left now_left c.reads result c.count);
   }
 
   -- one with a joint replay that begins there
-  pub session-over : (first : Joining) → t ≡ at_start first → SessionOver first c.session.gone status left now_left before now reads now_reads written now_written b n
+  pub session-over : (first : Joining) → t ≡ at_start first → SessionOver first c.session.gone status left now_left before now notes noted written now_written b n
   session-over first same =
-      let moved = subst (λ (x : Trace). (y : CountedSession x left now_left before now reads now_reads written now_written b n result) × (y.session.gone ≡ c.session.gone)) same (c, refl) in
+      let moved = subst (λ (x : Trace). (y : CountedSession x left now_left before now notes noted written now_written b n result) × (y.session.gone ≡ c.session.gone)) same (c, refl) in
       record { result = result; ends = ends; counted = moved.0; gone = moved.1 }

@@ -4,7 +4,7 @@ use Rattle.std.specs.Prelude.{Result, Ok, Err}
 use Rattle.std.specs.Io.KnownBytes.{Consumes}
 use Rattle.bn_base.specs.Programs.{Program}
 use Rattle.bn_outside.specs.Files.{Files}
-use Rattle.bn_outside.specs.Streams.{ConsumesAll}
+use Rattle.bn_outside.specs.Streams.{ConsumesAll, Notes}
 use Rattle.elf_loader.specs.Loaded.{image_of}
 use Rattle.elf_loader.specs.declared.error.ElfError.{ElfError}
 use Rattle.log_blocks.specs.Readings.{Reads}
@@ -203,9 +203,9 @@ one-pair-there g laws log elf files d e i k p q =
     ap (λ (c : Content). joined c i) content ∙ ap (λ (x : Program). joined e x) program
 
 -- a session that was begun
-pub whole-done : Grammar → FileLaws → (log elf : List ℕ) (files : Files) (d : Content) (i : Program) (bytes : List ℕ) (status : ℕ) (left now_left : Option (List ℕ)) (before now reads now_reads : ℕ) (written now_written : Option (List ℕ)) (b n : ℕ)
-    → LoadedPair log elf files d i → SessionOver (joined d i) bytes status left now_left before now reads now_reads written now_written b n → (all : List ℕ) → left ≡ Some all → CanDebug (whole_input all) log elf files → IsWhole status
-whole-done g laws log elf files d i bytes status left now_left before now reads now_reads written now_written b n p s all is can =
+pub whole-done : Grammar → FileLaws → (log elf : List ℕ) (files : Files) (d : Content) (i : Program) (bytes : List ℕ) (status : ℕ) (left now_left : Option (List ℕ)) (before now : ℕ) (notes : Notes) (noted : ℕ) (written now_written : Option (List ℕ)) (b n : ℕ)
+    → LoadedPair log elf files d i → SessionOver (joined d i) bytes status left now_left before now notes noted written now_written b n → (all : List ℕ) → left ≡ Some all → CanDebug (whole_input all) log elf files → IsWhole status
+whole-done g laws log elf files d i bytes status left now_left before now notes noted written now_written b n p s all is can =
     let j : joined d i ≡ joined can.content can.program = one-pair-there g laws log elf files d can.content i can.program p can.pair in
     let whole : (transcript_from (at_start (joined d i)) (input_of all)).result ≡ Ok (tt {0}) = ap (λ (x : Joining). (transcript_from (at_start x) (input_of all)).result) j ∙ can.goes_on in
     by-end (at_start (joined d i)) status left now_left before now written now_written b n all s.counted.session.gone is s.counted.session.taken whole s.result s.counted.session.done s.ends

@@ -3,6 +3,7 @@ use Rattle.std.specs.Prelude.{◌≡◌, ◌≢◌, ◌⊎◌, ◌≤◌, ℕ, f
 use Rattle.std.specs.Io.KnownBytes.{Appends}
 use Rattle.bn_base.specs.Programs.{Program}
 use Rattle.bn_outside.specs.Files.{Files}
+use Rattle.bn_outside.specs.Streams.{Notes}
 use Rattle.command_words.specs.Words.{Line, DebugLine}
 use Rattle.log_record.specs.declared.record.Record.{Record}
 use Rattle.log_order.specs.Content.{Content, IsContent}
@@ -87,31 +88,31 @@ CanBegin (Some (DebugLine log elf)) files = HasPair log elf files
 CanBegin line files = ⊥
 
 -- a session with the log and the program that are there, which read these commands
-pub record BegunSession (c : Commands) (log elf : List ℕ) (files : Files) (status : ℕ) (left now_left : Option (List ℕ)) (before now reads now_reads : ℕ) (k : Call) : Type 0 where
+pub record BegunSession (c : Commands) (log elf : List ℕ) (files : Files) (status : ℕ) (left now_left : Option (List ℕ)) (before now : ℕ) (notes : Notes) (noted : ℕ) (k : Call) : Type 0 where
   pub content : Content
   pub program : Program
   pub pair : LoadedPair log elf files content program
-  pub over : SessionOver (joined content program) c.bytes status left now_left before now reads now_reads k.old.out k.new.out k.old.out_faults k.new.out_faults
+  pub over : SessionOver (joined content program) c.bytes status left now_left before now notes noted k.old.out k.new.out k.old.out_faults k.new.out_faults
 
 -- nothing was read, or there was such a session
-abbrev pub SessionIs : Commands → (log elf : List ℕ) → Files → (status : ℕ) → (left now_left : Option (List ℕ)) → (before now reads now_reads : ℕ) → Call → Type 0
-SessionIs c log elf files status left now_left before now reads now_reads k =
-    IsUnread c reads now_reads ⊎ BegunSession c log elf files status left now_left before now reads now_reads k
+abbrev pub SessionIs : Commands → (log elf : List ℕ) → Files → (status : ℕ) → (left now_left : Option (List ℕ)) → (before now : ℕ) (notes : Notes) (noted : ℕ) → Call → Type 0
+SessionIs c log elf files status left now_left before now notes noted k =
+    IsUnread c notes noted ⊎ BegunSession c log elf files status left now_left before now notes noted k
 
 -- By the files that are there and these commands it tells what it has to answer, or it was stopped before there was an
 -- answer. If they have all that it needs, it is done. It shows a recording's run
-pub record DebugsFiles (c : Commands) (log elf : List ℕ) (files : Files) (status : ℕ) (left now_left : Option (List ℕ)) (before now reads now_reads : ℕ) (k : Call) : Type 0 where
+pub record DebugsFiles (c : Commands) (log elf : List ℕ) (files : Files) (status : ℕ) (left now_left : Option (List ℕ)) (before now : ℕ) (notes : Notes) (noted : ℕ) (k : Call) : Type 0 where
   pub tells : SomeTold (IsSession c files (names_in (DebugLine log elf))) (λ what. Tells (names_in (DebugLine log elf)) what status k)
       ⊎ StoppedEarly (Some (DebugLine log elf)) files status k
   pub done : CanDebug c log elf files → IsFree status ⊎ (status ≡ code exit.Done)
   pub shows : ShowsSession c log elf files status k.old.out k.new.out
   -- what was read was read by a session with the log and the program that are there, no further than its end says
-  pub session : SessionIs c log elf files status left now_left before now reads now_reads k
+  pub session : SessionIs c log elf files status left now_left before now notes noted k
   -- if a session with all that the source had left isn't stopped, no prefix stops it: it is done, or a read failed
   pub whole : (all : List ℕ) → left ≡ Some all → CanDebug (whole_input all) log elf files → IsFree status ⊎ ((status ≡ code exit.ReadFailed) ⊎ (status ≡ code exit.Done))
 
 -- a session reads commands, and does so by them
-abbrev pub Debugs : Option Line → (status : ℕ) → (left now_left : Option (List ℕ)) → (before now reads now_reads : ℕ) → Call → Type 0
-Debugs (Some (DebugLine log elf)) status left now_left before now reads now_reads k =
-    (c : Commands) × AreRead c status left now_left before now reads now_reads × WithFiles k.old.files (λ files. DebugsFiles c log elf files status left now_left before now reads now_reads k)
-Debugs line status left now_left before now reads now_reads k = Unit {0}
+abbrev pub Debugs : Option Line → (status : ℕ) → (left now_left : Option (List ℕ)) → (before now : ℕ) (notes : Notes) (noted : ℕ) → Call → Type 0
+Debugs (Some (DebugLine log elf)) status left now_left before now notes noted k =
+    (c : Commands) × AreRead c status left now_left before now notes noted × WithFiles k.old.files (λ files. DebugsFiles c log elf files status left now_left before now notes noted k)
+Debugs line status left now_left before now notes noted k = Unit {0}

@@ -2,6 +2,7 @@
 use Rattle.std.specs.Prelude.{◌≡◌, ◌≢◌, ◌≤◌, ◌⊎◌, ℕ, true, List, Option, Some, Result}
 use Rattle.bn_outside.specs.Counts.{Counts, Rose}
 use Rattle.bn_outside.specs.Files.{Files}
+use Rattle.bn_outside.specs.Streams.{ReadNote, Notes, noted_after}
 use Rattle.command_words.specs.Words.{Line}
 use Rattle.bugnet.specs.Asks.{LineSaves}
 use Rattle.bugnet.specs.DebugSessions.{CanBegin, Debugs}
@@ -49,7 +50,7 @@ world_of files saves counts noted out out_faults err err_faults s o e = record {
   err = record { text = err e; faults = err_faults e };
 }
 
--- an input before a call and after it: itself, what it has left, and how often a read failed and was asked for
+-- an input before a call and after it: itself, what it has left, how often a read failed, and what it notes and has noted
 pub record Reading (I : Type 0) : Type 0 where
   pub old : I
   pub new : I
@@ -57,19 +58,19 @@ pub record Reading (I : Type 0) : Type 0 where
   pub left_new : Option (List ℕ)
   pub faults_old : ℕ
   pub faults_new : ℕ
-  pub reads_old : ℕ
-  pub reads_new : ℕ
+  pub notes : Notes
+  pub noted : ℕ
 
-abbrev pub reading : {I : Type 0} → (I → Option (List ℕ)) → (I → ℕ) → (I → ℕ) → I → I → Reading I
-reading left faults reads i j = record {
+abbrev pub reading : {I : Type 0} → (I → Option (List ℕ)) → (I → ℕ) → ReadNote → (I → ℕ) → I → I → Reading I
+reading left faults note noted i j = record {
   old = i;
   new = j;
   left_old = left i;
   left_new = left j;
   faults_old = faults i;
   faults_new = faults j;
-  reads_old = reads i;
-  reads_new = reads j;
+  notes = noted_after note (noted i);
+  noted = noted j;
 }
 
 -- any command, or words that are none
@@ -80,7 +81,7 @@ pub record Does {I : Type 0} (line : Option Line) (status : ℕ) (note : Note) (
   pub calls : CallsOnly line status note old.store.noted new.store.noted (between old new)
   pub demo : TellsDemo line status (between old new)
   pub recorded : LeavesRun line status old.store.files new.store.files
-  pub session : Debugs line status i.left_old i.left_new i.faults_old i.faults_new i.reads_old i.reads_new (between old new)
+  pub session : Debugs line status i.left_old i.left_new i.faults_old i.faults_new i.notes i.noted (between old new)
   pub first : (is_begun status ≡ true) ⊎ (i.new ≡ i.old)
   pub begins : (i.new ≡ i.old) ⊎ WithFiles old.store.files (λ files. CanBegin line files)
   pub unread : IsNoSession line → i.new ≡ i.old

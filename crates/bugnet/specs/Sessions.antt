@@ -3,9 +3,9 @@ use Rattle.std.specs.Prelude.{◌≡◌, ◌≢◌, ◌⊎◌, ℕ, ◌+◌, ◌
 use Rattle.std.specs.List.{AllByRecursion}
 use Rattle.std.specs.Io.KnownBytes.{Consumes}
 use Rattle.bn_base.specs.Programs.{Program}
-use Rattle.bn_outside.specs.Counts.{Rose, counted_by}
+use Rattle.bn_outside.specs.Counts.{Rose}
 use Rattle.bn_outside.specs.Files.{Files}
-use Rattle.bn_outside.specs.Streams.{ConsumesAll}
+use Rattle.bn_outside.specs.Streams.{ConsumesAll, Notes}
 use Rattle.log_order.specs.Content.{Content}
 use Rattle.back_step.specs.Traces.{at_start}
 use Rattle.joint_replay.specs.Joining.{Joining}
@@ -116,26 +116,27 @@ ReadsUpTo bytes left now_left (Err (stop.Joint e)) = EndsWithLine bytes ⊎ Read
 ReadsUpTo bytes left now_left (Err stop.OutOfMemory) = EndsWithLine bytes ⊎ NoneEnds (input_of bytes)
 
 -- how often it reads: once for each byte, and once more if a read failed or the end of the source was found
-abbrev pub ReadsOnce : (bytes : List ℕ) → (left now_left : Option (List ℕ)) → (reads now_reads : ℕ) → Result (Unit {0}) DebugError → Type 0
-ReadsOnce bytes left now_left reads now_reads (Err ReadFault) = now_reads ≡ counted_by (length bytes + 1) reads
-ReadsOnce bytes left now_left reads now_reads (Err (stop.LineTooLong n)) = now_reads ≡ counted_by (length bytes) reads
-ReadsOnce bytes left now_left reads now_reads (Err (TooMuch n)) = now_reads ≡ counted_by (length bytes) reads
-ReadsOnce bytes left now_left reads now_reads result =
-    (now_reads ≡ counted_by (length bytes) reads) ⊎ (ReadsAll left now_left bytes × (now_reads ≡ counted_by (length bytes + 1) reads))
+abbrev pub ReadsOnce : (bytes : List ℕ) → (left now_left : Option (List ℕ)) → (reads : ℕ) → Result (Unit {0}) DebugError → Type 0
+ReadsOnce bytes left now_left reads (Err ReadFault) = reads ≡ length bytes + 1
+ReadsOnce bytes left now_left reads (Err (stop.LineTooLong n)) = reads ≡ length bytes
+ReadsOnce bytes left now_left reads (Err (TooMuch n)) = reads ≡ length bytes
+ReadsOnce bytes left now_left reads result = (reads ≡ length bytes) ⊎ (ReadsAll left now_left bytes × (reads ≡ length bytes + 1))
 
--- a session that was begun read so far, as it ended
-pub record SessionReads (bytes : List ℕ) (status : ℕ) (left now_left : Option (List ℕ)) (reads now_reads : ℕ) : Type 0 where
+-- a session that was begun read so far, as it ended. The source has noted each of its reads, with what out had been given
+pub record SessionReads (bytes : List ℕ) (status : ℕ) (left now_left : Option (List ℕ)) (notes : Notes) (noted : ℕ) : Type 0 where
   pub result : Result (Unit {0}) DebugError
   pub ends : EndsBy result status
   pub up_to : ReadsUpTo bytes left now_left result
-  pub count : ReadsOnce bytes left now_left reads now_reads result
+  pub given : List (Option (List ℕ))
+  pub noted_is : noted ≡ notes given
+  pub count : ReadsOnce bytes left now_left (length given) result
 
 -- nothing was read
-abbrev pub IsUnread : Commands → (reads now_reads : ℕ) → Type 0
-IsUnread c reads now_reads = (c.bytes ≡ []) × (c.failed ≡ false) × (now_reads ≡ reads)
+abbrev pub IsUnread : Commands → Notes → (noted : ℕ) → Type 0
+IsUnread c notes noted = (c.bytes ≡ []) × (c.failed ≡ false) × (noted ≡ notes [])
 
 -- the commands are bytes of the source that are gone, by a call that ended so
-pub record AreRead (c : Commands) (status : ℕ) (left now_left : Option (List ℕ)) (before now reads now_reads : ℕ) : Type 0 where
+pub record AreRead (c : Commands) (status : ℕ) (left now_left : Option (List ℕ)) (before now : ℕ) (notes : Notes) (noted : ℕ) : Type 0 where
   pub taken : Consumes left now_left c.bytes
   -- a read failed only if the source's count rose, and no `quit` was read before
   pub failed : c.failed ≡ true → Rose before now × NoQuit (input_of c.bytes).lines
@@ -143,7 +144,7 @@ pub record AreRead (c : Commands) (status : ℕ) (left now_left : Option (List �
   -- a session that is done has read nothing after the first `quit`; or all, and then no line that ends with LF is `quit`
   pub done : status ≡ code exit.Done → EndsWithQuit c.bytes ⊎ ReadsAll left now_left c.bytes
   -- however it ended, it has read no further than its end says, and each byte once; before a session nothing is read
-  pub up_to : IsUnread c reads now_reads ⊎ SessionReads c.bytes status left now_left reads now_reads
+  pub up_to : IsUnread c notes noted ⊎ SessionReads c.bytes status left now_left notes noted
 
 -- ---- what is told
 
@@ -161,10 +162,10 @@ abbrev pub debug_with : FileNames → Commands → Content → Program → Told
 debug_with names c d i = session_told names (transcript (joined d i) (input_in c))
 
 -- a session over this joint replay, which read these bytes: it did what `step_debugger` promises of its end
-pub record SessionOver (j : Joining) (bytes : List ℕ) (status : ℕ) (left now_left : Option (List ℕ)) (before now reads now_reads : ℕ) (out now_out : Option (List ℕ)) (out_faults now_out_faults : ℕ) : Type 0 where
+pub record SessionOver (j : Joining) (bytes : List ℕ) (status : ℕ) (left now_left : Option (List ℕ)) (before now : ℕ) (notes : Notes) (noted : ℕ) (out now_out : Option (List ℕ)) (out_faults now_out_faults : ℕ) : Type 0 where
   pub result : Result (Unit {0}) DebugError
   pub ends : EndsBy result status
-  pub counted : CountedSession (at_start j) left now_left before now reads now_reads out now_out out_faults now_out_faults result
+  pub counted : CountedSession (at_start j) left now_left before now notes noted out now_out out_faults now_out_faults result
   pub gone : counted.session.gone ≡ bytes
 
 -- ---- the command

@@ -2,6 +2,7 @@
 use Rattle.std.specs.Prelude.{◌≡◌, ◌≢◌, ◌≤◌, ◌⊎◌, ℕ, true, List, Option, None, Result}
 use Rattle.bn_outside.specs.Counts.{Counts, Rose, NoneFell}
 use Rattle.bn_outside.specs.Files.{Files}
+use Rattle.bn_outside.specs.Streams.{Notes}
 use Rattle.joint_replay.specs.Joining.{Joining}
 use Rattle.step_debugger.specs.Transcript.{transcript}
 use Rattle.step_debugger.specs.declared.error.DebugError.{DebugError}
@@ -25,15 +26,15 @@ abbrev pub ToldStop : FileNames → DebugError → ℕ → Option (List ℕ) →
 ToldStop names e status old new before now = ToldRefusal names (stop_refusal e) status old new before now
 
 -- a session over a joint replay: commands were read, and what they make it tell is told
-abbrev pub DebugsPair : FileNames → Joining → (status : ℕ) → (left now_left : Option (List ℕ)) → (before now reads now_reads : ℕ) → (out printed err end : Stream) → Type 0
-DebugsPair names j status left now_left before now reads now_reads out printed err end =
-    (c : Commands) × AreRead c status left now_left before now reads now_reads
+abbrev pub DebugsPair : FileNames → Joining → (status : ℕ) → (left now_left : Option (List ℕ)) → (before now : ℕ) (notes : Notes) (noted : ℕ) → (out printed err end : Stream) → Type 0
+DebugsPair names j status left now_left before now notes noted out printed err end =
+    (c : Commands) × AreRead c status left now_left before now notes noted
     × ((files : Option Files) (had : Counts) → Tells names (session_told names (transcript j (input_in c))) status (printing_on files had out printed err end))
-    × (IsUnread c reads now_reads ⊎ SessionOver j c.bytes status left now_left before now reads now_reads out.text printed.text out.faults printed.faults)
+    × (IsUnread c notes noted ⊎ SessionOver j c.bytes status left now_left before now notes noted out.text printed.text out.faults printed.faults)
 
 -- so it is once the refusal, if there is one, is told; a write is refused only if a count rose
 pub record SessionEnds {I : Type 0} (names : FileNames) (j : Joining) (status : ℕ) (i : Reading I) (out printed err end : Stream) : Type 0 where
-  pub told : DebugsPair names j status i.left_old i.left_new i.faults_old i.faults_new i.reads_old i.reads_new out printed err end
+  pub told : DebugsPair names j status i.left_old i.left_new i.faults_old i.faults_new i.notes i.noted out printed err end
   pub begun : (is_begun status ≡ true) ⊎ (status ≡ code exit.NoInterval)
   pub write : status ≡ code exit.WriteFailed → Rose out.faults printed.faults ⊎ Rose err.faults end.faults
   pub read_later : i.faults_old ≤ i.faults_new
@@ -45,15 +46,15 @@ SessionTo j i out printed result = (names : FileNames) (status : ℕ) (err end :
 
 -- by the names of a log and a program: commands were read, and what they make the command tell is told, or it was stopped
 -- before it had an answer
-abbrev pub DebugsNamed : FileNames → (status : ℕ) → (left now_left : Option (List ℕ)) → (before now reads now_reads : ℕ) → Call → Type 0
-DebugsNamed names status left now_left before now reads now_reads k =
-    (c : Commands) × AreRead c status left now_left before now reads now_reads
+abbrev pub DebugsNamed : FileNames → (status : ℕ) → (left now_left : Option (List ℕ)) → (before now : ℕ) (notes : Notes) (noted : ℕ) → Call → Type 0
+DebugsNamed names status left now_left before now notes noted k =
+    (c : Commands) × AreRead c status left now_left before now notes noted
     × WithFiles k.old.files (λ files. SomeTold (IsSession c files names) (λ what. Tells names what status k) ⊎ StoppedBy names (λ files. IsDebug files names) files status k)
-    × WithFiles k.old.files (λ files. SessionIs c names.log names.elf files status left now_left before now reads now_reads k)
+    × WithFiles k.old.files (λ files. SessionIs c names.log names.elf files status left now_left before now notes noted k)
 
 -- `debug` with a log and a program, once its refusal, if there is one, is told
 pub record DebugsEnds {I : Type 0} (names : FileNames) (status : ℕ) (note : Note) (i : Reading I) (old new : World) : Type 0 where
-  pub told : DebugsNamed names status i.left_old i.left_new i.faults_old i.faults_new i.reads_old i.reads_new (between old new)
+  pub told : DebugsNamed names status i.left_old i.left_new i.faults_old i.faults_new i.notes i.noted (between old new)
   pub first : (is_begun status ≡ true) ⊎ (i.new ≡ i.old)
   pub begins : (i.new ≡ i.old) ⊎ WithFiles old.store.files (λ files. HasPair names.log names.elf files)
   pub same : new.store.files ≡ old.store.files

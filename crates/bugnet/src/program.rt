@@ -2,6 +2,7 @@
 //! The contract of `run` says all that is proved of the whole; code below it may change as long as that stands.
 ghost use Rattle.std.specs.Prelude.{◌≡◌, ◌≤◌, ◌⊎◌, true, Some, None, IfOk, MatchOption};
 ghost use Rattle.bn_outside.specs.Counts.{Rose, NoneFell};
+ghost use Rattle.bn_outside.specs.Streams.{noted_after};
 ghost use Rattle.command_words.specs.Words.{command_in, seen, seen_recording, RecordLine};
 ghost use Rattle.std.specs.Str.{bytes_eq};
 ghost use Rattle.bugnet.specs.ClosedRuns.{IsRecordingBy, MakesRecordings};
@@ -282,7 +283,7 @@ fn unseeded<'a, 'b>(command: &'b Command<'a>) -> Option<&'b RecordOptions<'a>>
 
 /// Does what a command asks for, other than a recording without a seed. It may neither wait nor start threads, and so it
 /// owes its return: each of these commands ends.
-pub fn perform<S: Store, I: Source, O: Sink, X: Sink>(
+pub fn perform<S: Store, I: Source<O>, O: Sink, X: Sink>(
     alloc: Global,
     command: &Command,
     names: &Names,
@@ -293,7 +294,7 @@ pub fn perform<S: Store, I: Source, O: Sink, X: Sink>(
 ) -> Result<Status, Refusal>
     requires named { names.now ≡ names_in (seen command.now) }
     requires no_threads { NeedsNoThreads (Some (seen command.now)) }
-    ensures { DoesAs (world_of S.files S.saves S.counts S.noted O.written O.faults X.written X.faults) (reading I.left I.faults I.reads input.old input.new)
+    ensures { DoesAs (world_of S.files S.saves S.counts S.noted O.written O.faults X.written X.faults) (reading I.left I.faults I.note I.noted input.old input.new)
         (seen command.now) names.now S.note store.old out.old err.old store.new out.new err.new result }
 {
     // Laws:
@@ -329,7 +330,7 @@ pub fn perform<S: Store, I: Source, O: Sink, X: Sink>(
 }
 
 // Does what a command asks for. Only a recording without a seed may wait.
-fn attempt<S: Store, I: Source, O: Sink, X: Sink, G: Gate, R: Threads + Wait + Sync>(
+fn attempt<S: Store, I: Source<O>, O: Sink, X: Sink, G: Gate, R: Threads + Wait + Sync>(
     rt: &R,
     alloc: Global,
     command: &Command,
@@ -341,7 +342,7 @@ fn attempt<S: Store, I: Source, O: Sink, X: Sink, G: Gate, R: Threads + Wait + S
     gate: &G,
 ) -> Result<Status, Refusal>
     requires { names.now ≡ names_in (seen command.now) }
-    ensures { DoesAs (world_of S.files S.saves S.counts S.noted O.written O.faults X.written X.faults) (reading I.left I.faults I.reads input.old input.new)
+    ensures { DoesAs (world_of S.files S.saves S.counts S.noted O.written O.faults X.written X.faults) (reading I.left I.faults I.note I.noted input.old input.new)
         (seen command.now) names.now S.note store.old out.old err.old store.new out.new err.new result }
 {
     match unseeded(command) {
@@ -374,7 +375,7 @@ fn words_refusal(error: WordsError) -> Refusal
 }
 
 // Reads the words, and does what they ask for. Each error ends here: it is told, and gives the status.
-fn obey<S: Store, I: Source, O: Sink, X: Sink, G: Gate, R: Threads + Wait + Sync>(
+fn obey<S: Store, I: Source<O>, O: Sink, X: Sink, G: Gate, R: Threads + Wait + Sync>(
     rt: &R,
     alloc: Global,
     words: &[String],
@@ -384,7 +385,7 @@ fn obey<S: Store, I: Source, O: Sink, X: Sink, G: Gate, R: Threads + Wait + Sync
     err: &mut X,
     gate: &G,
 ) -> Status
-    ensures { DoneAs (world_of S.files S.saves S.counts S.noted O.written O.faults X.written X.faults) (reading I.left I.faults I.reads input.old input.new)
+    ensures { DoneAs (world_of S.files S.saves S.counts S.noted O.written O.faults X.written X.faults) (reading I.left I.faults I.note I.noted input.old input.new)
         (command_in words.now) (code result) S.note store.old out.old err.old store.new out.new err.new }
 {
     match read_words(alloc, words) {
@@ -451,7 +452,7 @@ fn obey<S: Store, I: Source, O: Sink, X: Sink, G: Gate, R: Threads + Wait + Sync
 /// | 21 | the interval has no instruction of this count |
 ///
 /// For each status but 0, 10 and 11 a line on err says more.
-pub fn run<S: Store, I: Source, O: Sink, X: Sink, G: Gate, R: Threads + Wait + Sync>(
+pub fn run<S: Store, I: Source<O>, O: Sink, X: Sink, G: Gate, R: Threads + Wait + Sync>(
     rt: &R,
     alloc: Global,
     words: &[String],
@@ -514,10 +515,11 @@ pub fn run<S: Store, I: Source, O: Sink, X: Sink, G: Gate, R: Threads + Wait + S
     // told: the text of its session, up to a read that failed, a line or commands that are too long, or a
     // refusal of the replay. However it ends, each byte was read once, and none after the first `quit`. At
     // 18 none was read after the first byte too many, at 15 none after the line that was refused. One more
-    // read finds the end of the input, or fails. A session that isn't stopped by its whole input is stopped
+    // read finds the end of the input, or fails. At each read out has what it had before, the answers to the
+    // whole lines read so far, and nothing else. A session that isn't stopped by its whole input is stopped
     // at no prefix of it. If the log is a recording's, all that it shows is the run's, and no replay is
     // refused.
-    ensures session { Debugs (command_in words.now) result (I.left input.old) (I.left input.new) (I.faults input.old) (I.faults input.new) (I.reads input.old) (I.reads input.new)
+    ensures session { Debugs (command_in words.now) result (I.left input.old) (I.left input.new) (I.faults input.old) (I.faults input.new) (noted_after I.note (I.noted input.old)) (I.noted input.new)
         (call S.files S.counts O.written O.faults X.written X.faults store.old out.old err.old store.new out.new err.new) }
     ensures first { (is_begun result ≡ true) ⊎ (input.new ≡ input.old) }
     ensures begins { (input.new ≡ input.old) ⊎ WithFiles (S.files store.old) (λ files. CanBegin (command_in words.now) files) }

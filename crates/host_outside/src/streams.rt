@@ -1,5 +1,6 @@
 //! A source over a reader, and a sink over a writer.
 ghost use Rattle.std.specs.Prelude.{◌≡◌, [], Some, cond, false};
+ghost use Rattle.bn_outside.specs.Counts.{counted};
 
 use crate::until_end::UntilEnd;
 use bn_outside::{Failed, Sink, Source};
@@ -28,15 +29,18 @@ impl<R: Read> ReaderSource<R> {
     }
 }
 
-impl<R: Read> Source for ReaderSource<R> {
+impl<R: Read, O: Sink> Source<O> for ReaderSource<R> {
     ghost left = { λ s. cond s.inner.has_ended (Some []) (R.remaining s.inner.inner) };
 
     ghost faults = { λ s. s.faults };
 
-    ghost reads = { λ s. s.reads };
+    ghost noted = { λ s. s.reads };
+
+    // It counts its reads.
+    ghost note = { λ reads _. counted reads };
 
     #[tactic(auto, using(crate::proofs::AtEnd::ends_exactly))]
-    fn read(&mut self, buffer: &mut [u8]) -> Result<usize, Failed> {
+    fn read(&mut self, _: &O, buffer: &mut [u8]) -> Result<usize, Failed> {
         self.reads = self.reads.saturating_add(1);
         match self.inner.read(buffer) {
             Ok(count) => Ok(count),

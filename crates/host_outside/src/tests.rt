@@ -5,7 +5,7 @@ use crate::file_store::FileStore;
 use crate::limits::most_in;
 use crate::streams::{ReaderSource, Writing};
 use crate::words::words_of;
-use bn_outside::{Failed, LoadError, SaveError, Source, Store, read_to_end, send_all};
+use bn_outside::{Failed, LoadError, NoSink, SaveError, Source, Store, read_to_end, send_all};
 use std::alloc::{AllocError, Global};
 use std::env::{Env, FillError};
 use std::fs::{Files, Permissions};
@@ -294,7 +294,7 @@ fn a_stream_is_loaded_and_then_saved(rt: HostRuntime) {
 // Whether a source gives the first byte of a text, and then its others.
 fn text_is_read(alloc: Global) -> bool {
     let mut source = ReaderSource::new(b"text".as_slice());
-    let first = source.read(&mut [0]) == Ok(1);
+    let first = source.read(&NoSink, &mut [0]) == Ok(1);
     match read_to_end(alloc, &mut source, 0, 3) {
         Ok(rest) => first && rest.as_slice() == b"ext".as_slice(),
         Err(_) => false,
@@ -318,8 +318,8 @@ impl Read for Terminal {
 fn read_twice() -> [bool; 2] {
     let mut source = ReaderSource::new(Terminal { reads: 0 });
     [
-        source.read(&mut [0]) == Ok(0),
-        source.read(&mut [0]) == Ok(0),
+        source.read(&NoSink, &mut [0]) == Ok(0),
+        source.read(&NoSink, &mut [0]) == Ok(0),
     ]
 }
 
@@ -331,7 +331,7 @@ fn a_reader_that_has_ended_is_not_read_again(rt: HostRuntime) {
 // Whether a folder can be opened, and not read.
 fn folder_is_not_read<R: Files>(rt: &R, folder: &str) -> bool {
     match fs::open(rt, folder) {
-        Ok(file) => ReaderSource::new(file).read(&mut [0]) == Err(Failed),
+        Ok(file) => ReaderSource::new(file).read(&NoSink, &mut [0]) == Err(Failed),
         Err(_) => false,
     }
 }

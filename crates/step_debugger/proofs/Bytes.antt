@@ -7,7 +7,8 @@ use Rattle.bn_outside.specs.Counts.{Rose}
 use Rattle.bn_outside.specs.Streams.{ConsumesAll, EndsExactly}
 use Rattle.step_debugger.specs.declared.error.DebugError.{DebugError}
 use Rattle.step_debugger.specs.declared.error.DebugError.TheVariants.{ReadFault, WriteFault, LineTooLong, TooMuch, Joint, OutOfMemory}
-use Rattle.step_debugger.specs.Lines.{Reading, Input, input_from, line_limit, TakesByte, ReadsLine, EndsTooMany, StopsAt, NextLine}
+use Rattle.step_debugger.specs.Lines.{Reading, Input, input_from, line_limit, NoLine, TakesByte, ReadsLine, EndsTooMany, StopsAt, NextLine}
+use Rattle.step_debugger.proofs.InTurn.{unended_more}
 
 -- a read of no byte
 pub no_byte : (old new : Option (List ℕ)) (n : ℕ) (buffer : List ℕ) → n ≡ 0 → 0 < length buffer → Consumes old new (take n buffer) → EndsExactly old n buffer → ConsumesAll old new []
@@ -29,12 +30,13 @@ all_gone (Some x) (Some y) c bytes p q =
 pub record SoFar (start count : ℕ) (line : List ℕ) (old now : Option (List ℕ)) (before after : ℕ) : Type 0 where
   pub room : length line ≤ line_limit
   pub gone : Consumes old now line
+  pub unended : NoLine line
   pub as_far : (more : List ℕ) → input_from start [] (line ++ more) ≡ input_from count line more
   pub later : before ≤ after
   pub grown : start ≤ count
 
 pub none_yet : (count : ℕ) (line : List ℕ) (old : Option (List ℕ)) (before : ℕ) → line ≡ [] → SoFar count count line old old before before
-none_yet count line old before e = subst (λ (l : List ℕ). SoFar count count l old old before before) (sym e) (record { room = omega arith; gone = Consumes-nil old; as_far = λ more. refl; later = omega arith; grown = omega arith })
+none_yet count line old before e = subst (λ (l : List ℕ). SoFar count count l old old before before) (sym e) (record { room = omega arith; gone = Consumes-nil old; unended = tt; as_far = λ more. refl; later = omega arith; grown = omega arith })
 
 -- one byte more
 pub behind_byte : (start count : ℕ) (line : List ℕ) (byte : ℕ) (more : List ℕ) (x : Input) → input_from start [] (line ++ byte ∷ more) ≡ input_from count line (byte ∷ more)
@@ -47,6 +49,7 @@ pub one_more : (start count : ℕ) (line : List ℕ) (byte : ℕ) (new : Reading
 one_more start count line byte new old now next before after last s p t fell = record {
   room = t.2;
   gone = subst (Consumes old next) (sym t.1) (Consumes-trans old now next line (byte ∷ []) s.gone p);
+  unended = unended_more line new.line byte t.1 s.unended t.4;
   as_far = λ more. ap (λ (l : List ℕ). input_from start [] (l ++ more)) t.1 ∙ behind_byte start count line byte more _ (s.as_far (byte ∷ more)) (t.3 more);
   later = omega (arith, s.later, fell);
   grown = omega (arith, s.grown, t.0);

@@ -1,11 +1,10 @@
 -- A session, line after line.
 use Rattle.std.proofs.Common.{◌≡◌, ℕ, ◌+◌, ◌≤◌, length, Bool, true, false, List, [], ◌∷◌, ◌++◌, Option, Some, None, ◌∙◌, ap, subst, sym, refl, inl, inr, ◌⊎◌, append_assoc}
-use Rattle.std.specs.Prelude.{Ok, Err}
+use Rattle.std.specs.Prelude.{Result, Ok, Err}
 use Rattle.std.specs.Io.KnownBytes.{Appends, Consumes}
 use Rattle.std.proofs.KnownBytes.{Appends-nil, Appends-trans, Consumes-nil, Consumes-trans}
 use Rattle.std.proofs.lemmas.List.{append-nil}
-use Rattle.bn_outside.specs.Counts.{counted_by}
-use Rattle.bn_outside.specs.Streams.{AppendsPart, ConsumesAll}
+use Rattle.bn_outside.specs.Streams.{AppendsPart, ConsumesAll, ReadNote, noted_after}
 use Rattle.back_step.specs.Traces.{Trace}
 use Rattle.joint_replay.specs.declared.error.JointError.{JointError}
 use Rattle.step_debugger.specs.declared.error.DebugError.{DebugError}
@@ -13,12 +12,13 @@ use Rattle.step_debugger.specs.declared.error.DebugError.TheVariants.{ReadFault,
 use Rattle.step_debugger.specs.declared.session.Ending.{Ending}
 use Rattle.step_debugger.specs.declared.session.Ending.TheVariants.{GoesOn, Quits, Refused}
 use Rattle.step_debugger.specs.Commands.{command_of}
-use Rattle.step_debugger.specs.Lines.{Reading, Input, input_from, input_of, with_line, ends_in, EndsTooMany, NextLine, reads_for, CountedLine}
+use Rattle.step_debugger.specs.Lines.{Reading, Input, input_from, input_of, with_line, ends_in, EndsTooMany, NextLine, NoLine, reads_for, CountedLine}
 use Rattle.step_debugger.specs.Answers.{Session, Answer, says, answer, begin_at}
-use Rattle.step_debugger.specs.Transcript.{behind, goes_on_by, answers, lines_in, Told, result_by, transcript_from, EndsThere, EndsAll, Debugs, WritesUpTo, StopsAtLine, StopsAtEnd, StopsInLine, ReadsUpTo, Debugged, IsReadOnce, CountedSession}
+use Rattle.step_debugger.specs.Transcript.{behind, goes_on_by, answers, lines_in, Told, result_by, transcript_from, EndsThere, EndsAll, Debugs, WritesUpTo, StopsAtLine, StopsAtEnd, StopsInLine, ReadsUpTo, Debugged, answered_in, IsReadOnce, AnswersInTurn, CountedSession}
 use Rattle.step_debugger.specs.Goings.{Stops, SendsPart}
 use Rattle.step_debugger.specs.Turns.{TakesLine}
-use Rattle.step_debugger.proofs.ReadCounts.{joined_reads, joined_one, not_read_once, read_once}
+use Rattle.step_debugger.proofs.InTurn.{no_lines, further}
+use Rattle.step_debugger.proofs.ReadCounts.{joined_reads, not_read_once, read_once}
 use Rattle.step_debugger.proofs.Sent.{part_longer, part_behind, part_whole, part_of_cut, rose_later}
 
 -- ---- what is read
@@ -61,13 +61,26 @@ at_begin j s count left written e z = record {
 }
 
 -- and the source was read once for each of these bytes
-pub record CountedStands (j : Trace) (s : Session) (count : ℕ) (left now_left written now_written : Option (List ℕ)) (reads now_reads : ℕ) : Type 0 where
+pub record CountedStands (j : Trace) (s : Session) (count : ℕ) (left now_left written now_written : Option (List ℕ)) (note : ReadNote) (noted now_noted : ℕ) : Type 0 where
   pub stands : SessionAt j s count left now_left written now_written
-  pub read : now_reads ≡ counted_by (length stands.gone) reads
+  pub in_turn : AnswersInTurn j stands.gone written (noted_after note noted) now_noted (length stands.gone)
 
-pub counted_at_begin : (j : Trace) (s : Session) (count : ℕ) (left written : Option (List ℕ)) (reads : ℕ) → s ≡ begin_at j → count ≡ 0 → CountedStands j s count left left written written reads reads
+pub counted_at_begin : (j : Trace) (s : Session) (count : ℕ) (left written : Option (List ℕ)) (note : ReadNote) (noted : ℕ) → s ≡ begin_at j → count ≡ 0 → CountedStands j s count left left written written note noted noted
 unfolding at_begin
-counted_at_begin j s count left written reads e z = record { stands = at_begin j s count left written e z; read = refl }
+counted_at_begin j s count left written note noted e z = record { stands = at_begin j s count left written e z; in_turn = record { given = []; each = tt; noted_is = refl; reads_is = refl } }
+
+-- while a further line comes, out has the answers of these lines
+while_reading : (j : Trace) (s : Session) (count : ℕ) (left now_left written now_written : Option (List ℕ)) (t : SessionAt j s count left now_left written now_written) (p : List ℕ) → NoLine p → Appends written now_written (answered_in j (t.gone ++ p))
+while_reading j s count left now_left written now_written t p none =
+    let lines : (input_of (t.gone ++ p)).lines ≡ t.lines ++ [] = ap (λ (i : Input). i.lines) (t.read p) ∙ ap (λ (ls : List (List ℕ)). t.lines ++ ls) (no_lines count [] p none) in
+    let text : answered_in j (t.gone ++ p) ≡ t.text = ap (λ (ls : List (List ℕ)). (answers ls (begin_at j)).text) lines ∙ ap (λ (a : Answer). a.text) (t.said []) ∙ append-nil t.text in
+    subst (λ (x : List ℕ). Appends written now_written x) (sym text) t.sent
+
+-- so it has at the reads of that line
+in_turn_more : (j : Trace) (s : Session) (old new : Reading) (left now_left next_left written now_written : Option (List ℕ)) (before after : ℕ) (note : ReadNote) (noted mid now : ℕ) (whole : Result Bool DebugError) (t : SessionAt j s old.count left now_left written now_written)
+    → AnswersInTurn j t.gone written (noted_after note noted) mid (length t.gone) → (c : CountedLine old now_left next_left before after note now_written mid now whole new) → AnswersInTurn j (t.gone ++ c.line.gone) written (noted_after note noted) now (length t.gone + reads_for c.line.gone whole)
+in_turn_more j s old new left now_left next_left written now_written before after note noted mid now whole t a c =
+    further j written note noted mid now now_written t.gone c.line.gone c.front c.last (reads_for c.line.gone whole) a (while_reading j s old.count left now_left written now_written t) c.parts c.unended c.count c.notes
 
 module _ (j : Trace) (s : Session) (old new : Reading) (left now_left next_left written now_written : Option (List ℕ)) (before after : ℕ) where
   -- one line is answered, and the session continues
@@ -87,11 +100,15 @@ module _ (j : Trace) (s : Session) (old new : Reading) (left now_left next_left 
         sent = Appends-trans written now_written next_written t.text a.text t.sent h;
       }
 
-  pub counted_more : (next_written : Option (List ℕ)) (reads mid now : ℕ) → CountedStands j s old.count left now_left written now_written reads mid → CountedLine old now_left next_left before after mid now (Ok true) new
+  pub counted_more : (next_written : Option (List ℕ)) (note : ReadNote) (noted mid now : ℕ) → CountedStands j s old.count left now_left written now_written note noted mid → CountedLine old now_left next_left before after note now_written mid now (Ok true) new
       → (answer s (command_of new.line)).ends ≡ GoesOn → Appends now_written next_written (answer s (command_of new.line)).text
-      → CountedStands j (answer s (command_of new.line)).session new.count left next_left written next_written reads now
+      → CountedStands j (answer s (command_of new.line)).session new.count left next_left written next_written note noted now
   unfolding one_more
-  counted_more next_written reads mid now t c on h = record { stands = one_more next_written t.stands c.line on h; read = joined_reads t.stands.gone c.line.gone reads mid now t.read c.count }
+  counted_more next_written note noted mid now t c on h = record {
+    stands = one_more next_written t.stands c.line on h;
+    in_turn = subst (λ (n : ℕ). AnswersInTurn j (t.stands.gone ++ c.line.gone) written (noted_after note noted) now n) (joined_reads t.stands.gone c.line.gone)
+        (in_turn_more j s old new left now_left next_left written now_written before after note noted mid now (Ok true) t.stands t.in_turn c);
+  }
 
 -- ---- how it ends
 
@@ -206,10 +223,15 @@ module _ (j : Trace) (s : Session) (old new : Reading) (left now_left next_left 
           let is = told_first j s old.count left now_left written now_written t n.gone in
           subst (λ (x : List ℕ). AppendsPart written now_written x) (sym (ap (λ (u : Told). u.text) is)) (part_longer written now_written t.text _ (part_whole written now_written t.text t.sent))
 
-  pub not_read_counted : (reads mid now : ℕ) (e : DebugError) → mid ≡ counted_by (length t.gone) reads → CountedLine old now_left next_left before after mid now (Err e) new
-      → CountedSession j left next_left start after reads now written now_written write_before write_after (Err e)
+  pub not_read_counted : (note : ReadNote) (noted mid now : ℕ) (e : DebugError) → AnswersInTurn j t.gone written (noted_after note noted) mid (length t.gone) → CountedLine old now_left next_left before after note now_written mid now (Err e) new
+      → CountedSession j left next_left start after (noted_after note noted) now written now_written write_before write_after (Err e)
   unfolding not_read
-  not_read_counted reads mid now e first c = record { session = not_read e c.line; count = not_read_once j left next_left t.gone c.line.gone reads mid now e first c.count }
+  not_read_counted note noted mid now e a c = record {
+    session = not_read e c.line;
+    reads = length t.gone + reads_for c.line.gone (Err e);
+    count = not_read_once j left next_left t.gone c.line.gone e;
+    in_turn = in_turn_more j s old new left now_left next_left written now_written before after note noted mid now (Err e) t a c;
+  }
 
 -- a line is read
 module _ (j : Trace) (s : Session) (old new : Reading) (left now_left next_left written now_written next_written : Option (List ℕ)) (start before after write_start write_before write_after : ℕ) (whole : Bool)
@@ -328,16 +350,19 @@ module _ (j : Trace) (s : Session) (old new : Reading) (left now_left next_left 
   all_if true n e = absurd cc
   all_if false n e = record { all = all_gone left now_left next_left t.gone n.gone t.taken n.read.1; none = none_over j s old.count left now_left written now_written t n.gone new.line n.read.0; before = not_over j s old.count left now_left written now_written t n.gone new.line n.read.0 }
 
-  module _ (reads mid now : ℕ) (first : mid ≡ counted_by (length t.gone) reads) (last : now ≡ counted_by (reads_for n.gone (Ok whole)) mid) where
-    counts : (now ≡ counted_by (length all) reads) ⊎ (EndsAll j left next_left all × (now ≡ counted_by (length all + 1) reads))
-    counts = read_once j left next_left t.gone n.gone reads mid now whole first last (all_if whole n)
+  module _ (note : ReadNote) (noted now : ℕ) (a : AnswersInTurn j all written (noted_after note noted) now (length t.gone + reads_for n.gone (Ok whole))) where
+    abbrev reads : ℕ
+    reads = length t.gone + reads_for n.gone (Ok whole)
+
+    counts : (reads ≡ length all) ⊎ (EndsAll j left next_left all × (reads ≡ length all + 1))
+    counts = read_once j left next_left t.gone n.gone whole (all_if whole n)
 
     pub not_sent_counted : (e : DebugError) → write_start ≤ write_before → SendsPart e now_written next_written answered.text × Stops write_before write_after e
-        → CountedSession j left next_left start after reads now written next_written write_start write_after (Err e)
+        → CountedSession j left next_left start after (noted_after note noted) now written next_written write_start write_after (Err e)
     unfolding not_sent
-    not_sent_counted e fell h = record { session = not_sent e fell h; count = by e h.1 }
+    not_sent_counted e fell h = record { session = not_sent e fell h; reads = reads; count = by e h.1; in_turn = a }
       where
-        by : (e : DebugError) → Stops write_before write_after e → IsReadOnce j all left next_left reads now (Err e)
+        by : (e : DebugError) → Stops write_before write_after e → IsReadOnce j all left next_left reads (Err e)
         by ReadFault h = absurd h
         by WriteFault h = counts
         by (LineTooLong k) h = absurd h
@@ -345,13 +370,13 @@ module _ (j : Trace) (s : Session) (old new : Reading) (left now_left next_left 
         by (Joint f) h = counts
         by OutOfMemory h = counts
 
-    pub quits_counted : answered.ends ≡ Quits → Appends now_written next_written answered.text → CountedSession j left next_left start after reads now written next_written write_start write_after (Ok (tt {0}))
+    pub quits_counted : answered.ends ≡ Quits → Appends now_written next_written answered.text → CountedSession j left next_left start after (noted_after note noted) now written next_written write_start write_after (Ok (tt {0}))
     unfolding quits
-    quits_counted on h = record { session = quits on h; count = counts }
+    quits_counted on h = record { session = quits on h; reads = reads; count = counts; in_turn = a }
 
-    pub refused_counted : (e : JointError) → answered.ends ≡ Refused e → Appends now_written next_written answered.text → CountedSession j left next_left start after reads now written next_written write_start write_after (Err (Joint e))
+    pub refused_counted : (e : JointError) → answered.ends ≡ Refused e → Appends now_written next_written answered.text → CountedSession j left next_left start after (noted_after note noted) now written next_written write_start write_after (Err (Joint e))
     unfolding refused
-    refused_counted e on h = record { session = refused e on h; count = counts }
+    refused_counted e on h = record { session = refused e on h; reads = reads; count = counts; in_turn = a }
 
 -- the last line, after which there is none
 pub ends : (j : Trace) (s : Session) (old new : Reading) (left now_left next_left written now_written next_written : Option (List ℕ)) (start before after write_start write_after : ℕ)
@@ -369,45 +394,49 @@ ends j s old new left now_left next_left written now_written next_written start 
       up_to = tt;
     }
 
-pub ends_counted : (j : Trace) (s : Session) (old new : Reading) (left now_left next_left written now_written next_written : Option (List ℕ)) (start before after write_start write_after reads mid now : ℕ)
-    → CountedStands j s old.count left now_left written now_written reads mid → CountedLine old now_left next_left before after mid now (Ok false) new → (answer s (command_of new.line)).ends ≡ GoesOn
-    → Appends now_written next_written (answer s (command_of new.line)).text → CountedSession j left next_left start after reads now written next_written write_start write_after (Ok (tt {0}))
+pub ends_counted : (j : Trace) (s : Session) (old new : Reading) (left now_left next_left written now_written next_written : Option (List ℕ)) (start before after write_start write_after : ℕ) (note : ReadNote) (noted mid now : ℕ)
+    → CountedStands j s old.count left now_left written now_written note noted mid → CountedLine old now_left next_left before after note now_written mid now (Ok false) new → (answer s (command_of new.line)).ends ≡ GoesOn
+    → Appends now_written next_written (answer s (command_of new.line)).text → CountedSession j left next_left start after (noted_after note noted) now written next_written write_start write_after (Ok (tt {0}))
 unfolding ends
-ends_counted j s old new left now_left next_left written now_written next_written start before after write_start write_after reads mid now t c on h = record {
+ends_counted j s old new left now_left next_left written now_written next_written start before after write_start write_after note noted mid now t c on h = record {
   session = ends j s old new left now_left next_left written now_written next_written start before after write_start write_after t.stands c.line on h;
-  count = inr (
-    record {
-      all = all_gone left now_left next_left t.stands.gone c.line.gone t.stands.taken c.line.read.1;
-      none = none_over j s old.count left now_left written now_written t.stands c.line.gone new.line c.line.read.0;
-      before = not_over j s old.count left now_left written now_written t.stands c.line.gone new.line c.line.read.0;
-    },
-    joined_one t.stands.gone c.line.gone reads mid now t.read c.count,
-  );
+  reads = length t.stands.gone + reads_for c.line.gone (Ok false);
+  count = read_once j left next_left t.stands.gone c.line.gone false
+      (λ last. record {
+        all = all_gone left now_left next_left t.stands.gone c.line.gone t.stands.taken c.line.read.1;
+        none = none_over j s old.count left now_left written now_written t.stands c.line.gone new.line c.line.read.0;
+        before = not_over j s old.count left now_left written now_written t.stands c.line.gone new.line c.line.read.0;
+      });
+  in_turn = in_turn_more j s old new left now_left next_left written now_written before after note noted mid now (Ok false) t.stands t.in_turn c;
 }
 
 -- ---- one line of a session
 
-module _ (j : Trace) (s next : Session) (old new : Reading) (left now_left next_left written now_written next_written : Option (List ℕ)) (start before after write_start write_before write_after reads mid now : ℕ)
-    (t : CountedStands j s old.count left now_left written now_written reads mid) where
+module _ (j : Trace) (s next : Session) (old new : Reading) (left now_left next_left written now_written next_written : Option (List ℕ)) (start before after write_start write_before write_after : ℕ) (note : ReadNote) (noted mid now : ℕ)
+    (t : CountedStands j s old.count left now_left written now_written note noted mid) where
   -- the session continues after it
-  pub line_more : TakesLine s next old new now_left next_left before after mid now now_written next_written write_before write_after (Ok true) → CountedStands j next new.count left next_left written next_written reads now
-  line_more a = subst (λ (x : Session). CountedStands j x new.count left next_left written next_written reads now) (sym a.session)
-      (counted_more j s old new left now_left next_left written now_written before after next_written reads mid now t a.read a.ends a.sent)
+  pub line_more : TakesLine s next old new now_left next_left before after note mid now now_written next_written write_before write_after (Ok true) → CountedStands j next new.count left next_left written next_written note noted now
+  line_more a = subst (λ (x : Session). CountedStands j x new.count left next_left written next_written note noted now) (sym a.session)
+      (counted_more j s old new left now_left next_left written now_written before after next_written note noted mid now t a.read a.ends a.sent)
+
+  -- what out had at its reads too
+  at_line : (result : Result Bool DebugError) (c : CountedLine old now_left next_left before after note now_written mid now result new) → AnswersInTurn j (t.stands.gone ++ c.line.gone) written (noted_after note noted) now (length t.stands.gone + reads_for c.line.gone result)
+  at_line result c = in_turn_more j s old new left now_left next_left written now_written before after note noted mid now result t.stands t.in_turn c
 
   -- the session ends with it
-  pub line_last : TakesLine s next old new now_left next_left before after mid now now_written next_written write_before write_after (Ok false) → CountedSession j left next_left start after reads now written next_written write_start write_after (Ok (tt {0}))
-  line_last (inl a) = ends_counted j s old new left now_left next_left written now_written next_written start before after write_start write_after reads mid now t a.read a.ends a.sent
+  pub line_last : TakesLine s next old new now_left next_left before after note mid now now_written next_written write_before write_after (Ok false) → CountedSession j left next_left start after (noted_after note noted) now written next_written write_start write_after (Ok (tt {0}))
+  line_last (inl a) = ends_counted j s old new left now_left next_left written now_written next_written start before after write_start write_after note noted mid now t a.read a.ends a.sent
   line_last (inr (whole, a)) =
-      quits_counted j s old new left now_left next_left written now_written next_written start before after write_start write_before write_after whole t.stands a.read.line reads mid now t.read a.read.count a.ends a.sent
+      quits_counted j s old new left now_left next_left written now_written next_written start before after write_start write_before write_after whole t.stands a.read.line note noted now (at_line (Ok whole) a.read) a.ends a.sent
 
   -- an error stops it
-  pub line_fails : (e : DebugError) → start ≤ before → write_start ≤ write_before → TakesLine s next old new now_left next_left before after mid now now_written next_written write_before write_after (Err e)
-      → CountedSession j left next_left start after reads now written next_written write_start write_after (Err e)
+  pub line_fails : (e : DebugError) → start ≤ before → write_start ≤ write_before → TakesLine s next old new now_left next_left before after note mid now now_written next_written write_before write_after (Err e)
+      → CountedSession j left next_left start after (noted_after note noted) now written next_written write_start write_after (Err e)
   line_fails e fell wrote (inl m) =
-      subst (λ (x : Option (List ℕ)). CountedSession j left next_left start after reads now written x write_start write_after (Err e)) (sym m.same)
-      (not_read_counted j s old new left now_left next_left written now_written start before after write_start write_after t.stands fell reads mid now e t.read m.read)
+      subst (λ (x : Option (List ℕ)). CountedSession j left next_left start after (noted_after note noted) now written x write_start write_after (Err e)) (sym m.same)
+      (not_read_counted j s old new left now_left next_left written now_written start before after write_start write_after t.stands fell note noted mid now e t.in_turn m.read)
   line_fails e fell wrote (inr (inl (whole, c))) =
-      not_sent_counted j s old new left now_left next_left written now_written next_written start before after write_start write_before write_after whole t.stands c.read.line reads mid now t.read c.read.count e wrote (c.sent, c.stops)
+      not_sent_counted j s old new left now_left next_left written now_written next_written start before after write_start write_before write_after whole t.stands c.read.line note noted now (at_line (Ok whole) c.read) e wrote (c.sent, c.stops)
   line_fails e fell wrote (inr (inr (whole, f, is, a))) =
-      subst (λ (x : DebugError). CountedSession j left next_left start after reads now written next_written write_start write_after (Err x)) (sym is)
-      (refused_counted j s old new left now_left next_left written now_written next_written start before after write_start write_before write_after whole t.stands a.read.line reads mid now t.read a.read.count f a.ends a.sent)
+      subst (λ (x : DebugError). CountedSession j left next_left start after (noted_after note noted) now written next_written write_start write_after (Err x)) (sym is)
+      (refused_counted j s old new left now_left next_left written now_written next_written start before after write_start write_before write_after whole t.stands a.read.line note noted now (at_line (Ok whole) a.read) f a.ends a.sent)

@@ -10,3 +10,4 @@ pub mod WaysBack
 pub mod Prefixes
 pub mod Apart
 pub mod ReadCounts
+pub mod InTurn

@@ -8,7 +8,7 @@ no_error : (e : DebugError) → ◌≡◌ {A = Option DebugError} (Some e) None 
 no_error e is = cc
 
 -- what a byte and more bytes hold, by the tests of the byte
-abbrev next : (count : ℕ) (line : List ℕ) (byte : ℕ) → (over room feed : Bool) → List ℕ → Input
+abbrev pub next : (count : ℕ) (line : List ℕ) (byte : ℕ) → (over room feed : Bool) → List ℕ → Input
 next count line byte over room feed rest = elim over as (λ y. Input) [
   | true ↦ ends_in line (Some (LineTooLong (length line + 1)))
   | false ↦ elim room as (λ y. Input) [

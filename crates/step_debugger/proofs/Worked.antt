@@ -1,5 +1,5 @@
 -- Small examples.
-use Rattle.std.proofs.Common.{◌≡◌, ◌+◌, ◌^◌, [], ◌∷◌, ◌++◌, Some, None, length, replicate, refl}
+use Rattle.std.proofs.Common.{◌≡◌, ◌+◌, ◌^◌, ℕ, List, [], ◌∷◌, ◌++◌, Some, None, length, replicate, codes, refl, ap, arith}
 use Rattle.std.specs.Fmt.{digits}
 use Rattle.hex.specs.Hex.{encode_with}
 use Rattle.bn_base.specs.EndMarks.{reason_word}
@@ -14,6 +14,7 @@ use Rattle.step_debugger.specs.Lines.{ends_in, with_line}
 use Rattle.step_debugger.specs.Answers.{point_text, hart_text, waits_text, stop_text, at_text, address_text, word_text, register_text, two_text, four_text, half_text, place_text, hart_done_text}
 use Rattle.step_debugger.specs.Examples.{commands_of, command_lines, their_commands, other_lines, refusal_of, long_line, last_bytes}
 use Rattle.step_debugger.specs.Examples.{leaving_session, leaving_told, returning_session, returning_told, starting_session, starting_told, breaking_session, breaking_told, relay_session, relay_told, crossed_session, crossed_told}
+use Rattle.step_debugger.specs.Examples.{IsInTurn, prompt_reads, late_reads, early_reads}
 
 pub commands_read : commands_of command_lines ≡ their_commands
 commands_read = refl
@@ -56,3 +57,12 @@ relay_is = refl
 pub crossed_is : crossed_session ≡ crossed_told
 unfolding digits encode_with reason_word register_name mnemonic ordering hex8 first_operand register_operand number_operand offset_operand memory_operand target_operand upper_operand instruction_text rows.point_text rows.word_text rows.register_text rows.access_text rows.fault_text rows.row_text mark_text end_text pass_text point_text hart_text waits_text stop_text address_text word_text register_text two_text four_text half_text place_text hart_done_text
 crossed_is = refl
+
+pub prompt_is : IsInTurn prompt_reads
+prompt_is = (refl, (refl, (refl, (refl, (refl, (refl, refl))))))
+
+pub late_is : IsInTurn late_reads → ⊥
+late_is h = let e : codes "x" ≡ codes "x?\n" = h.1.1.1.1.1.0 in let n : 1 ≡ 3 = ap (λ (l : List ℕ). length l) e in absurd (omega (arith, n))
+
+pub early_is : IsInTurn early_reads → ⊥
+early_is h = let e : codes "x?\n" ≡ codes "x" = h.1.1.1.1.0 in let n : 3 ≡ 1 = ap (λ (l : List ℕ). length l) e in absurd (omega (arith, n))

@@ -1,16 +1,17 @@
 -- Small examples.
-use Rattle.std.specs.Prelude.{ℕ, ◌-◌, ◌^◌, List, [], ◌∷◌, ◌++◌, codes, map, replicate, Option, Ok, Err}
+use Rattle.std.specs.Prelude.{ℕ, ◌-◌, ◌^◌, List, [], ◌∷◌, ◌++◌, codes, map, replicate, Option, Some, Ok, Err}
 use Rattle.log_record.specs.declared.record.Record.TheVariants.{Header}
 use Rattle.joint_replay.specs.declared.error.JointError.TheVariants.{Stuck}
 use Rattle.joint_replay.specs.Joining.{Joining, fresh}
 use Rattle.joint_replay.specs.Examples.{code, end, crossed, relay}
+use Rattle.back_step.specs.Traces.{at_start}
 use Rattle.step_debugger.specs.declared.error.DebugError.{DebugError}
 use Rattle.step_debugger.specs.declared.error.DebugError.TheVariants.{Joint}
 use Rattle.step_debugger.specs.declared.command.DebugCommand.{DebugCommand}
 use Rattle.step_debugger.specs.declared.command.DebugCommand.TheVariants.{Empty, Hart, Step, Go, Back, ReverseGo, Break, Unbreak, Registers, Word, Where, Quit}
 use Rattle.step_debugger.specs.Commands.{command_of}
 use Rattle.step_debugger.specs.Lines.{Input, input_of, input_from}
-use Rattle.step_debugger.specs.Transcript.{Told, transcript}
+use Rattle.step_debugger.specs.Transcript.{Told, transcript, InTurn}
 
 -- what lines are
 abbrev pub commands_of : List (List ℕ) → List DebugCommand
@@ -123,6 +124,24 @@ crossed_told = record {
 
 abbrev pub crossed_session : Told
 crossed_session = session crossed (codes "where\nregs\ngo\nwhere\n")
+
+-- ---- what out has at each read
+
+-- such a session of these commands, where out had the byte `x` before
+abbrev pub IsInTurn : List (Option (List ℕ)) → Type 0
+IsInTurn given = InTurn (at_start leaving) (Some (codes "x")) [] (codes "quux\n") given
+
+-- out has the answer at the read behind the line, and not before
+abbrev pub prompt_reads : List (Option (List ℕ))
+prompt_reads = replicate 5 (Some (codes "x")) ++ Some (codes "x?\n") ∷ []
+
+-- the answer is kept to the end
+abbrev pub late_reads : List (Option (List ℕ))
+late_reads = replicate 6 (Some (codes "x"))
+
+-- it is given one byte too early
+abbrev pub early_reads : List (Option (List ℕ))
+early_reads = replicate 4 (Some (codes "x")) ++ replicate 2 (Some (codes "x?\n"))
 
 -- ---- the limits of commands
 

@@ -1,8 +1,9 @@
 -- The lines of the commands.
-use Rattle.std.specs.Prelude.{◌≡◌, ℕ, ◌+◌, ◌^◌, ◌<◌, ◌≤◌, ◌==◌, nat_lt, Bool, true, false, not, ◌&&◌, List, [], ◌∷◌, ◌++◌, length, Option, Some, None, Result, Ok, Err}
+use Rattle.std.specs.Prelude.{◌≡◌, ℕ, ◌+◌, ◌^◌, ◌<◌, ◌≤◌, ◌==◌, nat_lt, Bool, true, false, not, ◌&&◌, List, [], ◌∷◌, ◌++◌, length, map, Option, Some, None, Result, Ok, Err}
+use Rattle.std.specs.List.{AllByRecursion}
 use Rattle.std.specs.Io.KnownBytes.{Consumes}
-use Rattle.bn_outside.specs.Counts.{Rose, counted_by}
-use Rattle.bn_outside.specs.Streams.{ConsumesAll}
+use Rattle.bn_outside.specs.Counts.{Rose}
+use Rattle.bn_outside.specs.Streams.{ConsumesAll, ReadNote, noted_after}
 use Rattle.bn_outside.specs.declared.Failed.{Failed}
 use Rattle.step_debugger.specs.declared.error.DebugError.{DebugError}
 use Rattle.step_debugger.specs.declared.error.DebugError.TheVariants.{ReadFault, LineTooLong, TooMuch, OutOfMemory}
@@ -62,7 +63,7 @@ pub record Reading : Type 0 where
 -- one byte more: the line ends with it (`true`), or it belongs to the line, or it is one too many; or there is no memory for it
 abbrev pub TakesByte : Reading → ℕ → Result Bool DebugError → Reading → Type 0
 TakesByte old byte (Ok true) new = (new.count ≡ old.count + 1) × (new.count ≤ input_limit) × ((more : List ℕ) → input_from old.count old.line (byte ∷ more) ≡ with_line new.line (input_from new.count [] more))
-TakesByte old byte (Ok false) new = (new.count ≡ old.count + 1) × (new.line ≡ old.line ++ byte ∷ []) × (length new.line ≤ line_limit) × ((more : List ℕ) → input_from old.count old.line (byte ∷ more) ≡ input_from new.count new.line more)
+TakesByte old byte (Ok false) new = (new.count ≡ old.count + 1) × (new.line ≡ old.line ++ byte ∷ []) × (length new.line ≤ line_limit) × ((more : List ℕ) → input_from old.count old.line (byte ∷ more) ≡ input_from new.count new.line more) × (is_line_feed byte ≡ false)
 TakesByte old byte (Err (LineTooLong n)) new = (more : List ℕ) → input_from old.count old.line (byte ∷ more) ≡ ends_in new.line (Some (LineTooLong n))
 TakesByte old byte (Err (TooMuch n)) new = (more : List ℕ) → input_from old.count old.line (byte ∷ more) ≡ ends_in new.line (Some (TooMuch n))
 TakesByte old byte (Err OutOfMemory) new = (more : List ℕ) → input_from old.count old.line (byte ∷ more) ≡ input_from new.count (new.line ++ byte ∷ []) more
@@ -112,7 +113,17 @@ reads_for gone (Ok false) = length gone + 1
 reads_for gone (Err ReadFault) = length gone + 1
 reads_for gone (Err e) = length gone
 
--- the next line, and how often the source was read before and is now
-pub record CountedLine (old : Reading) (left now_left : Option (List ℕ)) (before now reads now_reads : ℕ) (result : Result Bool DebugError) (new : Reading) : Type 0 where
+-- no line ends within bytes
+abbrev pub NoLine : List ℕ → Type 0
+NoLine bytes = AllByRecursion (λ byte. is_line_feed byte ≡ false) bytes
+
+-- the next line, and what the source noted of its reads. At each of them out had been given the same, and before the last
+-- of them no line ended
+pub record CountedLine (old : Reading) (left now_left : Option (List ℕ)) (before now : ℕ) (note : ReadNote) (had : Option (List ℕ)) (noted now_noted : ℕ) (result : Result Bool DebugError) (new : Reading) : Type 0 where
   pub line : NextLine old left now_left before now result new
-  pub count : now_reads ≡ counted_by (reads_for line.gone result) reads
+  pub front : List ℕ
+  pub last : List ℕ
+  pub parts : line.gone ≡ front ++ last
+  pub unended : NoLine front
+  pub count : length front + 1 ≡ reads_for line.gone result
+  pub notes : now_noted ≡ noted_after note noted (map (λ byte. had) front ++ had ∷ [])

@@ -1,8 +1,8 @@
 -- The transcript of a session.
 use Rattle.std.specs.Prelude.{◌≡◌, ◌⊎◌, ℕ, ◌+◌, List, [], ◌∷◌, ◌++◌, length, Option, Some, None, Result, Ok, Err}
 use Rattle.std.specs.Io.KnownBytes.{Appends, Consumes}
-use Rattle.bn_outside.specs.Counts.{Rose, counted_by}
-use Rattle.bn_outside.specs.Streams.{AppendsPart, ConsumesAll}
+use Rattle.bn_outside.specs.Counts.{Rose}
+use Rattle.bn_outside.specs.Streams.{AppendsPart, ConsumesAll, Notes}
 use Rattle.joint_replay.specs.Joining.{Joining}
 use Rattle.back_step.specs.Traces.{Trace, at_start}
 use Rattle.step_debugger.specs.declared.error.DebugError.{DebugError}
@@ -151,13 +151,33 @@ pub record Debugged (t : Trace) (left now_left : Option (List ℕ)) (read_before
 
 -- the source was read once for each byte that is gone, and once more if a read failed, or if its end was found and no line that
 -- ends with LF had ended the session
-abbrev pub IsReadOnce : Trace → (gone : List ℕ) → (left now_left : Option (List ℕ)) → (reads now_reads : ℕ) → Result (Unit {0}) DebugError → Type 0
-IsReadOnce t gone left now_left reads now_reads (Err ReadFault) = now_reads ≡ counted_by (length gone + 1) reads
-IsReadOnce t gone left now_left reads now_reads (Err (LineTooLong n)) = now_reads ≡ counted_by (length gone) reads
-IsReadOnce t gone left now_left reads now_reads (Err (TooMuch n)) = now_reads ≡ counted_by (length gone) reads
-IsReadOnce t gone left now_left reads now_reads result = (now_reads ≡ counted_by (length gone) reads) ⊎ (EndsAll t left now_left gone × (now_reads ≡ counted_by (length gone + 1) reads))
+abbrev pub IsReadOnce : Trace → (gone : List ℕ) → (left now_left : Option (List ℕ)) → (reads : ℕ) → Result (Unit {0}) DebugError → Type 0
+IsReadOnce t gone left now_left reads (Err ReadFault) = reads ≡ length gone + 1
+IsReadOnce t gone left now_left reads (Err (LineTooLong n)) = reads ≡ length gone
+IsReadOnce t gone left now_left reads (Err (TooMuch n)) = reads ≡ length gone
+IsReadOnce t gone left now_left reads result = (reads ≡ length gone) ⊎ (EndsAll t left now_left gone × (reads ≡ length gone + 1))
 
--- a session, and how often its source was read before it and is after it
-pub record CountedSession (t : Trace) (left now_left : Option (List ℕ)) (read_before read_now reads now_reads : ℕ) (written now_written : Option (List ℕ)) (before now : ℕ) (result : Result (Unit {0}) DebugError) : Type 0 where
+-- the answers to the whole lines of some bytes
+abbrev pub answered_in : Trace → List ℕ → List ℕ
+answered_in t bytes = (answers (input_of bytes).lines (begin_at t)).text
+
+-- What out has been given at each read: what it had before the session, the answers to the whole lines that have come by
+-- then, and nothing else. Each read but the first comes one byte later
+abbrev pub InTurn : Trace → (written : Option (List ℕ)) → (come more : List ℕ) → (given : List (Option (List ℕ))) → Type 0
+InTurn t written come more [] = Unit {0}
+InTurn t written come [] (had ∷ given) = Appends written had (answered_in t come) × (given ≡ [])
+InTurn t written come (byte ∷ more) (had ∷ given) = Appends written had (answered_in t come) × InTurn t written (come ++ byte ∷ []) more given
+
+-- so it was at each of so many reads, of which the source has noted this
+pub record AnswersInTurn (t : Trace) (gone : List ℕ) (written : Option (List ℕ)) (notes : Notes) (noted reads : ℕ) : Type 0 where
+  pub given : List (Option (List ℕ))
+  pub each : InTurn t written [] gone given
+  pub noted_is : noted ≡ notes given
+  pub reads_is : length given ≡ reads
+
+-- a session, how often its source was read, and what out had been given at each read
+pub record CountedSession (t : Trace) (left now_left : Option (List ℕ)) (read_before read_now : ℕ) (notes : Notes) (noted : ℕ) (written now_written : Option (List ℕ)) (before now : ℕ) (result : Result (Unit {0}) DebugError) : Type 0 where
   pub session : Debugged t left now_left read_before read_now written now_written before now result
-  pub count : IsReadOnce t session.gone left now_left reads now_reads result
+  pub reads : ℕ
+  pub count : IsReadOnce t session.gone left now_left reads result
+  pub in_turn : AnswersInTurn t session.gone written notes noted reads

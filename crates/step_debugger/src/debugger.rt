@@ -1,5 +1,6 @@
 //! The debugger's loop: a line is read, its command done, and its answer sent.
 ghost use Rattle.std.specs.Prelude.{◌≤◌};
+ghost use Rattle.bn_outside.specs.Streams.{noted_after};
 ghost use Rattle.step_debugger.specs.Goings.{session_of, StopsApart};
 ghost use Rattle.step_debugger.specs.Turns.{TakesLine, LineApart};
 ghost use Rattle.step_debugger.specs.Transcript.{Debugged, CountedSession};
@@ -14,7 +15,7 @@ use rv_text::Text;
 use std::alloc::Global;
 
 // Reads the next line and does its command: whether the session continues after it.
-fn answer_next<I: Source, O: Sink>(
+fn answer_next<I: Source<O>, O: Sink>(
     trail: &mut Trail,
     focus: &mut Focus,
     reader: &mut LineReader,
@@ -23,12 +24,12 @@ fn answer_next<I: Source, O: Sink>(
     out: &mut O,
 ) -> Result<bool, DebugError>
     ensures taken { TakesLine (session_of trail.old.trace focus.old) (session_of trail.new.trace focus.new) reader.old reader.new (I.left input.old) (I.left input.new)
-        (I.faults input.old) (I.faults input.new) (I.reads input.old) (I.reads input.new) (O.written out.old) (O.written out.new) (O.faults out.old) (O.faults out.new) result }
+        (I.faults input.old) (I.faults input.new) I.note (I.noted input.old) (I.noted input.new) (O.written out.old) (O.written out.new) (O.faults out.old) (O.faults out.new) result }
     ensures apart { LineApart trail.old.trace result trail.new.trace }
     ensures read { I.faults input.old ≤ I.faults input.new }
     ensures later { O.faults out.old ≤ O.faults out.new }
 {
-    let whole = match reader.next(input) {
+    let whole = match reader.next(input, out) {
         Err(failed) => return Err(failed),
         Ok(whole) => whole,
     };
@@ -46,11 +47,12 @@ fn answer_next<I: Source, O: Sink>(
 /// to `out`, each as soon as its command is done.
 ///
 /// It is `Ok` after the command `quit`, after which nothing is read, and at the end of the input.
-/// The source is read once for each byte that is gone. A further read is made only if it finds the end or fails.
+/// The source is read once for each byte that is gone. A further read is made only if it finds the end or fails. At each
+/// read `out` has what it had before, the answers to all whole lines read so far, and nothing else.
 ///
 /// It fails if a read or a write does, if a line has more than 256 bytes or all commands have more
 /// than 2^24, if the joint replay is refused, and when out of memory. The answers before that stay.
-pub fn debug<I: Source, O: Sink>(
+pub fn debug<I: Source<O>, O: Sink>(
     alloc: Global,
     trail: &mut Trail,
     input: &mut I,
@@ -58,7 +60,7 @@ pub fn debug<I: Source, O: Sink>(
 ) -> Result<(), DebugError>
     ensures told { Debugged trail.old.trace (I.left input.old) (I.left input.new) (I.faults input.old) (I.faults input.new)
         (O.written out.old) (O.written out.new) (O.faults out.old) (O.faults out.new) result }
-    ensures counted { CountedSession trail.old.trace (I.left input.old) (I.left input.new) (I.faults input.old) (I.faults input.new) (I.reads input.old) (I.reads input.new)
+    ensures counted { CountedSession trail.old.trace (I.left input.old) (I.left input.new) (I.faults input.old) (I.faults input.new) (noted_after I.note (I.noted input.old)) (I.noted input.new)
         (O.written out.old) (O.written out.new) (O.faults out.old) (O.faults out.new) result }
     ensures apart { StopsApart trail.old.trace result trail.new.trace }
     ensures read { I.faults input.old ≤ I.faults input.new }

@@ -6,6 +6,7 @@ ghost use Rattle.step_debugger.specs.declared.error.DebugError.TheVariants.{Line
 ghost use Rattle.step_debugger.specs.Lines.{ends_in, with_line};
 ghost use Rattle.step_debugger.specs.Examples.{commands_of, command_lines, their_commands, other_lines, refusal_of, long_line, last_bytes};
 ghost use Rattle.step_debugger.specs.Examples.{leaving_session, leaving_told, returning_session, returning_told, starting_session, starting_told, breaking_session, breaking_told, relay_session, relay_told, crossed_session, crossed_told};
+ghost use Rattle.step_debugger.specs.Examples.{IsInTurn, prompt_reads, late_reads, early_reads};
 
 /// Each command.
 #[tactic(auto, using(crate::proofs::Worked::commands_read))]
@@ -63,4 +64,12 @@ pub fn long_lines_are_refused()
 pub fn long_commands_are_refused()
     ensures last { last_bytes (10 ∷ []) ≡ with_line [] (ends_in [] None) }
     ensures more { last_bytes (10 ∷ 10 ∷ []) ≡ with_line [] (ends_in [] (Some (TooMuch (2 ^ 24 + 1)))) }
+{}
+
+/// Out has the answer of a line at the next read: not before that line has ended, and not later.
+#[tactic(auto, using(crate::proofs::Worked::prompt_is, crate::proofs::Worked::late_is, crate::proofs::Worked::early_is))]
+pub fn answers_come_in_turn()
+    ensures prompt { IsInTurn prompt_reads }
+    ensures late { IsInTurn late_reads → ⊥ }
+    ensures early { IsInTurn early_reads → ⊥ }
 {}

@@ -1,10 +1,9 @@
 //! The lines of the commands, read from a source.
 ghost use Rattle.std.specs.Prelude.{◌≡◌, ◌≤◌, []};
-ghost use Rattle.bn_outside.specs.Counts.{counted};
 ghost use Rattle.step_debugger.specs.Lines.{is_over, TakesByte, GivesByte, CountedLine};
 
 use crate::error::DebugError;
-use bn_outside::{Failed, Source};
+use bn_outside::{Failed, Sink, Source};
 use std::alloc::Global;
 use std::marker::Model;
 
@@ -88,13 +87,18 @@ impl LineReader {
     /// be without a byte after the last LF.
     ///
     /// It fails if a read fails, if the line or all commands are too long, or when out of memory.
-    pub(crate) fn next<I: Source>(&mut self, source: &mut I) -> Result<bool, DebugError>
-        ensures read { CountedLine self.old (I.left source.old) (I.left source.new) (I.faults source.old) (I.faults source.new) (I.reads source.old) (I.reads source.new) result self.new }
+    pub(crate) fn next<I: Source<O>, O: Sink>(
+        &mut self,
+        source: &mut I,
+        out: &O,
+    ) -> Result<bool, DebugError>
+        ensures read { CountedLine self.old (I.left source.old) (I.left source.new) (I.faults source.old) (I.faults source.new)
+            I.note (O.written out.now) (I.noted source.old) (I.noted source.new) result self.new }
         ensures later { I.faults source.old ≤ I.faults source.new }
     {
         self.line.clear();
         'bytes: loop {
-            match next_byte(source) {
+            match next_byte(source, out) {
                 Err(_) => return Err(DebugError::ReadFault),
                 // The bytes after the last LF count as a line, also if there are none: an empty line prints nothing.
                 Ok(None) => return Ok(false),
@@ -109,13 +113,13 @@ impl LineReader {
 }
 
 // The next byte of a source; `None` at its end.
-fn next_byte<I: Source>(source: &mut I) -> Result<Option<u8>, Failed>
+fn next_byte<I: Source<O>, O: Sink>(source: &mut I, out: &O) -> Result<Option<u8>, Failed>
     ensures given { GivesByte (I.left source.old) (I.left source.new) (I.faults source.old) (I.faults source.new) result }
     ensures later { I.faults source.old ≤ I.faults source.new }
-    ensures counted { I.reads source.new ≡ counted (I.reads source.old) }
+    ensures called { I.noted source.new ≡ I.note (I.noted source.old) (O.written out.now) }
 {
     let mut buffer = [0u8; 1];
-    match source.read(&mut buffer) {
+    match source.read(out, &mut buffer) {
         Err(error) => Err(error),
         Ok(count) => {
             if count == 0 {

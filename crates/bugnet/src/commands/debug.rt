@@ -34,13 +34,13 @@ fn refusal_of(error: DebugError) -> Refusal
 }
 
 // Makes a session over a joint replay that stands at its start.
-fn debug_trail<I: Source, O: Sink>(
+fn debug_trail<I: Source<O>, O: Sink>(
     alloc: Global,
     trail: &mut Trail,
     input: &mut I,
     out: &mut O,
 ) -> Result<(), Refusal>
-    ensures { (first : Joining) → trail.old.trace ≡ at_start first → SessionTo first (reading I.left I.faults I.reads input.old input.new)
+    ensures { (first : Joining) → trail.old.trace ≡ at_start first → SessionTo first (reading I.left I.faults I.note I.noted input.old input.new)
         (record { text = O.written out.old; faults = O.faults out.old }) (record { text = O.written out.new; faults = O.faults out.new }) result }
 {
     match debug(alloc, trail, input, out) {
@@ -50,13 +50,13 @@ fn debug_trail<I: Source, O: Sink>(
 }
 
 // Makes a session of a log with its program.
-fn debug_pair<I: Source, O: Sink>(
+fn debug_pair<I: Source<O>, O: Sink>(
     alloc: Global,
     pair: &JointReading,
     input: &mut I,
     out: &mut O,
 ) -> Result<(), Refusal>
-    ensures { SessionTo (joined pair.now.log pair.now.image) (reading I.left I.faults I.reads input.old input.new)
+    ensures { SessionTo (joined pair.now.log pair.now.image) (reading I.left I.faults I.note I.noted input.old input.new)
         (record { text = O.written out.old; faults = O.faults out.old }) (record { text = O.written out.new; faults = O.faults out.new }) result }
 {
     match Trail::begin(alloc, &pair.image, &pair.log, COPY_EVERY) {
@@ -67,14 +67,14 @@ fn debug_pair<I: Source, O: Sink>(
 
 /// Loads a log and a program, and makes a session of the debugger: it reads commands from `input`, and
 /// sends their answers to `out`. Before the files are loaded and tested nothing is read.
-pub fn debug_files<S: StoreExt, I: Source, O: Sink>(
+pub fn debug_files<S: StoreExt, I: Source<O>, O: Sink>(
     alloc: Global,
     names: &Names,
     store: &mut S,
     input: &mut I,
     out: &mut O,
 ) -> Result<(), Refusal>
-    ensures { DebugsTo names.now S.note (reading I.left I.faults I.reads input.old input.new) (S.stored store.old) (S.stored store.new)
+    ensures { DebugsTo names.now S.note (reading I.left I.faults I.note I.noted input.old input.new) (S.stored store.old) (S.stored store.new)
         (record { text = O.written out.old; faults = O.faults out.old }) (record { text = O.written out.new; faults = O.faults out.new }) result }
 {
     let pair = load_pair(alloc, names, store)?;

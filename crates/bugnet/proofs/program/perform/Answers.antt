@@ -18,7 +18,7 @@ use Rattle.bugnet.proofs.program.perform.Goals as goal
 pub returns-in-Debug : goal.returns-in-Debug
 returns-in-Debug g c = λ status end closed.
     let line = seen c.args.command.now in
-    let i = reading (g.I.Source.left) (g.I.Source.faults) (g.I.Source.reads) c.args.input.now c.debug_files.new.input in
+    let i = reading (g.I.Source.left) (g.I.Source.faults) g.I.Source.note (g.I.Source.noted) c.args.input.now c.debug_files.new.input in
     let err : Stream = record { text = g.X.Sink.written c.args.err.now; faults = g.X.Sink.faults c.args.err.now } in
     let old = world_of (g.S.Store.files) (g.S.Store.saves) (g.S.Store.counts) (g.S.Store.noted) (g.O.Sink.written) (g.O.Sink.faults) (g.X.Sink.written) (g.X.Sink.faults) c.args.store.now c.args.out.now c.args.err.now in
     let new = world_of (g.S.Store.files) (g.S.Store.saves) (g.S.Store.counts) (g.S.Store.noted) (g.O.Sink.written) (g.O.Sink.faults) (g.X.Sink.written) (g.X.Sink.faults) c.debug_files.new.store c.debug_files.new.out c.args.err.now in
@@ -30,7 +30,7 @@ returns-in-Debug g c = λ status end closed.
     let limits : Limits = record { saved = c.saved_files_keep_to_the_limit.ensures; converted = c.converted_files_keep_to_the_limit.ensures } in
     record {
       obeys = record {
-        told = answers-any line c.args.names.now status i.left_old i.left_new i.faults_old i.faults_new i.reads_old i.reads_new k session c.requires.named d.told;
+        told = answers-any line c.args.names.now status i.left_old i.left_new i.faults_old i.faults_new i.notes i.noted k session c.requires.named d.told;
         words = rw c.in-Debug.is d.words;
         failed = d.failed;
         missing = d.missing;
@@ -44,7 +44,7 @@ returns-in-Debug g c = λ status end closed.
       calls = session-calls line g.S.Store.note c.args.names.now status old.store.noted new.store.noted k session c.requires.named d.calls;
       demo = rw c.in-Debug.is tt;
       recorded = rw c.in-Debug.is tt;
-      session = debugs-any grammar laws limits c.sessions_show_the_run.ensures c.refusals_stay.ensures line c.args.names.now status i.left_old i.left_new i.faults_old i.faults_new i.reads_old i.reads_new k session c.requires.named d.told;
+      session = debugs-any grammar laws limits c.sessions_show_the_run.ensures c.refusals_stay.ensures line c.args.names.now status i.left_old i.left_new i.faults_old i.faults_new i.notes i.noted k session c.requires.named d.told;
       first = d.first;
       begins = elim d.begins [
         | inl same ↦ inl same

@@ -17,7 +17,7 @@ use Rattle.bugnet.proofs.commands.debug.debug_files.Goals as goal
 pub returns-in_err-pair : goal.returns-in_err-pair
 returns-in_err-pair g c =
     let names = c.args.names.now in
-    let i = reading (g.I.Source.left) (g.I.Source.faults) (g.I.Source.reads) c.args.input.now c.args.input.now in
+    let i = reading (g.I.Source.left) (g.I.Source.faults) g.I.Source.note (g.I.Source.noted) c.args.input.now c.args.input.now in
     let out : Stream = record { text = g.O.Sink.written c.args.out.now; faults = g.O.Sink.faults c.args.out.now } in
     let old = g.S.StoreExt.stored c.args.store.now in
     let new = g.S.StoreExt.stored c.load_pair.new.store in
@@ -30,7 +30,7 @@ returns-in_err-pair g c =
     record {
       told = (
         no_commands,
-        none-read status i.left_old i.faults_old i.reads_old s.read s.zero,
+        none-read status i.left_old i.faults_old i.notes s.read s.zero,
         named-refused names x status k (appends-nothing out.text) h.only.same (h.told (debug_with names no_commands)) closed.0,
         with-any old.files _ (λ files. inl (refl, refl, refl)),
       );
@@ -52,7 +52,7 @@ returns-in_err-pair g c =
 pub returns : goal.returns
 returns g c = λ status err end closed.
     let names = c.args.names.now in
-    let i = reading (g.I.Source.left) (g.I.Source.faults) (g.I.Source.reads) c.args.input.now c.debug_pair.new.input in
+    let i = reading (g.I.Source.left) (g.I.Source.faults) g.I.Source.note (g.I.Source.noted) c.args.input.now c.debug_pair.new.input in
     let out : Stream = record { text = g.O.Sink.written c.args.out.now; faults = g.O.Sink.faults c.args.out.now } in
     let printed : Stream = record { text = g.O.Sink.written c.debug_pair.new.out; faults = g.O.Sink.faults c.debug_pair.new.out } in
     let old = g.S.StoreExt.stored c.args.store.now in
@@ -61,7 +61,7 @@ returns g c = λ status err end closed.
     let h = c.in_ok-pair.ensures in
     let s = c.debug_pair.ensures names status err end closed in
     let d = s.told in
-    let begun = pair-begun names pair.log pair.image status i.left_old i.left_new i.faults_old i.faults_new i.reads_old i.reads_new out printed err end d s.begun in
+    let begun = pair-begun names pair.log pair.image status i.left_old i.left_new i.faults_old i.faults_new i.notes i.noted out printed err end d s.begun in
     let k = between (world old out err) (world new printed end) in
     let l = between (world new out err) (world new printed end) in
     record {
@@ -69,7 +69,7 @@ returns g c = λ status err end closed.
         d.0,
         d.1,
         named-made names d.0 pair old.files status k refl (h.told (debug_with names d.0)) (tells-from names (debug_with names d.0 pair.log pair.image) status old.files old.counts l h.only.same h.only.later (d.2 new.files new.counts)),
-        named-session d.0 names.log names.elf pair old.files status i.left_old i.left_new i.faults_old i.faults_new i.reads_old i.reads_new k refl h.loaded d.3,
+        named-session d.0 names.log names.elf pair old.files status i.left_old i.left_new i.faults_old i.faults_new i.notes i.noted k refl h.loaded d.3,
       );
       first = inl begun;
       begins = inr (named-begins names.log names.elf pair old.files h.loaded);

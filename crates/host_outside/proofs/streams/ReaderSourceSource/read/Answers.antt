@@ -17,8 +17,8 @@ returns-in-Ok-clause-kept g c = search (rules, ends_exactly)
 pub returns-in-Ok-clause-later : goal.returns-in-Ok-clause-later
 returns-in-Ok-clause-later g c = search (rules, ends_exactly)
 
-pub returns-in-Ok-clause-counted : goal.returns-in-Ok-clause-counted
-returns-in-Ok-clause-counted g c = search (rules, ends_exactly)
+pub returns-in-Ok-clause-called : goal.returns-in-Ok-clause-called
+returns-in-Ok-clause-called g c = search (rules, ends_exactly)
 
 pub returns-in-Ok-clause-cause : goal.returns-in-Ok-clause-cause
 returns-in-Ok-clause-cause g c = search (rules, ends_exactly)
@@ -38,8 +38,8 @@ returns-in-Err-clause-kept g c = search (rules, ends_exactly)
 pub returns-in-Err-clause-later : goal.returns-in-Err-clause-later
 returns-in-Err-clause-later g c = search (rules, ends_exactly)
 
-pub returns-in-Err-clause-counted : goal.returns-in-Err-clause-counted
-returns-in-Err-clause-counted g c = search (rules, ends_exactly)
+pub returns-in-Err-clause-called : goal.returns-in-Err-clause-called
+returns-in-Err-clause-called g c = search (rules, ends_exactly)
 
 pub returns-in-Err-clause-cause : goal.returns-in-Err-clause-cause
 returns-in-Err-clause-cause g c = search (rules, ends_exactly)

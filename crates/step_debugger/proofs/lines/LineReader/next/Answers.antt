@@ -1,7 +1,8 @@
-use Rattle.std.proofs.Common.{Option, ℕ, Bool, subst, Ok}
+use Rattle.std.proofs.Common.{Option, ℕ, Bool, [], ◌∷◌, append-nil, refl, sym, subst, Ok}
 use Rattle.step_debugger.specs.Lines.{GivesByte, TakesByte}
 use Rattle.step_debugger.proofs.Bytes.{one_more, line_read, last_read, read_failed, refused_read}
-use Rattle.step_debugger.proofs.ReadCounts.{one_read, byte_read, line_byte_read, not_taken}
+use Rattle.step_debugger.proofs.InTurn.{one_read, line_byte_read}
+use Rattle.step_debugger.proofs.ReadCounts.{byte_read, not_taken}
 use Rattle.step_debugger.proofs.lines.LineReader.next.Goals as goal
 
 pub returns-in-Err-clause-read : goal.returns-in-Err-clause-read
@@ -10,7 +11,12 @@ returns-in-Err-clause-read g c =
     record {
       line = read_failed c.args.self.now c.bytes.self.count c.bytes.self.line (g.I.Source.left c.args.source.now) (g.I.Source.left c.bytes.source) (g.I.Source.left c.next_byte.new.source) (g.I.Source.faults c.args.source.now) (g.I.Source.faults c.bytes.source) (g.I.Source.faults c.next_byte.new.source)
           c.bytes.invariant.taken c.in-Err.ensures.given.0 c.in-Err.ensures.given.1;
-      count = one_read c.bytes.self.line (g.I.Source.reads c.args.source.now) (g.I.Source.reads c.bytes.source) (g.I.Source.reads c.next_byte.new.source) c.bytes.invariant.count c.next_byte.ensures.counted;
+      front = c.bytes.self.line;
+      last = [];
+      parts = sym (append-nil c.bytes.self.line);
+      unended = c.bytes.invariant.taken.unended;
+      count = refl;
+      notes = one_read g.I.Source.note (g.I.Source.noted c.args.source.now) (g.I.Source.noted c.bytes.source) (g.I.Source.noted c.next_byte.new.source) (g.O.Sink.written c.args.out.now) c.bytes.self.line c.bytes.invariant.notes c.next_byte.ensures.called;
     }
 
 pub returns-in-Ok-None-clause-read : goal.returns-in-Ok-None-clause-read
@@ -19,7 +25,12 @@ returns-in-Ok-None-clause-read g c =
     record {
       line = last_read c.args.self.now c.bytes.self.count c.bytes.self.line (g.I.Source.left c.args.source.now) (g.I.Source.left c.bytes.source) (g.I.Source.left c.next_byte.new.source) (g.I.Source.faults c.args.source.now) (g.I.Source.faults c.bytes.source) (g.I.Source.faults c.next_byte.new.source)
           c.bytes.invariant.taken (subst (λ (o : Option ℕ). GivesByte (g.I.Source.left c.bytes.source) (g.I.Source.left c.next_byte.new.source) (g.I.Source.faults c.bytes.source) (g.I.Source.faults c.next_byte.new.source) (Ok o)) c.in-Ok-None.field-0-is c.in-Ok-None.ensures.given);
-      count = one_read c.bytes.self.line (g.I.Source.reads c.args.source.now) (g.I.Source.reads c.bytes.source) (g.I.Source.reads c.next_byte.new.source) c.bytes.invariant.count c.next_byte.ensures.counted;
+      front = c.bytes.self.line;
+      last = [];
+      parts = sym (append-nil c.bytes.self.line);
+      unended = c.bytes.invariant.taken.unended;
+      count = refl;
+      notes = one_read g.I.Source.note (g.I.Source.noted c.args.source.now) (g.I.Source.noted c.bytes.source) (g.I.Source.noted c.next_byte.new.source) (g.O.Sink.written c.args.out.now) c.bytes.self.line c.bytes.invariant.notes c.next_byte.ensures.called;
     }
 
 pub returns-in-Ok-true-clause-read : goal.returns-in-Ok-true-clause-read
@@ -30,7 +41,12 @@ returns-in-Ok-true-clause-read g c =
           c.bytes.invariant.taken
           (subst (λ (o : Option ℕ). GivesByte (g.I.Source.left c.bytes.source) (g.I.Source.left c.next_byte.new.source) (g.I.Source.faults c.bytes.source) (g.I.Source.faults c.next_byte.new.source) (Ok o)) c.in-Ok-Some.field-0-is c.in-Ok-Some.ensures.given)
           (subst (λ (b : Bool). TakesByte c.bytes.self c.in-Ok-Some.byte (Ok b) c.take.new.self) c.in-Ok-true.field-0-test c.in-Ok-true.ensures);
-      count = byte_read c.bytes.self.line c.in-Ok-Some.byte (g.I.Source.reads c.args.source.now) (g.I.Source.reads c.bytes.source) (g.I.Source.reads c.next_byte.new.source) c.bytes.invariant.count c.next_byte.ensures.counted;
+      front = c.bytes.self.line;
+      last = c.in-Ok-Some.byte ∷ [];
+      parts = refl;
+      unended = c.bytes.invariant.taken.unended;
+      count = byte_read c.bytes.self.line c.in-Ok-Some.byte;
+      notes = one_read g.I.Source.note (g.I.Source.noted c.args.source.now) (g.I.Source.noted c.bytes.source) (g.I.Source.noted c.next_byte.new.source) (g.O.Sink.written c.args.out.now) c.bytes.self.line c.bytes.invariant.notes c.next_byte.ensures.called;
     }
 
 pub returns-in-Err-take-clause-read : goal.returns-in-Err-take-clause-read
@@ -41,8 +57,12 @@ returns-in-Err-take-clause-read g c =
           c.bytes.invariant.taken
           (subst (λ (o : Option ℕ). GivesByte (g.I.Source.left c.bytes.source) (g.I.Source.left c.next_byte.new.source) (g.I.Source.faults c.bytes.source) (g.I.Source.faults c.next_byte.new.source) (Ok o)) c.in-Ok-Some.field-0-is c.in-Ok-Some.ensures.given)
           c.in-Err-take.ensures;
-      count = not_taken c.bytes.self.count c.bytes.self.line c.in-Ok-Some.byte c.take.new.self (g.I.Source.reads c.args.source.now) (g.I.Source.reads c.bytes.source) (g.I.Source.reads c.next_byte.new.source) c.in-Err-take.error c.in-Err-take.ensures
-          c.bytes.invariant.count c.next_byte.ensures.counted;
+      front = c.bytes.self.line;
+      last = c.in-Ok-Some.byte ∷ [];
+      parts = refl;
+      unended = c.bytes.invariant.taken.unended;
+      count = not_taken c.bytes.self.count c.bytes.self.line c.in-Ok-Some.byte c.take.new.self c.in-Err-take.error c.in-Err-take.ensures;
+      notes = one_read g.I.Source.note (g.I.Source.noted c.args.source.now) (g.I.Source.noted c.bytes.source) (g.I.Source.noted c.next_byte.new.source) (g.O.Sink.written c.args.out.now) c.bytes.self.line c.bytes.invariant.notes c.next_byte.ensures.called;
     }
 
 pub bytes-preserved : goal.bytes-preserved
@@ -53,6 +73,5 @@ bytes-preserved g c =
           (g.I.Source.faults c.args.source.now) (g.I.Source.faults c.bytes.source) (g.I.Source.faults c.next_byte.new.source) c.bytes.invariant.taken
           (subst (λ (o : Option ℕ). GivesByte (g.I.Source.left c.bytes.source) (g.I.Source.left c.next_byte.new.source) (g.I.Source.faults c.bytes.source) (g.I.Source.faults c.next_byte.new.source) (Ok o)) c.in-Ok-Some.field-0-is c.in-Ok-Some.ensures.given)
           taken c.next_byte.ensures.later;
-      count = line_byte_read c.bytes.self.line c.take.new.self.line c.in-Ok-Some.byte (g.I.Source.reads c.args.source.now) (g.I.Source.reads c.bytes.source) (g.I.Source.reads c.next_byte.new.source)
-          taken.1 c.bytes.invariant.count c.next_byte.ensures.counted;
+      notes = line_byte_read g.I.Source.note (g.I.Source.noted c.args.source.now) (g.I.Source.noted c.bytes.source) (g.I.Source.noted c.next_byte.new.source) (g.O.Sink.written c.args.out.now) c.bytes.self.line c.take.new.self.line c.in-Ok-Some.byte taken.1 c.bytes.invariant.notes c.next_byte.ensures.called;
     }
