@@ -92,7 +92,7 @@ fn names_of<'a>(command: &Command<'a>) -> Names<'a>
     }
 }
 
-// What a log that is made of another is refused for by its name.
+// Refuses a NEW that has the name of LOG.
 fn name_refusal(log: &str, new: &str) -> Option<Refusal>
     ensures { result ≡ name_refusal (bytes_eq log.now new.now) }
 {
@@ -222,7 +222,7 @@ fn answer_to<S: StoreExt>(
     }
 }
 
-// Does what a command asks for, if it records nothing and reads no commands.
+// Finds the answer of a command that records nothing and reads no commands, and saves and prints it.
 fn reply<S: StoreExt, O: SinkExt, X: SinkExt>(
     alloc: Global,
     command: &Command,
@@ -329,7 +329,7 @@ pub fn perform<S: Store, I: Source<O>, O: Sink, X: Sink>(
     }
 }
 
-// Does what a command asks for. Only a recording without a seed may wait.
+// Does a recording without a seed here, which alone may wait for threads, and any other command by `perform`.
 fn attempt<S: Store, I: Source<O>, O: Sink, X: Sink, G: Gate, R: Threads + Wait + Sync>(
     rt: &R,
     alloc: Global,
@@ -374,7 +374,7 @@ fn words_refusal(error: WordsError) -> Refusal
     }
 }
 
-// Reads the words, and does what they ask for. Each error ends here: it is told, and gives the status.
+// Reads the words, and does what they ask for. Each error ends here: its line is written to err, and gives the status.
 fn obey<S: Store, I: Source<O>, O: Sink, X: Sink, G: Gate, R: Threads + Wait + Sync>(
     rt: &R,
     alloc: Global,
