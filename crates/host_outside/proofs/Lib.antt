@@ -1,1 +1,2 @@
 mod AtEnd
+mod Tries

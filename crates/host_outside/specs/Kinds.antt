@@ -4,7 +4,7 @@ use Rattle.std.specs.Fs.{metadata_mode, file_type, IsFile}
 use Rattle.std.specs.IoError.{error_kind}
 use Rattle.std.specs.declared.fs.attrs.Metadata.{Metadata}
 use Rattle.std.specs.declared.io.Error.{Error}
-use Rattle.std.specs.declared.io.ErrorKind.TheVariants.{NotFound}
+use Rattle.std.specs.declared.io.ErrorKind.TheVariants.{NotFound, OutOfMemory}
 
 -- a device of characters or a pipe, as a terminal: it keeps nothing that a save could destroy
 abbrev pub IsStream : Metadata → Type 0
@@ -17,3 +17,7 @@ IsRegular metadata = IsFile (file_type metadata)
 -- a look for a file found none
 abbrev pub IsMissing : {T : Type 0} → Result T Error → Type 0
 IsMissing found = IsErrAnd found (λ e. error_kind e ≡ NotFound)
+
+-- a try to open a file ran out of memory
+abbrev pub IsWanting : {T : Type 0} → Result T Error → Type 0
+IsWanting found = IsErrAnd found (λ e. error_kind e ≡ OutOfMemory)

@@ -1,8 +1,8 @@
 //! The files of the system as a store.
-ghost use Rattle.std.specs.Prelude.{◌≡◌, ◌≤◌, ◌↔◌, None, Err, IfOk, IsFalse, vec_len};
+ghost use Rattle.std.specs.Prelude.{◌≡◌, ◌≤◌, ◌↔◌, None, Ok, Err, IfOk, IsFalse, OnOk, vec_len};
 ghost use Rattle.std.specs.List.{Contains};
-ghost use Rattle.host_outside.specs.Answers.{FileTells};
-ghost use Rattle.host_outside.specs.Kinds.{IsMissing};
+ghost use Rattle.host_outside.specs.Answers.{AnswersSomeTry, AnswersTry, FileTells, OpensToLoad, WroteSome};
+ghost use Rattle.host_outside.specs.Kinds.{IsMissing, IsWanting};
 ghost use Rattle.host_outside.specs.declared.spared_files.FileId.{FileId as AnyFile};
 
 use crate::limits::most_bytes;
@@ -14,7 +14,7 @@ use crate::spared_files::SparedFiles;
 use crate::streams::ReaderSource;
 use bn_outside::{LoadError, ReadError, SaveError, Store, read_to_end};
 use std::alloc::Global;
-use std::fs::Files;
+use std::fs::{Files, Metadata};
 use std::io::{ErrorKind, Read};
 use std::{fs, io};
 
@@ -71,8 +71,7 @@ fn open_to_load<F: Drop>(
     opened: io::Result<Opened<F>>,
     spared: &mut SparedFiles,
 ) -> Result<Opened<F>, LoadError>
-    ensures missing { (result ≡ Err LoadError.Missing) ↔ IsMissing opened }
-    ensures remembered { IfOk result (λ opened. IsFalse opened.is_stream → Contains spared.new opened.id) }
+    ensures told { OpensToLoad spared.new opened result }
     ensures kept { (id : AnyFile) → Contains spared.old id → Contains spared.new id }
 {
     match opened {
@@ -105,6 +104,23 @@ fn read_file<F: Read + Drop>(
     }
 }
 
+// Loads what a try to open a file gave, and remembers the file.
+fn load_opened<F: Read + Drop>(
+    alloc: Global,
+    opened: io::Result<Opened<F>>,
+    limit: usize,
+    spared: &mut SparedFiles,
+) -> Result<Vec<u8>, LoadError>
+    ensures bound { IfOk result (λ bytes. vec_len bytes ≤ limit) }
+    ensures told { AnswersTry F.remaining limit spared.new opened result }
+    ensures kept { (id : AnyFile) → Contains spared.old id → Contains spared.new id }
+{
+    match open_to_load(opened, spared) {
+        Ok(open) => read_file(alloc, open, spared, limit),
+        Err(error) => Err(error),
+    }
+}
+
 // Loads a file, and remembers it.
 fn load_file<R: Files>(
     rt: &R,
@@ -114,10 +130,10 @@ fn load_file<R: Files>(
     spared: &mut SparedFiles,
 ) -> Result<Vec<u8>, LoadError>
     ensures bound { IfOk result (λ bytes. vec_len bytes ≤ limit) }
+    ensures told { AnswersSomeTry R.File.remaining limit spared.new result }
     ensures kept { (id : AnyFile) → Contains spared.old id → Contains spared.new id }
 {
-    let open = open_to_load(open_to_read(rt, name), spared)?;
-    read_file(alloc, open, spared, limit)
+    load_opened(alloc, open_to_read(rt, name), limit, spared)
 }
 
 // Whether the system lets this process make a file so long. A write past its limit would end the process by a
@@ -133,15 +149,16 @@ fn has_room<R: Files>(rt: &R, name: &str, length: usize) -> bool {
     }
 }
 
-// Opens a file to be saved, unless it is one that was loaded or saved. It isn't emptied.
-fn open_to_save<R: Files>(
-    rt: &R,
-    name: &str,
+// A file that was opened to be saved, unless it is one that was loaded or saved.
+fn open_to_save<F: Drop>(
+    opened: io::Result<Opened<F>>,
     spared: &SparedFiles,
-) -> Result<Opened<R::File>, SaveError>
-    ensures spared { IfOk result (λ opened. Contains spared.now opened.id → ⊥) }
+) -> Result<Opened<F>, SaveError>
+    ensures spared { IfOk result (λ o. Contains spared.now o.id → ⊥) }
+    ensures wanting { (result ≡ Err SaveError.OutOfMemory) ↔ IsWanting opened }
+    ensures others { IfOk opened (λ o. (Contains spared.now o.id → ⊥) → result ≡ Ok o) }
 {
-    match open_to_write(rt, name, &save_options()) {
+    match opened {
         Ok(open) => {
             if spared.has(open.id) {
                 return Err(SaveError::Failed);
@@ -152,15 +169,19 @@ fn open_to_save<R: Files>(
     }
 }
 
-// Saves a file under a name that none has.
+// Saves a file under a name that none has, as two looks for one told. No other file may lose its name so.
 fn save_new<R: Files>(
     rt: &R,
     alloc: Global,
     name: &str,
+    found: &io::Result<Metadata>,
+    at_end: &io::Result<Metadata>,
     bytes: &[u8],
     spared: &mut SparedFiles,
 ) -> Result<(), SaveError>
-    ensures { (id : AnyFile) → Contains spared.old id → Contains spared.new id }
+    requires { IsMissing found.now × IsMissing at_end.now }
+    ensures saved { OnOk result (WroteSome R.File.contents bytes.now spared.new) }
+    ensures kept { (id : AnyFile) → Contains spared.old id → Contains spared.new id }
 {
     match make_beside(rt, alloc, name) {
         Ok(fresh) => put(rt, fresh, name, bytes, spared),
@@ -178,7 +199,8 @@ fn save_over<R: Files>(
     spared: &mut SparedFiles,
 ) -> Result<(), SaveError>
     requires { Contains spared.old open.id → ⊥ }
-    ensures { (id : AnyFile) → Contains spared.old id → Contains spared.new id }
+    ensures saved { OnOk result (WroteSome R.File.contents bytes.now spared.new) }
+    ensures kept { (id : AnyFile) → Contains spared.old id → Contains spared.new id }
 {
     match make_like(rt, alloc, &open, name) {
         Ok(Some(fresh)) => put_over(rt, fresh, name, open.id, bytes, spared),
@@ -195,19 +217,19 @@ fn save_file<R: Files>(
     bytes: &[u8],
     spared: &mut SparedFiles,
 ) -> Result<(), SaveError>
-    ensures { (id : AnyFile) → Contains spared.old id → Contains spared.new id }
+    ensures saved { OnOk result (WroteSome R.File.contents bytes.now spared.new) }
+    ensures kept { (id : AnyFile) → Contains spared.old id → Contains spared.new id }
 {
     if !has_room(rt, name, bytes.len()) {
         return Err(SaveError::Failed);
     }
     let end = end_of_links(rt, alloc, name)?;
-    if is_free(
-        &fs::metadata(rt, name),
-        &fs::symlink_metadata(rt, end.as_str()),
-    ) {
-        return save_new(rt, alloc, end.as_str(), bytes, spared);
+    let found = fs::metadata(rt, name);
+    let at_end = fs::symlink_metadata(rt, end.as_str());
+    if is_free(&found, &at_end) {
+        return save_new(rt, alloc, end.as_str(), &found, &at_end, bytes, spared);
     }
-    let open = open_to_save(rt, name, spared)?;
+    let open = open_to_save(open_to_write(rt, name, &save_options()), spared)?;
     save_over(rt, alloc, open, end.as_str(), bytes, spared)
 }
 

@@ -1,5 +1,5 @@
 //! Open files, and what they are.
-ghost use Rattle.std.specs.Prelude.{◌↔◌, IfOk, IsFalse, IsTrue, OnOk};
+ghost use Rattle.std.specs.Prelude.{◌≡◌, ◌↔◌, IfOk, IsFalse, IsTrue, OnOk};
 ghost use Rattle.std.specs.Fs.{asks_truncate};
 ghost use Rattle.std.specs.List.{Contains};
 ghost use Rattle.host_outside.specs.declared.spared_files.FileId.{FileId as AnyFile};
@@ -25,6 +25,7 @@ impl<F> Opened<F> {
     pub fn remember(&self, spared: &mut SparedFiles) -> Result<(), AllocError>
         ensures remembered { OnOk result (IsFalse self.now.is_stream → Contains spared.new self.now.id) }
         ensures kept { (id : AnyFile) → Contains spared.old id → Contains spared.new id }
+        ensures stream { IsTrue self.now.is_stream → spared.new ≡ spared.old }
     {
         if self.is_stream {
             return Ok(());

@@ -7,6 +7,7 @@
 ghost use Rattle.std.specs.Prelude.{◌≡◌, ◌↔◌, IfOk, OnOk, OnSome, IsFalse, IsTrue};
 ghost use Rattle.std.specs.List.{Contains};
 ghost use Rattle.std.specs.Io.KnownBytes.{Appends};
+ghost use Rattle.host_outside.specs.Answers.{WroteSome};
 ghost use Rattle.host_outside.specs.Kinds.{IsMissing, IsRegular};
 ghost use Rattle.host_outside.specs.declared.spared_files.FileId.{FileId as AnyFile};
 
@@ -219,6 +220,7 @@ pub fn put<R: Files>(
     spared: &mut SparedFiles,
 ) -> Result<(), SaveError>
     ensures remembered { OnOk result (Contains spared.new fresh.open.id) }
+    ensures saved { OnOk result (WroteSome R.File.contents bytes.now spared.new) }
     ensures kept { (id : AnyFile) → Contains spared.old id → Contains spared.new id }
 {
     let mut fresh = fresh;
@@ -240,6 +242,7 @@ pub fn put_over<R: Files>(
 ) -> Result<(), SaveError>
     requires { Contains spared.old old → ⊥ }
     ensures remembered { OnOk result (Contains spared.new fresh.open.id) }
+    ensures saved { OnOk result (WroteSome R.File.contents bytes.now spared.new) }
     ensures kept { (id : AnyFile) → Contains spared.old id → Contains spared.new id }
 {
     put(rt, fresh, name, bytes, spared)
@@ -268,6 +271,7 @@ pub fn overwrite<F: OpenFile + Write>(
     requires { Contains spared.old open.old.id → ⊥ }
     ensures written { OnOk result (Appends (F.contents open.old.file) (F.contents open.new.file) bytes.now) }
     ensures remembered { OnOk result (IsFalse open.old.is_stream → Contains spared.new open.old.id) }
+    ensures saved { OnOk result (WroteSome F.contents bytes.now spared.new) }
     ensures kept { (id : AnyFile) → Contains spared.old id → Contains spared.new id }
 {
     open.remember(spared)?;

@@ -42,7 +42,7 @@ impl KeptWords {
     ghost use Rattle.vector_time.specs.Times.{count_of};
     ghost use Rattle.race_log.specs.Words.{page_of, place_of, kept_in, kept_now, kept_of_slot, epoch_counts, present_counts, has_epoch, has_room, HasPages, HasRoom, KeepsAccess, AreAllUsed, IsAsLarge, MakesPages, size_of};
     ghost use Rattle.race_log.specs.Kept.{Replaces};
-    ghost use Rattle.race_log.specs.Slots.{slots_of, is_settled};
+    ghost use Rattle.race_log.specs.Slots.{slots_of, is_settled, marks_in};
 
     /// Keeps nothing.
     pub fn new(alloc: Global, harts: HartId) -> Result<KeptWords, AllocError>
@@ -51,6 +51,7 @@ impl KeptWords {
         ensures none { IfOk result (λ k. (w : ℕ) → kept_in k w ≡ []) }
         ensures counts { IfOk result (λ k. (epoch h : ℕ) → epoch_counts k.epochs epoch h ≡ 0) }
         ensures pages { IfOk result (λ k. k.pages.items ≡ []) }
+        ensures limit { IfOk result (λ k. k.limit ≡ 1024) }
     {
         let epochs = Epochs::new(alloc)?;
         Ok(KeptWords {
@@ -136,6 +137,8 @@ impl KeptWords {
         ensures room { IsTrue (has_epoch self.old.epochs) → IsTrue (has_epoch self.new.epochs) }
         // If an epoch can begin only by growth, the table is below its limit.
         ensures growth { AreAllUsed self.new.epochs → length self.new.epochs.table.items < self.new.limit }
+        // Below the limit nothing is looked through.
+        ensures early { length self.old.epochs.table.items < self.old.limit → (self.new.limit ≡ self.old.limit) × (self.new.epochs.table ≡ self.old.epochs.table) }
     {
         if self.epochs.is_full() && self.epochs.len() >= self.limit {
             self.free_epochs();
@@ -151,7 +154,7 @@ impl KeptWords {
         ensures counts { (epoch h : ℕ) → epoch_counts self.new.epochs epoch h ≡ epoch_counts self.old.epochs epoch h }
         ensures present { self.new.epochs.present ≡ self.old.epochs.present }
         ensures start { self.new.epochs.next ≡ 0 }
-        ensures limit { self.new.limit ≤ 2 * length self.new.epochs.table.items + 8 * length self.new.pages.items }
+        ensures limit { self.new.limit ≡ 2 * marks_in self.new.epochs.table.items + 8 * length self.new.pages.items }
         ensures growth { AreAllUsed self.new.epochs → length self.new.epochs.table.items < self.new.limit }
     {
         self.epochs.begin_marks();

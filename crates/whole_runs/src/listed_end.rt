@@ -1,11 +1,10 @@
 //! The end of a run whose harts ran in threads on a listed bus, once all threads have ended.
-ghost use Rattle.std.specs.Prelude.{◌≡◌, ◌++◌, ◌⊎◌, true, false, List, length, is_err, IfOk, OnOk};
+ghost use Rattle.std.specs.Prelude.{◌≡◌, true, false, List, length, is_err, IfOk, OnOk};
 ghost use Rattle.std.specs.List.{list_any};
 ghost use Rattle.bn_outside.specs.declared.turn_row.TurnRow.{TurnRow};
 ghost use Rattle.run_model.specs.Runs.{seeded};
 ghost use Rattle.bus_core.specs.Bus.{began_of};
 ghost use Rattle.whole_runs.specs.Closed.{IsOfRows};
-ghost use Rattle.whole_runs.specs.Lists.{seeded_after};
 ghost use Rattle.whole_runs.specs.Taking.{kept_with, Finishes, ContinuesBySeed0, IsClosedBy};
 
 use crate::listed::Listed;
@@ -71,7 +70,7 @@ pub fn finish_listed<J: Beginning, B: Book>(
     ensures found { OnOk result ((list_any is_err worked.now ≡ false) × (own.out_of_memory ≡ false)) }
     ensures run { IfOk result (λ run. IsClosedBy B.tells (began_of from.now) J.keeps run.closed run.list.items (B.told run.closed.book)) }
     ensures of_rows { IfOk result (λ run. (rows : List TurnRow) × IsOfRows (began_of from.now) run.closed rows) }
-    ensures by_seed { J.keeps ≡ true → IfOk result (λ run. (run.list.items ≡ seeded from.now.settings from.now.image from.now.input.items 0) ⊎ (run.list.items ≡ own.list ++ seeded_after (began_of from.now) own.list 0)) }
+    ensures again { own.bus.halted ≡ true → IfOk result (λ run. run.list.items ≡ seeded from.now.settings from.now.image from.now.input.items 0) }
     ensures keeps { own.bus.halted ≡ false → IfOk result (λ run. ContinuesBySeed0 B.tells (began_of from.now) own run.closed run.list.items (B.told run.closed.book)) }
 {
     if any_failed(worked) {

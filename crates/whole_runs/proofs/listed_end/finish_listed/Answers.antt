@@ -1,4 +1,4 @@
-use Rattle.std.proofs.Common.{◌≡◌, ◌∙◌, ◌++◌, ℕ, List, true, false, sym, ap, subst, inr}
+use Rattle.std.proofs.Common.{◌≡◌, ◌∙◌, ◌++◌, ℕ, List, true, false, sym, ap, subst}
 use Rattle.std.specs.Prelude.{Result, Ok, Err, OnOk, is_err}
 use Rattle.std.specs.List.{list_any}
 use Rattle.bus_core.specs.Bus.{Began, Seen, began_of}
@@ -37,19 +37,13 @@ returns-clause-keeps g c = λ running.
     let is : true ≡ false = sym closed.finished ∙ c.if-closed.false in
     absurd (cc)
 
-pub returns-then-closed-clause-by_seed : goal.returns-then-closed-clause-by_seed
-returns-then-closed-clause-by_seed g c = λ asked.
+pub returns-then-closed-clause-again : goal.returns-then-closed-clause-again
+returns-then-closed-clause-again g c = λ halted.
     let own = c.own.inside in
-    let e = c.in_ok-list.ensures.finished in
-    let more = e.more in
     let running : own.bus.halted ≡ false = sym c.finish_kept.ensures.halted ∙ c.close-closed.ensures.running c.if-closed.true in
-    let some = c.own.invariant.some running in
-    let list = some.0 in
-    let began = c.own.invariant.began ∙ sym c.requires.began in
-    let all = kept_all own.keeps g.J.Beginning.keeps own.list.items c.in_ok-list.list.items list more c.own.invariant.same e.kept some.1.kept_is asked in
-    let before = ap (λ (s : Taking). s.list) (sym c.own.view_is) ∙ some.1.kept_is (c.own.invariant.same ∙ asked) in
-    let chosen = subst (λ (b : Began). more ≡ seeded_after b list 0) began (e.chosen list some.1.taken) in
-    inr (as_chosen (began_of c.args.from.now) list c.args.own.list more c.in_ok-list.list.items before all chosen)
+    let here : own.bus.halted ≡ true = ap (λ (s : Taking). s.bus.halted) c.own.view_is ∙ halted in
+    let is : true ≡ false = sym here ∙ running in
+    absurd (cc)
 
 pub returns-then-closed-clause-of_rows : goal.returns-then-closed-clause-of_rows
 returns-then-closed-clause-of_rows g c =

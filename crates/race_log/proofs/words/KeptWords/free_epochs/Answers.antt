@@ -1,6 +1,6 @@
 use Rattle.std.proofs.Common.{◌≡◌, ◌∙◌, arith, sym, ap, subst, length, IsTrue, Some, slice_get, slice_index, inl, inr}
 use Rattle.std.proofs.lemmas.Bool.{cases_eq}
-use Rattle.race_log.specs.Slots.{is_marked, slots_of, slots_in}
+use Rattle.race_log.specs.Slots.{is_marked, marks_in, slots_of, slots_in}
 use Rattle.race_log.specs.Words.{epoch_of, size_of}
 use Rattle.race_log.specs.Sweep.{sum_below}
 use Rattle.race_log.proofs.PagesLemmas.{page_at, slot_low}
@@ -78,8 +78,9 @@ invariant_of-self-3 c =
 
 pub returns-clause-limit : goal.returns-clause-limit
 returns-clause-limit c =
-    let size = ap (λ t. length t.items) c.restart.ensures.table in
-    omega (arith, c.saturating_add-self.ensures, c.saturating_mul.ensures, c.saturating_add.ensures, c.used-used.ensures.most, size, c.len.ensures, c.loop-number.self.pages.ok)
+    let mid = c.loop-number.self in
+    let marks = ap (λ t. marks_in t.items) c.restart.ensures.table in
+    omega (arith, c.saturating_add-self.ensures, c.saturating_mul.ensures, c.saturating_add.ensures, c.used-used.ensures.value, c.used-used.ensures.most, marks, mid.epochs.few, mid.few_pages, c.len.ensures, mid.pages.ok)
 
 pub returns-clause-growth : goal.returns-clause-growth
 returns-clause-growth c = λ all.

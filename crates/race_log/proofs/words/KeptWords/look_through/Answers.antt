@@ -1,4 +1,4 @@
-use Rattle.std.proofs.Common.{rules, arith}
+use Rattle.std.proofs.Common.{rules, arith, ap, length, refl}
 use Rattle.race_log.proofs.SizeLemmas.{not_all_used}
 use Rattle.race_log.proofs.words.KeptWords.look_through.Goals.{else-is_full-via-then-is_full+else-len-self, else-is_full-via-else-is_full}
 use Rattle.race_log.proofs.words.KeptWords.look_through.Goals as goal
@@ -23,6 +23,14 @@ returns-then-len-self-clause-room c = search rules
 
 pub returns-then-len-self-clause-growth : goal.returns-then-len-self-clause-growth
 returns-then-len-self-clause-growth c = search rules
+
+pub returns-then-len-self-clause-early : goal.returns-then-len-self-clause-early
+returns-then-len-self-clause-early c = λ low.
+    let size = ap (λ t. length t.items) c.is_full.ensures.table in
+    absurd (omega (arith, low, size, c.if-len-self.true, c.len.ensures, c.is_full.new.self.table.ok))
+
+pub returns-else-is_full-clause-early : goal.returns-else-is_full-clause-early
+returns-else-is_full-clause-early c = λ low. (refl, c.is_full.ensures.table)
 
 pub returns-else-is_full-clause-harts : goal.returns-else-is_full-clause-harts
 returns-else-is_full-clause-harts c = search rules
