@@ -31,7 +31,8 @@ class Analysis(Facts):
         self.file = source
         recursion = find_recursion(trace, self.start)
         loop = self.starts[0 if self.hangs else 1:] + [n for n in recursion.given if n != self.start]
-        self.history = History(trace, self.starts + loop, control=Control(trace, elf),
+        entered = {one.hart: one.first for one in self.loops}
+        self.history = History(trace, self.starts + loop, control=Control(trace, elf, entered),
                                is_output=output is not None, hangs=self.hangs)
         self.races = race_pairs(log, elf)
         self.lines = self.history.lines(self.places)

@@ -14,6 +14,7 @@ from .suspect import Extra, Suspect
 from .text import number
 
 EQUAL, RARE_WAY, CUT, ROUND = 10, 4, 8, 6   # what these signs are worth
+SAME_LINE = 1               # what a branch costs more that only decided of its own line, as the parts of a condition do
 ENTRY = 12                  # what a branch of the code that sets up a hart costs more
 EXIT, INNER = 5, 4          # a loop's exit, and each call that it is deeper than the outermost one
 MOST = 40                   # branches that are looked at
@@ -51,6 +52,8 @@ def branch_suspects(facts: Facts, history: History) -> list[Suspect]:
         judge_way(suspect, way)
         if way.all_times == 1 and not facts.trace.node_of(row) and not facts.trace.is_cut(row):
             suspect.sign(-ENTRY, "it ran once, before any call")
+        if facts.line(decided.row) == line:
+            suspect.score += SAME_LINE
         suspect.extra.append(Extra(BEFORE[decided.how], decided.row))
     return list(found.values())
 

@@ -4,7 +4,7 @@ A row depends on the nearest branch before it, in its function or in those that 
 function can end without coming to the row's place. The code is read from the ELF file as far as it can be reached."""
 from __future__ import annotations
 
-from typing import Callable, Optional
+from typing import Callable, Mapping, Optional
 
 from .elf import Elf
 from .instruction import BRANCH, JUMP, Instruction
@@ -15,8 +15,10 @@ MOST_ROWS = 2000            # so many rows are looked at for a branch
 
 
 class Control:
-    def __init__(self, trace: Trace, elf: Elf) -> None:
-        self.trace, self.elf = trace, elf
+    """entered  {hart: the first row of the loop that it never left}: what decided of it stands before it"""
+
+    def __init__(self, trace: Trace, elf: Elf, entered: Mapping[int, int] = {}) -> None:
+        self.trace, self.elf, self.entered = trace, elf, entered
         self.code: dict[int, Optional[Instruction]] = {ins.pc: ins for ins in trace.codes}
         self.ways: dict[tuple[int, int], bool] = {}
         self.call_of = self.matched()
@@ -36,7 +38,10 @@ class Control:
     def before(self, row: int) -> int:
         """The branch that decided that a row was reached, or 0."""
         trace, hart = self.trace, self.trace.hart[row]
-        place, after, n = trace.code_of(row).pc, row, row - 1
+        # A loop that waits for other harts hasn't its reason in what this one did.
+        first = self.entered.get(hart, row) if len(trace.last) == 1 else row
+        place, after = trace.code_of(row).pc, min(row, first)
+        n = after - 1
         for _ in range(MOST_ROWS):
             if n <= 0:
                 break
@@ -90,18 +95,20 @@ class Control:
             self.code[pc] = None if word is None else Instruction(-1, b"%08x %08x ?" % (pc, word))
         return self.code[pc]
 
-    def kept(self, load: int, store: int) -> int:
-        """The latest branch between a store and the load that got it which went past the store's place: had it gone the
-        other way, the word would have been stored again. Or 0."""
-        return self.passed(store, load, self.is_past) if self.trace.hart[store] == self.trace.hart[load] else 0
+    def kept(self, load: int, store: int, place: int = 0) -> int:
+        """The latest branch between a store and the load that got it which went past a place, or else the store's own, or 0.
+        Had it gone the other way, the word would have been stored again."""
+        if self.trace.hart[store] != self.trace.hart[load]:
+            return 0
+        return self.passed(store, load, place or self.trace.code_of(store).pc, self.is_past)
 
     def left(self, store: int) -> int:
         """The latest branch of a store's hart from which it could have come to the store again, and can't since. Or 0."""
-        return self.passed(store, self.trace.last[self.trace.hart[store]], self.is_left)
+        return self.passed(store, self.trace.last[self.trace.hart[store]], self.trace.code_of(store).pc, self.is_left)
 
-    def passed(self, store: int, end: int, has_passed: Callable[[int, int, int], bool]) -> int:
+    def passed(self, store: int, end: int, place: int, has_passed: Callable[[int, int, int], bool]) -> int:
         trace, hart = self.trace, self.trace.hart[store]
-        place, after = trace.code_of(store).pc, end
+        after = end = min(end, max(store, self.entered.get(hart, end)))
         for n in range(end - 1, max(store, end - MOST_ROWS), -1):
             if trace.hart[n] == hart:
                 if trace.code_of(n).kind == BRANCH and has_passed(n, trace.code_of(after).pc, place):

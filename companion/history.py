@@ -19,6 +19,7 @@ FILLED = 4                  # a step to where the words beside a word were store
 DECISION = 14               # a branch before the row
 DECIDING_ROWS, MOST_BRANCHES = 300, 24
 CONTROL, OUTPUT_CONTROL, NEXT_CONTROL = 12, 8, 4    # the branch that decided of a row; of a row of an output; of a branch
+MOST_GIVERS = 8             # places that stored what a load loads, of which it is asked if a branch went past them
 MOST_CONTROL, MOST_KEPT, MOST_FILLED = 2000, 400, 4  # how often it is asked what decided of a row
 DEAREST_CONTROL, DEAREST_FILLED, KEPT_ROWS = 40, 6, 50
 AWAITED, NEAR_LOOP = 4, 3   # the branch by which another hart didn't store what a loop waits for
@@ -75,9 +76,10 @@ class History:
              run's start"""
 
     def __init__(self, trace: Trace, starts: Sequence[int], most: int = MOST_ROWS, control: Optional[Control] = None,
-                 is_output: bool = False, hangs: bool = False) -> None:
+                 is_output: bool = False, hangs: bool = False, control_cost: int = 0) -> None:
         """`starts` are the rows that are asked of; the first is the one that the report is about. With `control` the
-        branches that decided of the rows are followed too. `hangs` says that the starts are of a loop without end."""
+        branches that decided of the rows are followed too, at `control_cost` or else the usual one. `hangs` says that the
+        starts are of a loop without end."""
         self.trace, self.start, self.most = trace, starts[0], most
         self.cost: dict[int, int] = {}
         self.parent: dict[int, Step] = {}
@@ -88,7 +90,7 @@ class History:
         self.asked = self.kept = self.filled = 0
         self.address = OUTPUT_ADDRESS if is_output else ADDRESS
         self.hangs = hangs
-        self.control, self.control_cost = control, OUTPUT_CONTROL if is_output else CONTROL
+        self.control, self.control_cost = control, control_cost or (OUTPUT_CONTROL if is_output else CONTROL)
         self.cut = False
         self.left: set[Left] = set()
         self.heap: list[tuple[int, int, int]] = []
@@ -200,7 +202,9 @@ class History:
             self.awaited(n, writer, price)
             if self.control and price <= DEAREST_CONTROL and n - writer >= KEPT_ROWS and cost > price and self.kept < MOST_KEPT:
                 self.kept += 1
-                self.decide(self.control.kept(n, writer), Decided(price + self.control_cost, n, "kept"))
+                for at in sorted({self.trace.pc[writer], *self.trace.givers(n)})[:MOST_GIVERS]:
+                    branch = self.control.kept(n, writer, self.trace.codes[at].pc)
+                    self.decide(branch, Decided(price + self.control_cost, n, "kept"))
         if rest:
             self.before.append(n)
             self.leave(n, price, NO_REGISTER)

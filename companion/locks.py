@@ -5,16 +5,18 @@ guards: that shows in what is held at their accesses."""
 from __future__ import annotations
 
 from collections import Counter
-from typing import Iterable, NamedTuple
+from typing import Iterable, Mapping, NamedTuple
 
 from .facts import Facts
 from .history import History
 from .instruction import AMO
 from .rows import LOADS, STORES, Trace
 from .suspect import Extra, Suspect
+from .text import number
 
 LEAST, RARE = 3, 3          # how often a guarded word is accessed with its lock at least, and how much rarer without
 UNLOCKED = 12
+CIRCLE, MOST_TIMES = 12, 1000
 
 
 class Held(NamedTuple):
@@ -76,7 +78,8 @@ def unlocked(facts: Facts, history: History) -> list[Suspect]:
             word = trace.access(n).address & ~3
             nearest[word] = min(price, nearest.get(word, price))
     found = []
-    for word, held in accesses(trace, nearest).items():
+    locks = {address for _, address, _ in setting(trace)}
+    for word, held in accesses(trace, set(nearest) - locks).items():
         lock, times = max(Counter(lock for each in held for lock in each.locks).items(), key=lambda item: item[1],
                           default=(word, 0))
         harts: set[int] = set()
@@ -89,6 +92,52 @@ def unlocked(facts: Facts, history: History) -> list[Suspect]:
         if lock != word and bare and times >= LEAST and times >= RARE * len(bare):
             found.append(suspect_of(facts, (stores or bare)[-1], bare, nearest[word]))
             found[-1].sign(UNLOCKED, f"{times} other accesses hold a lock, {facts.named.data_name(lock) or f'{lock:08x}'}")
+    return found
+
+
+class Wait(NamedTuple):
+    """A hart's latest try to take a lock that another holds, and the row by which it took the one that it holds itself."""
+    row: int
+    taken: int
+
+
+def circle(facts: Facts) -> list[Suspect]:
+    """Harts that wait for each other's locks, at the end of a run that hangs: first the one that waits where locks were
+    taken least often, since its order is the odd one."""
+    trace = facts.trace
+    if not facts.hangs or len(trace.last) < 2:
+        return []
+    holders: dict[int, int] = {}            # {lock: the row that took it last, if it is still held}
+    times: Counter[int] = Counter()         # how often a lock was taken in a call
+    for n, lock, is_set in setting(trace):
+        times[trace.node_of(n)] += is_set
+        if is_set:
+            holders[lock] = n
+        else:
+            holders.pop(lock, 0)
+    found = []
+    for wait in waits(trace, holders):
+        rows = times[trace.node_of(wait.row)]
+        suspect = Suspect("order", wait.row, wait.row, 0)
+        suspect.sign(CIRCLE - min(rows, MOST_TIMES) / MOST_TIMES,
+                     f"the harts wait for each other's locks; here a lock was taken {number(rows)} times")
+        suspect.extra.append(Extra("it holds the lock that it took in", wait.taken))
+        found.append(suspect)
+    return found
+
+
+def waits(trace: Trace, holders: Mapping[int, int]) -> list[Wait]:
+    """Those that are in a circle."""
+    latest: dict[int, int] = {}             # {hart: its last try}
+    for n, address in zip(trace.access_rows, trace.addresses):
+        if trace.code_of(n).kind == AMO and address in holders:
+            latest[trace.hart[n]] = n
+    wanted = {hart: trace.access(n).address for hart, n in latest.items() if trace.hart[holders[trace.access(n).address]] != hart}
+    found = []
+    for hart, lock in wanted.items():
+        other = trace.hart[holders[lock]]
+        if other in wanted and trace.hart[holders[wanted[other]]] == hart:
+            found.append(Wait(latest[hart], holders[wanted[other]]))
     return found
 
 

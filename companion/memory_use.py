@@ -41,14 +41,14 @@ class MemoryUse:
         if back:
             return self.used_after(item, back[-1], address)
         if self.blocks.is_over(loaded, address, item.load):
-            return self.over_the_end(item, loaded, "the load reads")
+            return self.over_the_end(item, loaded, False)
         if item.store < loaded.call:
             return self.unwritten(item, loaded)
         stored = self.blocks.behind(trace.d1[item.store], address)
         if stored is None:
             return []
         if self.blocks.is_over(stored, address, item.store):
-            return self.over_the_end(item, stored, "the store wrote")
+            return self.over_the_end(item, stored, True)
         if stored.giver == loaded.giver and stored.address == loaded.address and stored.call > loaded.call:
             return self.given_back(item, loaded, stored)
         return []
@@ -73,11 +73,13 @@ class MemoryUse:
             found.append(suspect)
         return found if len(found) <= MOST_TWICE else []
 
-    def over_the_end(self, item: Suspect, block: Block, words: str) -> list[Suspect]:
+    def over_the_end(self, item: Suspect, block: Block, is_stored_there: bool) -> list[Suspect]:
         """An access outside of its block. Its size is suspect, so what the giver was asked for has a history of its own."""
         if self.is_new("over", item.guilty, block.call):
-            item.sign(OVER_THE_END, f"{words} over the end of its block, into another")
+            what = "the store wrote" if is_stored_there else "the load reads"
+            item.sign(OVER_THE_END, f"{what} over the end of its block, into another")
             item.extra.append(Extra("that block was given out in", block.call))
+            item.misplaced = is_stored_there and not self.blocks.is_own(item.store)
             self.judge_bound(item)
         size = self.trace.jump_writer[self.trace.jump_at(block.call)]
         if not size or not self.is_new("size", size):
@@ -131,7 +133,30 @@ class MemoryUse:
         for suspect in found:
             if kept:
                 suspect.extra.append(Extra("the pointer is older: it comes from", kept))
+            self.add_holder(suspect, back)
+            self.add_user(suspect, item.load, back)
         return found
+
+    def add_user(self, suspect: Suspect, load: int, back: int) -> None:
+        """Tells who stored the pointer that was used, at a place that nobody cleared when its memory was given back."""
+        trace, n = self.trace, self.trace.d1[load]
+        while n and not trace.flags[n] & LOADS and trace.code_of(n).kind == ALU:
+            n = trace.d1[n]
+        store = next(iter(trace.writers(n).rows), 0) if trace.flags[n] & LOADS else 0
+        told = {self.facts.line(extra.row) for extra in suspect.extra}
+        if store and store < back and not trace.is_spill(n, store) and self.facts.line(store) not in told:
+            suspect.extra.append(Extra("the pointer that was used was stored in", store))
+
+    def add_holder(self, suspect: Suspect, back: int) -> None:
+        """Tells who stored the pointer that was given back: that copy of it may have been nobody's to give back."""
+        trace, at = self.trace, self.trace.jump_at(back)
+        n = trace.jump_writer[at] if at < len(trace.jumps) and trace.jumps[at] == back else 0
+        while n:
+            store = next(iter(trace.writers(n).rows), 0) if trace.flags[n] & LOADS else 0
+            if store and not trace.is_spill(n, store):
+                suspect.extra.append(Extra("the pointer that was given back was stored in", store))
+                return
+            n = trace.d2[store] if store else trace.d1[n] if trace.code_of(n).kind == ALU else 0
 
     def kept_pointer(self, load: int, back: int) -> int:
         """The row that a load's pointer comes from, as it was before a row: copies and spills of it are passed."""
@@ -155,8 +180,11 @@ class MemoryUse:
         """The block that the store used was handed out after the load's, and has the same memory."""
         rows = self.blocks.given_back(loaded, loaded.back, stored.call)
         if rows:
-            return self.suspect("back", item, rows[-1], GIVEN_BACK,
-                                "the memory was given back, given out again, and still used")
+            found = self.suspect("back", item, rows[-1], GIVEN_BACK,
+                                 "the memory was given back, given out again, and still used")
+            for suspect in found:
+                self.add_holder(suspect, rows[-1])
+            return found
         # Nobody gave it back between: it was given back twice before, and so given out twice.
         before = self.blocks.given_back(loaded, 0, loaded.call)
         if len(before) < 2:

@@ -21,6 +21,7 @@ from .text import number
 # A row's flags. OFFSET: the byte of its word. UNSTORED: no row stored what it loads. CHANGED: a `read` call did since the
 # last row. KEEPS: it stores what it loads, as a lock's spinning does.
 OFFSET, LOADS, STORES, UNSTORED, CHANGED, FAULTS, KEEPS = 3, 4, 8, 16, 32, 64, 128
+STORE_BITS = 0xffffffff     # of a pair, those that tell its store
 BESIDE = 64                 # how far from a word another is beside it
 READ_CALL, WRITE_CALL = b"0000003f", b"00000040"
 AT_ONCE = 1 << 12           # lines between two looks at the progress
@@ -140,6 +141,7 @@ class Trace:
         self.fault: Optional[Fault] = None
         self.regs: list[int] = []
         self.tree = CallTree(entries)
+        self.stores_of: dict[int, dict[int, int]] = {}      # {a load's code: {a store's code: how many rows}}
         self.writer_of: dict[int, int] = {}     # address of a word: its last writer's row
         self.held: dict[int, bytes] = {}        # address of a word: its value
         first = log.first_intervals()
@@ -376,6 +378,15 @@ class Trace:
             if self.addresses[at] & ~3 == address & ~3 and self.flags[self.access_rows[at]] & STORES:
                 return self.access_rows[at]
         return 0
+
+    def givers(self, load: int) -> dict[int, int]:
+        """The codes of the stores from which a load's instruction got its words, each with how often."""
+        if not self.stores_of:
+            for pair, times in self.pairs.items():
+                stores = self.stores_of.setdefault(pair >> 32, {})
+                if pair & STORE_BITS:
+                    stores[(pair & STORE_BITS) - 1] = times
+        return self.stores_of.get(self.pc[load], {})
 
     def calls_at(self, n: int) -> list[int]:
         """The places of all calls that a row is in, innermost first."""

@@ -23,6 +23,7 @@ class Suspect:
      "branch"    a branch that chose the way
      "exit"      one that would have ended a loop
      "unlocked"  an access without the lock that others hold
+     "order"     a wait for a lock of a hart that waits for one of this hart's
      "constant"  a constant that nothing changed
      "calls"     a function that keeps calling itself
     load, store  its rows; they are the same row if it has only one
@@ -30,6 +31,7 @@ class Suspect:
     extra        more rows that tell of it
     cost, score  how far from the fault it is, and that less what its signs are worth
     why          the signs, in words
+    misplaced    whether it stored in a place of something else
     rows         how many pairs of rows are of the same two lines
     shown        whether the report shows it"""
 
@@ -38,7 +40,7 @@ class Suspect:
         self.cost, self.score = cost, float(cost)
         self.why: list[str] = []
         self.extra: list[Extra] = []
-        self.rows, self.shown = 1, True
+        self.rows, self.shown, self.misplaced = 1, True, False
 
     def sign(self, worth: float, words: str) -> None:
         self.score -= worth

@@ -16,17 +16,21 @@ from .branches import branch_suspects, exit_suspects
 from .facts import At, Facts
 from .history import ADDRESS, History, Pair
 from .instruction import ALU, AMO, SP, STORE
-from .locks import unlocked
+from .locks import circle, unlocked
 from .lost import lost_alignment, lost_bits, narrowings
 from .memory_use import MemoryUse
 from .suspect import Suspect, rank
 from .text import counted, number
 
 OTHER_HART, NARROW, RACE, OTHER_FUNCTION, RARITY = 8, 12, 6, 3, 5
-COMMON, COMMON_ROWS = 4, 8   # what a near store is worth less that a load always got, if it ran so often
+COMMON, COMMON_ROWS = 10, 8   # what a near store is worth less that a load always got, if it ran so often
 CLOSES, CLOSE = 8, 3        # the store that closed a circle, and how near to the loop its load is
 CONSTANT = 2                # what a constant is worth less
-AGAIN = 6                   # what a suspect costs more whose line another suspect tells of
+AGAIN, NOTHING_NEW = 6, 40  # what a suspect costs more whose line another tells, and if it tells no new line at all
+MOST_COMPARED = 40          # suspects whose lines are compared
+FIRST_ONES, PLACE_ROWS = 3, 2000    # suspects whose stores' addresses are asked of, and rows of such a history
+MOST_FOR_PLACE = 6          # what the store's own signs are worth to these at most
+GUARD, BEHIND_PLACE = 2, 3  # what the branch before such a store costs, and what all costs more than the store
 SYMPTOM = 8                 # a stack that has grown into data is a consequence of its depth
 NEAR_STORE = 6              # what a near store is worth less
 MOST_LOOKED_AT = 60         # pairs of loads and stores whose rows are read
@@ -39,21 +43,57 @@ class Ranking:
     def __init__(self, facts: Facts, history: History, races: Sequence[frozenset[At]], recursion: list[Suspect],
                  loop: Sequence[int]) -> None:
         """`recursion` is suspects that are known, and `loop` the rows that a loop or a recursion follows."""
-        self.trace, self.places = facts.trace, facts.places
+        self.facts, self.trace, self.places = facts, facts.trace, facts.places
         self.history, self.races, self.is_recursive, self.loop = history, set(races), bool(recursion), set(loop)
         self.loads: dict[int, int] = {}         # a load's code: how many rows
         for pair, times in self.trace.pairs.items():
             self.loads[pair >> 32] = self.loads.get(pair >> 32, 0) + times
-        stores = sorted(self.stores(), key=rank)
+        stores = sorted(self.stores(history), key=rank)
         memory = MemoryUse(facts, history)
         found = [suspect for item in stores[:MOST_LOOKED_AT] for suspect in memory.judge(item)]
         found += memory.given_back_twice() + lost_bits(facts, history, narrowings(self.trace, history))
         found += lost_alignment(facts, history) + branch_suspects(facts, history) + exit_suspects(facts)
-        found += unlocked(facts, history) + constants(facts, history)
-        self.found = self.once(sorted(stores + found + recursion, key=rank))
+        found += unlocked(facts, history) + circle(facts) + constants(facts, history)
+        found = sorted(stores + found + recursion, key=rank)
+        self.found = self.once(sorted(found + self.behind_places(found, memory), key=rank))
+
+    def behind_places(self, found: list[Suspect], memory: MemoryUse) -> list[Suspect]:
+        """Of a store in a place of something else it isn't the value that is wrong: what is behind its address, and the
+        branch that should have kept it away?"""
+        behind = []
+        for item in [item for item in found if item.shown][:FIRST_ONES]:
+            row = self.trace.d1[item.store] if item.misplaced else 0
+            if row:
+                history = History(self.trace, [row], PLACE_ROWS, self.history.control, control_cost=GUARD)
+                others = lost_bits(self.facts, history, narrowings(self.trace, history)) + branch_suspects(self.facts, history)
+                for suspect in [one for one in others + self.stores(history)
+                                if not memory.blocks.is_own(one.guilty) and not memory.blocks.is_own(one.load)]:
+                    suspect.cost += item.cost
+                    suspect.score += max(item.score, -MOST_FOR_PLACE) + BEHIND_PLACE
+                    suspect.why.append("it is behind the address of a store in the wrong place")
+                    behind.append(suspect)
+        return behind
 
     def once(self, found: list[Suspect]) -> list[Suspect]:
-        """Of several suspects about one line that stored, the later ones stand further back."""
+        """Of several suspects about one line that stored, the later ones stand further back. One that tells of no line that
+        isn't told already is last: its place is for another line."""
+        told_lines: set[str] = set()
+        for item in [item for item in self.behind_others(found) if item.shown][:MOST_COMPARED]:
+            lines = self.lines_of(item)
+            if lines <= told_lines:
+                item.score += NOTHING_NEW
+            told_lines |= lines | {self.facts.line(item.load)}
+        return sorted(found, key=rank)
+
+    def lines_of(self, item: Suspect) -> set[str]:
+        """The lines that a suspect is about."""
+        rows = [item.guilty] + [extra.row for extra in item.extra]
+        lines = {self.facts.line(n) for n in rows}
+        if item.kind == "order" or not self.facts.source(item.guilty):  # a lock's function, or a library's
+            lines |= {frame.place for frame in self.facts.callers(item.guilty)}
+        return lines
+
+    def behind_others(self, found: list[Suspect]) -> list[Suspect]:
         told: set[str] = set()
         for item in found:
             line = self.places.line(self.trace.code_of(item.guilty).pc)
@@ -63,9 +103,9 @@ class Ranking:
                 told.add(line)
         return sorted(found, key=rank)
 
-    def stores(self) -> list[Suspect]:
-        """A suspect for each two source lines of loads and stores, with its signs."""
-        trace, places, far = self.trace, self.places, self.history.far
+    def stores(self, history: History) -> list[Suspect]:
+        """A suspect for each two source lines of a history's loads and stores, with its signs."""
+        trace, places, far = self.trace, self.places, history.far
         groups: dict[tuple[str, str, bool], Suspect] = {}
         places.fetch({trace.code_of(n).pc for key in far for n in key} |
                      {trace.code_of(trace.dm[store]).pc for _, store in far if trace.dm[store]})
@@ -81,7 +121,7 @@ class Ranking:
                 groups[key].rows = item.rows if item else 0
             groups[key].rows += 1
         for item in groups.values():
-            self.judge(item)
+            self.judge(item, history)
             if (item.load, item.store) == closing:
                 item.sign(CLOSES, "the latest store that the loop or the calls follow: it may have closed a circle")
         return list(groups.values())
@@ -95,17 +135,18 @@ class Ranking:
                 latest = Pair(load, store)
         return latest
 
-    def judge(self, item: Suspect) -> None:
+    def judge(self, item: Suspect, history: History) -> None:
         """The signs of a load and its store."""
         trace, load, store = self.trace, item.load, item.store
         if trace.hart[store] != trace.hart[load]:
             item.sign(OTHER_HART, "another hart stored it")
         stored, loaded = trace.code_of(store), trace.code_of(load)
-        if stored.kind == STORE and loaded.kind != AMO and stored.width < loaded.width and not self.is_copied(load):
+        if stored.kind == STORE and loaded.kind != AMO and stored.width < loaded.width and not self.is_copied(load, history):
+            item.misplaced = True
             item.sign(NARROW, f"stored as {SIZES[0][stored.width]}, loaded as a {SIZES[1][loaded.width]}")
         if self.is_recursive and stored.rs1 == SP and loaded.rs1 != SP:
             item.sign(-SYMPTOM, "the stack has grown into this data")
-        if load in self.history.decided:
+        if load in history.decided:
             item.why.append("it decided the way to here")
         self.judge_rarity(item)
         old = trace.dm[store]
@@ -118,15 +159,23 @@ class Ranking:
             item.sign(RACE, "a race: no atomic instruction orders them")
         self.judge_distance(item)
 
-    def is_copied(self, load: int) -> bool:
+    def is_copied(self, load: int, history: History) -> bool:
         """Whether a load's word was stored again unchanged, as the parts of a copied object do."""
-        return load in self.history.parent and self.trace.code_of(self.history.parent[load].row).kind == STORE
+        return load in history.parent and self.trace.code_of(history.parent[load].row).kind == STORE
+
+    def times_of(self, item: Suspect) -> int:
+        """How often the load got its word from the line that stored it: a compiler may have made several stores of it. 0 if
+        another store gave the rest of the word later."""
+        line = self.places.line(self.trace.code_of(item.store).pc)
+        stores = self.trace.givers(item.load)
+        self.places.fetch({self.trace.codes[at].pc for at in stores})
+        return sum(times for at, times in stores.items() if self.places.line(self.trace.codes[at].pc) == line)
 
     def judge_rarity(self, item: Suspect) -> None:
         trace = self.trace
-        times = trace.pairs.get(trace.pc[item.load] << 32 | trace.pc[item.store] + 1, 1)
+        times = self.times_of(item)
         whole = self.loads.get(trace.pc[item.load], 1)
-        if whole >= 4 and times * 10 <= whole:
+        if times and whole >= 4 and times * 10 <= whole:
             item.sign(RARITY * math.log10(whole / times), f"rare here: {number(times)} of {number(whole)} loads")
         elif whole >= COMMON_ROWS and times == whole and not self.history.is_far(item.load, item.store):
             item.sign(-COMMON, f"so in all {number(whole)} loads here")
