@@ -21,7 +21,7 @@ PARTS = "slli", "srli", "srai", "or", "and", "andi"     # what puts the parts of
 UNSIGNED = "bltu", "bgeu", "sltu", "sltiu"      # what compares without signs
 MOST_SUMS = 8
 LEAST_TIMES, MOST_TIMES, OFTEN_ROWS = 6, 500, 100000    # how often a row has to have come, and how many rows are looked at
-SELDOM, LOSES_SELDOM, LOSES_OFTEN = 8, 2, 6
+SELDOM, LOSES_SELDOM, LOSES_OFTEN = 8, 2, 20
 STEPS = 14                  # rows of a compared value that are looked at
 
 

@@ -19,7 +19,7 @@ from .instruction import ALU, AMO, SP, STORE
 from .locks import circle, unlocked
 from .lost import lost_alignment, lost_bits, narrowings
 from .memory_use import MemoryUse
-from .suspect import Suspect, rank
+from .suspect import Extra, Suspect, rank
 from .text import counted, number
 
 OTHER_HART, NARROW, RACE, OTHER_FUNCTION, RARITY = 8, 12, 6, 3, 5
@@ -76,12 +76,17 @@ class Ranking:
 
     def once(self, found: list[Suspect]) -> list[Suspect]:
         """Of several suspects about one line that stored, the later ones stand further back. One that tells of no line that
-        isn't told already is last: its place is for another line."""
+        isn't told already is last: its place is for another line, and the first one tells of its store."""
         told_lines: set[str] = set()
+        stored: dict[str, Suspect] = {}         # {line: the first suspect that stored there}
         for item in [item for item in self.behind_others(found) if item.shown][:MOST_COMPARED]:
-            lines = self.lines_of(item)
+            lines, line = self.lines_of(item), self.facts.line(item.guilty)
             if lines <= told_lines:
                 item.score += NOTHING_NEW
+                if item.kind == "store" and line in stored and item.store < stored[line].store:
+                    stored.pop(line).extra.append(Extra("earlier the same line stored in", item.store))
+            elif item.kind == "store":
+                stored.setdefault(line, item)
             told_lines |= lines | {self.facts.line(item.load)}
         return sorted(found, key=rank)
 
