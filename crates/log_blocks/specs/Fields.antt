@@ -4,44 +4,45 @@ use Rattle.sha2.specs.Sha256.{sha256}
 use Rattle.bn_base.specs.declared.settings.RawSettings.{RawSettings}
 use Rattle.le_numbers.specs.Numbers.{number_at}
 use Rattle.log_record.specs.declared.head.Head.{Head}
+use Rattle.log_file.specs.declared.offsets.TheConstants.{HARTS, INTERVAL, LIMIT, LOG_SIZE, MEMORY, SETS, WAYS, LINE, FORMAT, SETS2, WAYS2, PROGRAM2, DROPPED2, N2, DIGEST2}
 
 -- the settings: at the places that version 1 gives them, and after them the format and the second level
 abbrev pub settings_in : List ℕ → RawSettings
 settings_in bytes = record {
-  harts = number_at 4 12 bytes;
-  interval = number_at 4 16 bytes;
-  limit = number_at 8 20 bytes;
-  log_size = number_at 4 28 bytes;
-  memory = number_at 4 32 bytes;
-  sets = number_at 4 36 bytes;
-  ways = number_at 4 40 bytes;
-  line = number_at 4 44 bytes;
-  format = number_at 4 48 bytes;
-  sets2 = number_at 4 52 bytes;
-  ways2 = number_at 4 56 bytes;
+  harts = number_at 4 HARTS bytes;
+  interval = number_at 4 INTERVAL bytes;
+  limit = number_at 8 LIMIT bytes;
+  log_size = number_at 4 LOG_SIZE bytes;
+  memory = number_at 4 MEMORY bytes;
+  sets = number_at 4 SETS bytes;
+  ways = number_at 4 WAYS bytes;
+  line = number_at 4 LINE bytes;
+  format = number_at 4 FORMAT bytes;
+  sets2 = number_at 4 SETS2 bytes;
+  ways2 = number_at 4 WAYS2 bytes;
 }
 
 -- the program's digest
 abbrev pub program_in : List ℕ → List ℕ
-program_in bytes = take 32 (drop 60 bytes)
+program_in bytes = take 32 (drop PROGRAM2 bytes)
 
 abbrev pub head_in : List ℕ → Head
 head_in bytes = record { settings = settings_in bytes; digest = program_in bytes }
 
 -- how many records were given up
 abbrev pub dropped_in : List ℕ → ℕ
-dropped_in bytes = number_at 8 92 bytes
+dropped_in bytes = number_at 8 DROPPED2 bytes
 
 -- how many bytes the blocks' records have together
 abbrev pub size_in : List ℕ → ℕ
-size_in bytes = number_at 4 100 bytes
+size_in bytes = number_at 4 N2 bytes
 
 -- the head's digest, as it stands in the file, and as it should be
 abbrev pub kept_digest : List ℕ → List ℕ
-kept_digest bytes = take 32 (drop 104 bytes)
+kept_digest bytes = take 32 (drop DIGEST2 bytes)
 
 abbrev pub head_digest : List ℕ → List ℕ
-head_digest bytes = sha256 (take 104 bytes)
+head_digest bytes = sha256 (take DIGEST2 bytes)
 
 -- the blocks
 abbrev pub blocks_in : List ℕ → List ℕ

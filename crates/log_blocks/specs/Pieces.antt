@@ -6,6 +6,7 @@ use Rattle.sha2.specs.Sha256.{sha256}
 use Rattle.le_numbers.specs.Numbers.{number_at, number_bytes}
 use Rattle.log_record.specs.Spelling.{bytes_of}
 use Rattle.log_file.specs.Blocks.{Block, block_size}
+use Rattle.log_file.specs.declared.offsets.TheConstants.{BEFORE, LEFT, LEN}
 
 -- the bytes of a block's records, and the numbers of its seal
 pub record Piece : Type 0 where
@@ -38,13 +39,13 @@ gathered (p ∷ ps) = p.bytes ++ gathered ps
 -- ---- the block that ends some bytes: its fields stand before their last 32, which are its digest
 
 abbrev pub len_in : List ℕ → ℕ
-len_in bytes = number_at 4 (length bytes - 36) bytes
+len_in bytes = number_at 4 (length bytes - LEN) bytes
 
 abbrev pub left_in : List ℕ → ℕ
-left_in bytes = number_at 4 (length bytes - 40) bytes
+left_in bytes = number_at 4 (length bytes - LEFT) bytes
 
 abbrev pub before_in : List ℕ → ℕ
-before_in bytes = number_at 8 (length bytes - 48) bytes
+before_in bytes = number_at 8 (length bytes - BEFORE) bytes
 
 -- the place of its first byte
 abbrev pub start_in : List ℕ → ℕ

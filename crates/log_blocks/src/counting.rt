@@ -22,6 +22,7 @@ use le_numbers::laws::{numbers_have_their_width, read_numbers_are_written};
 use le_numbers::read_u64;
 use log_file::counting::headers_of;
 use log_file::head::tail;
+use log_file::offsets::DROPPED2;
 use log_file::{FileError, LogCounts, tally_of};
 use log_order::KeptLog;
 use log_record::laws::{records_fit_later_versions, tags_tell_sizes};
@@ -121,7 +122,7 @@ fn count_in(alloc: Global, bytes: &[u8], settings: Settings) -> Result<LogCounts
         settings,
         digest: program_in(bytes),
     };
-    let dropped = read_u64(bytes, 92);
+    let dropped = read_u64(bytes, DROPPED2);
     counts_within(alloc, head, dropped, tail(bytes, HEAD_SIZE), &walk)
 }
 

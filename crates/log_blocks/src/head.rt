@@ -6,11 +6,8 @@ ghost use Rattle.log_blocks.specs.Faults.{is_second, later_fault, head_fault};
 use crate::sealing::{front, part};
 use bn_base::{RawSettings, Settings};
 use le_numbers::read_u32;
-use log_file::FileError;
 use log_file::head::{DIGEST_SIZE, MAGIC, copied, digest_of, same, settings_in as first_settings};
-
-/// How many bytes a head has that a digest follows.
-pub const SIGNED_SIZE: usize = 104;
+use log_file::{FileError, offsets};
 
 /// How many bytes come before the blocks: the head and its digest.
 pub const HEAD_SIZE: usize = 136;
@@ -26,9 +23,9 @@ fn settings_in(bytes: &[u8]) -> RawSettings
     ensures { result ≡ settings_in bytes.now }
 {
     RawSettings {
-        format: read_u32(bytes, 48) as u64,
-        sets2: read_u32(bytes, 52) as u64,
-        ways2: read_u32(bytes, 56) as u64,
+        format: read_u32(bytes, offsets::FORMAT) as u64,
+        sets2: read_u32(bytes, offsets::SETS2) as u64,
+        ways2: read_u32(bytes, offsets::WAYS2) as u64,
         ..first_settings(bytes)
     }
 }
@@ -38,7 +35,7 @@ pub(crate) fn program_in(bytes: &[u8]) -> [u8; 32]
     requires { 136 ≤ length bytes.now }
     ensures { result ≡ program_in bytes.now }
 {
-    copied(part(bytes, 60, DIGEST_SIZE))
+    copied(part(bytes, offsets::PROGRAM2, DIGEST_SIZE))
 }
 
 /// The digest of the head.
@@ -46,7 +43,7 @@ pub(crate) fn head_digest(bytes: &[u8]) -> [u8; 32]
     requires { 136 ≤ length bytes.now }
     ensures { result ≡ head_digest bytes.now }
 {
-    digest_of(front(bytes, SIGNED_SIZE))
+    digest_of(front(bytes, offsets::DIGEST2))
 }
 
 // What is wrong after the settings: how many bytes the records may have, or the head's digest.
@@ -54,14 +51,14 @@ fn later_fault(bytes: &[u8], settings: &Settings) -> Option<FileError>
     requires { 136 ≤ length bytes.now }
     ensures { result ≡ later_fault bytes.now settings.now.log_size }
 {
-    let said = read_u32(bytes, 100);
+    let said = read_u32(bytes, offsets::N2);
     if settings.log_size() < said {
         return Some(FileError::BadHead {
             field: 9,
             value: said as u64,
         });
     }
-    let kept = part(bytes, SIGNED_SIZE, DIGEST_SIZE);
+    let kept = part(bytes, offsets::DIGEST2, DIGEST_SIZE);
     let digest = head_digest(bytes);
     if !same(kept, &digest) {
         return Some(FileError::DigestDiffers {
@@ -77,7 +74,9 @@ fn later_fault(bytes: &[u8], settings: &Settings) -> Option<FileError>
 pub fn is_second(bytes: &[u8]) -> bool
     ensures { result ≡ is_second bytes.now }
 {
-    bytes.len() >= LEAST_SIZE && same(front(bytes, 8), MAGIC) && read_u32(bytes, 8) == VERSION
+    bytes.len() >= LEAST_SIZE
+        && same(front(bytes, 8), MAGIC)
+        && read_u32(bytes, offsets::VERSION) == VERSION
 }
 
 /// The settings that a file's head has, if nothing is wrong with it. The error is the first fault.
@@ -97,7 +96,7 @@ pub(crate) fn checked_settings(bytes: &[u8]) -> Result<Settings, FileError>
     if !same(front(bytes, 8), MAGIC) {
         return Err(FileError::BadMagic);
     }
-    let version = read_u32(bytes, 8);
+    let version = read_u32(bytes, offsets::VERSION);
     if version != VERSION {
         return Err(FileError::BadVersion {
             found: version as u64,

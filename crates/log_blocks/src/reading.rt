@@ -24,6 +24,7 @@ use le_numbers::laws::{numbers_have_their_width, read_numbers_are_written};
 use le_numbers::{read_u32, read_u64};
 use log_file::FileError;
 use log_file::head::tail;
+use log_file::offsets::{DROPPED2, N2};
 use log_order::KeptLog;
 use log_record::laws::tags_tell_sizes;
 use log_record::{Head, RecordList};
@@ -76,7 +77,7 @@ pub(crate) fn whole_walk(alloc: Global, bytes: &[u8]) -> Result<Walk, Damage>
     ensures size { IfOk result (λ w. size_in bytes.now ≡ w.size) }
     ensures refused { IfErr result (IsSecondRefusal bytes.now) }
 {
-    let said = read_u32(bytes, 100) as usize;
+    let said = read_u32(bytes, N2) as usize;
     let (walk, listed) = walk_back(alloc, &head_digest(bytes), said, tail(bytes, HEAD_SIZE));
     if 0 < walk.rest {
         return Err(Damage::BadBlock {
@@ -109,7 +110,7 @@ fn content_in(alloc: Global, bytes: &[u8], settings: Settings) -> Result<KeptLog
         settings,
         digest: program_in(bytes),
     };
-    let dropped = read_u64(bytes, 92);
+    let dropped = read_u64(bytes, DROPPED2);
     content_of(alloc, head, dropped, tail(bytes, HEAD_SIZE), &walk)
 }
 
@@ -144,8 +145,8 @@ fn read_either(alloc: Global, bytes: &[u8]) -> Result<KeptLog, Damage>
 }
 
 /// What a log file of either version says. The error is the first that applies, in the order of the
-/// version that the bytes name. Out of memory comes only if the records alone are still to be
-/// looked at: the digest of version 1, or the blocks of version 2, are whole then.
+/// version that the bytes name. In version 1 out of memory comes only of a log's file, in version 2 only if
+/// the records alone are still to be looked at: the blocks are whole then.
 pub fn read_file(alloc: Global, bytes: &[u8]) -> Result<KeptLog, Damage>
     // A log that is read is one that the format has, and the bytes are its spelling.
     ensures content { IfOk result (λ c. IsContent c) }

@@ -18,6 +18,7 @@ use crate::writing::write_file2;
 use bn_base::Settings;
 use le_numbers::{read_u32, read_u64};
 use log_file::head::tail;
+use log_file::offsets::{DROPPED2, N2};
 use log_file::{FileError, LogCounts};
 use log_order::KeptLog;
 use log_record::Head;
@@ -72,7 +73,7 @@ fn kept_walk(alloc: Global, bytes: &[u8]) -> Result<Walk, SalvageError>
     ensures some { IfOk result (λ w. (not (size_in bytes.now == 0) && (length w.sizes.items == 0)) ≡ false) }
     ensures refused { IfErr result (IsSalvageRefusal bytes.now) }
 {
-    let said = read_u32(bytes, 100) as usize;
+    let said = read_u32(bytes, N2) as usize;
     let (walk, listed) = walk_back(alloc, &head_digest(bytes), said, tail(bytes, HEAD_SIZE));
     if !listed {
         return Err(SalvageError::OutOfMemory);
@@ -98,7 +99,7 @@ fn salvage_in(alloc: Global, bytes: &[u8], settings: Settings) -> Result<KeptLog
         digest: program_in(bytes),
     };
     let blocks = tail(bytes, HEAD_SIZE);
-    let dropped = dropped_before(blocks, &walk, read_u64(bytes, 92));
+    let dropped = dropped_before(blocks, &walk, read_u64(bytes, DROPPED2));
     match content_of(alloc, head, dropped, blocks, &walk) {
         Ok(log) => Ok(log),
         Err(damage) => Err(told(damage)),
@@ -146,7 +147,7 @@ fn renewed_in(alloc: Global, bytes: &[u8], settings: Settings) -> Result<NewFile
         digest: program_in(bytes),
     };
     let blocks = tail(bytes, HEAD_SIZE);
-    let dropped = dropped_before(blocks, &walk, read_u64(bytes, 92));
+    let dropped = dropped_before(blocks, &walk, read_u64(bytes, DROPPED2));
     match new_of(alloc, head, dropped, blocks, &walk) {
         Ok(new) => Ok(new),
         Err(damage) => Err(told(damage)),

@@ -6,6 +6,7 @@ ghost use Rattle.log_blocks.specs.Walks.{HasSeen};
 use crate::sealing::{BLOCK_SIZE, SEAL_SIZE, front, part, seal_of};
 use le_numbers::read_u32;
 use log_file::head::{DIGEST_SIZE, same, tail};
+use log_file::offsets::{LEFT, LEN};
 use std::alloc::Global;
 
 /// What a walk back from the end of some bytes found: good blocks, and what stands ahead of them.
@@ -44,8 +45,8 @@ pub(crate) fn good_block(digest: &[u8; 32], n: usize, left: usize, bytes: &[u8])
     if length < SEAL_SIZE {
         return None;
     }
-    let len = read_u32(bytes, length - 36) as usize;
-    let said = read_u32(bytes, length - 40) as usize;
+    let len = read_u32(bytes, length - LEN) as usize;
+    let said = read_u32(bytes, length - LEFT) as usize;
     if !is_sized(len, said, left, n, length) {
         return None;
     }

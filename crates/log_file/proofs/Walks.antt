@@ -19,7 +19,7 @@ use Rattle.log_file.proofs.Counts.{same_some}
 use Rattle.log_file.specs.declared.counting.LogCounts.{LogCounts}
 use Rattle.log_file.specs.declared.counting.Tally.{Tally}
 use Rattle.log_file.specs.declared.counting.Walked.{Walked}
-use Rattle.log_file.specs.File.{BreaksOrder}
+use Rattle.log_file.specs.File.{BreaksOrder, AreInOrder}
 use Rattle.log_file.specs.Counts.{headers_of, header_count, Walks, IsWalked, IsTallied, IsCounted}
 
 abbrev Harts : Type 0
@@ -216,6 +216,9 @@ is_tallied format settings dropped t start harts bytes w n result walked is coun
       counts = counts ∙ rw (walked.count, walked.headers, ap length walked.parts) refl;
       broken = is;
     }
+
+pub in_order : (head : Head) (dropped : ℕ) (bytes : List ℕ) (n : LogCounts) → IsCounted head dropped bytes n → AreInOrder head dropped bytes
+in_order head dropped bytes n k = record { records = k.records; fit = k.fit; parts = k.parts; order = k.order }
 
 pub is_counted : (head : Head) (dropped : ℕ) (bytes : List ℕ) (t : Tally) → IsTallied 1 head.settings dropped bytes t → t.broken ≡ None → IsCounted head dropped bytes t.counts
 is_counted head dropped bytes t k none = record { records = k.records; fit = k.fit; parts = k.parts; order = sym k.broken ∙ none; counts = k.counts }

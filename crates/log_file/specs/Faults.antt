@@ -6,6 +6,7 @@ use Rattle.bn_base.specs.declared.settings.BadSetting.{BadSetting}
 use Rattle.bn_base.specs.Ranges.{first_bad}
 use Rattle.le_numbers.specs.Numbers.{number_at}
 use Rattle.log_file.specs.declared.error.FileError.{FileError}
+use Rattle.log_file.specs.declared.offsets.TheConstants.{VERSION}
 use Rattle.log_file.specs.declared.error.FileError.TheVariants.{Short, BadMagic, BadVersion, BadHead, LengthDiffers, DigestDiffers}
 use Rattle.log_file.specs.Layout.{magic, settings_in, size_in}
 
@@ -26,7 +27,7 @@ later_fault signed kept log_size =
 unfoldable pub head_fault : List ℕ → List ℕ → Option FileError
 head_fault signed kept =
     if not (bytes_eq (take 8 signed) magic) then Some BadMagic else
-    if not (number_at 4 8 signed == 1) then Some (BadVersion (number_at 4 8 signed)) else
+    if not (number_at 4 VERSION signed == 1) then Some (BadVersion (number_at 4 VERSION signed)) else
     setting_fault (first_bad (settings_in signed)) (later_fault signed kept (settings_in signed).log_size)
 
 -- all bytes but the last 32, which are a digest

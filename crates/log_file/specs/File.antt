@@ -34,7 +34,14 @@ pub record BreaksOrder (head : Head) (dropped : ℕ) (bytes : List ℕ) (place r
   pub parts : bytes ≡ flat_map bytes_of records
   pub first : broken_by head.settings dropped records ≡ Some (order_break place rule)
 
--- what is wrong with the bytes of the records, or out of memory
+-- the bytes are those of records in order
+pub record AreInOrder (head : Head) (dropped : ℕ) (bytes : List ℕ) : Type 0 where
+  pub records : List Record
+  pub fit : AllByRecursion (Fits 1) records
+  pub parts : bytes ≡ flat_map bytes_of records
+  pub order : broken_by head.settings dropped records ≡ None
+
+-- what is wrong with the bytes of the records, and only if nothing is, out of memory
 abbrev pub IsRecordsFault : Head → ℕ → List ℕ → FileError → Type 0
 IsRecordsFault head dropped bytes (Short length) = ⊥
 IsRecordsFault head dropped bytes BadMagic = ⊥
@@ -44,22 +51,10 @@ IsRecordsFault head dropped bytes (LengthDiffers said found) = ⊥
 IsRecordsFault head dropped bytes (DigestDiffers kept found) = ⊥
 IsRecordsFault head dropped bytes (BadRecord place) = NoRecord 1 bytes place
 IsRecordsFault head dropped bytes (BadOrder place rule) = BreaksOrder head dropped bytes place rule
-IsRecordsFault head dropped bytes OutOfMemory = Unit {0}
+IsRecordsFault head dropped bytes OutOfMemory = AreInOrder head dropped bytes
 
 -- the first refusal: what is wrong up to the records, and only if nothing is, what is wrong with them
 abbrev pub IsRefusal : List ℕ → FileError → Type 0
 IsRefusal bytes e =
     (file_fault bytes ≡ Some e)
     ⊎ ((file_fault bytes ≡ None) × IsRecordsFault (head_in (signed_of bytes)) (dropped_in (signed_of bytes)) (drop 92 (signed_of bytes)) e)
-
--- what is wrong with bytes that should be those of records, or out of memory
-abbrev pub IsSplitError : List ℕ → FileError → Type 0
-IsSplitError bytes (Short length) = ⊥
-IsSplitError bytes BadMagic = ⊥
-IsSplitError bytes (BadVersion found) = ⊥
-IsSplitError bytes (BadHead field value) = ⊥
-IsSplitError bytes (LengthDiffers said found) = ⊥
-IsSplitError bytes (DigestDiffers kept found) = ⊥
-IsSplitError bytes (BadRecord place) = NoRecord 1 bytes place
-IsSplitError bytes (BadOrder place rule) = ⊥
-IsSplitError bytes OutOfMemory = Unit {0}

@@ -7,6 +7,7 @@ use Rattle.le_numbers.specs.Numbers.{number_at, number_bytes}
 use Rattle.log_record.specs.declared.head.Head.{Head}
 use Rattle.log_record.specs.Spelling.{bytes_of, total}
 use Rattle.log_file.specs.Blocks.{blocks_of, all_sealed}
+use Rattle.log_file.specs.declared.offsets.TheConstants.{HARTS, INTERVAL, LIMIT, LOG_SIZE, MEMORY, SETS, WAYS, LINE, PROGRAM, DROPPED, N}
 use Rattle.log_order.specs.Content.{Content, IsContent}
 
 -- the bytes that begin each file
@@ -60,14 +61,14 @@ saved_bytes c = elim (c.head.settings.format == 2) [ true ↦ file_bytes2 c | fa
 -- the settings at their places; a file of version 1 has no others
 abbrev pub settings_in : List ℕ → RawSettings
 settings_in bytes = record {
-  harts = number_at 4 12 bytes;
-  interval = number_at 4 16 bytes;
-  limit = number_at 8 20 bytes;
-  log_size = number_at 4 28 bytes;
-  memory = number_at 4 32 bytes;
-  sets = number_at 4 36 bytes;
-  ways = number_at 4 40 bytes;
-  line = number_at 4 44 bytes;
+  harts = number_at 4 HARTS bytes;
+  interval = number_at 4 INTERVAL bytes;
+  limit = number_at 8 LIMIT bytes;
+  log_size = number_at 4 LOG_SIZE bytes;
+  memory = number_at 4 MEMORY bytes;
+  sets = number_at 4 SETS bytes;
+  ways = number_at 4 WAYS bytes;
+  line = number_at 4 LINE bytes;
   format = 1;
   sets2 = 0;
   ways2 = 0;
@@ -75,15 +76,15 @@ settings_in bytes = record {
 
 -- the program's digest at its place
 abbrev pub digest_in : List ℕ → List ℕ
-digest_in bytes = take 32 (drop 48 bytes)
+digest_in bytes = take 32 (drop PROGRAM bytes)
 
 abbrev pub head_in : List ℕ → Head
 head_in bytes = record { settings = settings_in bytes; digest = digest_in bytes }
 
 -- how many records were given up, by the field at its place
 abbrev pub dropped_in : List ℕ → ℕ
-dropped_in bytes = number_at 8 80 bytes
+dropped_in bytes = number_at 8 DROPPED bytes
 
 -- how many bytes the records have, by the field at its place
 abbrev pub size_in : List ℕ → ℕ
-size_in bytes = number_at 4 88 bytes
+size_in bytes = number_at 4 N bytes

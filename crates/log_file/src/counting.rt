@@ -15,11 +15,12 @@ ghost use Rattle.log_file.specs.Counts.{headers_of, counts_of, Walks, IsWalked, 
 use crate::error::FileError;
 use crate::head::{DIGEST_SIZE, HEAD_SIZE, checked_settings, digest_in, tail};
 use crate::laws::{files_say_one_thing, logs_are_not_refused};
+use crate::offsets::DROPPED;
 use bn_base::{HARTS, Settings};
 use le_numbers::laws::read_numbers_are_written;
 use le_numbers::read_u64;
 use log_order::walk::{any_unfinished, is_late, step};
-use log_order::{HartView, OrderBreak, OrderLimits};
+use log_order::{HartView, OrderBreak, OrderLimits, OrderRule};
 use log_record::laws::tags_tell_sizes;
 use log_record::{Head, Record, read_as, size};
 
@@ -83,10 +84,7 @@ fn advance(
         Some(found) => Some(found),
         None => match step(terms, harts, entry) {
             Ok(()) => None,
-            Err(rule) => Some(OrderBreak {
-                at,
-                rule: rule as u64,
-            }),
+            Err(rule) => Some(OrderBreak::of(at, rule)),
         },
     }
 }
@@ -171,14 +169,11 @@ fn ended(format: u8, all: bool, harts: &[HartView], bytes: &[u8]) -> Option<Orde
     ensures { (rs : List Record) → AllByRecursion (Fits format) rs → bytes.now ≡ flat_map bytes_of rs → result ≡ ended all harts.now rs }
 {
     if any_unfinished(all, harts) {
-        return Some(OrderBreak {
-            at: bytes.len() as u64,
-            rule: 6,
-        });
+        return Some(OrderBreak::of(bytes.len() as u64, OrderRule::HartsDone));
     }
     match late_edge(format, harts, bytes) {
         None => None,
-        Some(at) => Some(OrderBreak { at, rule: 7 }),
+        Some(at) => Some(OrderBreak::of(at, OrderRule::SourcesDone)),
     }
 }
 
@@ -221,9 +216,9 @@ pub fn tally_of(format: u8, settings: &Settings, dropped: u64, bytes: &[u8]) -> 
     Ok(Tally { counts, broken })
 }
 
-// What is counted of the records with these bytes, of a log of version 1 that has this head and
-// dropped so many. The error is what is wrong with them.
-fn counted(head: &Head, dropped: u64, bytes: &[u8]) -> Result<LogCounts, FileError>
+/// What is counted of the records with these bytes, of a log of version 1 that has this head and
+/// dropped so many. The error is what is wrong with them.
+pub(crate) fn counted(head: &Head, dropped: u64, bytes: &[u8]) -> Result<LogCounts, FileError>
     ensures counted { IfOk result (IsCounted head.now dropped bytes.now) }
     ensures refused { IfErr result (λ e. IsRecordsFault head.now dropped bytes.now e) }
     ensures memory { IfErr result (λ e. e ≢ OutOfMemory) }
@@ -254,7 +249,7 @@ fn counts_in(signed: &[u8], settings: Settings) -> Result<LogCounts, FileError>
         settings,
         digest: digest_in(signed),
     };
-    let dropped = read_u64(signed, 80);
+    let dropped = read_u64(signed, DROPPED);
     counted(&head, dropped, tail(signed, HEAD_SIZE))
 }
 

@@ -5,8 +5,8 @@ ghost use Rattle.log_file.specs.declared.error.FileError.TheVariants.{OutOfMemor
 use std::alloc::{AllocError, AllocFailed};
 use thiserror::Error;
 
-/// Why bytes are no log file: the first of these that applies, in this order. `OutOfMemory` comes at
-/// any growth.
+/// Why bytes are no log file: the first of these that applies, in this order. `OutOfMemory` comes only
+/// of bytes that are one.
 #[derive(Clone, Copy, Debug, PartialEq, Eq, Drop, Error)]
 pub enum FileError {
     /// There are fewer than 124 bytes, the size of a file without records.

@@ -6,6 +6,7 @@ ghost use Rattle.log_file.specs.Layout.{settings_in, digest_in};
 ghost use Rattle.log_file.specs.Faults.{later_fault, head_fault};
 
 use crate::error::FileError;
+use crate::offsets;
 use bn_base::{RawSettings, Settings};
 use le_numbers::{read_u32, read_u64};
 use sha2::{Digest, Sha256};
@@ -36,14 +37,14 @@ pub fn settings_in(bytes: &[u8]) -> RawSettings
     ensures { result ≡ settings_in bytes.now }
 {
     RawSettings {
-        harts: read_u32(bytes, 12) as u64,
-        interval: read_u32(bytes, 16) as u64,
-        limit: read_u64(bytes, 20),
-        log_size: read_u32(bytes, 28) as u64,
-        memory: read_u32(bytes, 32) as u64,
-        sets: read_u32(bytes, 36) as u64,
-        ways: read_u32(bytes, 40) as u64,
-        line: read_u32(bytes, 44) as u64,
+        harts: read_u32(bytes, offsets::HARTS) as u64,
+        interval: read_u32(bytes, offsets::INTERVAL) as u64,
+        limit: read_u64(bytes, offsets::LIMIT),
+        log_size: read_u32(bytes, offsets::LOG_SIZE) as u64,
+        memory: read_u32(bytes, offsets::MEMORY) as u64,
+        sets: read_u32(bytes, offsets::SETS) as u64,
+        ways: read_u32(bytes, offsets::WAYS) as u64,
+        line: read_u32(bytes, offsets::LINE) as u64,
         format: 1,
         sets2: 0,
         ways2: 0,
@@ -55,7 +56,7 @@ pub fn digest_in(bytes: &[u8]) -> [u8; 32]
     requires { 92 ≤ length bytes.now }
     ensures { result ≡ digest_in bytes.now }
 {
-    copied(&bytes[48..80])
+    copied(&bytes[offsets::PROGRAM..offsets::DROPPED])
 }
 
 /// The 32 bytes of a digest.
@@ -88,7 +89,7 @@ fn later_fault(signed: &[u8], kept: &[u8], settings: &Settings) -> Option<FileEr
     requires kept { length kept.now ≡ 32 }
     ensures { result ≡ later_fault signed.now kept.now settings.now.log_size }
 {
-    let said = read_u32(signed, 88);
+    let said = read_u32(signed, offsets::N);
     if settings.log_size() < said {
         return Some(FileError::BadHead {
             field: 9,
@@ -124,7 +125,7 @@ pub fn checked_settings(signed: &[u8], kept: &[u8]) -> Result<Settings, FileErro
     if !same(&signed[..8], MAGIC) {
         return Err(FileError::BadMagic);
     }
-    let version = read_u32(signed, 8);
+    let version = read_u32(signed, offsets::VERSION);
     if version != VERSION {
         return Err(FileError::BadVersion {
             found: version as u64,

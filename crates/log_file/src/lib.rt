@@ -6,6 +6,7 @@ pub mod error;
 mod examples;
 pub mod head;
 pub mod laws;
+pub mod offsets;
 pub mod reading;
 pub mod readings;
 pub mod splitting;

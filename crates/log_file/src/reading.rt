@@ -6,9 +6,11 @@ ghost use Rattle.log_file.specs.Layout.{settings_in, head_in, dropped_in, file_b
 ghost use Rattle.log_file.specs.Faults.{head_fault};
 ghost use Rattle.log_file.specs.File.{HasFields, IsRecordsFault, IsRefusal};
 
+use crate::counting::counted;
 use crate::error::FileError;
 use crate::head::{DIGEST_SIZE, HEAD_SIZE, checked_settings, digest_in, tail};
 use crate::laws::{files_say_one_thing, logs_are_not_refused};
+use crate::offsets::DROPPED;
 use crate::splitting::split;
 use bn_base::Settings;
 use le_numbers::laws::read_numbers_are_written;
@@ -16,6 +18,17 @@ use le_numbers::read_u64;
 use log_order::KeptLog;
 use log_record::Head;
 use std::alloc::Global;
+
+// Why there is no list of the records with these bytes. They are counted for it, which takes no memory, so that
+// damage is never told as out of memory.
+fn unlisted(head: &Head, dropped: u64, bytes: &[u8]) -> FileError
+    ensures { IsRecordsFault head.now dropped bytes.now result }
+{
+    match counted(head, dropped, bytes) {
+        Ok(_) => FileError::OutOfMemory,
+        Err(fault) => fault,
+    }
+}
 
 // What a file says whose head has no fault and these settings.
 fn content_in(alloc: Global, signed: &[u8], settings: Settings) -> Result<KeptLog, FileError>
@@ -30,8 +43,12 @@ fn content_in(alloc: Global, signed: &[u8], settings: Settings) -> Result<KeptLo
         settings,
         digest: digest_in(signed),
     };
-    let dropped = read_u64(signed, 80);
-    let records = split(alloc, tail(signed, HEAD_SIZE))?;
+    let dropped = read_u64(signed, DROPPED);
+    let bytes = tail(signed, HEAD_SIZE);
+    let records = match split(alloc, bytes) {
+        Some(records) => records,
+        None => return Err(unlisted(&head, dropped, bytes)),
+    };
     match KeptLog::checked(head, dropped, records) {
         Ok(log) => Ok(log),
         Err(found) => Err(FileError::BadOrder {
@@ -58,7 +75,8 @@ fn read(alloc: Global, bytes: &[u8]) -> Result<KeptLog, FileError>
     content_in(alloc, signed, settings)
 }
 
-/// What a log file says. The error is the first that applies, in the order of `FileError`.
+/// What a log file says. The error is the first that applies, in the order of `FileError`: so out of memory
+/// comes only of a log's file.
 pub fn read_file(alloc: Global, bytes: &[u8]) -> Result<KeptLog, FileError>
     // A log that is read is one that version 1 has, and the bytes are its spelling.
     ensures content { IfOk result (λ c. IsVersion1 c) }

@@ -1,11 +1,9 @@
 //! The records of a file, as a list. Counting does without it.
-ghost use Rattle.std.specs.Prelude.{◌≡◌, List, length, IfOk, IfErr};
+ghost use Rattle.std.specs.Prelude.{◌≡◌, List, length, IfSome};
 ghost use Rattle.std.specs.List.{flat_map, AllByRecursion};
 ghost use Rattle.log_record.specs.declared.record.Record.{Record};
 ghost use Rattle.log_record.specs.Spelling.{bytes_of, Fits};
-ghost use Rattle.log_file.specs.File.{IsSplitError};
 
-use crate::error::FileError;
 use log_record::laws::tags_tell_sizes;
 use log_record::{RecordList, read, size};
 use std::alloc::Global;
@@ -30,27 +28,18 @@ pub fn count(bytes: &[u8]) -> usize
     count
 }
 
-/// The records of a log of version 1 whose bytes these are. The error has the first place at which a record should begin
-/// and none does.
-pub fn split(alloc: Global, bytes: &[u8]) -> Result<RecordList, FileError>
-    ensures fit { IfOk result (λ v. AllByRecursion (Fits 1) v) }
-    ensures parts { IfOk result (λ v. bytes.now ≡ flat_map bytes_of v) }
-    ensures refused { IfErr result (λ e. IsSplitError bytes.now e) }
+/// The records of a log of version 1 whose bytes these are. There is no list if somewhere a record should
+/// begin and none does, or if memory runs out.
+pub(crate) fn split(alloc: Global, bytes: &[u8]) -> Option<RecordList>
+    ensures fit { IfSome result (λ v. AllByRecursion (Fits 1) v) }
+    ensures parts { IfSome result (λ v. bytes.now ≡ flat_map bytes_of v) }
 {
-    let mut records = RecordList::with_capacity(alloc, count(bytes))?;
+    let mut records = RecordList::with_capacity(alloc, count(bytes)).ok()?;
     let mut rest = bytes;
     while !rest.is_empty() {
-        match read(rest) {
-            None => {
-                return Err(FileError::BadRecord {
-                    at: (bytes.len() - rest.len()) as u64,
-                });
-            }
-            Some((entry, size)) => {
-                records.push(entry)?;
-                rest = &rest[size..];
-            }
-        }
+        let (entry, size) = read(rest)?;
+        records.push(entry).ok()?;
+        rest = &rest[size..];
     }
-    Ok(records)
+    Some(records)
 }

@@ -77,8 +77,8 @@ fn push_rest(
     out.extend_from_slice(back)
 }
 
-/// The file of version 1 with this head, so many dropped records and the bytes of these kept ones,
-/// at most log-size bytes, which come in two pieces, as a ring has them. Its room is made once.
+/// The bytes of the file of version 1 with this head and so many dropped records. The kept ones' bytes come in two
+/// pieces, as a ring has them. Its room is made once.
 #[tactic(auto, unfolding(crate::specs::Layout::signed_bytes))]
 pub fn write_file(
     alloc: Global,
@@ -91,6 +91,7 @@ pub fn write_file(
     requires bound { length (front.now ++ back.now) ≤ head.now.settings.log_size }
     ensures { IfOk result (λ v. v.items ≡ spelling head.now dropped (front.now ++ back.now)) }
 {
+    // Proves that the size fits.
     let _bound = head.settings.log_size();
     let size = front.len() + back.len();
     let mut out = Vec::with_capacity(alloc, HEAD_SIZE + size + DIGEST_SIZE)?;

@@ -9,7 +9,8 @@ use Rattle.log_record.specs.Spelling.{bytes_of, hart_of, total}
 use Rattle.log_order.specs.declared.view.OrderLimits.{OrderLimits}
 use Rattle.log_order.specs.declared.view.HartView.{HartView}
 use Rattle.log_order.specs.declared.walk.OrderBreak.{OrderBreak}
-use Rattle.log_order.specs.Rules.{after_one, fresh, is_unfinished}
+use Rattle.log_order.specs.declared.rule.OrderRule.TheVariants.{HartsBelow, HartsDone, SourcesDone}
+use Rattle.log_order.specs.Rules.{number_of, breaks, after_one, fresh, is_unfinished}
 
 infixl 10 ◌>>=◌
 abbrev pub ◌>>=◌ : {A B E : Type 0} → Result A E → (A → Result B E) → Result B E
@@ -27,8 +28,8 @@ has_source harts (End h mark) = true
 
 -- the harts after a record of the one that has this view, if there is one
 abbrev pub step_at : OrderLimits → List HartView → Record → Option HartView → Result (List HartView) ℕ
-step_at t harts r None = Err 1
-step_at t harts r (Some v) = if has_source (length harts) r then (after_one t v r >>= λ w. Ok (slice_set harts (hart_of r) w)) else Err 1
+step_at t harts r None = breaks HartsBelow
+step_at t harts r (Some v) = if has_source (length harts) r then (after_one t v r >>= λ w. Ok (slice_set harts (hart_of r) w)) else breaks HartsBelow
 
 -- the harts after a record, or the lowest rule that it breaks
 unfoldable pub step : OrderLimits → List HartView → Record → Result (List HartView) ℕ
@@ -72,8 +73,8 @@ late_edge harts place (r ∷ rs) = if is_late harts r then Some place else late_
 -- the first break of the two rules about the end, if the records left the harts so
 unfoldable pub ended : Bool → List HartView → List Record → Option OrderBreak
 ended all harts rs =
-    if list_any (is_unfinished all) harts then Some (order_break (total rs) 6) else
-    option_map (λ place. order_break place 7) (late_edge harts 0 rs)
+    if list_any (is_unfinished all) harts then Some (order_break (total rs) (number_of HartsDone)) else
+    option_map (λ place. order_break place (number_of SourcesDone)) (late_edge harts 0 rs)
 
 abbrev pub broken_in : Bool → List Record → Result (List HartView) OrderBreak → Option OrderBreak
 broken_in all rs (Err b) = Some b

@@ -3,10 +3,31 @@ use Rattle.std.specs.Prelude.{ℕ, ◌+◌, ◌^◌, max, Bool, true, false, not
 use Rattle.bn_base.specs.declared.end_mark.EndMark.{EndMark}
 use Rattle.log_record.specs.declared.record.Record.{Record}
 use Rattle.log_record.specs.declared.record.Record.TheVariants.{Header, FirstLoad, ScOk, ScFailed, Edge, End}
+use Rattle.log_order.specs.declared.rule.OrderRule.{OrderRule}
+use Rattle.log_order.specs.declared.rule.OrderRule.TheVariants.{HartsBelow, HeaderWhileAwaiting, OtherWhileOpen, HeaderAwaited, CountsRight, HartsDone, SourcesDone}
 use Rattle.log_order.specs.declared.view.OrderLimits.{OrderLimits}
 use Rattle.log_order.specs.declared.view.Phase.{Phase}
 use Rattle.log_order.specs.declared.view.Phase.TheVariants.{Unknown, Awaiting, Open, Done}
 use Rattle.log_order.specs.declared.view.HartView.{HartView}
+
+-- the number of a rule in a refusal's line
+abbrev pub number_of : OrderRule → ℕ
+number_of HartsBelow = 1
+number_of HeaderWhileAwaiting = 2
+number_of OtherWhileOpen = 3
+number_of HeaderAwaited = 4
+number_of CountsRight = 5
+number_of HartsDone = 6
+number_of SourcesDone = 7
+
+-- what comes of something, or the number of the rule that it breaks
+abbrev pub by_number : {A : Type 0} → Result A OrderRule → Result A ℕ
+by_number (Ok x) = Ok x
+by_number (Err rule) = Err (number_of rule)
+
+-- a rule is broken
+abbrev pub breaks : {A : Type 0} → OrderRule → Result A ℕ
+breaks rule = Err (number_of rule)
 
 -- a Header may come in this phase
 abbrev pub takes_header : Phase → Bool
@@ -66,37 +87,37 @@ phase_after phase mark = if goes_on mark.reason then Awaiting (next_number phase
 -- the hart after its Header with this number and count, or the lowest rule that the Header breaks
 unfoldable pub after_header : OrderLimits → HartView → ℕ → ℕ → Result HartView ℕ
 after_header t v n ic =
-    if not (takes_header v.phase) then Err 2 else
-    if not (is_awaited v.phase n ic) then Err 4 else
-    if nat_lt (2 ^ 41) n then Err 4 else
-    if nat_lt ic v.seen then Err 5 else
-    if nat_lt t.limit ic then Err 5 else
+    if not (takes_header v.phase) then breaks HeaderWhileAwaiting else
+    if not (is_awaited v.phase n ic) then breaks HeaderAwaited else
+    if nat_lt (2 ^ 41) n then breaks HeaderAwaited else
+    if nat_lt ic v.seen then breaks CountsRight else
+    if nat_lt t.limit ic then breaks CountsRight else
     Ok (record { phase = Open (n + 1) ic; seen = v.seen; met = true; last = v.last })
 
 -- the hart after its Edge with this count and its source's
 unfoldable pub after_edge : OrderLimits → HartView → ℕ → ℕ → Result HartView ℕ
 after_edge t v ic from_ic =
-    if not (takes_other v.phase) then Err 3 else
-    if nat_le t.limit ic then Err 5 else
-    if nat_le t.limit from_ic then Err 5 else
-    if nat_lt (ic + 1) v.seen then Err 5 else
-    if not (has_edge t.interval v.phase ic) then Err 5 else
+    if not (takes_other v.phase) then breaks OtherWhileOpen else
+    if nat_le t.limit ic then breaks CountsRight else
+    if nat_le t.limit from_ic then breaks CountsRight else
+    if nat_lt (ic + 1) v.seen then breaks CountsRight else
+    if not (has_edge t.interval v.phase ic) then breaks CountsRight else
     Ok (record { phase = v.phase; seen = max v.seen (ic + 1); met = true; last = v.last })
 
 -- the hart after its End; the count of one of reason limit (7) is the limit
 unfoldable pub after_end : OrderLimits → HartView → EndMark → Result HartView ℕ
 after_end t v mark =
-    if not (takes_other v.phase) then Err 3 else
-    if nat_lt mark.ic v.seen then Err 5 else
-    if nat_lt t.limit mark.ic then Err 5 else
-    if mark.reason == 7 && not (mark.ic == t.limit) then Err 5 else
-    if not (has_end t.interval v.phase mark.reason mark.ic) then Err 5 else
+    if not (takes_other v.phase) then breaks OtherWhileOpen else
+    if nat_lt mark.ic v.seen then breaks CountsRight else
+    if nat_lt t.limit mark.ic then breaks CountsRight else
+    if mark.reason == 7 && not (mark.ic == t.limit) then breaks CountsRight else
+    if not (has_end t.interval v.phase mark.reason mark.ic) then breaks CountsRight else
     Ok (record { phase = phase_after v.phase mark; seen = v.seen; met = true; last = Some mark.ic })
 
 -- the hart after a record that changes no phase and no count
 unfoldable pub after_other : HartView → Result HartView ℕ
 after_other v =
-    if not (takes_other v.phase) then Err 3 else
+    if not (takes_other v.phase) then breaks OtherWhileOpen else
     Ok (record { phase = v.phase; seen = v.seen; met = true; last = v.last })
 
 -- the hart after a record of its own, or the lowest rule that the record breaks

@@ -4,6 +4,7 @@
 mod examples;
 pub mod kept_log;
 pub mod laws;
+pub mod rule;
 pub mod view;
 pub mod walk;
 
@@ -13,5 +14,6 @@ pub use examples::{
     an_exit_is_in_order,
 };
 pub use kept_log::KeptLog;
+pub use rule::OrderRule;
 pub use view::{HartView, OrderLimits, Phase};
 pub use walk::{OrderBreak, broken_by};

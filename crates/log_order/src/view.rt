@@ -1,7 +1,8 @@
 //! What the records so far say of a hart: which of its records may come next. `specs/Rules.antt` has the rules.
 ghost use Rattle.std.specs.Prelude.{◌≡◌};
-ghost use Rattle.log_order.specs.Rules.{takes_header, takes_other, is_awaited, has_edge, has_end, next_number, phase_after, after_header, after_edge, after_end, after_other, after_one, fresh, is_over, is_unfinished};
+ghost use Rattle.log_order.specs.Rules.{by_number, takes_header, takes_other, is_awaited, has_edge, has_end, next_number, phase_after, after_header, after_edge, after_end, after_other, after_one, fresh, is_over, is_unfinished};
 
+use crate::rule::OrderRule;
 use bn_base::end_mark::{CALL, GUARD, LENGTH, LIMIT};
 use bn_base::{EndMark, Ic};
 use log_record::Record;
@@ -160,23 +161,28 @@ impl HartView {
 
     // Here and below, rules are tested by ascending number, so that the error is the lowest that is broken.
     #[tactic(auto, unfolding(crate::specs::Rules::after_header))]
-    fn after_header(self, terms: &OrderLimits, number: u64, count: Ic) -> Result<HartView, u8>
-        ensures { result ≡ after_header terms.now self number count }
+    fn after_header(
+        self,
+        terms: &OrderLimits,
+        number: u64,
+        count: Ic,
+    ) -> Result<HartView, OrderRule>
+        ensures { by_number result ≡ after_header terms.now self number count }
     {
         if !self.phase.takes_header() {
-            return Err(2);
+            return Err(OrderRule::HeaderWhileAwaiting);
         }
         if !self.phase.is_awaited(number, count) {
-            return Err(4);
+            return Err(OrderRule::HeaderAwaited);
         }
         if LAST_INTERVAL < number {
-            return Err(4);
+            return Err(OrderRule::HeaderAwaited);
         }
         if count < self.seen {
-            return Err(5);
+            return Err(OrderRule::CountsRight);
         }
         if terms.limit < count {
-            return Err(5);
+            return Err(OrderRule::CountsRight);
         }
         let phase = Phase::Open {
             next: number + 1,
@@ -191,23 +197,28 @@ impl HartView {
     }
 
     #[tactic(auto, unfolding(crate::specs::Rules::after_edge))]
-    fn after_edge(self, terms: &OrderLimits, count: Ic, from_count: Ic) -> Result<HartView, u8>
-        ensures { result ≡ after_edge terms.now self count from_count }
+    fn after_edge(
+        self,
+        terms: &OrderLimits,
+        count: Ic,
+        from_count: Ic,
+    ) -> Result<HartView, OrderRule>
+        ensures { by_number result ≡ after_edge terms.now self count from_count }
     {
         if !self.phase.takes_other() {
-            return Err(3);
+            return Err(OrderRule::OtherWhileOpen);
         }
         if terms.limit <= count {
-            return Err(5);
+            return Err(OrderRule::CountsRight);
         }
         if terms.limit <= from_count {
-            return Err(5);
+            return Err(OrderRule::CountsRight);
         }
         if count + 1 < self.seen {
-            return Err(5);
+            return Err(OrderRule::CountsRight);
         }
         if !self.phase.has_edge(terms.interval, count) {
-            return Err(5);
+            return Err(OrderRule::CountsRight);
         }
         Ok(HartView {
             phase: self.phase,
@@ -218,23 +229,23 @@ impl HartView {
     }
 
     #[tactic(auto, unfolding(crate::specs::Rules::after_end))]
-    fn after_end(self, terms: &OrderLimits, mark: &EndMark) -> Result<HartView, u8>
-        ensures { result ≡ after_end terms.now self mark.now }
+    fn after_end(self, terms: &OrderLimits, mark: &EndMark) -> Result<HartView, OrderRule>
+        ensures { by_number result ≡ after_end terms.now self mark.now }
     {
         if !self.phase.takes_other() {
-            return Err(3);
+            return Err(OrderRule::OtherWhileOpen);
         }
         if mark.ic < self.seen {
-            return Err(5);
+            return Err(OrderRule::CountsRight);
         }
         if terms.limit < mark.ic {
-            return Err(5);
+            return Err(OrderRule::CountsRight);
         }
         if mark.reason == LIMIT && mark.ic != terms.limit {
-            return Err(5);
+            return Err(OrderRule::CountsRight);
         }
         if !self.phase.has_end(terms.interval, mark.reason, mark.ic) {
-            return Err(5);
+            return Err(OrderRule::CountsRight);
         }
         Ok(HartView {
             phase: self.phase.after_end(mark),
@@ -245,11 +256,11 @@ impl HartView {
     }
 
     #[tactic(auto, unfolding(crate::specs::Rules::after_other))]
-    fn after_other(self) -> Result<HartView, u8>
-        ensures { result ≡ after_other self }
+    fn after_other(self) -> Result<HartView, OrderRule>
+        ensures { by_number result ≡ after_other self }
     {
         if !self.phase.takes_other() {
-            return Err(3);
+            return Err(OrderRule::OtherWhileOpen);
         }
         Ok(HartView {
             phase: self.phase,
@@ -261,8 +272,8 @@ impl HartView {
 
     /// The hart after a record of its own. The error is the lowest rule that the record breaks.
     #[inline(always)]
-    pub fn after(self, terms: &OrderLimits, entry: &Record) -> Result<HartView, u8>
-        ensures { result ≡ after_one terms.now self entry.now }
+    pub fn after(self, terms: &OrderLimits, entry: &Record) -> Result<HartView, OrderRule>
+        ensures { by_number result ≡ after_one terms.now self entry.now }
     {
         match entry {
             Record::Header { interval, ic, .. } => self.after_header(terms, *interval, *ic),

@@ -3,9 +3,10 @@ ghost use Rattle.std.specs.Prelude.{◌≡◌, ◌<◌, ◌≤◌, ◌^◌, ◌=
 ghost use Rattle.std.specs.List.{list_any};
 ghost use Rattle.bn_base.specs.declared.settings.TheConstants.{HARTS};
 ghost use Rattle.log_record.specs.Spelling.{total};
-ghost use Rattle.log_order.specs.Rules.{is_unfinished};
-ghost use Rattle.log_order.specs.Order.{has_source, step, Steps, after_all, is_late, late_edge, ended, broken, broken_by, order_limits_of};
+ghost use Rattle.log_order.specs.Rules.{number_of, by_number, is_unfinished};
+ghost use Rattle.log_order.specs.Order.{has_source, order_break, step, Steps, after_all, is_late, late_edge, ended, broken, broken_by, order_limits_of};
 
+use crate::rule::OrderRule;
 use crate::view::{HartView, OrderLimits};
 use bn_base::{HARTS, Settings};
 use log_record::{Record, RecordList};
@@ -15,8 +16,20 @@ use log_record::{Record, RecordList};
 pub struct OrderBreak {
     /// The place of the record, in bytes from the first record's; for rule 6 the records' end.
     pub at: u64,
-    /// The rule, 1 to 7.
+    /// The number of the rule, 1 to 7.
     pub rule: u64,
+}
+
+impl OrderBreak {
+    /// The break of a rule at a place.
+    pub fn of(at: u64, rule: OrderRule) -> OrderBreak
+        ensures { result ≡ order_break at (number_of rule) }
+    {
+        OrderBreak {
+            at,
+            rule: rule.number(),
+        }
+    }
 }
 
 impl OrderLimits {
@@ -44,15 +57,15 @@ fn has_source(harts: usize, entry: &Record) -> bool
 /// Takes one more record into the views of all harts. The error is the lowest rule that it breaks.
 #[tactic(auto, unfolding(crate::specs::Order::step))]
 #[inline(always)]
-pub fn step(terms: &OrderLimits, harts: &mut [HartView], entry: &Record) -> Result<(), u8>
-    ensures { Steps result harts.new (step terms.now harts.old entry.now) }
+pub fn step(terms: &OrderLimits, harts: &mut [HartView], entry: &Record) -> Result<(), OrderRule>
+    ensures { Steps (by_number result) harts.new (step terms.now harts.old entry.now) }
 {
     let hart = entry.hart() as usize;
     match harts.get(hart).copied() {
-        None => Err(1),
+        None => Err(OrderRule::HartsBelow),
         Some(view) => {
             if !has_source(harts.len(), entry) {
-                return Err(1);
+                return Err(OrderRule::HartsBelow);
             }
             let next = view.after(terms, entry)?;
             harts[hart] = next;
@@ -73,10 +86,7 @@ fn after_all(
     for place in 0..records.len() {
         let entry = records.get(place);
         if let Err(rule) = step(terms, harts, &entry) {
-            return Err(OrderBreak {
-                at,
-                rule: rule as u64,
-            });
+            return Err(OrderBreak::of(at, rule));
         }
         at += entry.size() as u64;
     }
@@ -141,14 +151,11 @@ fn ended(all: bool, harts: &[HartView], records: &RecordList) -> Option<OrderBre
     ensures { result ≡ ended all harts.now records.now }
 {
     if any_unfinished(all, harts) {
-        return Some(OrderBreak {
-            at: total(records),
-            rule: 6,
-        });
+        return Some(OrderBreak::of(total(records), OrderRule::HartsDone));
     }
     match late_edge(harts, records) {
         None => None,
-        Some(at) => Some(OrderBreak { at, rule: 7 }),
+        Some(at) => Some(OrderBreak::of(at, OrderRule::SourcesDone)),
     }
 }
 

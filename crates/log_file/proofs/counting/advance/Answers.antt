@@ -1,4 +1,6 @@
-use Rattle.std.proofs.Common.{sym}
+use Rattle.std.proofs.Common.{Err, ap, sym, ◌∙◌}
+use Rattle.log_order.specs.declared.walk.OrderBreak.{OrderBreak}
+use Rattle.log_order.specs.Rules.{number_of}
 use Rattle.log_file.proofs.Walks.{stays_broken, goes_on, breaks}
 use Rattle.log_file.proofs.counting.advance.Goals as goal
 
@@ -9,4 +11,4 @@ pub returns-in-Ok : goal.returns-in-Ok
 returns-in-Ok c = λ start rs is ran. goes_on c.args.terms.now c.args.at start c.args.harts.now c.step.new.harts rs c.args.entry.now is (rw c.in-None.is at ran) (sym c.in-Ok.ensures)
 
 pub returns-in-Err : goal.returns-in-Err
-returns-in-Err c = λ start rs is ran. breaks c.args.terms.now c.args.at c.in-Err.rule start c.args.harts.now rs c.args.entry.now is (rw c.in-None.is at ran) (sym c.in-Err.ensures)
+returns-in-Err c = λ start rs is ran. breaks c.args.terms.now c.args.at (number_of c.in-Err.rule) start c.args.harts.now rs c.args.entry.now is (rw c.in-None.is at ran) (sym c.in-Err.ensures) ∙ ap (λ (b : OrderBreak). Err b) (sym c.of.ensures)

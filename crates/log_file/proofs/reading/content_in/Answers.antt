@@ -1,14 +1,14 @@
 use Rattle.std.proofs.Common.{rules}
 use Rattle.log_file.proofs.reading.content_in.Goals as goal
 
-pub returns-in_err-records-clause-content : goal.returns-in_err-records-clause-content
-returns-in_err-records-clause-content c = search rules
+pub returns-in-None-clause-content : goal.returns-in-None-clause-content
+returns-in-None-clause-content c = search rules
 
-pub returns-in_err-records-clause-fields : goal.returns-in_err-records-clause-fields
-returns-in_err-records-clause-fields c = search rules
+pub returns-in-None-clause-fields : goal.returns-in-None-clause-fields
+returns-in-None-clause-fields c = search rules
 
-pub returns-in_err-records-clause-refused : goal.returns-in_err-records-clause-refused
-returns-in_err-records-clause-refused c = search rules
+pub returns-in-None-clause-refused : goal.returns-in-None-clause-refused
+returns-in-None-clause-refused c = search rules
 
 pub returns-in-Ok-clause-content : goal.returns-in-Ok-clause-content
 returns-in-Ok-clause-content c = search rules
