@@ -19,7 +19,8 @@ pub struct Way {
 fn has_line(way: &Way, line: u32) -> bool
     ensures { result ≡ has_line line way.now }
 {
-    way.age != 0 && way.line == line
+    // The line first: it is nearly always another, and no way is empty for long.
+    way.line == line && way.age != 0
 }
 
 // Whether a way has another line.

@@ -1,14 +1,15 @@
 -- A turn whose quiet instructions are done in the hart's own place.
-use Rattle.std.proofs.Common.{◌≡◌, ◌≢◌, ℕ, ◌+◌, ◌-◌, ◌*◌, ◌<◌, ◌≤◌, ◌==◌, ◌++◌, Bool, true, false, List, [], length, sym, ◌∙◌, ap, subst, arith, refl, inl, inr}
-use Rattle.std.specs.Prelude.{IsTrue, slice_set, Some, None, nat_le, nat_lt, ◌&&◌}
+use Rattle.std.proofs.Common.{◌≡◌, ◌≢◌, ℕ, ◌+◌, ◌-◌, ◌*◌, ◌<◌, ◌≤◌, ◌^◌, ◌==◌, ◌++◌, Bool, true, false, List, [], length, sym, ◌∙◌, ap, subst, arith, refl, inl, inr}
+use Rattle.std.specs.Prelude.{IsTrue, Vec, slice_set, Some, None, nat_le, nat_lt, ◌&&◌}
+use Rattle.std.specs.Global.{Global}
 use Rattle.std.proofs.lemmas.List.{get_or-set_same, get_or-set_other, length-set, set-set, set-get_or}
 use Rattle.std.proofs.lemmas.Bool.Decides.{eqb_tells}
 use Rattle.bn_base.specs.Programs.{Program}
 use Rattle.bn_base.specs.declared.settings.RawSettings.{RawSettings}
 use Rattle.bn_base.specs.declared.state.HartState.{HartState}
 use Rattle.first_load_bits.specs.Represents.{Contents}
-use Rattle.rv_meaning.specs.Orderly.{is_cut, passes}
-use Rattle.rv_meaning.specs.Execute.{absorbed}
+use Rattle.rv_meaning.specs.Orderly.{is_cut, passes, orderly}
+use Rattle.rv_meaning.specs.Execute.{absorbed, ask_of}
 use Rattle.rv_meaning.specs.declared.asks.Ask.{Ask}
 use Rattle.rv_meaning.specs.declared.asks.Want.{Want}
 use Rattle.rv_meaning.specs.declared.asks.Reply.{Reply}
@@ -23,10 +24,12 @@ use Rattle.run_model.specs.declared.turn_end.TurnEnd.{TurnEnd}
 use Rattle.run_model.specs.declared.turn_end.TurnEnd.TheVariants.{GoesOn, NewInterval, HartOver, RunOver}
 use Rattle.run_model.specs.declared.trace.Trace.{Trace}
 use Rattle.run_model.specs.Machine.{answer}
-use Rattle.run_model.specs.Turn.{Run, budget, is_orderly, serve_call, span_of, counted, point_of, edge_records, load_record, sc_record, next_records, run_over_records, warmth, loading, word_before, hart_after, harts_after, other_after, skipped_after, events_after, is_guarded, bytes_since}
+use Rattle.run_model.specs.Turn.{Run, turn, ask_at, budget, is_orderly, serve_call, span_of, counted, point_of, edge_records, load_record, sc_record, next_records, run_over_records, warmth, loading, word_before, hart_after, harts_after, other_after, skipped_after, events_after, is_guarded, bytes_since}
 use Rattle.run_model.specs.Counts.{IsRested, turns_left}
 use Rattle.run_model.specs.Represents.EachCache.{steps_in, AreCaches}
 use Rattle.run_model.specs.Represents.Harts.{AreHarts, hart_in, no_hart, all_left}
+use Rattle.run_model.specs.Represents.Accessed.{AsksHere, IsTaken, IsOnlySwept}
+use Rattle.run_model.specs.Represents.Turning.{is_live}
 use Rattle.run_model.specs.Represents.InPlace.{ask_here, in_state, moved_harts, moved_run, IsMoved}
 use Rattle.run_model.specs.Represents.Logs.{taken, IsLog}
 use Rattle.run_model.specs.Represents.Plain.{IsTraceFit, IsHartFit, IsTrace, IsSwept, everyone, IsRun, PlainParts}
@@ -34,6 +37,7 @@ use Rattle.run_model.specs.Represents.Parts.{MachineParts, IsMachine}
 use Rattle.run_model.specs.declared.start.Start.{Start}
 use Rattle.run_model.proofs.Fits.{counted_by, guarded_below, left_live, le_is, lt_is}
 use Rattle.run_model.proofs.MoveOn.{budget_interval, some_budget}
+use Rattle.run_model.proofs.OneTurn.{live_within, asked_orderly, turn_is}
 use Rattle.run_model.proofs.Asked.{all_less, eqb_same, other_stays}
 use Rattle.run_model.proofs.Owns.{hart_of_run}
 use Rattle.run_model.proofs.Stopping.{own_set, with_own}
@@ -363,3 +367,88 @@ stored_run q c run k s a w v e is = record {
 pub unguarded_stored : (c : RawSettings) (run : Run) (k : ℕ) (s : HartState) (a w v : ℕ) → ((c.format == 2) && nat_lt c.log_size (2 * bytes_since (moved_run run k s) k)) ≡ false → is_guarded c run k (Store a w v) ≡ false
 unguarded_stored c run k s a w v e =
     subst (λ (y : Hart). ((c.format == 2) && nat_lt c.log_size (2 * (146 + (run.bytes - y.headed)))) ≡ false) (moved_own run.harts k s) e
+
+-- ---- a load or a store that a hart has moved on to
+
+-- hart k has moved on to what it asks, which is this, and asks it there
+pub record IsAtAsk (p : PlainParts) (k : ℕ) (on : Trace) (want : Want) : Type 0 where
+  pub within : k < length p.trace.harts.items
+  pub moved : IsMoved k (ask_at p.start.settings p.start.image (hart_in p.trace.harts.items k)).state p.trace on
+  pub is_want : (ask_at p.start.settings p.start.image (hart_in p.trace.harts.items k)).want ≡ want
+  pub own : IsTrue (is_orderly p.start.settings p.start.image (hart_in p.trace.harts.items k) (record { state = (ask_at p.start.settings p.start.image (hart_in p.trace.harts.items k)).state; want = want }))
+  pub fits : IsTraceFit p.start.settings on p.turns
+  pub asks : AsksHere (record p { trace = on }) k want
+
+pub at_ask : (p : PlainParts) (k : ℕ) (code : Program) (on : Trace) (got want : Want) → ((i : Program) (n : ℕ) (s : HartState) → s.ic + n < 2 ^ 64 → IsTrue (orderly i s.ic n (ask_of i n s)))
+    → IsTraceFit p.start.settings p.trace p.turns → is_live p k ≡ true → code ≡ p.start.image → got ≡ (ask_at p.start.settings code (hart_in p.trace.harts.items k)).want
+    → IsMoved k (ask_at p.start.settings code (hart_in p.trace.harts.items k)).state p.trace on → got ≡ want → is_cut want ≡ false → IsAtAsk p k on want
+at_ask p k code on got want each fits alive ec asked m e cut =
+    let settings = p.start.settings in let h : Hart = hart_in p.trace.harts.items k in
+    let live = live_within p.trace.harts.items k alive in
+    let within : k < settings.harts = omega (arith, live.0, fits.harts) in
+    let fit = (fits.each k within).fit in
+    let ask : Ask = ask_at settings p.start.image h in
+    let is_want : ask.want ≡ want = ap (λ (i : Program). (ask_at settings i h).want) (sym ec) ∙ sym asked ∙ e in
+    let own : IsTrue (is_orderly settings p.start.image h (record { state = ask.state; want = want })) =
+    subst (λ (w : Want). IsTrue (is_orderly settings p.start.image h (record { state = ask.state; want = w }))) is_want (asked_orderly each settings p.start.image h ask fits.settings.limit_high fit.fit refl) in
+    let moved : IsMoved k ask.state p.trace on = subst (λ (i : Program). IsMoved k (ask_at settings i h).state p.trace on) ec m in
+    let at = own_moved p.trace on k ask.state moved live.0 in
+    record {
+      within = live.0;
+      moved = moved;
+      is_want = is_want;
+      own = own;
+      fits = moved_fit settings p.start.image p.trace on p.turns k ask.state want fits within live.1 cut own moved;
+      asks = record {
+        hart = within;
+        live = ap (λ (y : Hart). y.live) at ∙ live.1;
+        orderly = subst (λ (y : Hart). IsTrue (is_orderly settings p.start.image y (ask_here y want))) (sym at) (moved_on settings p.start.image h ask.state want fit live.1 cut own).orderly;
+      };
+    }
+
+-- its turn is taken in its own place
+pub load_taken : (p new : PlainParts) (k : ℕ) (on : Trace) (a w : ℕ) (g : Bool) (rd : ℕ) → IsAtAsk p k on (Load a w g rd) → IsTaken (record p { trace = on }) new k (Load a w g rd)
+    → (run : Run) → IsRun p run → IsRun new (turn p.start.settings p.start.image run k)
+load_taken p new k on a w g rd here taken run is =
+    let settings = p.start.settings in let h : Hart = hart_in p.trace.harts.items k in
+    let want : Want = Load a w g rd in
+    let s : HartState = (ask_at settings p.start.image h).state in
+    let there : h ≡ run.harts k = hart_of_run p.trace.harts.items k run.harts is.trace.harts here.within in
+    let is_on : IsRun (record p { trace = on }) (moved_run run k s) = record { machine = is.machine; trace = moved_is settings p.trace on run k s here.within here.moved is.trace; turns = is.turns } in
+    let unguarded = unguarded_moved settings run k s a w g rd (taken.unguarded (moved_run run k s) is_on) in
+    let by_ask : IsRun new (serve_call settings (moved_run run k s) k (record { state = s; want = want }) false None).run =
+    subst (λ (y : Hart). IsRun new (serve_call settings (moved_run run k s) k (ask_here y want) false None).run) (own_moved p.trace on k s here.moved here.within) (taken.run (moved_run run k s) is_on) in
+    let served = served_run new settings run k s a w g rd (ap (λ (x : Start). x.settings) taken.start) by_ask in
+    let asked : Ask = record { state = s; want = want } in
+    let ea : asked ≡ ask_at settings p.start.image (run.harts k) = ap (λ (v : Want). record { state = s; want = v }) (sym here.is_want) ∙ ap (λ (y : Hart). ask_at settings p.start.image y) there in
+    let ordered = subst (λ (y : Hart). IsTrue (is_orderly settings p.start.image y asked)) there here.own in
+    subst (λ (x : Run). IsRun new x) (turn_is settings p.start.image run k asked None ea refl ordered)
+    (subst (λ (b : Bool). IsRun new (serve_call settings run k asked b None).run) (sym unguarded) served)
+
+pub store_taken : (p new : PlainParts) (k : ℕ) (on : Trace) (a w v : ℕ) → IsAtAsk p k on (Store a w v) → IsTaken (record p { trace = on }) new k (Store a w v)
+    → (run : Run) → IsRun p run → IsRun new (turn p.start.settings p.start.image run k)
+store_taken p new k on a w v here taken run is =
+    let settings = p.start.settings in let h : Hart = hart_in p.trace.harts.items k in
+    let want : Want = Store a w v in
+    let s : HartState = (ask_at settings p.start.image h).state in
+    let there : h ≡ run.harts k = hart_of_run p.trace.harts.items k run.harts is.trace.harts here.within in
+    let is_on : IsRun (record p { trace = on }) (moved_run run k s) = record { machine = is.machine; trace = moved_is settings p.trace on run k s here.within here.moved is.trace; turns = is.turns } in
+    let unguarded = unguarded_stored settings run k s a w v (taken.unguarded (moved_run run k s) is_on) in
+    let by_ask : IsRun new (serve_call settings (moved_run run k s) k (record { state = s; want = want }) false None).run =
+    subst (λ (y : Hart). IsRun new (serve_call settings (moved_run run k s) k (ask_here y want) false None).run) (own_moved p.trace on k s here.moved here.within) (taken.run (moved_run run k s) is_on) in
+    let served = stored_run new settings run k s a w v (ap (λ (x : Start). x.settings) taken.start) by_ask in
+    let asked : Ask = record { state = s; want = want } in
+    let ea : asked ≡ ask_at settings p.start.image (run.harts k) = ap (λ (x : Want). record { state = s; want = x }) (sym here.is_want) ∙ ap (λ (y : Hart). ask_at settings p.start.image y) there in
+    let ordered = subst (λ (y : Hart). IsTrue (is_orderly settings p.start.image y asked)) there here.own in
+    subst (λ (x : Run). IsRun new x) (turn_is settings p.start.image run k asked None ea refl ordered)
+    (subst (λ (b : Bool). IsRun new (serve_call settings run k asked b None).run) (sym unguarded) served)
+
+-- it isn't taken
+pub swept_aside : (p q : PlainParts) (on : Trace) (want got : Want) → IsOnlySwept (record p { trace = on }) q → got ≡ want → IsAside on p.start p.machine p.turns want q.start q.machine q.trace q.turns got
+swept_aside p q on want got swept e = record {
+  start_is = swept.start;
+  machine_is = swept.machine;
+  turns_is = swept.turns;
+  want_is = e;
+  like = record { harts = ap (λ (v : Vec Hart Global). v.items) swept.harts; caches = swept.caches; shadow = swept.shadow; log = swept.log };
+}

@@ -107,6 +107,7 @@ fn is_spared(spared: Option<HartId>, k: usize) -> bool
 }
 
 // Drops the lines of so many words from all caches but the one that is spared.
+#[inline(never)]
 fn drop_from_each(caches: &mut [Cache], spared: Option<HartId>, first: Addr, count: u32)
     requires { first + 4 * count ≤ 2 ^ 32 }
     ensures { IsDropped spared (drops first count) (length caches.old) caches.old caches.new }
@@ -117,7 +118,7 @@ fn drop_from_each(caches: &mut [Cache], spared: Option<HartId>, first: Addr, cou
 }
 
 // Drops the lines of what is written from all caches but the one that is spared.
-#[inline(never)]
+#[inline(always)]
 fn drop_written(caches: &mut [Cache], spared: Option<HartId>, span: Span)
     requires { span.first + 4 * span.count ≤ 2 ^ 32 }
     ensures { IsDropped spared (dropped span) (length caches.old) caches.old caches.new }

@@ -29,7 +29,7 @@ ghost use Rattle.run_model.specs.Represents.Logs.{taken, IsLog, is_marked_next};
 ghost use Rattle.run_model.specs.Represents.Tracing.{CachesGoOn, next_by, harts_by, with_ends};
 ghost use Rattle.run_model.specs.Represents.EachCache.{AreCaches, steps_in};
 ghost use Rattle.run_model.specs.Represents.InPlace.{ask_here, IsMoved};
-ghost use Rattle.run_model.specs.Represents.Accessed.{CanAccess, IsAccessed, CanFinish, IsFinished, IsOnlySwept, IsTurnedHere};
+ghost use Rattle.run_model.specs.Represents.Accessed.{CanAccess, IsAccessed, CanFinish, IsFinished, IsOnlySwept, IsTurnedHere, AsksHere, Takes};
 ghost use Rattle.run_model.specs.Represents.Parts.{IsSpanReady};
 ghost use Rattle.run_model.specs.Represents.Plain.{everyone, IsRaceReady, count_after, clears};
 
@@ -191,10 +191,10 @@ impl Plain {
             && u64::from(self.start.settings.log_size()) < 2 * self.since_header(hart)
     }
 
-    /// Whether the race log is ready for a hart's load from an address, and the load isn't guarded. It finds the
-    /// memory that the race log needs; all else stays as it is.
+    // Whether the race log is ready for a hart's load from an address, and the load isn't guarded. It finds the
+    // memory that the race log needs; all else stays as it is.
     #[inline(always)]
-    pub(crate) fn ready_load(&mut self, hart: HartId, addr: Addr) -> bool
+    fn ready_load(&mut self, hart: HartId, addr: Addr) -> bool
         requires hart { hart < self.old.start.settings.harts }
         requires loads { IsTrue (may_load self.old.start.image addr) }
         ensures ready { result ≡ true → IsRaceReady self.new.trace.shadow (Some (span (aligned addr) 1 Read)) }
@@ -216,17 +216,10 @@ impl Plain {
         }
     }
 
-    /// Answers the load that a live hart asks for in its present state, once the race log is ready for it,
-    /// and takes its turn. The ask isn't guarded. It takes no memory.
+    // Answers the load that a live hart asks for in its present state, once the race log is ready for it,
+    // and takes its turn. The ask isn't guarded. It takes no memory.
     #[inline(always)]
-    pub(crate) fn apply_load(
-        &mut self,
-        hart: HartId,
-        addr: Addr,
-        width: u8,
-        signed: bool,
-        rd: Register,
-    )
+    fn apply_load(&mut self, hart: HartId, addr: Addr, width: u8, signed: bool, rd: Register)
         requires hart { hart < self.old.start.settings.harts }
         requires live { (hart_in self.old.trace.harts.items hart).live ≡ true }
         requires orderly { IsTrue (is_orderly self.old.start.settings self.old.start.image (hart_in self.old.trace.harts.items hart) (ask_here (hart_in self.old.trace.harts.items hart) (Load addr width signed rd))) }
@@ -257,10 +250,46 @@ impl Plain {
         self.turns += 1;
     }
 
-    /// Whether a hart's store to an address needs no memory, and isn't guarded. It finds the memory that the race
-    /// log needs; all else stays as it is.
+    // Takes the turn of a live hart that asks for this load in its present state, if all is ready and no guard cuts it. It
+    // tells whether it did.
     #[inline(always)]
-    pub(crate) fn ready_store(&mut self, hart: HartId, addr: Addr) -> bool
+    fn load_here(&mut self, hart: HartId, addr: Addr, width: u8, signed: bool, rd: Register) -> bool
+        requires { AsksHere (parts self.old) hart (Load addr width signed rd) }
+        ensures { Takes result (parts self.old) (parts self.new) hart (Load addr width signed rd) }
+    {
+        if !self.ready_load(hart, addr) {
+            return false;
+        }
+        self.apply_load(hart, addr, width, signed, rd);
+        true
+    }
+
+    /// Takes the turn of a live hart that asks for this load in its present state, if it can be done in the hart's own
+    /// place. It tells whether it did.
+    #[inline(always)]
+    pub(crate) fn take_load(
+        &mut self,
+        hart: HartId,
+        addr: Addr,
+        width: u8,
+        signed: bool,
+        rd: Register,
+    ) -> bool
+        requires { AsksHere (parts self.old) hart (Load addr width signed rd) }
+        ensures { Takes result (parts self.old) (parts self.new) hart (Load addr width signed rd) }
+    {
+        // Whole words apart: so they need no shifts.
+        if width == 4 {
+            self.load_here(hart, addr, 4, signed, rd)
+        } else {
+            self.load_here(hart, addr, width, signed, rd)
+        }
+    }
+
+    // Whether a hart's store to an address needs no memory, and isn't guarded. It finds the memory that the race
+    // log needs; all else stays as it is.
+    #[inline(always)]
+    fn ready_store(&mut self, hart: HartId, addr: Addr) -> bool
         requires hart { hart < self.old.start.settings.harts }
         requires stores { IsTrue (may_load self.old.start.image addr) }
         ensures ready { result ≡ true → IsRaceReady self.new.trace.shadow (Some (span (aligned addr) 1 Write)) }
@@ -283,10 +312,10 @@ impl Plain {
         }
     }
 
-    /// Answers the store that a live hart asks for in its present state, once all is ready for it, and takes its
-    /// turn. The ask isn't guarded. It takes no memory.
+    // Answers the store that a live hart asks for in its present state, once all is ready for it, and takes its
+    // turn. The ask isn't guarded. It takes no memory.
     #[inline(always)]
-    pub(crate) fn apply_store(&mut self, hart: HartId, addr: Addr, width: u8, value: u32)
+    fn apply_store(&mut self, hart: HartId, addr: Addr, width: u8, value: u32)
         requires hart { hart < self.old.start.settings.harts }
         requires live { (hart_in self.old.trace.harts.items hart).live ≡ true }
         requires orderly { IsTrue (is_orderly self.old.start.settings self.old.start.image (hart_in self.old.trace.harts.items hart) (ask_here (hart_in self.old.trace.harts.items hart) (Store addr width value))) }
@@ -314,5 +343,34 @@ impl Plain {
             .finish_here(&self.start.settings, hart, &want, reply, load);
         self.trace.forget(next);
         self.turns += 1;
+    }
+
+    // Takes the turn of a live hart that asks for this store in its present state, if all is ready and no guard cuts it. It
+    // tells whether it did.
+    #[inline(always)]
+    fn store_here(&mut self, hart: HartId, addr: Addr, width: u8, value: u32) -> bool
+        requires { AsksHere (parts self.old) hart (Store addr width value) }
+        ensures { Takes result (parts self.old) (parts self.new) hart (Store addr width value) }
+    {
+        if !self.ready_store(hart, addr) {
+            return false;
+        }
+        self.apply_store(hart, addr, width, value);
+        true
+    }
+
+    /// Takes the turn of a live hart that asks for this store in its present state, if it can be done in the hart's own
+    /// place. It tells whether it did.
+    #[inline(always)]
+    pub(crate) fn take_store(&mut self, hart: HartId, addr: Addr, width: u8, value: u32) -> bool
+        requires { AsksHere (parts self.old) hart (Store addr width value) }
+        ensures { Takes result (parts self.old) (parts self.new) hart (Store addr width value) }
+    {
+        // Whole words apart: so they need no shifts.
+        if width == 4 {
+            self.store_here(hart, addr, 4, value)
+        } else {
+            self.store_here(hart, addr, width, value)
+        }
     }
 }

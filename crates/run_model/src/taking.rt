@@ -49,14 +49,12 @@ impl Plain {
                 signed,
                 rd,
             } => {
-                if self.ready_load(hart, addr) {
-                    self.apply_load(hart, addr, width, signed, rd);
+                if self.take_load(hart, addr, width, signed, rd) {
                     return Ok(());
                 }
             }
             Want::Store { addr, width, value } => {
-                if self.ready_store(hart, addr) {
-                    self.apply_store(hart, addr, width, value);
+                if self.take_store(hart, addr, width, value) {
                     return Ok(());
                 }
             }

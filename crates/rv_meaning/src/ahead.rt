@@ -59,7 +59,7 @@ fn decoded_from(
     ensures below { IfOk result (λ v. IsBelowEnd first v.items) }
     ensures aligned { IfOk result (λ v. 0 < length v.items → first % 4 ≡ 0) }
     ensures few { IfOk result (λ v. length v.items ≤ count) }
-    ensures wanting { OnErr result (is_some (code_at image.now first) ≡ true) }
+    ensures memory { OnErr result (is_some (code_at image.now first) ≡ true) }
 {
     let mut ops = Vec::new(alloc);
     let mut addr = first;
@@ -144,7 +144,7 @@ impl<'a> DecodedImage<'a> {
     /// code.
     pub fn new(alloc: Global, image: &'a Image) -> Result<DecodedImage<'a>, AllocError>
         ensures value { IfOk result (λ d. d ≡ image.now) }
-        ensures wanting { OnErr result (starts_in_code image.now ≡ true) }
+        ensures memory { OnErr result (starts_in_code image.now ≡ true) }
     {
         DecodedImage::with_limit(alloc, image, LIMIT)
     }
@@ -157,7 +157,7 @@ impl<'a> DecodedImage<'a> {
         limit: u32,
     ) -> Result<DecodedImage<'a>, AllocError>
         ensures value { IfOk result (λ d. d ≡ image.now) }
-        ensures wanting { OnErr result (starts_in_code image.now ≡ true) }
+        ensures memory { OnErr result (starts_in_code image.now ≡ true) }
     {
         let first = start_of(image);
         let ops = decoded_from(alloc, image, first, limit.min(LIMIT))?;
@@ -177,10 +177,14 @@ impl<'a> DecodedImage<'a> {
         let Some(mut place) = place_in(ops, self.first, state.pc) else {
             return (None, budget);
         };
+        // The count at the budget's end: by it the loop has one number to count, what is left.
+        let Some(end) = state.ic.checked_add(budget) else {
+            return (None, budget);
+        };
         let mut left = budget;
         let found = run_quiet(ops, self.first, &mut state.x, &mut place, &mut left);
         state.pc = pc_of(self.first, place);
-        state.ic = state.ic.saturating_add(budget - left);
+        state.ic = end - left;
         (found, left)
     }
 

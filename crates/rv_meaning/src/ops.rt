@@ -104,6 +104,8 @@ fn gives(value: u32, op: &Op, place: &mut u32, x: &mut Registers) -> bool
     true
 }
 
+// Does nothing: all accesses of all harts are in one order anyway. Like each of these functions it answers whether the
+// instruction asks for nothing outside of the hart, so that the loop continues.
 #[inline(always)]
 fn fence(place: &mut u32) -> bool
     ensures place { place.new ≡ add place.old 1 }
@@ -113,7 +115,8 @@ fn fence(place: &mut u32) -> bool
     true
 }
 
-// Jumps, unless the target is no multiple of 4: that faults.
+// Jumps, unless the target is no multiple of 4: that faults, and nothing is written. `place` counts instructions from
+// the address `first` on.
 #[inline(always)]
 fn jump(target: Addr, op: &Op, first: Addr, place: &mut u32, x: &mut Registers) -> bool
     requires { first % 4 ≡ 0 }

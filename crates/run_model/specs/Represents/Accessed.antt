@@ -1,5 +1,5 @@
 -- An access in a hart's turn, and what comes next for the hart: what they need, and what they leave.
-use Rattle.std.specs.Prelude.{◌≡◌, ◌≢◌, ◌≤◌, ◌<◌, ◌+◌, ◌^◌, ◌-◌, ◌==◌, ◌++◌, ℕ, IsTrue, List, length, false, Option, Some, None, if◌then◌else◌}
+use Rattle.std.specs.Prelude.{◌≡◌, ◌≢◌, ◌≤◌, ◌<◌, ◌+◌, ◌^◌, ◌-◌, ◌==◌, ◌++◌, ℕ, Bool, IsTrue, List, length, true, false, Option, Some, None, if◌then◌else◌}
 use Rattle.bn_base.specs.declared.settings.RawSettings.{RawSettings}
 use Rattle.bn_base.specs.declared.settings.TheConstants.{HARTS}
 use Rattle.rv_meaning.specs.Orderly.{is_reply_to}
@@ -17,7 +17,7 @@ use Rattle.run_model.specs.declared.span.Span.{Span}
 use Rattle.run_model.specs.declared.trace.Trace.{Trace}
 use Rattle.run_model.specs.declared.turn_end.TurnEnd.{TurnEnd}
 use Rattle.run_model.specs.declared.turn_end.TurnEnd.TheVariants.{GoesOn}
-use Rattle.run_model.specs.Turn.{Run, serve_call, point_of, points_after, edge_records, load_record, events_after}
+use Rattle.run_model.specs.Turn.{Run, serve_call, is_orderly, is_guarded, point_of, points_after, edge_records, load_record, events_after}
 use Rattle.run_model.specs.Represents.Harts.{hart_in}
 use Rattle.run_model.specs.Represents.Logs.{taken, IsLog, is_marked_next}
 use Rattle.run_model.specs.Represents.EachCache.{AreCaches, steps_in}
@@ -104,3 +104,20 @@ pub record IsOnlySwept (old new : PlainParts) : Type 0 where
 -- state; the ask is neither guarded nor a call
 abbrev pub IsTurnedHere : (old new : PlainParts) (k : ℕ) (want : Want) → Type 0
 IsTurnedHere old new k want = (run : Run) → IsRun old run → IsRun new (serve_call old.start.settings run k (ask_here (hart_in old.trace.harts.items k) want) false None).run
+
+-- live hart k asks this in its present state
+pub record AsksHere (p : PlainParts) (k : ℕ) (want : Want) : Type 0 where
+  pub hart : k < p.start.settings.harts
+  pub live : (hart_in p.trace.harts.items k).live ≡ true
+  pub orderly : IsTrue (is_orderly p.start.settings p.start.image (hart_in p.trace.harts.items k) (ask_here (hart_in p.trace.harts.items k) want))
+
+-- hart k's turn, in which it asks this in its present state, was taken, and no guard cut it
+pub record IsTaken (old new : PlainParts) (k : ℕ) (want : Want) : Type 0 where
+  pub start : new.start ≡ old.start
+  pub unguarded : (run : Run) → IsRun old run → is_guarded old.start.settings run k want ≡ false
+  pub run : IsTurnedHere old new k want
+
+-- that turn was taken, or at most the race log has changed
+abbrev pub Takes : Bool → (old new : PlainParts) (k : ℕ) (want : Want) → Type 0
+Takes true old new k want = IsTaken old new k want
+Takes false old new k want = IsOnlySwept old new

@@ -1,4 +1,4 @@
-use Rattle.std.proofs.Common.{◌≡◌, ◌∷◌, ◌++◌, [], length-append, arith}
+use Rattle.std.proofs.Common.{◌≡◌, ◌∷◌, [], length-append, arith}
 use Rattle.le_numbers.specs.Numbers.{number_bytes}
 use Rattle.log_record.specs.declared.record.Record.{Record}
 use Rattle.log_record.specs.declared.record.Record.TheVariants.{FirstLoad}

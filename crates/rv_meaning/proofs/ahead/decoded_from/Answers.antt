@@ -26,8 +26,8 @@ loop-preserved c =
       omega (arith, one, c.loop.invariant.4),
     )
 
-pub returns-in_err-push-in-Some-clause-wanting : goal.returns-in_err-push-in-Some-clause-wanting
-returns-in_err-push-in-Some-clause-wanting c =
+pub returns-in_err-push-in-Some-clause-memory : goal.returns-in_err-push-in-Some-clause-memory
+returns-in_err-push-in-Some-clause-memory c =
     on_err c.from_residual.result (first_code c.args.image.now c.args.first c.loop.addr c.in-Some.word (length c.loop.ops.items) c.loop.invariant.1 c.in-Some.ensures c.loop.invariant.2)
 
 pub returns-in-None-clause-below : goal.returns-in-None-clause-below

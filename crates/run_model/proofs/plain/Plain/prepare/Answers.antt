@@ -8,7 +8,7 @@ use Rattle.run_model.specs.Represents.Parts.{IsMachine}
 use Rattle.run_model.specs.Represents.EachCache.{AreCaches}
 use Rattle.run_model.specs.Represents.Harts.{AreHarts}
 use Rattle.run_model.specs.Represents.Logs.{IsLog}
-use Rattle.run_model.specs.Represents.Parts.{IsPlanned, AreAddresses}
+use Rattle.run_model.specs.Represents.Parts.{IsPlanned}
 use Rattle.run_model.proofs.Meant.{is_before}
 use Rattle.run_model.proofs.PlainFits.{found_room, swept_fit}
 use Rattle.run_model.proofs.plain.Plain.prepare.Goals as goal

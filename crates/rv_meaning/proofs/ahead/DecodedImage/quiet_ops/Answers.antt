@@ -1,4 +1,4 @@
-use Rattle.std.proofs.Common.{◌∙◌, ℕ, arith, ap}
+use Rattle.std.proofs.Common.{◌≡◌, ◌∙◌, ℕ, ◌+◌, ◌-◌, ◌^◌, min, arith, ap}
 use Rattle.rv_meaning.specs.Execute.{ask_of}
 use Rattle.rv_meaning.specs.Ops.{pc_of}
 use Rattle.rv_meaning.proofs.DecodedAhead.{ahead_in}
@@ -9,6 +9,8 @@ returns-clause-asks c =
     let i = c.args.self.now in let r = c.run_quiet-found in let s = c.args.state.now in
     let ahead = ahead_in c.self.inside.image.now i c.self.inside.first c.self.inside.ops.items c.as_slice-ops.result.now c.self.view_is c.as_slice-ops.ensures.value c.self.invariant.0 in
     let runs = r.ensures.runs i ahead s.ic (omega arith) in
-    let pc = ap (λ (a : ℕ). ask_of i r.new.left (record { pc = a; x = r.new.x; ic = c.saturating_add-state.result })) c.pc_of-state.ensures in
-    let ic = ap (λ (n : ℕ). ask_of i r.new.left (record { pc = pc_of c.self.inside.first r.new.place; x = r.new.x; ic = n })) c.saturating_add-state.ensures in
+    let end : ℕ = c.in-Some-checked_add.end in
+    let count : end - r.new.left ≡ min (s.ic + (c.args.budget - r.new.left)) (2 ^ 64 - 1) = omega (arith, c.in-Some-checked_add.ensures, r.ensures.left) in
+    let pc = ap (λ (a : ℕ). ask_of i r.new.left (record { pc = a; x = r.new.x; ic = end - r.new.left })) c.pc_of-state.ensures in
+    let ic = ap (λ (n : ℕ). ask_of i r.new.left (record { pc = pc_of c.self.inside.first r.new.place; x = r.new.x; ic = n })) count in
     pc ∙ ic ∙ runs ∙ ap (λ (a : ℕ). ask_of i c.args.budget (record { pc = a; x = s.x; ic = s.ic })) c.in-Some.ensures
