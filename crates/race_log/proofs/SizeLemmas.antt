@@ -18,10 +18,10 @@ use Rattle.race_log.proofs.SweepLemmas.{sum_same, sum_parts}
 -- ---- equal sizes
 
 pub same_size : (s : KeptWords) → IsAsLarge s s
-same_size s = record { pages = refl; slots = λ page. refl; epochs = refl }
+same_size s = record { pages = refl; slots = λ page. refl; epochs = refl; limit = refl }
 
 pub more_size : (s t u : KeptWords) → IsAsLarge s t → IsAsLarge t u → IsAsLarge s u
-more_size s t u a b = record { pages = b.pages ∙ a.pages; slots = λ page. b.slots page ∙ a.slots page; epochs = b.epochs ∙ a.epochs }
+more_size s t u a b = record { pages = b.pages ∙ a.pages; slots = λ page. b.slots page ∙ a.slots page; epochs = b.epochs ∙ a.epochs; limit = b.limit ∙ a.limit }
 
 -- a write to a page keeps the number of its slots
 pub sizes_set : (pages : List (Vec Slot Global)) (n : ℕ) (v : Vec Slot Global) → n < length pages → length v.items ≡ length (slots_of (slice_get pages n))

@@ -82,7 +82,7 @@ slots_held s = slots_in s.words.pages.items
 abbrev pub MakesRoom : (first n : ℕ) → (old new : Shadow) → Type 0
 MakesRoom first n old new = MakesPages first n old.words new.words
 
--- the second has as many pages, slots and epochs as the first
+-- the second has as many pages, slots and epochs as the first, and its epochs are looked through at the same limit
 abbrev pub HasSameSize : (old new : Shadow) → Type 0
 HasSameSize old new = IsAsLarge old.words new.words
 

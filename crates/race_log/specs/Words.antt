@@ -59,11 +59,12 @@ has_room words word = length (page_of words word) == 64 * (words.harts + 1)
 abbrev pub size_of : KeptWords → ℕ → ℕ
 size_of words page = length (slots_of (slice_get words.pages.items page))
 
--- the second has as many pages, slots and epochs as the first
+-- the second has as many pages, slots and epochs as the first, and its epochs are looked through at the same limit
 pub record IsAsLarge (old new : KeptWords) : Type 0 where
   pub pages : length new.pages.items ≡ length old.pages.items
   pub slots : (page : ℕ) → size_of new page ≡ size_of old page
   pub epochs : length new.epochs.table.items ≡ length old.epochs.table.items
+  pub limit : new.limit ≡ old.limit
 
 -- pages of so many words from the first were made, and no others: there are no more than go up to the last of these, and
 -- only these got slots

@@ -4,7 +4,8 @@ ghost use Rattle.std.specs.Prelude.{◌≡◌, ◌<◌, ◌++◌, ◌∷◌, [],
 use bn_base::{HARTS, HartId, Ic};
 use std::marker::Model;
 
-/// The points that the edges into one point come from, by hart and count, the latest first.
+/// The points that the edges into one point come from, each its hart and its count of instructions, the latest first.
+/// There is at most one of each other hart.
 #[derive(Drop)]
 pub struct Edges {
     sources: [(HartId, Ic); HARTS],

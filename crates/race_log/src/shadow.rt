@@ -133,11 +133,12 @@ impl Shadow {
         requires alone { harts_of self.old ≡ 1 }
         ensures { (first count : ℕ) (mode : Mode) → TakesIn hart ic turn first count mode self.old self.new }
     {
-        self.edges.clear();
         self.times[hart as usize].set(hart, ic + 1);
         self.last_turn = Some(turn);
         self.reserved = None;
         self.since = self.since.saturating_add(1);
+        // Last, so that a caller's look at the edges reads no memory.
+        self.edges.clear();
     }
 
     // Takes in an access of one hart among any number.

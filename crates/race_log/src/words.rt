@@ -91,6 +91,8 @@ impl KeptWords {
         ensures stays { (f n : ℕ) → HasRoom self.old f n → HasRoom self.new f n }
         ensures ready { HasRoom self.old first count → IsOk result }
         ensures pages { MakesPages first count self.old self.new }
+        // Below the limit the epochs aren't looked through, so it stays.
+        ensures early { length self.old.epochs.table.items < self.old.limit → self.new.limit ≡ self.old.limit }
     {
         if self.harts < 2 || self.is_ready(first, count) {
             return Ok(());
@@ -122,6 +124,7 @@ impl KeptWords {
         ensures stays { (f n : ℕ) → HasRoom self.old f n → HasRoom self.new f n }
         ensures ready { HasRoom self.old first count → IsOk result }
         ensures pages { MakesPages first count self.old self.new }
+        ensures early { length self.old.epochs.table.items < self.old.limit → self.new.limit ≡ self.old.limit }
     {
         self.make_pages(first, count)?;
         self.look_through();
@@ -179,6 +182,7 @@ impl KeptWords {
         ensures room { OnOk result (HasPages self.new first count) }
         ensures ready { HasPages self.old first count → IsOk result }
         ensures pages { MakesPages first count self.old self.new }
+        ensures limit { self.new.limit ≡ self.old.limit }
     {
         if count == 0 {
             return Ok(());
@@ -200,6 +204,7 @@ impl KeptWords {
         ensures count { OnOk result (count ≤ vec_len self.new.pages) }
         ensures ready { count ≤ vec_len self.old.pages → IsOk result }
         ensures most { length self.new.pages.items ≤ max (length self.old.pages.items) count }
+        ensures limit { self.new.limit ≡ self.old.limit }
     {
         let alloc = *self.pages.allocator();
         for _ in self.pages.len()..count {
@@ -218,13 +223,14 @@ impl KeptWords {
         ensures room { OnOk result ((w : ℕ) → w / 256 ≡ number → IsTrue (has_room self.new w)) }
         ensures ready { ((w : ℕ) → w / 256 ≡ number → IsTrue (has_room self.old w)) → IsOk result }
         ensures others { (page : ℕ) → page ≢ number → size_of self.new page ≡ size_of self.old page }
+        ensures limit { self.new.limit ≡ self.old.limit }
     {
         let slots = 64 * (self.harts as usize + 1);
         make_slots(&mut self.pages[number], slots)
     }
 
-    /// The hart's present epoch continues. If `learns` holds, it ends, and another begins with these
-    /// times. What is kept stays, and so do pages.
+    /// The hart has these times of the others now: in its present epoch, or in a new one if `learns` says that they
+    /// have changed. There is room for that. What is kept stays, and so do pages.
     pub fn go_on(&mut self, hart: HartId, learns: bool, times: &Times)
         requires hart { hart < HARTS }
         requires room { learns ≡ true → IsTrue (has_epoch self.old.epochs) }
@@ -284,7 +290,8 @@ impl KeptWords {
         }
     }
 
-    // Keeps an access of the word.
+    // Keeps an access of the word, in place of those that it puts out. The word's page is there, and the slot's epoch
+    // counts as used. In a slot that is empty `after` is 0.
     fn keep_at(&mut self, word: Addr, mode: Mode, slot: &Slot)
         requires aligned { word % 4 ≡ 0 }
         requires hart { slot.now.hart < self.old.harts }

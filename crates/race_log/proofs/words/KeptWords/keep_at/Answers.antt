@@ -101,4 +101,5 @@ returns-clause-size c =
       pages = length-set old.pages.items (c.args.word / 256) v;
       slots = sizes_set old.pages.items (c.args.word / 256) v low (c.keep_in.ensures.len ∙ sym (ap length was));
       epochs = refl;
+      limit = refl;
     }

@@ -31,6 +31,7 @@ loop-number-init c =
       pages = c.reach.ensures.most;
       others = λ page out. ap length (c.reach.ensures.same page);
       count = c.in_ok-reach.ensures.count;
+      limit = c.reach.ensures.limit;
       made = λ w low high. absurd (omega (arith, low, high));
     }
 
@@ -51,6 +52,7 @@ loop-number-preserved c =
       pages = omega (arith, e.count, before.pages, c.make_page.new.self.pages.ok, c.loop-number.self.pages.ok);
       others = λ page out. e.others page (apart page out) ∙ before.others page (wider page out);
       count = omega (arith, e.count, before.count);
+      limit = e.limit ∙ before.limit;
       made = λ w low high. elim (cases_eq (w / 256) c.loop-number.number) [
         | inl is ↦ c.in_ok-make_page.ensures.room w is
         | inr apart ↦ e.stays w (before.made w low (omega (arith, high, apart)))

@@ -11,5 +11,6 @@ invariant-loop-number l = record {
   pages : length l.self.pages.items ≤ max (length l.fn.self.pages.items) (l.last / 256 + 1);
   others : (page : ℕ) → (page < l.first / 256) ⊎ (l.number ≤ page) → size_of l.self page ≡ size_of l.fn.self page;
   count : l.last / 256 + 1 ≤ vec_len l.self.pages;
+  limit : l.self.limit ≡ l.fn.self.limit;
   made : (w : ℕ) → l.first / 256 ≤ w / 256 → w / 256 < l.number → IsTrue (has_room l.self w);
 }

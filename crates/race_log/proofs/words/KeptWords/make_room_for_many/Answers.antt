@@ -34,6 +34,12 @@ returns-clause-pages c =
       others = λ page out. ap (λ p. length (slots_of (slice_get p.items page))) c.look_through.ensures.pages ∙ e.others page out;
     }
 
+pub returns-clause-early : goal.returns-clause-early
+returns-clause-early c = λ below.
+    let e = c.make_pages.ensures in
+    let same = ap (λ s. length s.table.items) e.epochs in
+    (c.look_through.ensures.early (omega (arith, below, same, e.limit))).0 ∙ e.limit
+
 pub invariant_of-self-clause-few_epochs : goal.invariant_of-self-clause-few_epochs
 invariant_of-self-clause-few_epochs c =
     let n = c.look_through.new.self in

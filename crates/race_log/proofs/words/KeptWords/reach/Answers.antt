@@ -25,4 +25,5 @@ loop-preserved c = record {
   same = λ n. push_or_same _ c.loop.self.pages.items c.push.new.self.items c.new.result c.new.ensures.items c.push.ensures.items n ∙ c.loop.invariant.same n;
   most = omega (arith, c.in_ok-push.ensures.len, c.loop.invariant.count, c.loop-test.true, c.push.new.self.ok);
   count = omega (arith, c.in_ok-push.ensures.len, c.loop.invariant.count);
+  limit = c.loop.invariant.limit;
 }

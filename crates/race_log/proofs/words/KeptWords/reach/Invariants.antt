@@ -9,4 +9,5 @@ invariant-loop l = record {
   same : (n : ℕ) → slots_of (slice_get l.self.pages.items n) ≡ slots_of (slice_get l.initial.self.pages.items n);
   most : length l.self.pages.items ≤ max (length l.initial.self.pages.items) l.count;
   count : vec_len l.self.pages ≡ l.counter;
+  limit : l.self.limit ≡ l.initial.self.limit;
 }

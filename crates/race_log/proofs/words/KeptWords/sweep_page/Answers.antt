@@ -86,4 +86,5 @@ returns-clause-size c =
       pages = length-set old.pages.items c.args.number v;
       slots = sizes_set old.pages.items c.args.number v low (c.give_up_page.ensures.len ∙ sym (ap length was));
       epochs = refl;
+      limit = refl;
     }
