@@ -3,6 +3,7 @@ ghost use Rattle.std.specs.Prelude.{◌≡◌, ◌<◌, ℕ, List, vec_len, IfOk
 ghost use Rattle.bn_outside.specs.declared.turn_row.TurnRow.{TurnRow};
 ghost use Rattle.bus_core.specs.Bus.{began_of};
 ghost use Rattle.whole_runs.specs.Closed.{IsClosed, IsOfRows};
+ghost use Rattle.whole_runs.specs.HartTurns.{place_at, first_place};
 ghost use Rattle.whole_runs.specs.Taking.{IsClosedBy};
 
 use crate::hart_place::HartPlace;
@@ -21,6 +22,24 @@ use std::sync::{Mutex, Wait};
 use std::thread;
 use std::thread::Threads;
 
+// The turns of one hart, from a place that is its first one. What a hart did shows in no result, so that a
+// clause has to ask for this place: the turns of harts that all begin as hart 0 are a run too.
+fn run_from<J: Beginning, B: Book, G: Gate, R: Wait>(
+    rt: &R,
+    bus: &Mutex<ListedBus<J, B>>,
+    hart: HartId,
+    code: &DecodedImage,
+    from: &Start,
+    first: HartPlace,
+    gate: &G,
+) -> Result<(), AllocError>
+    requires began { began_of from.now ≡ J.began }
+    requires code { code.now ≡ from.now.image }
+    requires first { place_at first ≡ first_place from.now.settings from.now.image hart }
+{
+    work_listed(rt, bus, hart, code, &from.settings, first, gate)
+}
+
 // The turns of one hart, from its first place.
 fn run_one<J: Beginning, B: Book, G: Gate, R: Wait>(
     rt: &R,
@@ -34,7 +53,7 @@ fn run_one<J: Beginning, B: Book, G: Gate, R: Wait>(
     requires code { code.now ≡ from.now.image }
 {
     let first = HartPlace::first(&from.settings, &from.image, hart);
-    work_listed(rt, bus, hart, code, &from.settings, first, gate)
+    run_from(rt, bus, hart, code, from, first, gate)
 }
 
 // The turns of each hart, in a thread of its own; whether it found the memory.

@@ -57,8 +57,8 @@ fn listed<B: Book>(
     }
 }
 
-/// The run by the turns that a number chooses, of which nothing is kept but what the book keeps. The ring
-/// has its log, and the book its rows, if it tells any.
+/// The run by the turns that a number chooses. Each turn is noted in the book, which may keep them; no other list of
+/// them is made. The answer has the log in its ring, and the book.
 ///
 /// The only error is out of memory.
 pub fn run_seeded<B: Book>(
