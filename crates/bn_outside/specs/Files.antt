@@ -1,11 +1,20 @@
--- What a store holds: a map from names to bytes, for stores whose contents contracts can name.
+-- What is known of a store, and what it holds: a map from names to bytes, for stores whose contents contracts can name.
 use Rattle.std.specs.Prelude.{◌≡◌, ◌≢◌, ℕ, ◌<◌, ◌≤◌, List, length, Option, Some, None, Result, Ok, Err, IsSomeAnd, Vec, ⊤}
+use Rattle.bn_outside.specs.Counts.{Counts}
 use Rattle.bn_outside.specs.declared.store.LoadError.{LoadError}
 use Rattle.bn_outside.specs.declared.store.LoadError.TheVariants as load
 
 -- the bytes under each name, if there is one
 abbrev pub Files : Type 0
 Files = List ℕ → Option (List ℕ)
+
+-- a store: its files, if it tells them, how many saves it was asked for, how often a call of each kind failed, and what it
+-- has noted of its calls, as a number
+pub record Stored : Type 0 where
+  pub files : Option Files
+  pub saves : ℕ
+  pub counts : Counts
+  pub noted : ℕ
 
 -- what the answer of a load with a limit says of the bytes under its name: they are there, aren't, or are too many. If memory
 -- runs out they are there and fit the limit

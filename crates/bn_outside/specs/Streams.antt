@@ -1,6 +1,17 @@
--- What a source has left and what a sink was given, if they tell it.
+-- What is known of a source and of a sink: what it has left and what it was given, if they tell it, and its counts.
 use Rattle.std.specs.Prelude.{◌≡◌, ◌↔◌, ℕ, ◌<◌, ◌≤◌, List, [], ◌∷◌, Option, Some, None, length, take, ⊤}
 use Rattle.std.specs.Io.KnownBytes.{Appends, Consumes}
+
+-- a sink: what it was given, if it tells that, and how often a write failed
+pub record Stream : Type 0 where
+  pub text : Option (List ℕ)
+  pub faults : ℕ
+
+-- a source: what it has left, if it tells that, how often a read failed, and what it has noted of its reads, as a number
+pub record Supply : Type 0 where
+  pub left : Option (List ℕ)
+  pub faults : ℕ
+  pub noted : ℕ
 
 -- a read that found these bytes left, into a buffer with room, answered 0 exactly if there were none
 abbrev pub EndsExactly : Option (List ℕ) → ℕ → List ℕ → Type 0

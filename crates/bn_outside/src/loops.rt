@@ -47,12 +47,12 @@ const PIECE: usize = 65_536;
 /// It fails if a write did, which isn't made again. Then the sink was given a prefix of the text and
 /// not all of it.
 pub fn send_all<K: Sink>(sink: &mut K, text: &[u8]) -> Result<(), Failed>
-    ensures ok { OnOk result (Appends (K.written sink.old) (K.written sink.new) text.now) }
-    ensures part { AppendsPart (K.written sink.old) (K.written sink.new) text.now }
-    ensures short { OnErr result (AppendsShort (K.written sink.old) (K.written sink.new) text.now) }
-    ensures later { K.faults sink.old ≤ K.faults sink.new }
-    ensures once { CountsFault (K.faults sink.old) (K.faults sink.new) result }
-    ensures cause { OnErr result (Rose (K.faults sink.old) (K.faults sink.new)) }
+    ensures ok { OnOk result (Appends (K.stream sink.old).text (K.stream sink.new).text text.now) }
+    ensures part { AppendsPart (K.stream sink.old).text (K.stream sink.new).text text.now }
+    ensures short { OnErr result (AppendsShort (K.stream sink.old).text (K.stream sink.new).text text.now) }
+    ensures later { (K.stream sink.old).faults ≤ (K.stream sink.new).faults }
+    ensures once { CountsFault (K.stream sink.old).faults (K.stream sink.new).faults result }
+    ensures cause { OnErr result (Rose (K.stream sink.old).faults (K.stream sink.new).faults) }
 {
     let mut sent = 0;
     while sent < text.len() {
@@ -86,7 +86,7 @@ fn gather_within(
     ensures len { OnOk result (vec_len bytes.new ≡ vec_len bytes.old + length piece.now) }
     ensures within { OnOk result (vec_len bytes.new ≤ limit) }
     ensures long { result ≡ Err read_error.TooLong → limit < vec_len bytes.old + length piece.now }
-    ensures wanting { result ≡ Err read_error.OutOfMemory → vec_len bytes.old + length piece.now ≤ limit }
+    ensures memory { result ≡ Err read_error.OutOfMemory → vec_len bytes.old + length piece.now ≤ limit }
     ensures works { result ≢ Err read_error.Failed }
 {
     if piece.len() > limit - bytes.len() {
@@ -112,16 +112,16 @@ pub fn read_to_end<I: Source<NoSink>>(
 ) -> Result<Vec<u8>, ReadError>
     ensures bound { IfOk result (λ bytes. vec_len bytes ≤ limit) }
     ensures all { IfOk result (λ bytes.
-        ConsumesAll (I.left source.old) (I.left source.new) bytes.items) }
+        ConsumesAll (I.source source.old).left (I.source source.new).left bytes.items) }
     ensures long { result ≡ Err ReadError.TooLong →
-        IfSome (I.left source.old) (λ left. limit < length left) }
-    ensures part { ConsumesWithin (limit + 65536) (I.left source.old) (I.left source.new) }
-    ensures later { I.faults source.old ≤ I.faults source.new }
-    ensures once { ReadCounts (I.faults source.old) (I.faults source.new) result }
+        IfSome (I.source source.old).left (λ left. limit < length left) }
+    ensures part { ConsumesWithin (limit + 65536) (I.source source.old).left (I.source source.new).left }
+    ensures later { (I.source source.old).faults ≤ (I.source source.new).faults }
+    ensures once { ReadCounts (I.source source.old).faults (I.source source.new).faults result }
     ensures cause { result ≡ Err ReadError.Failed →
-        Rose (I.faults source.old) (I.faults source.new) }
-    ensures wanting { result ≡ Err ReadError.OutOfMemory →
-        (0 < limit) × IfSome (I.left source.old) (λ left. 0 < length left) }
+        Rose (I.source source.old).faults (I.source source.new).faults }
+    ensures memory { result ≡ Err ReadError.OutOfMemory →
+        (0 < limit) × IfSome (I.source source.old).left (λ left. 0 < length left) }
 {
     let mut bytes = Vec::new(alloc);
     let mut piece = [0u8; PIECE];

@@ -65,9 +65,7 @@ impl MemorySink {
 }
 
 impl Sink for MemorySink {
-    ghost written = { λ s. Some s.written };
-
-    ghost faults = { λ s. s.faults };
+    ghost stream = { λ s. record { text = Some s.written; faults = s.faults } };
 
     fn write(&mut self, piece: &[u8]) -> Result<usize, Failed>
         ensures bound { IfOk result (λ n. n ≤ length piece.now) }
@@ -83,7 +81,7 @@ impl Sink for MemorySink {
         ensures count { IfOk result (λ n. n ≡ min self.old.most (length piece.now)) }
 
         // A piece with no byte needs no memory.
-        ensures wanting { OnErr result (NextFails self.old.calls ⊎ (0 < length piece.now)) }
+        ensures memory { OnErr result (NextFails self.old.calls ⊎ (0 < length piece.now)) }
 
         // All else stays.
         ensures ok { IfOk result (λ n. self.new ≡ record self.old {

@@ -83,11 +83,7 @@ impl MemorySource {
 }
 
 impl<O: Sink> Source<O> for MemorySource {
-    ghost left = { λ s. Some s.left };
-
-    ghost faults = { λ s. s.faults };
-
-    ghost noted = { λ s. s.calls.made };
+    ghost source = { λ s. record { left = Some s.left; faults = s.faults; noted = s.calls.made } };
 
     ghost note = { λ made _. counted made };
 

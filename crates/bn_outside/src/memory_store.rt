@@ -119,14 +119,12 @@ impl MemoryStore {
 }
 
 impl Store for MemoryStore {
-    ghost files = { λ s. Some (files_in s.entries) };
-
-    ghost counts = { λ s. s.counts };
-
-    ghost saves = { λ s. s.saves };
-
-    // It notes how many calls were made.
-    ghost noted = { λ s. s.calls.made };
+    ghost stored = { λ s. record {
+      files = Some (files_in s.entries);
+      saves = s.saves;
+      counts = s.counts;
+      noted = s.calls.made;
+    } };
 
     ghost note = { λ made _. counted made };
 

@@ -8,9 +8,7 @@ use crate::{Failed, Sink};
 pub struct NoSink;
 
 impl Sink for NoSink {
-    ghost written = { λ _. None };
-
-    ghost faults = { λ _. 0 };
+    ghost stream = { λ _. record { text = None; faults = 0 } };
 
     fn write(&mut self, piece: &[u8]) -> Result<usize, Failed> {
         Ok(piece.len())

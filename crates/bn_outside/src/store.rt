@@ -1,7 +1,7 @@
 //! Stores of named files: the trait by which the program loads and saves. Contracts speak of files by it alone.
 ghost use Rattle.std.specs.Prelude.{◌≡◌, ◌≤◌, ℕ, Option, IfOk, IfSome, OnOk, Some, vec_len};
-ghost use Rattle.bn_outside.specs.Counts.{Counts, counted, NoneFell, LoadCause, SaveCause};
-ghost use Rattle.bn_outside.specs.Files.{Files, LoadTells, SameElsewhere, WhereTold};
+ghost use Rattle.bn_outside.specs.Counts.{counted, NoneFell, LoadCause, SaveCause};
+ghost use Rattle.bn_outside.specs.Files.{LoadTells, SameElsewhere, Stored, WhereTold};
 ghost use Rattle.bn_outside.specs.StoreCalls.{StoreCall, LoadCall, SaveCall};
 ghost use Rattle.bn_outside.specs.declared.store.LoadError.TheVariants as load;
 ghost use Rattle.bn_outside.specs.declared.store.SaveError.TheVariants as save;
@@ -55,20 +55,13 @@ impl From<AllocError> for SaveError {
 
 /// Files by their names.
 pub trait Store {
-    /// The bytes under each name, if contracts can name them.
-    ghost files: { Self → Option Files };
+    /// What is known of it: the bytes under each name, if contracts can name them, and how many saves it was asked for. It
+    /// counts how often a name was missing or had too many bytes, and how often a call failed. And it notes its calls.
+    ghost stored: { Self → Stored };
 
-    /// How often a name was missing, had too many bytes, and a call failed.
-    ghost counts: { Self → Counts };
-
-    /// How many saves it was asked for.
-    ghost saves: { Self → ℕ };
-
-    /// What it has noted of its calls, as a number, and that number after one more call. What it notes is its own
-    /// affair. Code that is proved for every store knows nothing of it but that each call is noted once. So if its
-    /// contract says what is noted after some calls, it makes these calls, in this order, and no other.
-    ghost noted: { Self → ℕ };
-
+    /// What it notes after one more call. What that is, is its own affair. Code that is proved for every store knows nothing
+    /// of it but that each call is noted once. So if its contract says what is noted after some calls, it makes these calls,
+    /// in this order, and no other.
     ghost note: { ℕ → StoreCall → ℕ };
 
     /// The bytes under `name`, if they are at most `limit`.
@@ -78,12 +71,12 @@ pub trait Store {
     /// that are there and fit the limit. Each other refusal comes only in a call that counted it.
     fn load(&mut self, alloc: Global, name: &str, limit: usize) -> Result<Vec<u8>, LoadError>
         ensures bound { IfOk result (λ bytes. vec_len bytes ≤ limit) }
-        ensures told { IfSome (files self.old) (λ known. LoadTells (known name.now) limit result) }
-        ensures unchanged { files self.new ≡ files self.old }
-        ensures asked { saves self.new ≡ saves self.old }
-        ensures called { noted self.new ≡ note (noted self.old) (LoadCall name.now limit) }
-        ensures later { NoneFell (counts self.old) (counts self.new) }
-        ensures cause { LoadCause (counts self.old) (counts self.new) result };
+        ensures told { IfSome (stored self.old).files (λ known. LoadTells (known name.now) limit result) }
+        ensures unchanged { (stored self.new).files ≡ (stored self.old).files }
+        ensures asked { (stored self.new).saves ≡ (stored self.old).saves }
+        ensures called { (stored self.new).noted ≡ note (stored self.old).noted (LoadCall name.now limit) }
+        ensures later { NoneFell (stored self.old).counts (stored self.new).counts }
+        ensures cause { LoadCause (stored self.old).counts (stored self.new).counts result };
 
     /// Gives `name` these bytes, in place of what it had.
     ///
@@ -91,11 +84,11 @@ pub trait Store {
     /// whatever the answer. `Failed` comes only in a call that counted it. Each call is a save that the
     /// store was asked for.
     fn save(&mut self, name: &str, bytes: &[u8]) -> Result<(), SaveError>
-        ensures saved { OnOk result (WhereTold (files self.old) (files self.new)
+        ensures saved { OnOk result (WhereTold (stored self.old).files (stored self.new).files
             (λ _ new. new name.now ≡ Some bytes.now)) }
-        ensures others { WhereTold (files self.old) (files self.new) (SameElsewhere name.now) }
-        ensures asked { saves self.new ≡ counted (saves self.old) }
-        ensures called { noted self.new ≡ note (noted self.old) (SaveCall name.now bytes.now) }
-        ensures later { NoneFell (counts self.old) (counts self.new) }
-        ensures cause { SaveCause (counts self.old) (counts self.new) result };
+        ensures others { WhereTold (stored self.old).files (stored self.new).files (SameElsewhere name.now) }
+        ensures asked { (stored self.new).saves ≡ counted (stored self.old).saves }
+        ensures called { (stored self.new).noted ≡ note (stored self.old).noted (SaveCall name.now bytes.now) }
+        ensures later { NoneFell (stored self.old).counts (stored self.new).counts }
+        ensures cause { SaveCause (stored self.old).counts (stored self.new).counts result };
 }

@@ -1,46 +1,8 @@
 -- What it means that an audit is done.
-use Rattle.std.proofs.Common.{◌≡◌, ℕ, Bool, true, false, List, [], ◌∷◌, Option, Some, None, ◌∙◌, ap, subst, sym, refl, inl, inr, ◌⊎◌}
-use Rattle.std.specs.Prelude.{Result, Ok, Err, is_some}
-use Rattle.std.specs.Str.{bytes_eq}
-use Rattle.std.proofs.lemmas.Slice.Eq.{bytes_eq-Decides}
-use Rattle.sha2.specs.Sha256.{sha256}
-use Rattle.bn_base.specs.Programs.{Program}
-use Rattle.bn_base.specs.declared.settings.RawSettings.{RawSettings}
-use Rattle.bn_outside.specs.Files.{Files}
-use Rattle.elf_loader.specs.Loaded.{image_of}
-use Rattle.elf_loader.specs.declared.error.ElfError.{ElfError}
-use Rattle.log_order.specs.Content.{Content, IsContent}
-use Rattle.log_blocks.specs.Readings.{Reads}
-use Rattle.log_blocks.specs.declared.damage.Damage.{Damage}
-use Rattle.run_files.specs.Files.{file_of}
-use Rattle.run_model.specs.Lists.{list_error}
-use Rattle.run_files.specs.Audits.{is_version2, version2_of, audited_file, IsVerdict, verdict_of, VerdictsAreUnique}
-use Rattle.run_model.specs.declared.error.TurnError.{TurnError}
-use Rattle.run_files.specs.declared.verdict.Verdict.{Verdict}
-use Rattle.run_files.specs.declared.verdict.Verdict.TheVariants.{Agree, Differ}
-use Rattle.bus_core.specs.Bus.{Began}
-use Rattle.whole_runs.specs.Laws.{WholeRunsHaveNoError}
-use Rattle.command_words.specs.Words.{Line, AuditLine}
-use Rattle.log_commands.specs.Names.{FileNames}
-use Rattle.log_commands.specs.Told.{Told}
-use Rattle.log_commands.specs.Commands.{WithFile, IsByLog, by_log, IsByInput}
-use Rattle.log_commands.specs.Pairs.{ByPair, pair_loaded, pair_same, pair_of}
-use Rattle.bugnet.specs.Answers.{names_in, names_by, IsByLine, IsAnswer}
-use Rattle.log_commands.specs.Answering.{IsByFiles}
-use Rattle.log_commands.specs.Audits.{by_turns, shown, audited, IsAuditOf, Agrees}
-use Rattle.log_commands.specs.Evaluated.{told_by}
-use Rattle.log_commands.specs.FileCalls.{input_roles}
-use Rattle.log_commands.specs.Inputs.{Bytes}
+use Rattle.bugnet.proofs.Common.{◌≡◌, ℕ, Bool, true, false, List, [], ◌∷◌, Option, Some, None, ◌∙◌, ap, subst, sym, refl, inl, inr, ◌⊎◌, Result, Ok, Err, is_some, bytes_eq, bytes_eq-Decides, sha256, Program, RawSettings, Files, image_of, ElfError, Content, IsContent, Reads, Damage, file_of, list_error, is_version2, version2_of, audited_file, IsVerdict, verdict_of, VerdictsAreUnique, TurnError, Verdict, Agree, Differ, Began, WholeRunsHaveNoError, Line, AuditLine, FileNames, Told, WithFile, IsByLog, by_log, IsByInput, ByPair, pair_loaded, pair_same, pair_of, names_in, names_by, IsByLine, IsAnswer, IsByFiles, by_turns, shown, audited, IsAuditOf, Agrees, told_by, input_roles, Bytes, WithFiles, Call, Tells, SomeTold, StoppedEarly, TellsAnswer, IsRecorded, ElfRefused, LogRefused, ProgramDiffers, BookRefused, FileDiffers, refused-apart, with-files, stopped-free}
 use Rattle.bugnet.specs.Agreements.{AuditsAgree, AuditsRun}
-use Rattle.log_commands.specs.Outside.{WithFiles}
-use Rattle.log_commands.specs.Effects.{Call, Tells, SomeTold}
-use Rattle.bugnet.specs.Run.{StoppedEarly, TellsAnswer}
-use Rattle.log_commands.specs.RunEnds.{IsRecorded}
 use Rattle.log_commands.specs.declared.names.Role.TheVariants as role
-use Rattle.log_commands.specs.declared.refusal.Refusal.TheVariants.{ElfRefused, LogRefused, ProgramDiffers, BookRefused, FileDiffers}
 use Rattle.bugnet.proofs.Leaves.{by-file, by-input, free-apart}
-use Rattle.log_commands.proofs.StatusesApart.{refused-apart}
-use Rattle.log_commands.proofs.Tells.{with-files, stopped-free}
 use Rattle.bugnet.proofs.LineTells.{early-free}
 
 pub record AuditLaws : Type 0 where
@@ -147,7 +109,7 @@ audits-done law (Some (AuditLine log elf book input)) files status k (inl (what,
 audits-done law (Some (AuditLine log elf book input)) files status k (inr early) = λ done. absurd (free-apart status (early-free (Some (AuditLine log elf book input)) files status k early) (inl done))
 audits-done law line files status k a = tt
 
-pub call-audits : AuditsAgree → (line : Option Line) (status : ℕ) (k : Call) → TellsAnswer line status k → WithFiles k.old.files (λ files. AuditsRun line files status)
+pub call-audits : AuditsAgree → (line : Option Line) (status : ℕ) (k : Call) → TellsAnswer line status k → WithFiles k.old.store.files (λ files. AuditsRun line files status)
 call-audits law line status k h =
-    with-files k.old.files (λ files. SomeTold (IsAnswer line files) (λ what. Tells (names_by line) what status k) ⊎ StoppedEarly line files status k) (λ files. AuditsRun line files status)
+    with-files k.old.store.files (λ files. SomeTold (IsAnswer line files) (λ what. Tells (names_by line) what status k) ⊎ StoppedEarly line files status k) (λ files. AuditsRun line files status)
     (λ files a. audits-done law line files status k a) h

@@ -1,13 +1,5 @@
 -- How often a line asks its store to save.
-use Rattle.std.proofs.Common.{◌≡◌, ℕ, Bool, true, Option, Some, ◌∙◌, subst, inl}
-use Rattle.command_words.specs.Words.{Line, RecordLine, ConvertLine, SalvageLine}
-use Rattle.log_commands.specs.SaveCounts.{SavedAll, SavesEach, AnswerSaves, IsRenewed, is_lean}
-use Rattle.bugnet.specs.Asks.{LineSaves, FitsLine}
-use Rattle.bugnet.specs.Laws.{IsReadOnly}
-use Rattle.log_commands.specs.Outside.{IsPrinted}
-use Rattle.log_commands.specs.declared.answer.Answer.{Answer}
-use Rattle.log_commands.specs.declared.answer.Answer.TheVariants.{Recorded, Interval, Joined, Listed, Checked, Agreed, Renewed, Shown}
-use Rattle.log_commands.proofs.SaveCounts.{no-saves}
+use Rattle.bugnet.proofs.Common.{◌≡◌, ℕ, Bool, true, Option, Some, ◌∙◌, subst, inl, Line, RecordLine, ConvertLine, SalvageLine, SavedAll, SavesEach, AnswerSaves, IsRenewed, is_lean, LineSaves, FitsLine, IsReadOnly, IsPrinted, Answer, Recorded, Renewed, no-saves}
 
 -- a line that is refused before anything is saved
 pub line-none : (line : Option Line) (status before after : ℕ) → (SavedAll status → ⊥) → after ≡ before → LineSaves line status before after
@@ -30,13 +22,7 @@ renewed answer status before mid after is same saves = absurd is
 pub line-acts : (line : Line) (answer : Answer) (status before mid after : ℕ) → FitsLine line answer → (IsReadOnly (Some line) → IsPrinted answer) → mid ≡ before
     → AnswerSaves answer status mid after → LineSaves (Some line) status before after
 line-acts (RecordLine r) (Recorded x) status before mid after records prints same saves = subst (λ (lean : Bool). SavesEach lean status before after) records (subst (λ (n : ℕ). SavesEach (is_lean x) status n after) same saves)
-line-acts (RecordLine r) (Interval x) status before mid after records prints same saves = absurd records
-line-acts (RecordLine r) (Joined x) status before mid after records prints same saves = absurd records
-line-acts (RecordLine r) (Listed d) status before mid after records prints same saves = absurd records
-line-acts (RecordLine r) (Checked d) status before mid after records prints same saves = absurd records
-line-acts (RecordLine r) Agreed status before mid after records prints same saves = absurd records
-line-acts (RecordLine r) (Renewed n) status before mid after records prints same saves = absurd records
-line-acts (RecordLine r) (Shown text) status before mid after records prints same saves = absurd records
+line-acts (RecordLine r) answer status before mid after records prints same saves = absurd records
 line-acts (ConvertLine log copy) answer status before mid after records prints same saves = renewed answer status before mid after records same saves
 line-acts (SalvageLine log copy) answer status before mid after records prints same saves = renewed answer status before mid after records same saves
 line-acts line answer status before mid after records prints same saves = printed answer status before mid after (prints tt) same saves

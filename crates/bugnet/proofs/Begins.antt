@@ -1,36 +1,6 @@
 -- What a recording begins with, after its loads.
-use Rattle.std.proofs.Common.{◌≡◌, ℕ, List, [], Option, Some, None, Bool, true, false, ◌∙◌, ap, subst, sym, refl, arith, inr, Vec, Global}
-use Rattle.std.specs.Prelude.{Result, Ok, Err}
-use Rattle.bn_base.specs.Programs.{Program}
-use Rattle.bn_base.specs.Ranges.{checked_by, first_bad}
-use Rattle.bn_base.specs.declared.settings.BadSetting.{BadSetting}
-use Rattle.bn_base.specs.declared.settings.RawSettings.{RawSettings}
-use Rattle.bn_outside.specs.Counts.{Counts}
-use Rattle.bn_outside.specs.Files.{Files}
-use Rattle.elf_loader.specs.Loaded.{image_of}
-use Rattle.le_numbers.specs.Numbers.{AreBytes}
-use Rattle.elf_loader.specs.declared.error.ElfError.{ElfError}
-use Rattle.run_model.specs.declared.start.Start.{Start}
-use Rattle.log_commands.specs.Refusals.{name_refusal}
-use Rattle.bugnet.specs.Answers.{setting_refusal}
-use Rattle.bugnet.specs.Command.Record.{is_clash, IsByProgram, IsByNames, IsBySettings, IsRecord}
-use Rattle.log_commands.specs.Commands.{WithFile, IsByInput}
-use Rattle.log_commands.specs.Names.{FileNames, name_of}
-use Rattle.log_commands.specs.Outside.{WithFiles, FetchTells, ProgramTells, GivesBy, CauseBy, told_of, told_of_recording}
-use Rattle.bugnet.specs.Recordings.{IsRun}
-use Rattle.bugnet.specs.Saves.{HoldsBytes}
-use Rattle.bugnet.specs.Starts.{BeginsBy}
-use Rattle.log_commands.specs.Told.{Told, refused}
-use Rattle.log_commands.specs.declared.answer.Answer.{Answer}
-use Rattle.log_commands.specs.declared.answer.Answer.TheVariants.{Recorded}
-use Rattle.log_commands.specs.declared.answer.RunToTell.{RunToTell}
-use Rattle.bugnet.specs.declared.manner.Manner.{Manner}
-use Rattle.log_commands.specs.declared.names.Role.{Role}
+use Rattle.bugnet.proofs.Common.{◌≡◌, ℕ, List, [], Option, Some, None, Bool, true, false, ◌∙◌, ap, subst, sym, refl, arith, inr, Vec, Global, Result, Ok, Err, Program, checked_by, first_bad, BadSetting, RawSettings, Counts, Files, image_of, AreBytes, ElfError, Start, name_refusal, setting_refusal, is_clash, IsByProgram, IsByNames, IsBySettings, IsRecord, WithFile, IsByInput, FileNames, name_of, WithFiles, FetchTells, ProgramTells, GivesBy, CauseBy, told_of, told_of_recording, IsRun, HoldsBytes, BeginsBy, Told, refused, Answer, Recorded, RunToTell, Manner, Role, Refusal, OutOfRange, SameName, with-also, by-bytes, made-stopped, loaded}
 use Rattle.log_commands.specs.declared.names.Role.TheVariants.{Input}
-use Rattle.log_commands.specs.declared.refusal.Refusal.{Refusal}
-use Rattle.log_commands.specs.declared.refusal.Refusal.TheVariants.{OutOfRange, SameName}
-use Rattle.log_commands.proofs.Answered.{with-also}
-use Rattle.log_commands.proofs.Loads.{by-bytes, made-stopped, loaded}
 use Rattle.bugnet.proofs.RecordLoads.{program-refused, bad-one, none-bad}
 
 -- ---- a file

@@ -1,27 +1,14 @@
 -- A replay that was begun never ends because its interval isn't there, nor does a joint replay.
-use Rattle.std.proofs.Common.{◌≡◌, ℕ, zero, suc, ◌+◌, ◌-◌, List, [], ◌∷◌, Option, Some, None, subst, sym, refl, true, false, Bool, slice_get, slice_set, Result, Ok, Err}
-use Rattle.std.specs.Prelude.{◌==◌, ◌||◌, ◌&&◌, not, nat_lt, length, slice_index}
-use Rattle.bn_base.specs.Faults.{fault_number}
-use Rattle.bn_base.specs.Programs.{Program}
-use Rattle.bn_base.specs.declared.row.Row.{Row}
+use Rattle.bugnet.proofs.Common.{◌≡◌, ℕ, zero, suc, ◌+◌, ◌-◌, List, [], ◌∷◌, Option, Some, None, subst, sym, refl, true, false, Bool, slice_get, slice_set, ◌||◌, slice_index, fault_number, Program, Row, Step, Quiet, Asks, step, absorbed, Ask, Want, Load, Store, LoadReserved, StoreConditional, Amo, System, Faulted, Record, Outcome, Done, Refused, Replayed, Interval, Position, On, slot, taken_from, word_for, after_ask, after_sc, missing, call_reason, found, system_step, ask_step, one_step, left_over, finish, fault_end, steps, first, interval_of, replayed_in, replayed, ReplayError, NoInterval, ScMissing, RecordsLeft, EndDiffers, JointError, Replay, Stuck, Next as Choice, Cursor, Lane, Item, with_cursor, cursors_of, cursor_step, lane_step, Joining, Walk, Ran, lanes_from, fresh, begun, longer, positions_from, choice, move, next_step, error_of, ran, run_for, run_all, steps_left}
+use Rattle.std.proofs.Common.{Result, Ok, Err}
+use Rattle.std.specs.Prelude.{◌==◌, ◌&&◌, not, nat_lt, length}
 use Rattle.rv_meaning.specs.Access.{stored_word, amo_result}
-use Rattle.rv_meaning.specs.Execute.{Step, Quiet, Asks, step, absorbed}
-use Rattle.rv_meaning.specs.declared.asks.Ask.{Ask}
-use Rattle.rv_meaning.specs.declared.asks.Want.{Want}
-use Rattle.rv_meaning.specs.declared.asks.Want.TheVariants.{Load, Store, LoadReserved, StoreConditional, Amo, System, Faulted}
 use Rattle.rv_meaning.specs.Rows.{row_of, call_row, fault_row}
 use Rattle.rv_meaning.specs.declared.asks.Reply.TheVariants.{Word, Stored, Answer, Over}
-use Rattle.log_record.specs.declared.record.Record.{Record}
-use Rattle.hart_replay.specs.Replay.{Outcome, Done, Refused, Replayed, Interval, Position, Next, On, Stop, slot, taken_from, word_for, after_ask, after_sc, missing, call_reason, found, system_step, ask_step, one_step, left_over, finish, fault_end, ended, steps, first, interval_of, replayed_in, replayed}
-use Rattle.hart_replay.specs.declared.error.ReplayError.{ReplayError}
-use Rattle.hart_replay.specs.declared.error.ReplayError.TheVariants.{NoInterval, ScMissing, RecordsLeft, EndDiffers, OutOfMemory}
-use Rattle.joint_replay.specs.declared.error.JointError.{JointError}
-use Rattle.joint_replay.specs.declared.error.JointError.TheVariants.{Replay, Stuck}
+use Rattle.hart_replay.specs.Replay.{Next, Stop, ended}
+use Rattle.hart_replay.specs.declared.error.ReplayError.TheVariants.{OutOfMemory}
 use Rattle.joint_replay.specs.declared.kinds.Next.TheVariants.{Hart, AllDone, NoneReady}
-use Rattle.joint_replay.specs.declared.kinds.Next.{Next as Choice}
 use Rattle.joint_replay.specs.Points.{intervals_in}
-use Rattle.joint_replay.specs.Lanes.{Cursor, Lane, Item, with_cursor, cursors_of, cursor_step, lane_step}
-use Rattle.joint_replay.specs.Joining.{Joining, Walk, Ran, lanes_from, fresh, begun, longer, positions_from, choice, move, next_step, error_of, ran, run_for, run_all, steps_left}
 
 -- ---- one interval
 

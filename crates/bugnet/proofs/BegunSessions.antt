@@ -1,43 +1,11 @@
 -- No session of the debugger over a log's joint replay ends because an interval isn't there.
-use Rattle.std.proofs.Common.{◌≡◌, ◌≢◌, ℕ, zero, suc, ◌+◌, ◌-◌, ◌==◌, nat_lt, Bool, true, false, not, codes, refl, sym, ◌∙◌, subst, arith, List, [], ◌∷◌, ◌++◌, length, take, inl, inr, ◌⊎◌, Option, Some, None}
-use Rattle.std.specs.Prelude.{Result, Ok, Err}
-use Rattle.std.specs.List.{filter}
-use Rattle.bn_base.specs.Programs.{Program}
-use Rattle.log_order.specs.Content.{Content}
-use Rattle.hart_replay.specs.declared.error.ReplayError.{ReplayError}
-use Rattle.hart_replay.specs.declared.error.ReplayError.TheVariants.{NoInterval}
-use Rattle.hart_replay.specs.declared.error.ReplayError.TheVariants as replay
-use Rattle.joint_replay.specs.declared.error.JointError.{JointError}
-use Rattle.joint_replay.specs.declared.error.JointError.TheVariants.{Replay, Stuck}
-use Rattle.joint_replay.specs.declared.error.JointError.TheVariants as joint
-use Rattle.joint_replay.specs.declared.kinds.Readiness.{Readiness}
+use Rattle.bugnet.proofs.Common.{◌≡◌, ◌≢◌, ℕ, zero, suc, ◌+◌, ◌-◌, ◌==◌, nat_lt, Bool, true, false, not, codes, refl, sym, ◌∙◌, subst, arith, List, [], ◌∷◌, ◌++◌, length, take, inl, inr, ◌⊎◌, Option, Some, None, Result, Ok, Err, filter, Program, Content, ReplayError, NoInterval, JointError, Replay, Readiness, Next, Joining, Walk, begun, longer, readiness, choice, next_step, steps_left, Item, ready_step, walk_on, Trace, at_start, harts_of, with_entry, trace_step, cut, Stop, Moves, Session, hart_text, address_text, break_limit, is_set, stop_unless, step_by, step_up_to, go_past, go_by, go_for, stop_below, back_to, says, unknown, answer, begin_at, command_of, input_of, goes_on_by, answers, lines_in, transcript, DebugCommand, DebugError, Ending, Stored, ReadNote, Stream, Supply, DebugsPair, Call, IsFree, Tells, printing_on, joined, FileNames, stopped-free, Commands, input_in, is_begun, session_status, session_told}
 use Rattle.joint_replay.specs.declared.kinds.Readiness.TheVariants as is
-use Rattle.joint_replay.specs.declared.kinds.Next.{Next}
 use Rattle.joint_replay.specs.declared.kinds.Next.TheVariants as next
-use Rattle.joint_replay.specs.Joining.{Joining, Walk, begun, longer, readiness, choice, next_step, steps_left}
-use Rattle.joint_replay.specs.Lanes.{Item}
-use Rattle.joint_replay.specs.Orders.{ready_step, walk_on}
-use Rattle.back_step.specs.Traces.{Trace, at_start, harts_of, with_entry, trace_step, cut}
-use Rattle.step_debugger.specs.declared.stop.Stop.{Stop}
-use Rattle.step_debugger.specs.Answers.{Moves, Session, Answer, hart_text, address_text, break_limit, is_set, stop_unless, step_by, step_up_to, go_past, go_by, go_for, stop_below, back_to, says, unknown, answer, begin_at}
-use Rattle.step_debugger.specs.Commands.{command_of}
-use Rattle.step_debugger.specs.Lines.{input_of}
-use Rattle.step_debugger.specs.Transcript.{goes_on_by, answers, lines_in, transcript}
-use Rattle.step_debugger.specs.declared.command.DebugCommand.{DebugCommand}
+use Rattle.step_debugger.specs.Answers.{Answer}
 use Rattle.step_debugger.specs.declared.command.DebugCommand.TheVariants as to
-use Rattle.step_debugger.specs.declared.error.DebugError.{DebugError}
 use Rattle.step_debugger.specs.declared.error.DebugError.TheVariants as stop
-use Rattle.step_debugger.specs.declared.session.Ending.{Ending}
 use Rattle.step_debugger.specs.declared.session.Ending.TheVariants as ending
-use Rattle.bn_outside.specs.Counts.{Counts}
-use Rattle.bn_outside.specs.Streams.{Notes}
-use Rattle.bugnet.specs.Steps.{DebugsPair}
-use Rattle.log_commands.specs.Effects.{Call, IsFree, Tells}
-use Rattle.log_commands.specs.Joined.{joined}
-use Rattle.log_commands.specs.Outside.{Stream}
-use Rattle.log_commands.specs.Names.{FileNames}
-use Rattle.log_commands.proofs.Tells.{stopped-free}
-use Rattle.bugnet.specs.Sessions.{Commands, input_in, is_begun, session_status, session_told}
 use Rattle.bugnet.proofs.BegunReplays.{is_found, JoiningBegun, IfGoes, StopsBegun, told_begun, next_goes, joining_begins}
 use Rattle.bugnet.proofs.Debugs.{cut-refusal, own-refusal, by-end}
 
@@ -152,7 +120,6 @@ either-on true x y p q = p
 either-on false x y p q = q
 
 answer-on : (s : Session) (c : DebugCommand) → TraceBegun s.trace → AnswersOn (answer s c)
-answer-on s to.Empty p = (p, tt)
 answer-on s (to.Hart n) p = either-on (nat_lt n (length s.trace.now.lanes)) (says (record s { hart = n }) (hart_text n)) (unknown s) (p, tt) (p, tt)
 answer-on s (to.Step k) p = steps-on s.hart k s.trace p
 answer-on s to.Go p = goes-on (steps_left s.trace.now.lanes + 1) true s.breaks s.trace p
@@ -166,11 +133,7 @@ answer-on s (to.Break addr) p =
 answer-on s (to.Unbreak addr) p =
     let t : Session = record s { breaks = filter (λ b. not (b == addr)) s.breaks } in
     either-on (is_set s.breaks addr) (says t (address_text (codes "unbreak ") addr)) (says s (codes "none\n")) (p, tt) (p, tt)
-answer-on s to.Registers p = (p, tt)
-answer-on s (to.Word addr) p = (p, tt)
-answer-on s to.Where p = (p, tt)
-answer-on s to.Quit p = (p, tt)
-answer-on s to.Other p = (p, tt)
+answer-on s c p = (p, tt)
 
 ends-on : (e : Ending) (a : Answer) (go : Session → Answer) → AnswersOn a → ((t : Session) → TraceBegun t.trace → AnswersOn (go t)) → AnswersOn (goes_on_by e a go)
 ends-on ending.GoesOn a go p each = each a.session p.0
@@ -198,20 +161,8 @@ session-found d i c h n =
     (cut-refusal c.failed (input_of c.bytes) e (own-refusal 0 [] c.bytes e))
 
 never-14 : (r : Result (Unit {0}) DebugError) → ((h n : ℕ) → r ≢ Err (stop.Joint (Replay (NoInterval h n)))) → session_status r ≢ 14
-never-14 (Ok u) other e = omega (arith, e)
-never-14 (Err stop.ReadFault) other e = omega (arith, e)
-never-14 (Err stop.WriteFault) other e = omega (arith, e)
-never-14 (Err (stop.LineTooLong n)) other e = omega (arith, e)
-never-14 (Err (stop.TooMuch n)) other e = omega (arith, e)
 never-14 (Err (stop.Joint (Replay (NoInterval h n)))) other e = other h n refl
-never-14 (Err (stop.Joint (Replay (replay.LoadMissing h ic a)))) other e = omega (arith, e)
-never-14 (Err (stop.Joint (Replay (replay.ScMissing h ic)))) other e = omega (arith, e)
-never-14 (Err (stop.Joint (Replay (replay.RecordsLeft h n)))) other e = omega (arith, e)
-never-14 (Err (stop.Joint (Replay (replay.EndDiffers h said found)))) other e = omega (arith, e)
-never-14 (Err (stop.Joint (Replay replay.OutOfMemory))) other e = omega (arith, e)
-never-14 (Err (stop.Joint (Stuck positions))) other e = omega (arith, e)
-never-14 (Err (stop.Joint joint.OutOfMemory)) other e = omega (arith, e)
-never-14 (Err stop.OutOfMemory) other e = omega (arith, e)
+never-14 result other e = omega (arith, e)
 
 told-14 : (names : FileNames) (d : Content) (i : Program) (c : Commands) (status : ℕ) (k : Call) → Tells names (session_told names (transcript (joined d i) (input_in c))) status k → status ≢ 14
 unfolding session_told
@@ -229,7 +180,7 @@ pub session-begun : (names : FileNames) (d : Content) (i : Program) (c : Command
 session-begun names d i c status k told (inl begun) = begun
 session-begun names d i c status k told (inr e) = absurd (told-14 names d i c status k told e)
 
-pub pair-begun : (names : FileNames) (d : Content) (i : Program) (status : ℕ) (left now_left : Option (List ℕ)) (before now : ℕ) (notes : Notes) (noted : ℕ) (out printed err end : Stream) → DebugsPair names (joined d i) status left now_left before now notes noted out printed err end → (is_begun status ≡ true) ⊎ (status ≡ 14) → is_begun status ≡ true
-pair-begun names d i status left now_left before now notes noted out printed err end told begun =
-    let none : Counts = record { misses = 0; longs = 0; faults = 0 } in
-    session-begun names d i told.0 status _ (told.2 None none) begun
+pub pair-begun : (names : FileNames) (d : Content) (i : Program) (status : ℕ) (input now_input : Supply) (notes : ReadNote) (out printed err end : Stream) → DebugsPair names (joined d i) status input now_input notes out printed err end → (is_begun status ≡ true) ⊎ (status ≡ 14) → is_begun status ≡ true
+pair-begun names d i status input now_input notes out printed err end told begun =
+    let store : Stored = record { files = None; saves = 0; counts = record { misses = 0; longs = 0; faults = 0 }; noted = 0 } in
+    session-begun names d i told.0 status (printing_on store out printed err end) (told.2 store) begun

@@ -1,36 +1,6 @@
 -- A crash with format 2 is shown by `list` and `replay`.
-use Rattle.std.proofs.Common.{◌≡◌, ℕ, ◌+◌, ◌<◌, ◌≤◌, ◌==◌, ◌&&◌, Bool, true, false, List, [], ◌∷◌, ◌++◌, nat_lt, Some, ◌∙◌, ap, subst, sym, refl, arith, inl, inr, ◌⊎◌, append_assoc}
-use Rattle.std.specs.Prelude.{if◌then◌else◌}
-use Rattle.std.proofs.lemmas.Bool.Decides.{nat_tests}
-use Rattle.sha2.specs.Sha256.{sha256}
-use Rattle.bn_base.specs.Faults.{fault_number}
-use Rattle.bn_base.specs.Programs.{Program}
-use Rattle.bn_base.specs.Ranges.{IsSetting}
-use Rattle.bn_base.specs.declared.end_mark.EndMark.{EndMark}
-use Rattle.bn_base.specs.declared.settings.RawSettings.{RawSettings}
-use Rattle.bn_outside.specs.Files.{Files}
-use Rattle.command_words.specs.Words.{RecordingLine, ListLine}
-use Rattle.log_order.specs.Content.{Content, IsContent}
-use Rattle.log_file.specs.Layout.{saved_bytes}
-use Rattle.log_record.specs.declared.record.Record.{Record}
-use Rattle.log_record.specs.declared.record.Record.TheVariants.{Header}
-use Rattle.run_model.specs.KeptRecords.{kept_of, dropped_of, content_of}
-use Rattle.run_model.specs.Runs.{start, run_of, run_from, is_live, legal_from}
-use Rattle.run_model.specs.Turn.{Run, turn, mark}
-use Rattle.run_laws.specs.Laws.{OwnAsksAreOrderly}
-use Rattle.run_laws.specs.Retained.{IsGuarding, HasEnded, FaultsAreKept}
-use Rattle.bugnet.specs.Answers.{names_in, IsAnswer}
-use Rattle.log_commands.specs.Commands.{WithFile, IsByLog, list_of}
-use Rattle.bugnet.specs.Crashes.{IsCrash, mark_of_crash, HasLine, ShowsCrash, CrashesAreShown}
-use Rattle.bugnet.specs.Headline.{RecordingsAreReplayed}
-use Rattle.bugnet.specs.Recordings.{marks_of, end_by}
-use Rattle.log_commands.specs.RunEnds.{end_status}
-use Rattle.bugnet.specs.Saves.{Leaves}
-use Rattle.log_commands.specs.declared.answer.RunEnd.{RunEnd}
+use Rattle.bugnet.proofs.Common.{◌≡◌, ℕ, ◌+◌, ◌<◌, ◌≤◌, ◌==◌, ◌&&◌, Bool, true, false, List, [], ◌∷◌, ◌++◌, nat_lt, Some, ◌∙◌, ap, subst, sym, refl, arith, inl, inr, ◌⊎◌, append_assoc, if◌then◌else◌, nat_tests, sha256, fault_number, Program, IsSetting, EndMark, RawSettings, Files, RecordingLine, ListLine, Content, IsContent, saved_bytes, Record, Header, kept_of, dropped_of, content_of, start, run_of, run_from, is_live, legal_from, Run, turn, mark, OwnAsksAreOrderly, IsGuarding, HasEnded, FaultsAreKept, names_in, IsAnswer, WithFile, IsByLog, list_of, IsCrash, mark_of_crash, HasLine, ShowsCrash, CrashesAreShown, RecordingsAreReplayed, marks_of, end_by, end_status, Leaves, RunEnd, mark_in, interval_text, record_text, list_text, Told}
 use Rattle.log_commands.specs.declared.answer.RunEnd.TheVariants as ends
-use Rattle.hart_replay.specs.Scans.{mark_in}
-use Rattle.log_commands.specs.Texts.{interval_text, record_text, list_text}
-use Rattle.log_commands.specs.Told.{Told}
 use Rattle.log_commands.specs.declared.names.Role.TheVariants as role
 use Rattle.bugnet.proofs.LastEnds.{Closes, closes}
 use Rattle.bugnet.proofs.FaultTurns.{is-crash}

@@ -1,73 +1,33 @@
 -- What a session of the debugger tells, and what it shows.
-use Rattle.std.proofs.Common.{◌≡◌, ◌≢◌, ◌⊎◌, ℕ, ◌+◌, Bool, true, false, nat_lt, List, [], ◌∷◌, ◌++◌, length, Option, Some, None, ◌∙◌, ap, subst, sym, refl, arith, inl, inr}
-use Rattle.std.specs.Prelude.{Result, Ok, Err}
-use Rattle.std.specs.Io.KnownBytes.{Appends, Consumes}
+use Rattle.bugnet.proofs.Common.{◌≡◌, ◌≢◌, ◌⊎◌, ℕ, ◌+◌, Bool, true, false, nat_lt, List, [], ◌∷◌, ◌++◌, length, Option, Some, None, ◌∙◌, ap, subst, sym, refl, arith, inl, inr, Result, Ok, Err, Appends, Consumes, sha256, Head, Record, Content, Counts, Rose, Files, WhereTold, AppendsPart, ReadNote, Supply, Stream, Line, DebugLine, JointError, Replay, Joining, fresh, Recording, IsLogOf, begin, Trace, at_start, begin_at, Input, input_limit, is_line_feed, is_over, ends_in, with_line, input_from, input_of, RefusalsStay, answers, lines_in, result_by, transcript, transcript_from, Debugs, Debugged, DebugError, Ending, FileNames, status_of, joint_refusal, Told, refused, Either, joined, LoadedPair, HasPair, names_in, names_by, IsAnswer, ShowsRun, SessionsShowTheRun, session_of, DoneSession, ShowsSession, RecordingsCanBeDebugged, PrefixesCanBeDebugged, SessionIs, DebugsFiles, IsNoSession, WithFiles, SendStops, ToldRefusal, Wrote, SameFiles, IsEarly, GivesOf, RefusalCause, Call, printing_on, IsFree, SomeTold, Tells, StoppedBy, StoppedEarly, TellsAnswer, Commands, CanDebug, whole_input, input_in, IsUnread, SessionReads, SessionOver, AreRead, stop_status, session_status, session_line, session_told, debug_with, IsSession, IsDebug, is_begun, Reading, reading, ToldStop, DebugsPair, DebugsNamed, DebugsEnds, JointReading, Refusal, TooLong, Causes, caused, told-apart, appends-nothing, part-none, part-whole, with-files, refused-told, stopped-told, stopped-free, same-files, untouched, with-any, Does, Note}
 use Rattle.std.proofs.KnownBytes.{Consumes-nil}
-use Rattle.sha2.specs.Sha256.{sha256}
-use Rattle.log_record.specs.declared.head.Head.{Head}
-use Rattle.log_record.specs.declared.record.Record.{Record}
-use Rattle.log_order.specs.Content.{Content}
-use Rattle.bn_outside.specs.Counts.{Counts, Rose}
-use Rattle.bn_outside.specs.Files.{Files, WhereTold}
-use Rattle.bn_outside.specs.Streams.{AppendsPart, Notes}
-use Rattle.command_words.specs.Words.{Line, RecordLine, ReplayLine, JointLine, DebugLine, ListLine, CheckLine, AuditLine, RacesLine, SliceLine, ConvertLine, SalvageLine, DemoLine}
 use Rattle.hart_replay.specs.declared.error.ReplayError.TheVariants as replay
-use Rattle.joint_replay.specs.declared.error.JointError.{JointError}
-use Rattle.joint_replay.specs.declared.error.JointError.TheVariants.{Replay, Stuck}
 use Rattle.joint_replay.specs.declared.error.JointError.TheVariants as joint
-use Rattle.joint_replay.specs.Joining.{Joining, fresh}
-use Rattle.joint_laws.specs.Recordings.{Recording, IsLogOf, begin}
-use Rattle.back_step.specs.Traces.{Trace, at_start}
-use Rattle.step_debugger.specs.Answers.{begin_at, begin as session_begin}
-use Rattle.step_debugger.specs.Lines.{Input, input_limit, is_line_feed, is_over, ends_in, with_line, input_from, input_of, RefusalsStay}
-use Rattle.step_debugger.specs.Transcript.{answers, lines_in, result_by, transcript, transcript_from, Debugs, CountedSession, Told as Transcript}
-use Rattle.step_debugger.specs.declared.error.DebugError.{DebugError}
+use Rattle.step_debugger.specs.Answers.{begin as session_begin}
+use Rattle.step_debugger.specs.Transcript.{Told as Transcript}
 use Rattle.step_debugger.specs.declared.error.DebugError.TheVariants as stop
-use Rattle.step_debugger.specs.declared.session.Ending.{Ending}
 use Rattle.step_debugger.specs.declared.session.Ending.TheVariants as ending
-use Rattle.log_commands.specs.Names.{FileNames}
-use Rattle.log_commands.specs.Refusals.{status_of, joint_refusal}
-use Rattle.log_commands.specs.Told.{Told, refused}
-use Rattle.log_commands.specs.Commands.{Either}
-use Rattle.log_commands.specs.Joined.{joined}
-use Rattle.log_commands.specs.Pairs.{LoadedPair, HasPair}
-use Rattle.bugnet.specs.Answers.{names_in, names_by, IsAnswer}
-use Rattle.bugnet.specs.DebugSessions.{ShowsRun, SessionsShowTheRun, session_of, DoneSession, ShowsSession, RecordingsCanBeDebugged, PrefixesCanBeDebugged, CanBegin, SessionIs, DebugsFiles, Debugs as DebugsLine}
-use Rattle.bugnet.specs.Laws.{IsNoSession}
-use Rattle.log_commands.specs.Outside.{Stream, WithFiles, SendStops, ToldRefusal, Wrote, SameFiles, IsEarly, GivesOf, RefusalCause}
-use Rattle.log_commands.specs.Effects.{Call, printing_on, IsFree, AreKept, SomeTold, Tells, StoppedBy}
-use Rattle.bugnet.specs.Run.{StoppedEarly, TellsAnswer}
-use Rattle.bugnet.specs.Sessions.{Commands, CanDebug, whole_input, cut, input_in, IsUnread, SessionReads, SessionOver, AreRead, stop_status, session_status, session_line, session_told, debug_with, IsSession, IsDebug, is_begun}
-use Rattle.bugnet.specs.Steps.{ToldStop, DebugsPair, DebugsNamed}
+use Rattle.bugnet.specs.DebugSessions.{Debugs as DebugsLine}
+use Rattle.bugnet.specs.Sessions.{cut}
 use Rattle.log_commands.specs.declared.names.Role.TheVariants as role
-use Rattle.log_commands.specs.declared.pairs.JointReading.{JointReading}
-use Rattle.log_commands.specs.declared.refusal.Refusal.{Refusal}
-use Rattle.log_commands.specs.declared.refusal.Refusal.TheVariants.{TooLong}
 use Rattle.log_commands.specs.declared.refusal.Refusal.TheVariants as why
-use Rattle.log_commands.proofs.Causes.{Causes, caused}
 use Rattle.bugnet.proofs.Complete.{session-done}
 use Rattle.bugnet.proofs.Jointly.{Limits, is-log, pair-so, are-pair}
-use Rattle.log_commands.proofs.StatusesApart.{told-apart}
-use Rattle.log_commands.proofs.Prints.{appends-nothing, part-none, part-whole}
 use Rattle.bugnet.proofs.SessionReads.{quits-or-all, session-reads, session-over}
 use Rattle.bugnet.proofs.Sessions.{no-quit}
 use Rattle.bugnet.proofs.Single.{Grammar, one-session}
 use Rattle.bugnet.proofs.Suffices.{FileLaws, then-so}
 use Rattle.bugnet.proofs.Whole.{whole-done}
-use Rattle.log_commands.proofs.Tells.{with-files, refused-told, stopped-told, stopped-free, same-files, untouched, with-any}
 use Rattle.bugnet.proofs.LineTells.{early-free}
+use Rattle.bugnet.proofs.LineCalls.{session-calls}
 
 -- ---- the status by the end of a session
 
 joint-is : (e : JointError) → (status_of (joint_refusal e) ≡ 9) ⊎ ((status_of (joint_refusal e) ≡ 14) ⊎ (status_of (joint_refusal e) ≡ 15))
 joint-is (Replay (replay.NoInterval hart interval)) = inr (inl refl)
-joint-is (Replay (replay.LoadMissing hart ic addr)) = inr (inr refl)
-joint-is (Replay (replay.ScMissing hart ic)) = inr (inr refl)
-joint-is (Replay (replay.RecordsLeft hart left)) = inr (inr refl)
-joint-is (Replay (replay.EndDiffers hart said found)) = inr (inr refl)
-joint-is (Replay replay.OutOfMemory) = inr (inr refl)
-joint-is (Stuck positions) = inr (inr refl)
 joint-is joint.OutOfMemory = inl refl
+joint-is (Replay replay.OutOfMemory) = inl refl
+joint-is other = inr (inr refl)
 
 -- such a status is one of a session that was begun, or that an interval isn't there, and none of a read or a write that failed,
 -- or of one that is done
@@ -113,27 +73,19 @@ IsOther e = Unit {0}
 other-ends : (e : DebugError) (status : ℕ) → IsOther e → StatusOf e status → Ends status
 other-ends stop.ReadFault status o h = absurd o
 other-ends stop.WriteFault status o h = absurd o
-other-ends (stop.LineTooLong n) status o (inl h) = at-18 status h
-other-ends (stop.TooMuch n) status o (inl h) = at-18 status h
-other-ends (stop.Joint e) status o (inl h) = at-joint status (status_of (joint_refusal e)) h (joint-is e)
+other-ends e status o (inr h) = at-9 status h
 other-ends stop.OutOfMemory status o (inl h) = at-9 status h
-other-ends (stop.LineTooLong n) status o (inr h) = at-9 status h
-other-ends (stop.TooMuch n) status o (inr h) = at-9 status h
-other-ends (stop.Joint e) status o (inr h) = at-9 status h
-other-ends stop.OutOfMemory status o (inr h) = at-9 status h
+other-ends (stop.Joint e) status o (inl h) = at-joint status (status_of (joint_refusal e)) h (joint-is e)
+other-ends e status o (inl h) = at-18 status h
 
 pub stop-begun : (names : FileNames) (e : DebugError) (status : ℕ) (old new : Option (List ℕ)) (before now : ℕ) → ToldStop names e status old new before now → (is_begun status ≡ true) ⊎ (status ≡ 14)
 stop-begun names e status old new before now told = by e (status-of names e status old new before now told)
   where
     by : (e : DebugError) → StatusOf e status → (is_begun status ≡ true) ⊎ (status ≡ 14)
+    by e (inr h) = (at-9 status h).begun
     by stop.ReadFault (inl h) = inl (subst (λ (m : ℕ). is_begun m ≡ true) (sym h) refl)
-    by stop.ReadFault (inr h) = inl (subst (λ (m : ℕ). is_begun m ≡ true) (sym h) refl)
     by stop.WriteFault (inl h) = inl (subst (λ (m : ℕ). is_begun m ≡ true) (sym h) refl)
-    by stop.WriteFault (inr h) = inl (subst (λ (m : ℕ). is_begun m ≡ true) (sym h) refl)
-    by (stop.LineTooLong n) h = (other-ends (stop.LineTooLong n) status tt h).begun
-    by (stop.TooMuch n) h = (other-ends (stop.TooMuch n) status tt h).begun
-    by (stop.Joint e) h = (other-ends (stop.Joint e) status tt h).begun
-    by stop.OutOfMemory h = (other-ends stop.OutOfMemory status tt h).begun
+    by e h = (other-ends e status tt h).begun
 
 -- one that was begun isn't refused for its words or its files
 pub begun-not : (status n : ℕ) → is_begun status ≡ true → is_begun n ≡ false → status ≢ n
@@ -154,30 +106,30 @@ commands_of bytes e = record { bytes = bytes; failed = failed_by e }
 abbrev pub no_commands : Commands
 no_commands = record { bytes = []; failed = false }
 
-module _ (left now_left : Option (List ℕ)) (before now : ℕ) (notes : Notes) (noted : ℕ) where
-  unfailed : (bytes : List ℕ) (status : ℕ) → Consumes left now_left bytes → status ≢ 12 → status ≢ 0 → IsUnread (record { bytes = bytes; failed = false }) notes noted ⊎ SessionReads bytes status left now_left notes noted
-      → AreRead (record { bytes = bytes; failed = false }) status left now_left before now notes noted
+module _ (input now_input : Supply) (notes : ReadNote) where
+  unfailed : (bytes : List ℕ) (status : ℕ) → Consumes input.left now_input.left bytes → status ≢ 12 → status ≢ 0 → IsUnread (record { bytes = bytes; failed = false }) input now_input ⊎ SessionReads bytes status input now_input notes
+      → AreRead (record { bytes = bytes; failed = false }) status input now_input notes
   unfailed bytes status taken read zero up_to = record { taken = taken; failed = λ f. absurd cc; cause = λ e. absurd (read e); done = λ e. absurd (zero e); up_to = up_to }
 
 -- nothing
-pub none-read : (status : ℕ) (left : Option (List ℕ)) (faults : ℕ) (notes : Notes) → status ≢ 12 → status ≢ 0 → AreRead no_commands status left left faults faults notes (notes [])
-none-read status left faults notes read zero = unfailed left left faults faults notes (notes []) [] status (Consumes-nil left) read zero (inl (refl, refl, refl))
+pub none-read : (status : ℕ) (input : Supply) (notes : ReadNote) → status ≢ 12 → status ≢ 0 → AreRead no_commands status input input notes
+none-read status input notes read zero = unfailed input input notes [] status (Consumes-nil input.left) read zero (inl (refl, refl, refl))
 
-module _ (j : Trace) (left now_left : Option (List ℕ)) (before now : ℕ) (notes : Notes) (noted : ℕ) (written now_written : Option (List ℕ)) (b n : ℕ) where
+module _ (j : Trace) (input now_input : Supply) (notes : ReadNote) (out now_out : Stream) where
   -- a session that is done
-  pub done-read : (u : Unit {0}) (c : CountedSession j left now_left before now notes noted written now_written b n (Ok u)) → AreRead (record { bytes = c.session.gone; failed = false }) 0 left now_left before now notes noted
+  pub done-read : (u : Unit {0}) (c : Debugged j input now_input notes out now_out (Ok u)) → AreRead (record { bytes = c.gone; failed = false }) 0 input now_input notes
   done-read u c = record {
-    taken = c.session.taken;
+    taken = c.taken;
     failed = λ f. absurd cc;
     cause = λ e. absurd (omega (arith, e));
-    done = λ e. quits-or-all j c.session.gone left now_left c.session.done.2;
-    up_to = inr (session-reads j 0 left now_left before now notes noted written now_written b n (Ok u) c refl);
+    done = λ e. quits-or-all j c.gone input now_input c.done.2;
+    up_to = inr (session-reads j 0 input now_input notes out now_out (Ok u) c refl);
   }
 
   -- one that stopped
-  pub stop-read : (e : DebugError) (status : ℕ) (c : CountedSession j left now_left before now notes noted written now_written b n (Err e)) → StatusOf e status
-      → AreRead (commands_of c.session.gone e) status left now_left before now notes noted
-  stop-read e status c h = by e c.session.gone c.session.taken c.session.done h (session-reads j status left now_left before now notes noted written now_written b n (Err e) c h)
+  pub stop-read : (e : DebugError) (status : ℕ) (c : Debugged j input now_input notes out now_out (Err e)) → StatusOf e status
+      → AreRead (commands_of c.gone e) status input now_input notes
+  stop-read e status c h = by e c.gone c.taken c.done h (session-reads j status input now_input notes out now_out (Err e) c h)
     where
       -- a read or a write that failed isn't a session that is done
       apart : (m : ℕ) → m ≢ 0 → (status ≡ m) ⊎ (status ≡ 9) → status ≢ 0
@@ -188,11 +140,8 @@ module _ (j : Trace) (left now_left : Option (List ℕ)) (before now : ℕ) (not
       unread (inl x) f = omega (arith, x, f)
       unread (inr x) f = omega (arith, x, f)
 
-      other : (e : DebugError) (gone : List ℕ) → Consumes left now_left gone → Ends status → SessionReads gone status left now_left notes noted → AreRead (record { bytes = gone; failed = false }) status left now_left before now notes noted
-      other e gone taken o r = unfailed left now_left before now notes noted gone status taken o.read o.zero (inr r)
-
-      by : (e : DebugError) (gone : List ℕ) → Consumes left now_left gone → Debugs j gone left now_left before now written now_written b n (Err e) → StatusOf e status → SessionReads gone status left now_left notes noted
-          → AreRead (commands_of gone e) status left now_left before now notes noted
+      by : (e : DebugError) (gone : List ℕ) → Consumes input.left now_input.left gone → Debugs j gone input now_input out now_out (Err e) → StatusOf e status → SessionReads gone status input now_input notes
+          → AreRead (commands_of gone e) status input now_input notes
       by stop.ReadFault gone taken d h r = record {
         taken = taken;
         failed = λ f. (d.3, no-quit (input_of gone).lines (begin_at j) d.0);
@@ -200,64 +149,57 @@ module _ (j : Trace) (left now_left : Option (List ℕ)) (before now : ℕ) (not
         done = λ f. absurd (apart 12 (λ z. omega (arith, z)) h f);
         up_to = inr r;
       }
-      by stop.WriteFault gone taken d h r = unfailed left now_left before now notes noted gone status taken (unread h) (apart 13 (λ z. omega (arith, z)) h) (inr r)
-      by (stop.LineTooLong m) gone taken d h r = other (stop.LineTooLong m) gone taken (other-ends (stop.LineTooLong m) status tt h) r
-      by (stop.TooMuch m) gone taken d h r = other (stop.TooMuch m) gone taken (other-ends (stop.TooMuch m) status tt h) r
-      by (stop.Joint x) gone taken d h r = other (stop.Joint x) gone taken (other-ends (stop.Joint x) status tt h) r
-      by stop.OutOfMemory gone taken d h r = other stop.OutOfMemory gone taken (other-ends stop.OutOfMemory status tt h) r
+      by stop.WriteFault gone taken d h r = unfailed input now_input notes gone status taken (unread h) (apart 13 (λ z. omega (arith, z)) h) (inr r)
+      by e gone taken d h r =
+          let o = other-ends e status tt h in
+          unfailed input now_input notes gone status taken o.read o.zero (inr r)
 
 -- ---- what is told
 
-told-kept : (names : FileNames) (t : Transcript) (k : Call) → WhereTold k.old.files k.new.files SameFiles → AreKept names (session_told names t) k
-unfolding session_told
-told-kept names t k files = files
-
 -- a session that is done
-pub done-told : (names : FileNames) (t : Transcript) (k : Call) → t.result ≡ Ok (tt {0}) → Appends k.old.out k.new.out t.text → Appends k.old.err k.new.err [] → WhereTold k.old.files k.new.files SameFiles → Tells names (session_told names t) 0 k
+pub done-told : (names : FileNames) (t : Transcript) (k : Call) → t.result ≡ Ok (tt {0}) → Appends k.old.out.text k.new.out.text t.text → Appends k.old.err.text k.new.err.text [] → WhereTold k.old.store.files k.new.store.files SameFiles → Tells names (session_told names t) 0 k
 unfolding session_told
 done-told names t k e out err files = inl (record {
   status_is = sym (ap session_status e);
   out = out;
-  err = inl (subst (λ (r : Result (Unit {0}) DebugError). Appends k.old.err k.new.err (session_line names r)) (sym e) err);
+  err = inl (subst (λ (r : Result (Unit {0}) DebugError). Appends k.old.err.text k.new.err.text (session_line names r)) (sym e) err);
   files = files;
 })
 
 -- a part of its text was sent
-part-told : (names : FileNames) (t : Transcript) (r : Refusal) (status : ℕ) (k : Call) → AppendsPart k.old.out k.new.out t.text × SendStops k.old.out_faults k.new.out_faults r → WhereTold k.old.files k.new.files SameFiles
-    → ToldRefusal names r status k.old.err k.new.err k.old.err_faults k.new.err_faults → Tells names (session_told names t) status k
+part-told : (names : FileNames) (t : Transcript) (r : Refusal) (status : ℕ) (k : Call) → AppendsPart k.old.out.text k.new.out.text t.text × SendStops k.old.out.faults k.new.out.faults r → WhereTold k.old.store.files k.new.store.files SameFiles
+    → ToldRefusal names r status k.old.err.text k.new.err.text k.old.err.faults k.new.err.faults → Tells names (session_told names t) status k
 unfolding session_told
 part-told names t r status k h files told = stopped-told names (session_told names t) r status k h files told
 
 -- all of it was, and how it ended is told
-whole-told : (names : FileNames) (t : Transcript) (e : DebugError) (status : ℕ) (k : Call) → t.result ≡ Err e → Appends k.old.out k.new.out t.text → WhereTold k.old.files k.new.files SameFiles
-    → ToldStop names e status k.old.err k.new.err k.old.err_faults k.new.err_faults → Tells names (session_told names t) status k
+whole-told : (names : FileNames) (t : Transcript) (e : DebugError) (status : ℕ) (k : Call) → t.result ≡ Err e → Appends k.old.out.text k.new.out.text t.text → WhereTold k.old.store.files k.new.store.files SameFiles
+    → ToldStop names e status k.old.err.text k.new.err.text k.old.err.faults k.new.err.faults → Tells names (session_told names t) status k
 unfolding session_told
 whole-told names t e status k f out files (inl h) = inl (record {
   status_is = h.0 ∙ sym (ap session_status f);
   out = out;
-  err = subst (λ (r : Result (Unit {0}) DebugError). Wrote k.old.err k.new.err k.old.err_faults k.new.err_faults (session_line names r)) (sym f) h.1;
+  err = subst (λ (r : Result (Unit {0}) DebugError). Wrote k.old.err.text k.new.err.text k.old.err.faults k.new.err.faults (session_line names r)) (sym f) h.1;
   files = files;
 })
-whole-told names t e status k f out files (inr h) = part-told names t why.OutOfMemory status k (part-whole k.old.out k.new.out t.text out, tt) files (inl h)
+whole-told names t e status k f out files (inr h) = part-told names t why.OutOfMemory status k (part-whole k.old.out.text k.new.out.text t.text out, tt) files (inl h)
 
 -- by why it stopped
-pub stop-told : (names : FileNames) (j : Trace) (e : DebugError) (status : ℕ) (gone : List ℕ) (left now_left : Option (List ℕ)) (before now : ℕ) (k : Call)
-    → Debugs j gone left now_left before now k.old.out k.new.out k.old.out_faults k.new.out_faults (Err e) → WhereTold k.old.files k.new.files SameFiles
-    → ToldStop names e status k.old.err k.new.err k.old.err_faults k.new.err_faults → Tells names (session_told names (transcript_from j (input_in (commands_of gone e)))) status k
-stop-told names j stop.ReadFault status gone left now_left before now k d files told =
+pub stop-told : (names : FileNames) (j : Trace) (e : DebugError) (status : ℕ) (gone : List ℕ) (input now_input : Supply) (k : Call)
+    → Debugs j gone input now_input k.old.out k.new.out (Err e) → WhereTold k.old.store.files k.new.store.files SameFiles
+    → ToldStop names e status k.old.err.text k.new.err.text k.old.err.faults k.new.err.faults → Tells names (session_told names (transcript_from j (input_in (commands_of gone e)))) status k
+stop-told names j stop.ReadFault status gone input now_input k d files told =
     whole-told names (transcript_from j (cut true (input_of gone))) stop.ReadFault status k (ap (λ (x : Ending). result_by x (Some stop.ReadFault)) d.0) d.2 files told
-stop-told names j stop.WriteFault status gone left now_left before now k d files told = part-told names (transcript_from j (input_of gone)) why.WriteFailed status k (d.0, d.1) files told
-stop-told names j (stop.LineTooLong m) status gone left now_left before now k d files told = whole-told names (transcript_from j (input_of gone)) (stop.LineTooLong m) status k d.0 d.1 files told
-stop-told names j (stop.TooMuch m) status gone left now_left before now k d files told = whole-told names (transcript_from j (input_of gone)) (stop.TooMuch m) status k d.0 d.1 files told
-stop-told names j (stop.Joint x) status gone left now_left before now k d files told = whole-told names (transcript_from j (input_of gone)) (stop.Joint x) status k d.0 d.1 files told
-stop-told names j stop.OutOfMemory status gone left now_left before now k d files told = part-told names (transcript_from j (input_of gone)) why.OutOfMemory status k (d, tt) files told
+stop-told names j stop.WriteFault status gone input now_input k d files told = part-told names (transcript_from j (input_of gone)) why.WriteFailed status k (d.0, d.1) files told
+stop-told names j stop.OutOfMemory status gone input now_input k d files told = part-told names (transcript_from j (input_of gone)) why.OutOfMemory status k (d, tt) files told
+stop-told names j e status gone input now_input k d files told = whole-told names (transcript_from j (input_of gone)) e status k d.0 d.1 files told
 
 -- there was no memory to begin
-pub unbegun-told : (names : FileNames) (j : Joining) (status : ℕ) (k : Call) → k.new.out ≡ k.old.out → WhereTold k.old.files k.new.files SameFiles
-    → ToldRefusal names why.OutOfMemory status k.old.err k.new.err k.old.err_faults k.new.err_faults → Tells names (session_told names (transcript j (input_in no_commands))) status k
+pub unbegun-told : (names : FileNames) (j : Joining) (status : ℕ) (k : Call) → k.new.out.text ≡ k.old.out.text → WhereTold k.old.store.files k.new.store.files SameFiles
+    → ToldRefusal names why.OutOfMemory status k.old.err.text k.new.err.text k.old.err.faults k.new.err.faults → Tells names (session_told names (transcript j (input_in no_commands))) status k
 unbegun-told names j status k same files told =
     let t = transcript j (input_in no_commands) in
-    part-told names t why.OutOfMemory status k (subst (λ (o : Option (List ℕ)). AppendsPart k.old.out o t.text) (sym same) (part-none k.old.out t.text), tt) files told
+    part-told names t why.OutOfMemory status k (subst (λ (o : Option (List ℕ)). AppendsPart k.old.out.text o t.text) (sym same) (part-none k.old.out.text t.text), tt) files told
 
 pub memory-status : (names : FileNames) (status : ℕ) (old new : Option (List ℕ)) (before now : ℕ) → ToldRefusal names why.OutOfMemory status old new before now → status ≡ 9
 memory-status names status old new before now (inl h) = h.0
@@ -267,61 +209,51 @@ pub memory-begun : (status : ℕ) → status ≡ 9 → is_begun status ≡ true
 memory-begun status e = subst (λ (m : ℕ). is_begun m ≡ true) (sym e) refl
 
 -- a write is refused only if a count rose
-pub stop-writes : (j : Trace) (names : FileNames) (e : DebugError) (status : ℕ) (gone : List ℕ) (left now_left : Option (List ℕ)) (before now : ℕ) (written now_written : Option (List ℕ)) (b n : ℕ) (old new : Option (List ℕ)) (eb en : ℕ)
-    → Debugs j gone left now_left before now written now_written b n (Err e) → ToldStop names e status old new eb en → status ≡ 13 → Rose b n
-stop-writes j names e status gone left now_left before now written now_written b n old new eb en d told is = by e d (status-of names e status old new eb en told)
+pub stop-writes : (j : Trace) (names : FileNames) (e : DebugError) (status : ℕ) (gone : List ℕ) (input now_input : Supply) (out now_out : Stream) (old new : Option (List ℕ)) (eb en : ℕ)
+    → Debugs j gone input now_input out now_out (Err e) → ToldStop names e status old new eb en → status ≡ 13 → Rose out.faults now_out.faults
+stop-writes j names e status gone input now_input out now_out old new eb en d told is = by e d (status-of names e status old new eb en told)
   where
-    by : (e : DebugError) → Debugs j gone left now_left before now written now_written b n (Err e) → StatusOf e status → Rose b n
+    by : (e : DebugError) → Debugs j gone input now_input out now_out (Err e) → StatusOf e status → Rose out.faults now_out.faults
+    by e d (inr h) = absurd (omega (arith, h, is))
     by stop.ReadFault d (inl h) = absurd (omega (arith, h, is))
-    by stop.ReadFault d (inr h) = absurd (omega (arith, h, is))
     by stop.WriteFault d h = d.1
-    by (stop.LineTooLong m) d h = absurd ((other-ends (stop.LineTooLong m) status tt h).write is)
-    by (stop.TooMuch m) d h = absurd ((other-ends (stop.TooMuch m) status tt h).write is)
-    by (stop.Joint x) d h = absurd ((other-ends (stop.Joint x) status tt h).write is)
-    by stop.OutOfMemory d h = absurd ((other-ends stop.OutOfMemory status tt h).write is)
+    by e d h = absurd ((other-ends e status tt h).write is)
 
 -- ---- a session over a joint replay
 
-pub pair-done : (names : FileNames) (first : Joining) (j : Trace) (u : Unit {0}) (left now_left : Option (List ℕ)) (before now : ℕ) (notes : Notes) (noted : ℕ) (out printed err : Stream) → j ≡ at_start first → CountedSession j left now_left before now notes noted out.text printed.text out.faults printed.faults (Ok u)
-    → DebugsPair names first 0 left now_left before now notes noted out printed err err
-pair-done names first j u left now_left before now notes noted out printed err same c =
-    let d = c.session in (
-      record { bytes = d.gone; failed = false },
-      done-read j left now_left before now notes noted out.text printed.text out.faults printed.faults u c,
-      λ files had.
-          subst (λ (x : Trace). Tells names (session_told names (transcript_from x (input_of d.gone))) 0 (printing_on files had out printed err err)) same
-          (done-told names (transcript_from j (input_of d.gone)) (printing_on files had out printed err err) d.done.0 d.done.1 (appends-nothing err.text) (untouched files)),
-      inr (session-over j 0 left now_left before now notes noted out.text printed.text out.faults printed.faults (Ok u) c refl first same),
-    )
+pub pair-done : (names : FileNames) (first : Joining) (j : Trace) (u : Unit {0}) (input now_input : Supply) (notes : ReadNote) (out printed err : Stream) → j ≡ at_start first → Debugged j input now_input notes out printed (Ok u)
+    → DebugsPair names first 0 input now_input notes out printed err err
+pair-done names first j u input now_input notes out printed err same c = (
+  record { bytes = c.gone; failed = false },
+  done-read j input now_input notes out printed u c,
+  λ store.
+      subst (λ (x : Trace). Tells names (session_told names (transcript_from x (input_of c.gone))) 0 (printing_on store out printed err err)) same
+      (done-told names (transcript_from j (input_of c.gone)) (printing_on store out printed err err) c.done.0 c.done.1 (appends-nothing err.text) (untouched store.files)),
+  inr (session-over j 0 input now_input notes out printed (Ok u) c refl first same),
+)
 
-pub pair-stopped : (names : FileNames) (first : Joining) (j : Trace) (why : DebugError) (status : ℕ) (left now_left : Option (List ℕ)) (before now : ℕ) (notes : Notes) (noted : ℕ) (out printed err end : Stream) → j ≡ at_start first → CountedSession j left now_left before now notes noted out.text printed.text out.faults printed.faults (Err why) → ToldStop names why status err.text end.text err.faults end.faults
-    → DebugsPair names first status left now_left before now notes noted out printed err end
-pair-stopped names first j why status left now_left before now notes noted out printed err end same c told =
-    let d = c.session in
+pub pair-stopped : (names : FileNames) (first : Joining) (j : Trace) (why : DebugError) (status : ℕ) (input now_input : Supply) (notes : ReadNote) (out printed err end : Stream) → j ≡ at_start first → Debugged j input now_input notes out printed (Err why) → ToldStop names why status err.text end.text err.faults end.faults
+    → DebugsPair names first status input now_input notes out printed err end
+pair-stopped names first j why status input now_input notes out printed err end same c told =
     let ends = status-of names why status err.text end.text err.faults end.faults told in (
-      commands_of d.gone why,
-      stop-read j left now_left before now notes noted out.text printed.text out.faults printed.faults why status c ends,
-      λ files had.
-          subst (λ (x : Trace). Tells names (session_told names (transcript_from x (input_in (commands_of d.gone why)))) status (printing_on files had out printed err end)) same
-          (stop-told names j why status d.gone left now_left before now (printing_on files had out printed err end) d.done (untouched files) told),
-      inr (session-over j status left now_left before now notes noted out.text printed.text out.faults printed.faults (Err why) c ends first same),
+      commands_of c.gone why,
+      stop-read j input now_input notes out printed why status c ends,
+      λ store.
+          subst (λ (x : Trace). Tells names (session_told names (transcript_from x (input_in (commands_of c.gone why)))) status (printing_on store out printed err end)) same
+          (stop-told names j why status c.gone input now_input (printing_on store out printed err end) c.done (untouched store.files) told),
+      inr (session-over j status input now_input notes out printed (Err why) c ends first same),
     )
 
-pub pair-unbegun : (names : FileNames) (j : Joining) (status : ℕ) (left : Option (List ℕ)) (faults : ℕ) (notes : Notes) (out err end : Stream) → ToldRefusal names why.OutOfMemory status err.text end.text err.faults end.faults → DebugsPair names j status left left faults faults notes (notes []) out out err end
-pair-unbegun names j status left faults notes out err end told =
+pub pair-unbegun : (names : FileNames) (j : Joining) (status : ℕ) (input : Supply) (notes : ReadNote) (out err end : Stream) → ToldRefusal names why.OutOfMemory status err.text end.text err.faults end.faults → DebugsPair names j status input input notes out out err end
+pair-unbegun names j status input notes out err end told =
     let nine = memory-status names status err.text end.text err.faults end.faults told in (
       no_commands,
-      none-read status left faults notes (λ x. omega (arith, x, nine)) (λ x. omega (arith, x, nine)),
-      λ files had. unbegun-told names j status (printing_on files had out out err end) refl (untouched files) told,
+      none-read status input notes (λ x. omega (arith, x, nine)) (λ x. omega (arith, x, nine)),
+      λ store. unbegun-told names j status (printing_on store out out err end) refl (untouched store.files) told,
       inl (refl, refl, refl),
     )
 
 -- ---- by names
-
--- no refusal of another kind is told as that of a read
-pub not-read : (names : FileNames) (r : Refusal) (status : ℕ) (old new : Option (List ℕ)) (before now : ℕ) → status_of r ≢ 12 → ToldRefusal names r status old new before now → status ≢ 12
-not-read names r status old new before now other (inl h) e = other (sym h.0 ∙ e)
-not-read names r status old new before now other (inr h) e = omega (arith, e, h.0)
 
 -- a refusal by the files is none of a read, and nothing is done
 pub record RefusedStatus (before now : Counts) (status : ℕ) : Type 0 where
@@ -340,44 +272,43 @@ early-some names c files r (inl memory) = inl memory
 early-some names c files r (inr h) = inr (h.0, h.1, (c, h.2))
 
 -- the log and the program are refused
-pub named-refused : (names : FileNames) (r : Refusal) (status : ℕ) (k : Call) → Appends k.old.out k.new.out [] → k.new.files ≡ k.old.files
-    → WithFiles k.old.files (λ files. GivesOf {A = JointReading} (λ p. debug_with names no_commands p.log p.image) names (λ files. IsSession no_commands files names) files (Err r))
-    → ToldRefusal names r status k.old.err k.new.err k.old.err_faults k.new.err_faults
-    → WithFiles k.old.files (λ files. SomeTold (IsSession no_commands files names) (λ what. Tells names what status k) ⊎ StoppedBy names (λ files. IsDebug files names) files status k)
+pub named-refused : (names : FileNames) (r : Refusal) (status : ℕ) (k : Call) → Appends k.old.out.text k.new.out.text [] → k.new.store.files ≡ k.old.store.files
+    → WithFiles k.old.store.files (λ files. GivesOf {A = JointReading} (λ p. debug_with names no_commands p.log p.image) names (λ files. IsSession no_commands files names) files (Err r))
+    → ToldRefusal names r status k.old.err.text k.new.err.text k.old.err.faults k.new.err.faults
+    → WithFiles k.old.store.files (λ files. SomeTold (IsSession no_commands files names) (λ what. Tells names what status k) ⊎ StoppedBy names (λ files. IsDebug files names) files status k)
 named-refused names r status k out same g told =
-    with-files k.old.files (λ files. IsEarly names (λ files. IsSession no_commands files names) files r ⊎ IsSession no_commands files names (refused names r))
+    with-files k.old.store.files (λ files. IsEarly names (λ files. IsSession no_commands files names) files r ⊎ IsSession no_commands files names (refused names r))
     (λ files. SomeTold (IsSession no_commands files names) (λ what. Tells names what status k) ⊎ StoppedBy names (λ files. IsDebug files names) files status k) (λ files h. so files h) g
   where
     so : (files : Files) → IsEarly names (λ files. IsSession no_commands files names) files r ⊎ IsSession no_commands files names (refused names r)
         → SomeTold (IsSession no_commands files names) (λ what. Tells names what status k) ⊎ StoppedBy names (λ files. IsDebug files names) files status k
     so files (inl early) = inr (record { refusal = r; early = early-some names no_commands files r early; out = out; same = same; told = told })
-    so files (inr is) = inl (refused names r, is, refused-told names r status k out (same-files k.old.files k.new.files same) told)
+    so files (inr is) = inl (refused names r, is, refused-told names r status k out (same-files k.old.store.files k.new.store.files same) told)
 
 -- a session was made
-pub named-made : (names : FileNames) (c : Commands) (reading : JointReading) (known : Option Files) (status : ℕ) (k : Call) → known ≡ k.old.files
-    → WithFiles known (λ files. IsSession c files names (debug_with names c reading.log reading.image)) → Tells names (debug_with names c reading.log reading.image) status k
-    → WithFiles k.old.files (λ files. SomeTold (IsSession c files names) (λ what. Tells names what status k) ⊎ StoppedBy names (λ files. IsDebug files names) files status k)
-named-made names c reading known status k e is told =
+pub named-made : (names : FileNames) (c : Commands) (reading : JointReading) (status : ℕ) (k : Call)
+    → WithFiles k.old.store.files (λ files. IsSession c files names (debug_with names c reading.log reading.image)) → Tells names (debug_with names c reading.log reading.image) status k
+    → WithFiles k.old.store.files (λ files. SomeTold (IsSession c files names) (λ what. Tells names what status k) ⊎ StoppedBy names (λ files. IsDebug files names) files status k)
+named-made names c reading status k is told =
     let what = debug_with names c reading.log reading.image in
-    with-files k.old.files (λ files. IsSession c files names what) (λ files. SomeTold (IsSession c files names) (λ what. Tells names what status k) ⊎ StoppedBy names (λ files. IsDebug files names) files status k)
-    (λ files h. inl (what, h, told)) (subst (λ (x : Option Files). WithFiles x (λ files. IsSession c files names what)) e is)
+    with-files k.old.store.files (λ files. IsSession c files names what) (λ files. SomeTold (IsSession c files names) (λ what. Tells names what status k) ⊎ StoppedBy names (λ files. IsDebug files names) files status k)
+    (λ files h. inl (what, h, told)) is
 
 with-both : (known : Option Files) (P Q R : Files → Type 0) → ((files : Files) → P files → Q files → R files) → WithFiles known P → WithFiles known Q → WithFiles known R
 with-both None P Q R f x y = tt
 with-both (Some files) P Q R f x y = f files x y
 
 -- it was one with the log and the program that are there
-pub named-session : (c : Commands) (log elf : List ℕ) (reading : JointReading) (known : Option Files) (status : ℕ) (left now_left : Option (List ℕ)) (before now : ℕ) (notes : Notes) (noted : ℕ) (k : Call) → known ≡ k.old.files
-    → WithFiles known (λ files. LoadedPair log elf files reading.log reading.image)
-    → IsUnread c notes noted ⊎ SessionOver (joined reading.log reading.image) c.bytes status left now_left before now notes noted k.old.out k.new.out k.old.out_faults k.new.out_faults
-    → WithFiles k.old.files (λ files. SessionIs c log elf files status left now_left before now notes noted k)
-named-session c log elf reading known status left now_left before now notes noted k e pair s =
-    with-files k.old.files (λ files. LoadedPair log elf files reading.log reading.image) (λ files. SessionIs c log elf files status left now_left before now notes noted k) (λ files p. so files p s)
-    (subst (λ (x : Option Files). WithFiles x (λ files. LoadedPair log elf files reading.log reading.image)) e pair)
+pub named-session : (c : Commands) (log elf : List ℕ) (reading : JointReading) (status : ℕ) (input now_input : Supply) (notes : ReadNote) (k : Call)
+    → WithFiles k.old.store.files (λ files. LoadedPair log elf files reading.log reading.image)
+    → IsUnread c input now_input ⊎ SessionOver (joined reading.log reading.image) c.bytes status input now_input notes k.old.out k.new.out
+    → WithFiles k.old.store.files (λ files. SessionIs c log elf files status input now_input notes k)
+named-session c log elf reading status input now_input notes k pair s =
+    with-files k.old.store.files (λ files. LoadedPair log elf files reading.log reading.image) (λ files. SessionIs c log elf files status input now_input notes k) (λ files p. so files p s) pair
   where
     so : (files : Files) → LoadedPair log elf files reading.log reading.image
-        → IsUnread c notes noted ⊎ SessionOver (joined reading.log reading.image) c.bytes status left now_left before now notes noted k.old.out k.new.out k.old.out_faults k.new.out_faults
-        → SessionIs c log elf files status left now_left before now notes noted k
+        → IsUnread c input now_input ⊎ SessionOver (joined reading.log reading.image) c.bytes status input now_input notes k.old.out k.new.out
+        → SessionIs c log elf files status input now_input notes k
     so files p (inl none) = inl none
     so files p (inr over) = inr (record { content = reading.log; program = reading.image; pair = p; over = over })
 
@@ -443,13 +374,13 @@ recorded-done stay r records show c more whole none =
 
 shown : RefusalsStay → (long : Bool) (names : FileNames) (r : Recording) (records : List Record) (c : Commands) (what : Told) (status : ℕ) (k : Call) → ((e : JointError) → (session_of r records c).result ≢ Err (stop.Joint e))
     → ((lines : List (List ℕ)) → ShowsRun r records lines) → Either long (what ≡ refused names (TooLong role.Elf)) (what ≡ session_told names (session_of r records c)) → Tells names what status k
-    → IsFree status ⊎ Either long (status ≡ 5) (DoneSession r records c status k.old.out k.new.out)
+    → IsFree status ⊎ Either long (status ≡ 5) (DoneSession r records c status k.old.out.text k.new.out.text)
 unfolding refused session_told
 shown stay true names r records c what status k never show e (inl done) = inr (done.status_is ∙ ap (λ (t : Told). t.status) e)
 shown stay true names r records c what status k never show e (inr stopped) = inl (stopped-free names what status k stopped)
 shown stay false names r records c what status k never show e (inl done) = inr (record {
   done = done.status_is ∙ ap (λ (t : Told). t.status) e;
-  text = subst (λ (t : List ℕ). Appends k.old.out k.new.out t) (ap (λ (t : Told). t.out) e) done.out;
+  text = subst (λ (t : List ℕ). Appends k.old.out.text k.new.out.text t) (ap (λ (t : Told). t.out) e) done.out;
   goes_on = never;
   shows = show;
   whole = λ more whole none. done.status_is ∙ ap (λ (t : Told). t.status) e ∙ ap session_status (recorded-done stay r records show c more whole none);
@@ -462,7 +393,7 @@ session-so names r c d head = ap (λ (h : Head). session_told names (transcript 
 
 pub shows-session : Grammar → Limits → SessionsShowTheRun → RefusalsStay → (c : Commands) (log elf : List ℕ) (files : Files) (status : ℕ) (k : Call)
     → SomeTold (IsSession c files (names_in (DebugLine log elf))) (λ what. Tells (names_in (DebugLine log elf)) what status k) ⊎ StoppedEarly (Some (DebugLine log elf)) files status k
-    → ShowsSession c log elf files status k.old.out k.new.out
+    → ShowsSession c log elf files status k.old.out.text k.new.out.text
 shows-session g limits show stay c log elf files status k (inr early) r h = inl (early-free (Some (DebugLine log elf)) files status k early)
 shows-session g limits show stay c log elf files status k (inl a) r h =
     let names = names_in (DebugLine log elf) in
@@ -500,43 +431,43 @@ unread-done g laws limits c log elf files status k x none whole all can =
     session-done (one-session g) laws limits.converted c log elf files status k x (record { content = can.content; program = can.program; pair = can.pair; goes_on = goes_on })
 
 -- where all that the source had left isn't stopped it is done, unless a read failed
-all-done : Grammar → FileLaws → Limits → (c : Commands) (log elf : List ℕ) (files : Files) (status : ℕ) (left now_left : Option (List ℕ)) (before now : ℕ) (notes : Notes) (noted : ℕ) (k : Call)
+all-done : Grammar → FileLaws → Limits → (c : Commands) (log elf : List ℕ) (files : Files) (status : ℕ) (input now_input : Supply) (notes : ReadNote) (k : Call)
     → SomeTold (IsSession c files (names_in (DebugLine log elf))) (λ what. Tells (names_in (DebugLine log elf)) what status k) ⊎ StoppedEarly (Some (DebugLine log elf)) files status k
-    → SessionIs c log elf files status left now_left before now notes noted k → (all : List ℕ) → left ≡ Some all → CanDebug (whole_input all) log elf files → IsFree status ⊎ ((status ≡ 12) ⊎ (status ≡ 0))
-all-done g laws limits c log elf files status left now_left before now notes noted k x (inl none) all is can =
+    → SessionIs c log elf files status input now_input notes k → (all : List ℕ) → input.left ≡ Some all → CanDebug (whole_input all) log elf files → IsFree status ⊎ ((status ≡ 12) ⊎ (status ≡ 0))
+all-done g laws limits c log elf files status input now_input notes k x (inl none) all is can =
     elim (unread-done g laws limits c log elf files status k x none.0 none.1 (whole_input all) can) [ inl free ↦ inl free | inr zero ↦ inr (inr zero) ]
-all-done g laws limits c log elf files status left now_left before now notes noted k x (inr s) all is can =
-    whole-done g laws log elf files s.content s.program c.bytes status left now_left before now notes noted k.old.out k.new.out k.old.out_faults k.new.out_faults s.pair s.over all is can
+all-done g laws limits c log elf files status input now_input notes k x (inr s) all is can =
+    whole-done g laws log elf files s.content s.program c.bytes status input now_input notes k.old.out k.new.out s.pair s.over all is can
 
 -- all that a session does
-pub debugs-so : Grammar → FileLaws → Limits → SessionsShowTheRun → RefusalsStay → (names : FileNames) (log elf : List ℕ) (status : ℕ) (left now_left : Option (List ℕ)) (before now : ℕ) (notes : Notes) (noted : ℕ) (k : Call) → names ≡ names_in (DebugLine log elf)
-    → DebugsNamed names status left now_left before now notes noted k → DebugsLine (Some (DebugLine log elf)) status left now_left before now notes noted k
-debugs-so g laws limits show stay names log elf status left now_left before now notes noted k e h =
+pub debugs-so : {I : Type 0} → Grammar → FileLaws → Limits → SessionsShowTheRun → RefusalsStay → (names : FileNames) (log elf : List ℕ) (status : ℕ) (i : Reading I) (k : Call) → names ≡ names_in (DebugLine log elf)
+    → DebugsNamed names status i.before i.after i.notes k → DebugsLine (Some (DebugLine log elf)) status i k
+debugs-so g laws limits show stay names log elf status i k e h =
     let c = h.0 in
     let own = names_in (DebugLine log elf) in (
       c,
       h.1,
-      with-both k.old.files (λ files. SomeTold (IsSession c files own) (λ what. Tells own what status k) ⊎ StoppedBy own (λ files. IsDebug files own) files status k)
-          (λ files. SessionIs c log elf files status left now_left before now notes noted k) (λ files. DebugsFiles c log elf files status left now_left before now notes noted k)
+      with-both k.old.store.files (λ files. SomeTold (IsSession c files own) (λ what. Tells own what status k) ⊎ StoppedBy own (λ files. IsDebug files own) files status k)
+          (λ files. SessionIs c log elf files status i.before i.after i.notes k) (λ files. DebugsFiles c log elf files status i.before i.after i.notes k)
           (λ files x y. record {
             tells = x;
             done = session-done (one-session g) laws limits.converted c log elf files status k x;
             shows = shows-session g limits show stay c log elf files status k x;
             session = y;
-            whole = all-done g laws limits c log elf files status left now_left before now notes noted k x y;
+            whole = all-done g laws limits c log elf files status i.before i.after i.notes k x y;
           })
-          (subst (λ (n : FileNames). WithFiles k.old.files (λ files. SomeTold (IsSession c files n) (λ what. Tells n what status k) ⊎ StoppedBy n (λ files. IsDebug files n) files status k)) e h.2)
-          (subst (λ (n : FileNames). WithFiles k.old.files (λ files. SessionIs c n.log n.elf files status left now_left before now notes noted k)) e h.3),
+          (subst (λ (n : FileNames). WithFiles k.old.store.files (λ files. SomeTold (IsSession c files n) (λ what. Tells n what status k) ⊎ StoppedBy n (λ files. IsDebug files n) files status k)) e h.2)
+          (subst (λ (n : FileNames). WithFiles k.old.store.files (λ files. SessionIs c n.log n.elf files status i.before i.after i.notes k)) e h.3),
     )
 
-pub answers-so : (names : FileNames) (log elf : List ℕ) (status : ℕ) (left now_left : Option (List ℕ)) (before now : ℕ) (notes : Notes) (noted : ℕ) (k : Call) → names ≡ names_in (DebugLine log elf)
-    → DebugsNamed names status left now_left before now notes noted k → TellsAnswer (Some (DebugLine log elf)) status k
-answers-so names log elf status left now_left before now notes noted k e h =
+pub answers-so : (names : FileNames) (log elf : List ℕ) (status : ℕ) (input now_input : Supply) (notes : ReadNote) (k : Call) → names ≡ names_in (DebugLine log elf)
+    → DebugsNamed names status input now_input notes k → TellsAnswer (Some (DebugLine log elf)) status k
+answers-so names log elf status input now_input notes k e h =
     let c = h.0 in
     let own = names_in (DebugLine log elf) in
-    with-files k.old.files (λ files. SomeTold (IsSession c files own) (λ what. Tells own what status k) ⊎ StoppedBy own (λ files. IsDebug files own) files status k)
+    with-files k.old.store.files (λ files. SomeTold (IsSession c files own) (λ what. Tells own what status k) ⊎ StoppedBy own (λ files. IsDebug files own) files status k)
     (λ files. SomeTold (IsAnswer (Some (DebugLine log elf)) files) (λ what. Tells own what status k) ⊎ StoppedEarly (Some (DebugLine log elf)) files status k) (λ files x. so files x)
-    (subst (λ (n : FileNames). WithFiles k.old.files (λ files. SomeTold (IsSession c files n) (λ what. Tells n what status k) ⊎ StoppedBy n (λ files. IsDebug files n) files status k)) e h.2)
+    (subst (λ (n : FileNames). WithFiles k.old.store.files (λ files. SomeTold (IsSession c files n) (λ what. Tells n what status k) ⊎ StoppedBy n (λ files. IsDebug files n) files status k)) e h.2)
   where
     so : (files : Files) → SomeTold (IsSession h.0 files (names_in (DebugLine log elf))) (λ what. Tells (names_in (DebugLine log elf)) what status k) ⊎ StoppedEarly (Some (DebugLine log elf)) files status k
         → SomeTold (IsAnswer (Some (DebugLine log elf)) files) (λ what. Tells (names_in (DebugLine log elf)) what status k) ⊎ StoppedEarly (Some (DebugLine log elf)) files status k
@@ -544,76 +475,55 @@ answers-so names log elf status left now_left before now notes noted k e h =
     so files (inr early) = inr early
 
 -- of a line that is a session
-pub debugs-any : Grammar → FileLaws → Limits → SessionsShowTheRun → RefusalsStay → (line : Line) (names : FileNames) (status : ℕ) (left now_left : Option (List ℕ)) (before now : ℕ) (notes : Notes) (noted : ℕ) (k : Call) → (IsNoSession (Some line) → ⊥) → names ≡ names_in line
-    → DebugsNamed names status left now_left before now notes noted k → DebugsLine (Some line) status left now_left before now notes noted k
-debugs-any g laws limits show stay (DebugLine log elf) names status left now_left before now notes noted k is e h = debugs-so g laws limits show stay names log elf status left now_left before now notes noted k e h
-debugs-any g laws limits show stay (RecordLine r) names status left now_left before now notes noted k is e h = tt
-debugs-any g laws limits show stay (ReplayLine log elf hart interval) names status left now_left before now notes noted k is e h = tt
-debugs-any g laws limits show stay (JointLine log elf) names status left now_left before now notes noted k is e h = tt
-debugs-any g laws limits show stay (ListLine log) names status left now_left before now notes noted k is e h = tt
-debugs-any g laws limits show stay (CheckLine log) names status left now_left before now notes noted k is e h = tt
-debugs-any g laws limits show stay (AuditLine log elf book input) names status left now_left before now notes noted k is e h = tt
-debugs-any g laws limits show stay (RacesLine log elf most) names status left now_left before now notes noted k is e h = tt
-debugs-any g laws limits show stay (SliceLine log elf hart interval ic) names status left now_left before now notes noted k is e h = tt
-debugs-any g laws limits show stay (ConvertLine log copy) names status left now_left before now notes noted k is e h = tt
-debugs-any g laws limits show stay (SalvageLine log copy) names status left now_left before now notes noted k is e h = tt
-debugs-any g laws limits show stay (DemoLine seed) names status left now_left before now notes noted k is e h = tt
-
-pub answers-any : (line : Line) (names : FileNames) (status : ℕ) (left now_left : Option (List ℕ)) (before now : ℕ) (notes : Notes) (noted : ℕ) (k : Call) → (IsNoSession (Some line) → ⊥) → names ≡ names_in line
-    → DebugsNamed names status left now_left before now notes noted k → TellsAnswer (Some line) status k
-answers-any (DebugLine log elf) names status left now_left before now notes noted k is e h = answers-so names log elf status left now_left before now notes noted k e h
-answers-any (RecordLine r) names status left now_left before now notes noted k is e h = absurd (is tt)
-answers-any (ReplayLine log elf hart interval) names status left now_left before now notes noted k is e h = absurd (is tt)
-answers-any (JointLine log elf) names status left now_left before now notes noted k is e h = absurd (is tt)
-answers-any (ListLine log) names status left now_left before now notes noted k is e h = absurd (is tt)
-answers-any (CheckLine log) names status left now_left before now notes noted k is e h = absurd (is tt)
-answers-any (AuditLine log elf book input) names status left now_left before now notes noted k is e h = absurd (is tt)
-answers-any (RacesLine log elf most) names status left now_left before now notes noted k is e h = absurd (is tt)
-answers-any (SliceLine log elf hart interval ic) names status left now_left before now notes noted k is e h = absurd (is tt)
-answers-any (ConvertLine log copy) names status left now_left before now notes noted k is e h = absurd (is tt)
-answers-any (SalvageLine log copy) names status left now_left before now notes noted k is e h = absurd (is tt)
-answers-any (DemoLine seed) names status left now_left before now notes noted k is e h = absurd (is tt)
-
--- its log and program are there
-pub begins-any : (line : Line) (names : FileNames) (known : Option Files) → (IsNoSession (Some line) → ⊥) → names ≡ names_in line → WithFiles known (λ files. HasPair names.log names.elf files) → WithFiles known (λ files. CanBegin (Some line) files)
-begins-any (DebugLine log elf) names known is e h = subst (λ (n : FileNames). WithFiles known (λ files. HasPair n.log n.elf files)) e h
-begins-any (RecordLine r) names known is e h = absurd (is tt)
-begins-any (ReplayLine log elf hart interval) names known is e h = absurd (is tt)
-begins-any (JointLine log elf) names known is e h = absurd (is tt)
-begins-any (ListLine log) names known is e h = absurd (is tt)
-begins-any (CheckLine log) names known is e h = absurd (is tt)
-begins-any (AuditLine log elf book input) names known is e h = absurd (is tt)
-begins-any (RacesLine log elf most) names known is e h = absurd (is tt)
-begins-any (SliceLine log elf hart interval ic) names known is e h = absurd (is tt)
-begins-any (ConvertLine log copy) names known is e h = absurd (is tt)
-begins-any (SalvageLine log copy) names known is e h = absurd (is tt)
-begins-any (DemoLine seed) names known is e h = absurd (is tt)
+pub session-does : {I : Type 0} → Grammar → FileLaws → Limits → SessionsShowTheRun → RefusalsStay → (line : Line) (names : FileNames) (status : ℕ) (note : Note) (i : Reading I) (k : Call) → (IsNoSession (Some line) → ⊥) → names ≡ names_in line
+    → DebugsEnds names status note i k → Does (Some line) status note i k
+session-does g laws limits show stay (DebugLine log elf) names status note i k is e d = record {
+  replies = record {
+    obeys = record {
+      told = answers-so names log elf status i.before i.after i.notes k e d.told;
+      words = d.words;
+      failed = d.failed;
+      missing = d.missing;
+      long = d.long;
+      write = d.write;
+      later = d.later;
+      counts = d.counts;
+    };
+    still = λ p. d.same;
+    saves = d.asks;
+    calls = session-calls log elf note names status k e d.calls;
+    demo = tt;
+    recorded = tt;
+  };
+  session = debugs-so g laws limits show stay names log elf status i k e d.told;
+  first = d.first;
+  begins = begins d.begins;
+  unread = λ n. absurd (is n);
+  read = λ f. (d.told.1.failed (d.told.1.cause f)).0;
+  read_later = d.read_later;
+}
+  where
+    -- its log and program are there
+    begins : (i.new ≡ i.old) ⊎ WithFiles k.old.store.files (λ files. HasPair names.log names.elf files) → (i.new ≡ i.old) ⊎ WithFiles k.old.store.files (λ files. HasPair log elf files)
+    begins (inl same) = inl same
+    begins (inr has) = inr (subst (λ (n : FileNames). WithFiles k.old.store.files (λ files. HasPair n.log n.elf files)) e has)
+session-does g laws limits show stay line names status note i k is e d = absurd (is tt)
 
 -- there was no memory for the words
-pub debugs-early : (line : Option Line) (status : ℕ) (left : Option (List ℕ)) (faults : ℕ) (notes : Notes) (k : Call) → Appends k.old.out k.new.out [] → k.new.files ≡ k.old.files
-    → ToldRefusal (names_by line) why.OutOfMemory status k.old.err k.new.err k.old.err_faults k.new.err_faults → DebugsLine line status left left faults faults notes (notes []) k
-debugs-early None status left faults notes k out same told = tt
-debugs-early (Some (RecordLine r)) status left faults notes k out same told = tt
-debugs-early (Some (ReplayLine log elf hart interval)) status left faults notes k out same told = tt
-debugs-early (Some (JointLine log elf)) status left faults notes k out same told = tt
-debugs-early (Some (DebugLine log elf)) status left faults notes k out same told =
-    let nine = memory-status (names_in (DebugLine log elf)) status k.old.err k.new.err k.old.err_faults k.new.err_faults told in
-    let early : (files : Files) → StoppedEarly (Some (DebugLine log elf)) files status k = λ files. record { refusal = why.OutOfMemory; early = inl refl; out = out; same = same; told = told } in (
+pub debugs-early : {I : Type 0} (line : Option Line) (status : ℕ) (source : I → Supply) (gives : ReadNote) (input : I) (k : Call) → Appends k.old.out.text k.new.out.text [] → k.new.store.files ≡ k.old.store.files
+    → ToldRefusal (names_by line) why.OutOfMemory status k.old.err.text k.new.err.text k.old.err.faults k.new.err.faults → DebugsLine line status (reading source gives input input) k
+debugs-early (Some (DebugLine log elf)) status source gives input k out same told =
+    let nine = memory-status (names_in (DebugLine log elf)) status k.old.err.text k.new.err.text k.old.err.faults k.new.err.faults told in
+    let early : (files : Files) → StoppedEarly (Some (DebugLine log elf)) files status k = λ files. record { refusal = why.OutOfMemory; early = inl refl; out = out; same = same; told = told } in
+    let free : (files : Files) → IsFree status = λ files. early-free (Some (DebugLine log elf)) files status k (early files) in (
       no_commands,
-      none-read status left faults notes (λ f. omega (arith, f, nine)) (λ f. omega (arith, f, nine)),
-      with-any k.old.files (λ files. DebugsFiles no_commands log elf files status left left faults faults notes (notes []) k) (λ files. record {
+      none-read status (source input) gives (λ f. omega (arith, f, nine)) (λ f. omega (arith, f, nine)),
+      with-any k.old.store.files (λ files. DebugsFiles no_commands log elf files status (source input) (source input) gives k) (λ files. record {
         tells = inr (early files);
-        done = λ h. inl (early-free (Some (DebugLine log elf)) files status k (early files));
-        shows = λ r has. inl (early-free (Some (DebugLine log elf)) files status k (early files));
+        done = λ h. inl (free files);
+        shows = λ r has. inl (free files);
         session = inl (refl, refl, refl);
-        whole = λ all is can. inl (early-free (Some (DebugLine log elf)) files status k (early files));
+        whole = λ all is can. inl (free files);
       }),
     )
-debugs-early (Some (ListLine log)) status left faults notes k out same told = tt
-debugs-early (Some (CheckLine log)) status left faults notes k out same told = tt
-debugs-early (Some (AuditLine log elf book input)) status left faults notes k out same told = tt
-debugs-early (Some (RacesLine log elf most)) status left faults notes k out same told = tt
-debugs-early (Some (SliceLine log elf hart interval ic)) status left faults notes k out same told = tt
-debugs-early (Some (ConvertLine log copy)) status left faults notes k out same told = tt
-debugs-early (Some (SalvageLine log copy)) status left faults notes k out same told = tt
-debugs-early (Some (DemoLine seed)) status left faults notes k out same told = tt
+debugs-early line status source gives input k out same told = tt

@@ -1,32 +1,16 @@
 -- A run that ended by a fault ended with the turn of that fault.
-use Rattle.std.proofs.Common.{◌≡◌, ℕ, zero, suc, ◌+◌, ◌-◌, ◌==◌, ◌&&◌, ◌||◌, Bool, true, false, List, [], ◌∷◌, ◌++◌, nat_le, nat_lt, Option, Some, None, ◌∙◌, ap, subst, sym, refl, inl, inr, ◌⊎◌}
-use Rattle.std.specs.Prelude.{if◌then◌else◌}
-use Rattle.std.specs.List.{list_any}
-use Rattle.bn_base.specs.Faults.{fault_number}
-use Rattle.bn_base.specs.Programs.{Program}
-use Rattle.bn_base.specs.Ranges.{IsSetting}
+use Rattle.bugnet.proofs.Common.{◌≡◌, ℕ, zero, suc, ◌+◌, ◌-◌, ◌==◌, ◌&&◌, Bool, true, false, List, [], ◌∷◌, ◌++◌, nat_le, nat_lt, Option, Some, None, ◌∙◌, ap, subst, sym, refl, inl, inr, ◌⊎◌, if◌then◌else◌, list_any, fault_number, Program, IsSetting, RawSettings, absorbed, Ask, Want, Faulted, total, start, run_from, is_live, legal_from, Run, counted, after_call, after_access, next_of, mark, hart_after, stopped, other_after, harts_after, is_guarded, by_guard, guard_records, guarded_run, serve_orderly, served_if, is_orderly, serve, ask_at, turn, OwnAsksAreOrderly, marks, IsCrash, marks_of, is_fault, is_limit, end_by}
+use Rattle.std.proofs.Common.{◌||◌}
 use Rattle.bn_base.specs.declared.fault.Fault.{Fault}
-use Rattle.bn_base.specs.declared.settings.RawSettings.{RawSettings}
 use Rattle.bn_base.specs.declared.state.HartState.{HartState}
-use Rattle.rv_meaning.specs.Execute.{absorbed}
-use Rattle.rv_meaning.specs.declared.asks.Ask.{Ask}
-use Rattle.rv_meaning.specs.declared.asks.Want.{Want}
-use Rattle.rv_meaning.specs.declared.asks.Want.TheVariants.{Faulted}
 use Rattle.rv_meaning.specs.declared.asks.Reply.{Reply}
 use Rattle.rv_meaning.specs.declared.asks.Reply.TheVariants as replies
 use Rattle.system_calls.specs.declared.effect.Plan.{Plan}
 use Rattle.system_calls.specs.declared.effect.Plan.TheVariants as plans
-use Rattle.log_record.specs.Spelling.{total}
 use Rattle.run_model.specs.Machine.{answer, call_of}
-use Rattle.run_model.specs.Runs.{start, run_from, is_live, legal_from}
-use Rattle.run_model.specs.Turn.{Run, counted, after_call, after_access, next_of, mark, hart_after, stopped, other_after, harts_after, is_guarded, by_guard, guard_records, guarded_run, serve_orderly, served_if, is_orderly, serve, ask_at, turn}
 use Rattle.run_model.specs.declared.hart.Hart.{Hart}
 use Rattle.run_model.specs.declared.turn_end.TurnEnd.{TurnEnd}
 use Rattle.run_model.specs.declared.turn_end.TurnEnd.TheVariants.{GoesOn, NewInterval, HartOver, RunOver}
-use Rattle.run_laws.specs.Laws.{OwnAsksAreOrderly}
-use Rattle.bus_core.specs.Bus.{marks}
-use Rattle.bugnet.specs.Crashes.{IsCrash}
-use Rattle.bugnet.specs.Recordings.{marks_of, is_fault, is_limit, end_by}
 use Rattle.log_commands.specs.declared.answer.RunEnd.TheVariants as ends
 
 not_both : {P : Type 0} → true ≡ false → P

@@ -1,47 +1,11 @@
 -- The answer to the joint replay of a recording's log is the text of one that says the run.
-use Rattle.std.proofs.Common.{◌≡◌, ◌≤◌, ℕ, Bool, true, false, List, length, nat_lt, Option, Some, None, ◌∙◌, ap, subst, sym, refl, inl, inr, ◌⊎◌, arith}
-use Rattle.std.specs.Prelude.{◌==◌, Result, Ok, option_map}
-use Rattle.std.specs.Io.KnownBytes.{Appends}
-use Rattle.sha2.specs.Sha256.{sha256}
-use Rattle.bn_base.specs.Programs.{Program}
-use Rattle.bn_outside.specs.Files.{Files}
-use Rattle.command_words.specs.Words.{Line, JointLine}
-use Rattle.elf_loader.specs.declared.error.ElfError.{ElfError}
-use Rattle.std.specs.Str.{bytes_eq}
-use Rattle.elf_loader.specs.Loaded.{image_of}
-use Rattle.log_record.specs.declared.head.Head.{Head}
-use Rattle.log_record.specs.declared.record.Record.{Record}
-use Rattle.log_order.specs.Content.{Content, IsContent}
-use Rattle.log_file.specs.Layout.{saved_bytes, file_bytes, file_bytes2}
-use Rattle.log_blocks.specs.Faults.{is_second}
-use Rattle.log_blocks.specs.Laws.{SavedHaveTheirLimit, AreFew}
+use Rattle.bugnet.proofs.Common.{◌≡◌, ◌≤◌, ℕ, Bool, true, false, List, length, nat_lt, Option, Some, None, ◌∙◌, ap, subst, sym, refl, inl, inr, ◌⊎◌, arith, Result, Ok, option_map, Appends, sha256, Program, Files, Line, JointLine, ElfError, bytes_eq, image_of, Head, Record, Content, IsContent, saved_bytes, file_bytes, file_bytes2, is_second, SavedHaveTheirLimit, AreFew, Reads, JointError, Ran, fresh, run_all, joint_text, file_of, Recording, IsLogOf, begin, SaysTheRun, JointReplaysSayTheRun, FileNames, Told, refused, printed, printed_until, Either, WithFile, IsByLog, ran_told, joint_with, joint_refusal, ByPair, pair_loaded, pair_same, pair_of, IsPairOf, IsPair, HoldsLog, ArePair, names_in, names_by, IsAnswer, HasRun, JoinsRun, TellsRun, IsJoined, JointHeadline, RecordingsCanBeJoined, recording_of, RecordingsAreJoined, DoneJointly, PrintsJointly, ConvertedHaveTheirLimit, WithFiles, Call, IsFree, SomeTold, Tells, StoppedEarly, TellsAnswer, TooLong, fits, of_false, KeptIsAnEnd, with-files, stopped-free}
+use Rattle.std.specs.Prelude.{◌==◌}
 use Rattle.log_blocks.specs.Laws as of_second
-use Rattle.log_blocks.specs.Readings.{Reads}
-use Rattle.joint_replay.specs.declared.error.JointError.{JointError}
-use Rattle.joint_replay.specs.Joining.{Ran, fresh, run_all}
-use Rattle.joint_replay.specs.Texts.{joint_text}
-use Rattle.run_files.specs.Files.{file_of}
-use Rattle.joint_laws.specs.Recordings.{Recording, IsRecorded, IsLogOf, begin}
-use Rattle.joint_laws.specs.Laws.{SaysTheRun, JointReplaysSayTheRun}
-use Rattle.log_commands.specs.Names.{FileNames}
-use Rattle.log_commands.specs.Told.{Told, refused, printed, printed_until}
-use Rattle.log_commands.specs.Commands.{Either, WithFile, IsByLog}
-use Rattle.log_commands.specs.Joined.{ran_told, joint_with}
-use Rattle.log_commands.specs.Refusals.{joint_refusal}
-use Rattle.log_commands.specs.Pairs.{ByPair, pair_loaded, pair_same, pair_of, IsPairOf, IsPair, HoldsLog, ArePair}
-use Rattle.bugnet.specs.Answers.{names_in, names_by, IsAnswer}
-use Rattle.bugnet.specs.Jointly.{HasRun, JoinsRun, TellsRun, IsJoined, JointHeadline, RecordingsCanBeJoined, recording_of, RecordingsAreJoined, DoneJointly, PrintsJointly}
-use Rattle.bugnet.specs.DebugSessions.{ConvertedHaveTheirLimit}
-use Rattle.log_commands.specs.Outside.{WithFiles}
-use Rattle.log_commands.specs.Effects.{Call, IsFree, SomeTold, Tells}
-use Rattle.bugnet.specs.Run.{StoppedEarly, TellsAnswer}
+use Rattle.joint_laws.specs.Recordings.{IsRecorded}
 use Rattle.log_commands.specs.declared.names.Role.TheVariants as role
-use Rattle.log_commands.specs.declared.refusal.Refusal.TheVariants.{TooLong}
-use Rattle.log_commands.proofs.Loads.{fits, of_false}
 use Rattle.bugnet.proofs.Single.{Grammar}
-use Rattle.run_laws.specs.Laws.{KeptIsAnEnd}
 use Rattle.bugnet.proofs.Suffices.{FileLaws, Sizes, read-size, by-file, by-size, then-so, same, by-content, saved-end}
-use Rattle.log_commands.proofs.Tells.{with-files, stopped-free}
 use Rattle.bugnet.proofs.LineTells.{early-free}
 
 -- ---- the log
@@ -172,21 +136,21 @@ can-be-joined law log elf files r h small =
 -- ---- what is printed
 
 told-so : (long : Bool) (names : FileNames) (r : Recording) (records : List Record) (what : Told) (status : ℕ) (k : Call) → Either long (what ≡ refused names (TooLong role.Elf)) (TellsRun r records what)
-    → Tells names what status k → IsFree status ⊎ Either long (status ≡ 5) (DoneJointly r records status k.old.out k.new.out)
+    → Tells names what status k → IsFree status ⊎ Either long (status ≡ 5) (DoneJointly r records status k.old.out.text k.new.out.text)
 unfolding refused
 told-so true names r records what status k e (inl done) = inr (done.status_is ∙ ap (λ (t : Told). t.status) e)
 told-so true names r records what status k e (inr stopped) = inl (stopped-free names what status k stopped)
 told-so false names r records what status k e (inl done) =
     inr (record {
       done = done.status_is ∙ ap (λ (t : Told). t.status) e.text;
-      text = subst (λ (t : List ℕ). Appends k.old.out k.new.out t) (ap (λ (t : Told). t.out) e.text) done.out;
+      text = subst (λ (t : List ℕ). Appends k.old.out.text k.new.out.text t) (ap (λ (t : Told). t.out) e.text) done.out;
       says = e.says;
     })
 told-so false names r records what status k e (inr stopped) = inl (stopped-free names what status k stopped)
 
 -- by its status, and what out gains
 abbrev Prints : ℕ → Call → Recording → List Record → Type 0
-Prints status k r records = IsFree status ⊎ Either (nat_lt 67108864 (length r.elf)) (status ≡ 5) (DoneJointly r records status k.old.out k.new.out)
+Prints status k r records = IsFree status ⊎ Either (nat_lt 67108864 (length r.elf)) (status ≡ 5) (DoneJointly r records status k.old.out.text k.new.out.text)
 
 printed-so : JointHeadline → (line : Option Line) (files : Files) (r : Recording) (j : JoinsRun line files r) (status : ℕ) (k : Call)
     → SomeTold (IsAnswer line files) (λ what. Tells (names_by line) what status k) ⊎ StoppedEarly line files status k → Prints status k r j.says.log.records
@@ -194,7 +158,7 @@ printed-so law line files r j status k (inr early) = inl (early-free line files 
 printed-so law line files r j status k (inl found) =
     told-so (nat_lt 67108864 (length r.elf)) (names_by line) r j.says.log.records found.0 status k (law line files r j found.0 found.1) found.2
 
-pub prints-jointly : JointHeadline → (line : Option Line) (status : ℕ) (k : Call) → TellsAnswer line status k → WithFiles k.old.files (λ files. PrintsJointly line files status k.old.out k.new.out)
+pub prints-jointly : JointHeadline → (line : Option Line) (status : ℕ) (k : Call) → TellsAnswer line status k → WithFiles k.old.store.files (λ files. PrintsJointly line files status k.old.out.text k.new.out.text)
 prints-jointly law line status k h =
-    with-files k.old.files (λ files. SomeTold (IsAnswer line files) (λ what. Tells (names_by line) what status k) ⊎ StoppedEarly line files status k)
-    (λ files. PrintsJointly line files status k.old.out k.new.out) (λ files found r j. printed-so law line files r j status k found) h
+    with-files k.old.store.files (λ files. SomeTold (IsAnswer line files) (λ what. Tells (names_by line) what status k) ⊎ StoppedEarly line files status k)
+    (λ files. PrintsJointly line files status k.old.out.text k.new.out.text) (λ files found r j. printed-so law line files r j status k found) h

@@ -1,12 +1,8 @@
 -- A hart's last End is that of an interval whose Header is there: records that are in order name each interval once, and end it once.
-use Rattle.std.proofs.Common.{◌≡◌, ℕ, zero, suc, ◌+◌, ◌^◌, ◌<◌, ◌≤◌, ◌==◌, Bool, true, false, not, ◌&&◌, List, [], ◌∷◌, ◌++◌, length, Option, Some, None, Result, Ok, Err, refl, ap, subst, sym, ◌∙◌, arith, inl, inr, ◌⊎◌}
-use Rattle.std.specs.Prelude.{if◌then◌else◌, nat_lt, nat_le, replicate, slice_get, slice_set}
+use Rattle.bugnet.proofs.Common.{◌≡◌, ℕ, zero, suc, ◌+◌, ◌^◌, ◌<◌, ◌≤◌, ◌==◌, Bool, true, false, not, ◌&&◌, List, [], ◌∷◌, ◌++◌, length, Option, Some, None, refl, ap, subst, sym, ◌∙◌, arith, inl, inr, ◌⊎◌, if◌then◌else◌, replicate, EndMark, RawSettings, Record, Header, FirstLoad, ScOk, ScFailed, Edge, End, bytes_of, hart_of, HasEnded, Interval, Logged, interval_of, interval_from, puts, nothing, mark_in}
+use Rattle.std.proofs.Common.{Result, Ok, Err}
+use Rattle.std.specs.Prelude.{nat_lt, nat_le, slice_get, slice_set}
 use Rattle.std.specs.Option.{option_or}
-use Rattle.bn_base.specs.declared.end_mark.EndMark.{EndMark}
-use Rattle.bn_base.specs.declared.settings.RawSettings.{RawSettings}
-use Rattle.log_record.specs.declared.record.Record.{Record}
-use Rattle.log_record.specs.declared.record.Record.TheVariants.{Header, FirstLoad, ScOk, ScFailed, Edge, End}
-use Rattle.log_record.specs.Spelling.{bytes_of, hart_of}
 use Rattle.log_order.specs.declared.view.OrderLimits.{OrderLimits}
 use Rattle.log_order.specs.declared.view.HartView.{HartView}
 use Rattle.log_order.specs.declared.view.Phase.{Phase}
@@ -15,9 +11,6 @@ use Rattle.log_order.specs.declared.walk.OrderBreak.{OrderBreak}
 use Rattle.log_order.specs.Rules.{takes_header, takes_other, is_awaited, goes_on, next_number, phase_after, has_edge, has_end, after_header, after_edge, after_end, after_other, after_one, fresh}
 use Rattle.log_order.specs.Order.{◌>>=◌, has_source, step_at, step, at_place, after_all, broken_in, broken, broken_by, order_limits_of}
 use Rattle.run_laws.specs.Ends.{last_end}
-use Rattle.run_laws.specs.Retained.{HasEnded}
-use Rattle.hart_replay.specs.Replay.{Interval, Logged, interval_of, interval_from, puts, nothing}
-use Rattle.hart_replay.specs.Scans.{mark_in}
 use Rattle.log_commands.proofs.Marks.{mark_of_load, mark_of_ok, mark_of_failed}
 
 abbrev Harts : Type 0

@@ -1,3 +1,4 @@
+mod Common
 mod Asks
 mod Single
 mod Suffices

@@ -1,26 +1,7 @@
 -- What a line has to answer, by the bytes that are loaded for it.
-use Rattle.std.proofs.Common.{◌≡◌, List, [], Option, Some, None, Bool, true, false, ap, subst, sym, refl, inr}
-use Rattle.std.specs.Prelude.{Result, Ok, Err, IfOk}
-use Rattle.std.specs.Str.{bytes_eq}
-use Rattle.bn_outside.specs.Counts.{Counts}
-use Rattle.bn_outside.specs.Files.{Files}
-use Rattle.command_words.specs.Words.{Line, RecordLine, ReplayLine, JointLine, DebugLine, ConvertLine, SalvageLine, DemoLine}
-use Rattle.log_commands.specs.Answering.{IsByFiles, Answers}
-use Rattle.log_commands.specs.Inputs.{bytes_of, no_bytes, IsLoaded}
-use Rattle.log_commands.specs.Names.{FileNames}
-use Rattle.log_commands.specs.Outside.{WithFiles, GivesBy, CauseBy, ResultCause, IsPrinted, told_of}
-use Rattle.log_commands.specs.Refusals.{name_refusal}
-use Rattle.log_commands.specs.Told.{Told, refused}
-use Rattle.log_commands.specs.declared.answer.Answer.{Answer}
+use Rattle.bugnet.proofs.Common.{◌≡◌, List, [], Option, Some, None, Bool, true, false, ap, subst, sym, refl, inr, Result, Ok, Err, IfOk, bytes_eq, Counts, Files, Line, RecordLine, ReplayLine, JointLine, DebugLine, ConvertLine, SalvageLine, DemoLine, IsByFiles, Answers, no_bytes, IsLoaded, FileNames, WithFiles, GivesBy, CauseBy, ResultCause, IsPrinted, told_of, name_refusal, Told, refused, Answer, Role, Refusal, SameName, loads-stop, loads-give, with-also, names_in, refusal_in, line_roles, UnlessRefused, IsByLine, IsAnswer, IsOn, KindOf, FitsLine, IsReadOnly, IsNoSession, IsNoRecording, needed_roles, AnswersDemo}
+use Rattle.log_commands.specs.Inputs.{bytes_of}
 use Rattle.log_commands.specs.declared.inputs.Inputs.{Inputs}
-use Rattle.log_commands.specs.declared.names.Role.{Role}
-use Rattle.log_commands.specs.declared.refusal.Refusal.{Refusal}
-use Rattle.log_commands.specs.declared.refusal.Refusal.TheVariants.{SameName}
-use Rattle.log_commands.proofs.Answered.{loads-stop, loads-give, with-also}
-use Rattle.bugnet.specs.Answers.{names_in, refusal_in, line_roles, UnlessRefused, IsByLine, IsAnswer, IsOn, KindOf}
-use Rattle.bugnet.specs.Asks.{FitsLine}
-use Rattle.bugnet.specs.Laws.{IsReadOnly, IsNoSession, IsNoRecording}
-use Rattle.bugnet.specs.LineCalls.{needed_roles, AnswersDemo}
 use Rattle.bugnet.proofs.LineCalls.{made-printed}
 
 -- ---- by the files

@@ -1,55 +1,12 @@
 -- Which calls a line makes of its store.
-use Rattle.std.proofs.Common.{◌≡◌, ◌≢◌, ℕ, List, [], ◌++◌, Option, Some, None, ◌∙◌, ap, subst, sym, refl, arith, true, false, Bool, inl, inr, ◌⊎◌, append_assoc}
-use Rattle.std.specs.Prelude.{Result, Ok, Err, IfOk, is_some, not, option_map}
-use Rattle.std.specs.Io.KnownBytes.{Appends}
-use Rattle.std.proofs.lemmas.List.{append-nil}
-use Rattle.bn_base.specs.Ranges.{first_bad}
-use Rattle.bn_outside.specs.Counts.{Counts}
-use Rattle.bn_outside.specs.Files.{Files}
-use Rattle.bn_outside.specs.StoreCalls.{StoreCall}
-use Rattle.command_words.specs.Words.{Line, RecordLine, ReplayLine, JointLine, DebugLine, ConvertLine, SalvageLine, DemoLine, seen_recording}
-use Rattle.command_words.specs.declared.commands.RecordOptions.{RecordOptions}
-use Rattle.demo_run.specs.Demonstration.{demo_text}
-use Rattle.hart_replay.specs.Replay.{Outcome, Refused, interval_of, replayed}
+use Rattle.bugnet.proofs.Common.{◌≡◌, ◌≢◌, ℕ, List, [], ◌++◌, Option, Some, None, ◌∙◌, ap, subst, sym, refl, arith, true, false, Bool, inl, inr, ◌⊎◌, append_assoc, Result, Ok, Err, IfOk, is_some, option_map, Appends, append-nil, first_bad, Line, RecordLine, ReplayLine, JointLine, DebugLine, ConvertLine, SalvageLine, DemoLine, seen_recording, RecordOptions, demo_text, Outcome, Refused, interval_of, replayed, ReplayError, JointError, Replay, run_all, joint_text, Content, Program, EndMark, FileNames, no_names, names_in, names_by, manner_of, setting_refusal, refusal_in, refusal_by, IsAnswer, line_roles, replay_status, joint_refusal, IsRenewed, IsRecordedRun, IsMade, FitsLine, FileCall, Note, Saves, noted_after, loads_of, saves_of, has_save, input_roles, record_roles, elf_roles, saved_in, saves_in, IsOfContent, StopsAt, LoadsUpTo, CallsTo, LoadsTo, CallsBy, IsOfSave, SaveRefused, SavesTold, needed_roles, IsSaved, MaySave, calls_of, needed_of, is_printed, is_replayed, is_recorded, line_past, past_of, RefusedAfter, CallsSo, CallsOnly, TellsRefusal, HasShape, AnswersDemo, TellsDemo, is_clash, replay_found, ended, ran_told, joined, joint_with, IsReadOnly, IsNoSession, WithFiles, CauseBy, IsPrinted, ToldRefusal, told_of, pair_roles, end_status, Call, IsFree, SomeTold, Tells, is_begun, Told, Saved, refused, printed, printed_until, Answer, Recorded, Joined, Listed, Checked, Agreed, Renewed, Shown, RunEnd, Manner, Role, Refusal, OutOfMemory, ReplayStopped, WordsRefused, part-longer, part-whole, from, stopped-free, memory-names, memory, same-files, with-files, ends-behind, noted-append, loads-alone, Stored}
+use Rattle.std.specs.Prelude.{not}
 use Rattle.hart_replay.specs.Replay as rows
-use Rattle.hart_replay.specs.declared.error.ReplayError.{ReplayError}
 use Rattle.hart_replay.specs.declared.error.ReplayError.TheVariants as replay
-use Rattle.joint_replay.specs.declared.error.JointError.{JointError}
-use Rattle.joint_replay.specs.declared.error.JointError.TheVariants.{Replay}
-use Rattle.joint_replay.specs.Joining.{run_all}
-use Rattle.joint_replay.specs.Texts.{joint_text}
-use Rattle.log_order.specs.Content.{Content}
-use Rattle.bn_base.specs.Programs.{Program}
-use Rattle.bn_base.specs.declared.end_mark.EndMark.{EndMark}
-use Rattle.log_commands.specs.Names.{FileNames, no_names}
-use Rattle.bugnet.specs.Answers.{names_in, names_by, manner_of, setting_refusal, refusal_in, refusal_by, IsAnswer, line_roles}
-use Rattle.log_commands.specs.Refusals.{replay_status, joint_refusal}
-use Rattle.log_commands.specs.SaveCounts.{IsRenewed, IsRecordedRun, IsMade}
-use Rattle.bugnet.specs.Asks.{FitsLine}
-use Rattle.log_commands.specs.FileCalls.{FileCall, Note, Saves, noted_after, loads_of, saves_of, has_save, input_roles, record_roles, elf_roles, saved_in, saves_in, IsOfContent, StopsAt, LoadsUpTo, CallsTo, LoadsTo, CallsBy, IsOfSave, SaveRefused, SavesTold}
-use Rattle.bugnet.specs.LineCalls.{needed_roles, IsSaved, MaySave, calls_of, needed_of, is_printed, is_replayed, is_recorded, line_past, past_of, RefusedAfter, CallsSo, CallsOnly, TellsRefusal, HasShape, AnswersDemo, TellsDemo}
-use Rattle.bugnet.specs.Command.Record.{is_clash}
-use Rattle.log_commands.specs.Commands.{replay_found, ended}
-use Rattle.log_commands.specs.Joined.{ran_told, joined, joint_with}
-use Rattle.bugnet.specs.Laws.{IsReadOnly, IsNoSession}
-use Rattle.log_commands.specs.Outside.{WithFiles, CauseBy, IsPrinted, ToldRefusal, told_of}
-use Rattle.log_commands.specs.Pairs.{pair_roles}
-use Rattle.log_commands.specs.RunEnds.{end_status}
-use Rattle.log_commands.specs.Effects.{Call, IsFree, SomeTold, Tells, Done}
-use Rattle.bugnet.specs.Sessions.{is_begun}
-use Rattle.log_commands.specs.Told.{Told, Saved, refused, printed, printed_until}
-use Rattle.log_commands.specs.declared.answer.Answer.{Answer}
-use Rattle.log_commands.specs.declared.answer.Answer.TheVariants.{Recorded, Interval, Joined, Listed, Checked, Agreed, Renewed, Shown}
-use Rattle.log_commands.specs.declared.answer.RunEnd.{RunEnd}
+use Rattle.log_commands.specs.Effects.{Done}
+use Rattle.log_commands.specs.declared.answer.Answer.TheVariants.{Interval}
 use Rattle.log_commands.specs.declared.answer.RunEnd.TheVariants as run_end
-use Rattle.bugnet.specs.declared.manner.Manner.{Manner}
-use Rattle.log_commands.specs.declared.names.Role.{Role}
-use Rattle.log_commands.specs.declared.refusal.Refusal.{Refusal}
-use Rattle.log_commands.specs.declared.refusal.Refusal.TheVariants.{OutOfMemory, ReplayStopped, WordsRefused}
 use Rattle.bugnet.proofs.BegunReplays.{is_found, is_begun_end, StopsBegun, replays_begin, joint_replays_begin}
-use Rattle.log_commands.proofs.Prints.{part-longer, part-whole}
-use Rattle.log_commands.proofs.Tells.{from, stopped-free, memory-names, wanting, same-files}
-use Rattle.log_commands.proofs.FileCalls.{ends-behind, noted-append, loads-alone}
 use Rattle.log_commands.proofs.Shows.{found-saved}
 
 -- ---- the last of the calls
@@ -62,11 +19,11 @@ stops-save needed r first made (inr (role, bytes, last, is)) = inr (inr (inl (ro
 -- ---- loads
 
 -- a program is refused before the input is loaded
-pub own-first : (note : ℕ → StoreCall → ℕ) (names : FileNames) (roles : List Role) (n : ℕ) (r : Refusal) → IsOfContent r → LoadsUpTo names roles [] note n n r
+pub own-first : (note : Note) (names : FileNames) (roles : List Role) (n : ℕ) (r : Refusal) → IsOfContent r → LoadsUpTo names roles [] note n n r
 own-first note names roles n r own = record { made = []; left = loads_of roles; parts = refl; noted = refl; at = inr (inr (inr (own, refl))) }
 
 -- all is loaded, and then memory runs out
-pub memory-loads : (note : ℕ → StoreCall → ℕ) (names : FileNames) (roles needed : List Role) (before after : ℕ) → after ≡ noted_after note names before (loads_of roles)
+pub memory-loads : (note : Note) (names : FileNames) (roles needed : List Role) (before after : ℕ) → after ≡ noted_after note names before (loads_of roles)
     → LoadsUpTo names roles needed note before after OutOfMemory
 memory-loads note names roles needed before after e = record {
   made = loads_of roles;
@@ -78,22 +35,22 @@ memory-loads note names roles needed before after e = record {
 
 -- ---- a recording's input
 
-pub no-input-loads : (note : ℕ → StoreCall → ℕ) (names : FileNames) (has : Bool) (n : ℕ) → has ≡ false → n ≡ noted_after note names n (loads_of (input_roles has))
+pub no-input-loads : (note : Note) (names : FileNames) (has : Bool) (n : ℕ) → has ≡ false → n ≡ noted_after note names n (loads_of (input_roles has))
 no-input-loads note names false n e = refl
 no-input-loads note names true n e = grind arith
 
-pub input-loads : (A : Type 0) (note : ℕ → StoreCall → ℕ) (names : FileNames) (has : Bool) (needed : List Role) (before after : ℕ) (result : Result A Refusal) → has ≡ true
+pub input-loads : (A : Type 0) (note : Note) (names : FileNames) (has : Bool) (needed : List Role) (before after : ℕ) (result : Result A Refusal) → has ≡ true
     → CallsTo names (input_roles true) needed note before after result → CallsTo names (input_roles has) needed note before after result
 input-loads A note names has needed before after result e h = subst (λ (b : Bool). CallsTo names (input_roles b) needed note before after result) (sym e) h
 
 -- ---- words that are tested first
 
 -- they are refused
-pub words-first : (A : Type 0) (note : ℕ → StoreCall → ℕ) (names : FileNames) (o : Option Refusal) (x : Refusal) (roles needed : List Role) (n : ℕ) (result : Result A Refusal) → o ≡ Some x → CallsBy o names roles needed note n n result
+pub words-first : (A : Type 0) (note : Note) (names : FileNames) (o : Option Refusal) (x : Refusal) (roles needed : List Role) (n : ℕ) (result : Result A Refusal) → o ≡ Some x → CallsBy o names roles needed note n n result
 words-first A note names o x roles needed n result e = subst (λ (p : Option Refusal). CallsBy p names roles needed note n n result) (sym e) refl
 
 -- they aren't
-pub words-pass : (A : Type 0) (note : ℕ → StoreCall → ℕ) (names : FileNames) (o : Option Refusal) (roles needed : List Role) (before after : ℕ) (result : Result A Refusal) → o ≡ None
+pub words-pass : (A : Type 0) (note : Note) (names : FileNames) (o : Option Refusal) (roles needed : List Role) (before after : ℕ) (result : Result A Refusal) → o ≡ None
     → CallsTo names roles needed note before after result → CallsBy o names roles needed note before after result
 words-pass A note names o roles needed before after result e h = subst (λ (p : Option Refusal). CallsBy p names roles needed note before after result) (sym e) h
 
@@ -102,7 +59,7 @@ mapped A B f None = refl
 mapped A B f (Some a) = refl
 
 -- and by what a recording's line asks for
-pub record-calls : (A : Type 0) (note : ℕ → StoreCall → ℕ) (names : FileNames) (r : RecordOptions) (how : Manner) (has : Bool) (before after : ℕ) (result : Result A Refusal) → names ≡ names_in (RecordLine (seen_recording r))
+pub record-calls : (A : Type 0) (note : Note) (names : FileNames) (r : RecordOptions) (how : Manner) (has : Bool) (before after : ℕ) (result : Result A Refusal) → names ≡ names_in (RecordLine (seen_recording r))
     → how ≡ manner_of (seen_recording r) → has ≡ is_some r.input
     → CallsBy (setting_refusal (first_bad r.settings) (is_clash how.lean names.log names.book)) names (record_roles has) elf_roles note before after result
     → CallsBy (refusal_in (RecordLine (seen_recording r))) names (line_roles (RecordLine (seen_recording r))) (needed_roles (RecordLine (seen_recording r))) note before after result
@@ -188,8 +145,8 @@ end-past e = refl
 record Unbegun (names : FileNames) (status : ℕ) (k : Call) : Type 0 where
   refusal : Refusal
   own : IsOfContent refusal
-  out : Appends k.old.out k.new.out []
-  told : ToldRefusal names refusal status k.old.err k.new.err k.old.err_faults k.new.err_faults
+  out : Appends k.old.out.text k.new.out.text []
+  told : ToldRefusal names refusal status k.old.err.text k.new.err.text k.old.err.faults k.new.err.faults
 
 -- a replay ends so, or before it begins
 abbrev Replays : FileNames → (status : ℕ) → Call → Type 0
@@ -300,19 +257,19 @@ no-answer : (A : Type 0) (a : A) (x : Refusal) → ◌≡◌ {A = Result A Refus
 no-answer A a x e = grind arith
 
 -- such calls without a save
-abbrev SavesNone : FileNames → (calls needed : List FileCall) → Option Refusal → (ℕ → Bool) → (status : ℕ) → Note → (before after : ℕ) → Call → Type 0
-SavesNone names calls needed words past status note before after k = (so : CallsSo names calls needed words past status note before after k) × (has_save so.made ≡ false)
+abbrev SavesNone : FileNames → (calls needed : List FileCall) → Option Refusal → (ℕ → Bool) → (status : ℕ) → Note → Call → Type 0
+SavesNone names calls needed words past status note k = (so : CallsSo names calls needed words past status note k) × (has_save so.made ≡ false)
 
 -- those of a line
-none-saved : (line : Option Line) (saved : Option Saved) (status : ℕ) (note : Note) (before after : ℕ) (k : Call) → MaySave line saved
-    → SavesNone (names_by line) (calls_of line saved) (needed_of line) (refusal_by line) (past_of line) status note before after k → CallsOnly line status note before after k
-none-saved line saved status note before after k fits (so, none) = record { saved = saved; fits = fits; so = so; own = λ some. no-save (has_save so.made) none some }
+none-saved : (line : Option Line) (saved : Option Saved) (status : ℕ) (note : Note) (k : Call) → MaySave line saved
+    → SavesNone (names_by line) (calls_of line saved) (needed_of line) (refusal_by line) (past_of line) status note k → CallsOnly line status note k
+none-saved line saved status note k fits (so, none) = record { saved = saved; fits = fits; so = so; own = λ some. no-save (has_save so.made) none some }
 
 -- it is refused before it saves
-refused-so : (A : Type 0) (note : ℕ → StoreCall → ℕ) (names : FileNames) (o : Option Refusal) (roles needed : List Role) (saves : List FileCall) (past : ℕ → Bool) (r : Refusal) (status : ℕ) (before after : ℕ) (first last : Counts) (k : Call)
-    → CallsBy {A = A} o names roles needed note before after (Err r) → CauseBy {A = A} o first last (Err r) → Appends k.old.out k.new.out []
-    → ToldRefusal names r status k.old.err k.new.err k.old.err_faults k.new.err_faults → SavesNone names (loads_of roles ++ saves) (loads_of needed) o past status note before after k
-refused-so A note names (Some x) roles needed saves past r status before after first last k h c out told = (
+refused-so : (A : Type 0) (note : Note) (names : FileNames) (o : Option Refusal) (roles needed : List Role) (saves : List FileCall) (past : ℕ → Bool) (r : Refusal) (status : ℕ) (k : Call)
+    → CallsBy {A = A} o names roles needed note k.old.store.noted k.new.store.noted (Err r) → CauseBy {A = A} o k.old.store.counts k.new.store.counts (Err r) → Appends k.old.out.text k.new.out.text []
+    → ToldRefusal names r status k.old.err.text k.new.err.text k.old.err.faults k.new.err.faults → SavesNone names (loads_of roles ++ saves) (loads_of needed) o past status note k
+refused-so A note names (Some x) roles needed saves past r status k h c out told = (
   record {
     made = [];
     left = loads_of roles ++ saves;
@@ -322,7 +279,7 @@ refused-so A note names (Some x) roles needed saves past r status before after f
   },
   refl,
 )
-refused-so A note names None roles needed saves past r status before after first last k h c out told = (
+refused-so A note names None roles needed saves past r status k h c out told = (
   record {
     made = h.made;
     left = h.left ++ saves;
@@ -333,25 +290,25 @@ refused-so A note names None roles needed saves past r status before after first
   loads-alone roles h.made h.left h.parts,
 )
 
-pub refusal-calls : (A : Type 0) (note : ℕ → StoreCall → ℕ) (line : Line) (names : FileNames) (r : Refusal) (status : ℕ) (before after : ℕ) (first last : Counts) (k : Call) → names ≡ names_in line
-    → CallsBy {A = A} (refusal_in line) names (line_roles line) (needed_roles line) note before after (Err r) → CauseBy {A = A} (refusal_in line) first last (Err r) → Appends k.old.out k.new.out []
-    → ToldRefusal names r status k.old.err k.new.err k.old.err_faults k.new.err_faults → CallsOnly (Some line) status note before after k
-refusal-calls A note line names r status before after first last k e h c out told =
+pub refusal-calls : (A : Type 0) (note : Note) (line : Line) (names : FileNames) (r : Refusal) (status : ℕ) (k : Call) → names ≡ names_in line
+    → CallsBy {A = A} (refusal_in line) names (line_roles line) (needed_roles line) note k.old.store.noted k.new.store.noted (Err r) → CauseBy {A = A} (refusal_in line) k.old.store.counts k.new.store.counts (Err r)
+    → Appends k.old.out.text k.new.out.text [] → ToldRefusal names r status k.old.err.text k.new.err.text k.old.err.faults k.new.err.faults → CallsOnly (Some line) status note k
+refusal-calls A note line names r status k e h c out told =
     let saved = (sample (Some line)).0 in
-    none-saved (Some line) saved status note before after k (sample (Some line)).1
-    (subst (λ (n : FileNames). SavesNone n (calls_of (Some line) saved) (needed_of (Some line)) (refusal_in line) (line_past line) status note before after k) e
-    (refused-so A note names (refusal_in line) (line_roles line) (needed_roles line) (saves_of saved) (line_past line) r status before after first last k h c out told))
+    none-saved (Some line) saved status note k (sample (Some line)).1
+    (subst (λ (n : FileNames). SavesNone n (calls_of (Some line) saved) (needed_of (Some line)) (refusal_in line) (line_past line) status note k) e
+    (refused-so A note names (refusal_in line) (line_roles line) (needed_roles line) (saves_of saved) (line_past line) r status k h c out told))
 
 -- it has its answer, of which all is saved, or not
-answer-so : (A : Type 0) (a : A) (note : ℕ → StoreCall → ℕ) (names : FileNames) (o : Option Refusal) (roles needed : List Role) (saves : List FileCall) (past : ℕ → Bool) (status : ℕ) (before mid after : ℕ) (first last : Counts) (files : Option Files) (counts : Counts) (k : Call)
-    → CallsBy o names roles needed note before mid (Ok a) → CauseBy o first last (Ok a) → SavesTold names saves status note mid after k → (status ≢ 3 → Ends past (loads_of roles ++ saves) (loads_of needed) names status k)
-    → CallsSo names (loads_of roles ++ saves) (loads_of needed) o past status note before after (from files counts k)
-answer-so A a note names (Some x) roles needed saves past status before mid after first last files counts k h c s goes = absurd (no-answer A a x c.0)
-answer-so A a note names None roles needed saves past status before mid after first last files counts k h c s goes = record {
+answer-so : (A : Type 0) (a : A) (note : Note) (names : FileNames) (o : Option Refusal) (roles needed : List Role) (saves : List FileCall) (past : ℕ → Bool) (status : ℕ) (old : Stored) (k : Call)
+    → CallsBy o names roles needed note old.noted k.old.store.noted (Ok a) → CauseBy o old.counts k.old.store.counts (Ok a) → SavesTold names saves status note k.old.store.noted k.new.store.noted k
+    → (status ≢ 3 → Ends past (loads_of roles ++ saves) (loads_of needed) names status k) → CallsSo names (loads_of roles ++ saves) (loads_of needed) o past status note (from old k)
+answer-so A a note names (Some x) roles needed saves past status old k h c s goes = absurd (no-answer A a x c.0)
+answer-so A a note names None roles needed saves past status old k h c s goes = record {
   made = loads_of roles ++ s.made;
   left = s.left;
   parts = ap (λ (calls : List FileCall). loads_of roles ++ calls) s.parts ∙ sym (append_assoc (loads_of roles) s.made s.left);
-  noted = s.noted ∙ ap (λ (n : ℕ). noted_after note names n s.made) h ∙ sym (noted-append note names before (loads_of roles) s.made);
+  noted = s.noted ∙ ap (λ (n : ℕ). noted_after note names n s.made) h ∙ sym (noted-append note names old.noted (loads_of roles) s.made);
   ends = by s.ends;
 }
   where
@@ -359,39 +316,36 @@ answer-so A a note names None roles needed saves past status before mid after fi
     all_made all = ap (λ (calls : List FileCall). loads_of roles ++ calls) (sym (s.parts ∙ ap (λ (calls : List FileCall). s.made ++ calls) all ∙ append-nil s.made))
 
     at_end : s.left ≡ [] → Ends past (loads_of roles ++ saves) (loads_of needed) names status k
-        → ((s.left ≡ []) × (past status ≡ true)) ⊎ RefusedAfter names (loads_of needed) None (loads_of roles ++ s.made) status (from files counts k)
+        → ((s.left ≡ []) × (past status ≡ true)) ⊎ RefusedAfter names (loads_of needed) None (loads_of roles ++ s.made) status (from old k)
     at_end all (inl goes) = inl (all, goes)
     at_end all (inr (same, u)) = inr (record { refusal = u.refusal; at = inr (inr (inr (inr (u.own, all_made all ∙ same)))); out = u.out; told = u.told })
 
     by : ((s.left ≡ []) × (status ≢ 3)) ⊎ SaveRefused names s.made status k
-        → ((s.left ≡ []) × (past status ≡ true)) ⊎ RefusedAfter names (loads_of needed) None (loads_of roles ++ s.made) status (from files counts k)
+        → ((s.left ≡ []) × (past status ≡ true)) ⊎ RefusedAfter names (loads_of needed) None (loads_of roles ++ s.made) status (from old k)
     by (inl (all, other)) = at_end all (goes other)
     by (inr t) = inr (record { refusal = t.refusal; at = inr (stops-save (loads_of needed) t.refusal (loads_of roles) s.made t.at); out = t.out; told = t.told })
 
-pub answer-calls : (note : ℕ → StoreCall → ℕ) (line : Line) (names : FileNames) (answer : Answer) (status : ℕ) (before mid after : ℕ) (first last : Counts) (files : Option Files) (counts : Counts) (k : Call) → names ≡ names_in line
-    → CallsBy (refusal_in line) names (line_roles line) (needed_roles line) note before mid (Ok answer) → CauseBy (refusal_in line) first last (Ok answer)
-    → FitsLine line answer → (IsReadOnly (Some line) → IsPrinted answer) → IsNoSession (Some line) → SavesTold names (saves_in answer) status note mid after k → Tells names (told_of names answer) status k
-    → WithFiles files (λ known. IsAnswer (Some line) known (told_of names answer)) → CallsOnly (Some line) status note before after (from files counts k)
-answer-calls note line names answer status before mid after first last files counts k e h c fits prints none s told is = record {
+pub answer-calls : (note : Note) (line : Line) (names : FileNames) (answer : Answer) (status : ℕ) (old : Stored) (k : Call) → names ≡ names_in line
+    → CallsBy (refusal_in line) names (line_roles line) (needed_roles line) note old.noted k.old.store.noted (Ok answer) → CauseBy (refusal_in line) old.counts k.old.store.counts (Ok answer)
+    → FitsLine line answer → (IsReadOnly (Some line) → IsPrinted answer) → IsNoSession (Some line) → SavesTold names (saves_in answer) status note k.old.store.noted k.new.store.noted k → Tells names (told_of names answer) status k
+    → WithFiles old.files (λ known. IsAnswer (Some line) known (told_of names answer)) → CallsOnly (Some line) status note (from old k)
+answer-calls note line names answer status old k e h c fits prints none s told is = record {
   saved = saved_in answer;
   fits = answer-saves line answer fits prints;
-  so = subst (λ (n : FileNames). CallsSo n (calls_of (Some line) (saved_in answer)) (needed_of (Some line)) (refusal_in line) (line_past line) status note before after (from files counts k)) e
-      (answer-so Answer answer note names (refusal_in line) (line_roles line) (needed_roles line) (saves_in answer) (line_past line) status before mid after first last files counts k h c s
+  so = subst (λ (n : FileNames). CallsSo n (calls_of (Some line) (saved_in answer)) (needed_of (Some line)) (refusal_in line) (line_past line) status note (from old k)) e
+      (answer-so Answer answer note names (refusal_in line) (line_roles line) (needed_roles line) (saves_in answer) (line_past line) status old k h c s
       (λ other. tells-past line names answer status k fits prints none told other));
-  own = λ some. its-own files is;
+  own = λ some. with-files old.files (λ files. IsAnswer (Some line) files (told_of names answer)) (λ files. SomeTold (IsAnswer (Some line) files) (λ what. what.saved ≡ saved_in answer))
+      (λ files is. (told_of names answer, is, answer-told names answer)) is;
 }
-  where
-    its-own : (known : Option Files) → WithFiles known (λ files. IsAnswer (Some line) files (told_of names answer)) → WithFiles known (λ files. SomeTold (IsAnswer (Some line) files) (λ what. what.saved ≡ saved_in answer))
-    its-own None is = tt
-    its-own (Some files) is = (told_of names answer, is, answer-told names answer)
 
 -- ---- a session
 
 -- it isn't begun
-pub unbegun-calls : (A : Type 0) (note : ℕ → StoreCall → ℕ) (names : FileNames) (roles : List Role) (r : Refusal) (status : ℕ) (before after : ℕ) (k : Call)
-    → LoadsTo {A = A} names roles note before after (Err r) → Appends k.old.out k.new.out [] → ToldRefusal names r status k.old.err k.new.err k.old.err_faults k.new.err_faults
-    → CallsSo names (loads_of roles) (loads_of roles) None is_begun status note before after k
-unbegun-calls A note names roles r status before after k h out told = record {
+pub unbegun-calls : (A : Type 0) (note : Note) (names : FileNames) (roles : List Role) (r : Refusal) (status : ℕ) (k : Call)
+    → LoadsTo {A = A} names roles note k.old.store.noted k.new.store.noted (Err r) → Appends k.old.out.text k.new.out.text [] → ToldRefusal names r status k.old.err.text k.new.err.text k.old.err.faults k.new.err.faults
+    → CallsSo names (loads_of roles) (loads_of roles) None is_begun status note k
+unbegun-calls A note names roles r status k h out told = record {
   made = h.made;
   left = h.left;
   parts = h.parts;
@@ -400,9 +354,9 @@ unbegun-calls A note names roles r status before after k h out told = record {
 }
 
 -- it is
-pub begun-calls : (note : ℕ → StoreCall → ℕ) (names : FileNames) (roles : List Role) (status : ℕ) (before after : ℕ) (k : Call) → after ≡ noted_after note names before (loads_of roles) → is_begun status ≡ true
-    → CallsSo names (loads_of roles) (loads_of roles) None is_begun status note before after k
-begun-calls note names roles status before after k e begun = record {
+pub begun-calls : (note : Note) (names : FileNames) (roles : List Role) (status : ℕ) (k : Call) → k.new.store.noted ≡ noted_after note names k.old.store.noted (loads_of roles) → is_begun status ≡ true
+    → CallsSo names (loads_of roles) (loads_of roles) None is_begun status note k
+begun-calls note names roles status k e begun = record {
   made = loads_of roles;
   left = [];
   parts = sym (append-nil (loads_of roles));
@@ -411,42 +365,37 @@ begun-calls note names roles status before after k e begun = record {
 }
 
 -- by the names that its line says
-session-named : (log elf : List ℕ) (note : ℕ → StoreCall → ℕ) (names : FileNames) (status : ℕ) (before after : ℕ) (k : Call) → names ≡ names_in (DebugLine log elf)
-    → CallsSo names (loads_of pair_roles) (loads_of pair_roles) None is_begun status note before after k → CallsOnly (Some (DebugLine log elf)) status note before after k
-session-named log elf note names status before after k e h =
-    none-saved (Some (DebugLine log elf)) None status note before after k refl
-    (subst (λ (n : FileNames). SavesNone n (loads_of pair_roles) (loads_of pair_roles) None is_begun status note before after k) e (h, loads-alone pair_roles h.made h.left h.parts))
-
-pub session-calls : (line : Line) (note : ℕ → StoreCall → ℕ) (names : FileNames) (status : ℕ) (before after : ℕ) (k : Call) → (IsNoSession (Some line) → ⊥) → names ≡ names_in line
-    → CallsSo names (loads_of pair_roles) (loads_of pair_roles) None is_begun status note before after k → CallsOnly (Some line) status note before after k
-session-calls (DebugLine log elf) note names status before after k is e h = session-named log elf note names status before after k e h
-session-calls line note names status before after k is e h = absurd (is tt)
+pub session-calls : (log elf : List ℕ) (note : Note) (names : FileNames) (status : ℕ) (k : Call) → names ≡ names_in (DebugLine log elf)
+    → CallsSo names (loads_of pair_roles) (loads_of pair_roles) None is_begun status note k → CallsOnly (Some (DebugLine log elf)) status note k
+session-calls log elf note names status k e h =
+    none-saved (Some (DebugLine log elf)) None status note k refl
+    (subst (λ (n : FileNames). SavesNone n (loads_of pair_roles) (loads_of pair_roles) None is_begun status note k) e (h, loads-alone pair_roles h.made h.left h.parts))
 
 -- ---- words
 
 -- they say no line
-pub words-calls : (note : ℕ → StoreCall → ℕ) (status : ℕ) (n : ℕ) (k : Call) → Appends k.old.out k.new.out [] → ToldRefusal no_names WordsRefused status k.old.err k.new.err k.old.err_faults k.new.err_faults
-    → CallsOnly None status note n n k
-words-calls note status n k out told =
-    none-saved None None status note n n k refl (record { made = []; left = []; parts = refl; noted = refl; ends = inr (record { refusal = WordsRefused; at = inl (refl, refl); out = out; told = told }) }, refl)
+pub words-calls : (note : Note) (status : ℕ) (k : Call) → k.new.store.noted ≡ k.old.store.noted → Appends k.old.out.text k.new.out.text [] → ToldRefusal no_names WordsRefused status k.old.err.text k.new.err.text k.old.err.faults k.new.err.faults
+    → CallsOnly None status note k
+words-calls note status k same out told =
+    none-saved None None status note k refl (record { made = []; left = []; parts = refl; noted = same; ends = inr (record { refusal = WordsRefused; at = inl (refl, refl); out = out; told = told }) }, refl)
 
 -- no memory to read them
-pub unread-calls : (note : ℕ → StoreCall → ℕ) (line : Option Line) (status : ℕ) (n : ℕ) (k : Call) → Appends k.old.out k.new.out []
-    → ToldRefusal (names_by line) OutOfMemory status k.old.err k.new.err k.old.err_faults k.new.err_faults → CallsOnly line status note n n k
-unread-calls note line status n k out told =
-    none-saved line (sample line).0 status note n n k (sample line).1
-    (record { made = []; left = calls_of line (sample line).0; parts = refl; noted = refl; ends = inr (record { refusal = OutOfMemory; at = inr (inl refl); out = out; told = told }) }, refl)
+pub unread-calls : (note : Note) (line : Option Line) (status : ℕ) (k : Call) → k.new.store.noted ≡ k.old.store.noted → Appends k.old.out.text k.new.out.text []
+    → ToldRefusal (names_by line) OutOfMemory status k.old.err.text k.new.err.text k.old.err.faults k.new.err.faults → CallsOnly line status note k
+unread-calls note line status k same out told =
+    none-saved line (sample line).0 status note k (sample line).1
+    (record { made = []; left = calls_of line (sample line).0; parts = refl; noted = same; ends = inr (record { refusal = OutOfMemory; at = inr (inl refl); out = out; told = told }) }, refl)
 
 -- ---- what is told
 
-pub call-shape : (note : ℕ → StoreCall → ℕ) (line : Option Line) (status : ℕ) (before after : ℕ) (k : Call) → CallsOnly line status note before after k → HasShape line status k
-call-shape note line status before after k calls other = by calls.so.ends
+pub call-shape : (note : Note) (line : Option Line) (status : ℕ) (k : Call) → CallsOnly line status note k → HasShape line status k
+call-shape note line status k calls other = by calls.so.ends
   where
     apart : (b : Bool) → b ≡ true → b ≡ false → ⊥
     apart b x y = grind arith
 
     told : (r : RefusedAfter (names_by line) (needed_of line) (refusal_by line) calls.so.made status k)
-        → ToldRefusal (names_by line) r.refusal status k.old.err k.new.err k.old.err_faults k.new.err_faults → TellsRefusal (names_by line) status k
+        → ToldRefusal (names_by line) r.refusal status k.old.err.text k.new.err.text k.old.err.faults k.new.err.faults → TellsRefusal (names_by line) status k
     told r (inl h) = record { refusal = r.refusal; status_is = h.0; out = r.out; err = h.1 }
     told r (inr h) = record { refusal = OutOfMemory; status_is = h.0; out = r.out; err = h.1 }
 
@@ -456,18 +405,18 @@ call-shape note line status before after k calls other = by calls.so.ends
 
 -- ---- `demo`
 
-demo-memory : (line : Line) (names : FileNames) (status : ℕ) (k : Call) → names ≡ names_in line → Appends k.old.out k.new.out [] → k.new.files ≡ k.old.files
-    → ToldRefusal names OutOfMemory status k.old.err k.new.err k.old.err_faults k.new.err_faults → TellsDemo (Some line) status k
+demo-memory : (line : Line) (names : FileNames) (status : ℕ) (k : Call) → names ≡ names_in line → Appends k.old.out.text k.new.out.text [] → k.new.store.files ≡ k.old.store.files
+    → ToldRefusal names OutOfMemory status k.old.err.text k.new.err.text k.old.err.faults k.new.err.faults → TellsDemo (Some line) status k
 demo-memory (DemoLine seed) names status k e out same told =
-    inr (wanting no_names (printed (demo_text seed)) status k (part-longer k.old.out k.new.out [] (demo_text seed) (part-whole k.old.out k.new.out [] out)) (same-files k.old.files k.new.files same)
-    (memory-names names no_names status k.old.err k.new.err k.old.err_faults k.new.err_faults told))
+    inr (memory no_names (printed (demo_text seed)) status k (part-longer k.old.out.text k.new.out.text [] (demo_text seed) (part-whole k.old.out.text k.new.out.text [] out)) (same-files k.old.store.files k.new.store.files same)
+    (memory-names names no_names status k.old.err.text k.new.err.text k.old.err.faults k.new.err.faults told))
 demo-memory line names status k e out same told = tt
 
 -- it is refused
-pub demo-refused : (line : Line) (names : FileNames) (r : Refusal) (status : ℕ) (k : Call) → names ≡ names_in line → AnswersDemo line names (Err r) → Appends k.old.out k.new.out [] → k.new.files ≡ k.old.files
-    → ToldRefusal names r status k.old.err k.new.err k.old.err_faults k.new.err_faults → TellsDemo (Some line) status k
+pub demo-refused : (line : Line) (names : FileNames) (r : Refusal) (status : ℕ) (k : Call) → names ≡ names_in line → AnswersDemo line names (Err r) → Appends k.old.out.text k.new.out.text [] → k.new.store.files ≡ k.old.store.files
+    → ToldRefusal names r status k.old.err.text k.new.err.text k.old.err.faults k.new.err.faults → TellsDemo (Some line) status k
 demo-refused (DemoLine seed) names r status k e shows out same told =
-    demo-memory (DemoLine seed) names status k e out same (subst (λ (x : Refusal). ToldRefusal names x status k.old.err k.new.err k.old.err_faults k.new.err_faults) shows told)
+    demo-memory (DemoLine seed) names status k e out same (subst (λ (x : Refusal). ToldRefusal names x status k.old.err.text k.new.err.text k.old.err.faults k.new.err.faults) shows told)
 demo-refused line names r status k e shows out same told = tt
 
 -- it has its answer
@@ -478,7 +427,7 @@ demo-answers (DemoLine seed) names answer status k e shows told =
 demo-answers line names answer status k e shows told = tt
 
 -- no memory to read the words
-pub demo-unread : (line : Option Line) (status : ℕ) (k : Call) → Appends k.old.out k.new.out [] → k.new.files ≡ k.old.files
-    → ToldRefusal (names_by line) OutOfMemory status k.old.err k.new.err k.old.err_faults k.new.err_faults → TellsDemo line status k
+pub demo-unread : (line : Option Line) (status : ℕ) (k : Call) → Appends k.old.out.text k.new.out.text [] → k.new.store.files ≡ k.old.store.files
+    → ToldRefusal (names_by line) OutOfMemory status k.old.err.text k.new.err.text k.old.err.faults k.new.err.faults → TellsDemo line status k
 demo-unread None status k out same told = tt
 demo-unread (Some line) status k out same told = demo-memory line (names_in line) status k refl out same told

@@ -1,27 +1,5 @@
 -- What a recording answers after its loads.
-use Rattle.std.proofs.Common.{◌≡◌, ℕ, List, Option, Some, None, ◌∙◌, ap, subst, sym, refl, arith, Bool, inl, inr}
-use Rattle.std.specs.Prelude.{Result, Ok, Err, is_some}
-use Rattle.bn_outside.specs.Counts.{Counts}
-use Rattle.bn_outside.specs.Files.{Files}
-use Rattle.bn_base.specs.Programs.{Program}
-use Rattle.bn_base.specs.Ranges.{checked_by, first_bad}
-use Rattle.bn_base.specs.declared.settings.BadSetting.{BadSetting}
-use Rattle.bn_base.specs.declared.settings.RawSettings.{RawSettings}
-use Rattle.elf_loader.specs.Loaded.{image_of}
-use Rattle.elf_loader.specs.declared.error.ElfError.{ElfError}
-use Rattle.command_words.specs.Words.{RecordLine, seen_recording}
-use Rattle.command_words.specs.declared.commands.RecordOptions.{RecordOptions}
-use Rattle.log_commands.specs.Names.{FileNames}
-use Rattle.log_commands.specs.Told.{refused}
-use Rattle.bugnet.specs.Command.Record.{is_clash, IsByProgram, IsRecord}
-use Rattle.bugnet.specs.declared.manner.Manner.{Manner}
-use Rattle.bugnet.specs.Answers.{names_in, manner_of, setting_refusal, refusal_in, IsAnswer}
-use Rattle.log_commands.specs.SaveCounts.{IsRecordedRun}
-use Rattle.bugnet.specs.Asks.{FitsLine}
-use Rattle.bugnet.specs.Saves.{HoldsBytes, HasElf}
-use Rattle.log_commands.specs.Outside.{WithFiles, ProgramTells, GivesBy, CauseBy}
-use Rattle.log_commands.specs.declared.answer.Answer.{Answer}
-use Rattle.log_commands.specs.declared.refusal.Refusal.{Refusal}
+use Rattle.bugnet.proofs.Common.{◌≡◌, ℕ, List, Option, Some, None, ◌∙◌, ap, subst, sym, refl, arith, Bool, inl, inr, Result, Ok, Err, is_some, Counts, Files, Program, checked_by, first_bad, BadSetting, RawSettings, image_of, ElfError, RecordLine, seen_recording, RecordOptions, FileNames, refused, is_clash, IsByProgram, IsRecord, Manner, names_in, manner_of, setting_refusal, refusal_in, IsAnswer, IsRecordedRun, FitsLine, HoldsBytes, HasElf, WithFiles, ProgramTells, GivesBy, CauseBy, Answer, Refusal}
 use Rattle.bugnet.proofs.LineCalls.{mapped}
 
 -- ---- what a recording loads

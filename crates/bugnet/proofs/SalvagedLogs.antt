@@ -1,19 +1,9 @@
 -- What is salvaged of a recording's damaged file says an end of it, and is replayed so.
-use Rattle.std.proofs.Common.{◌+◌, ℕ, List, ◌∷◌, length, nat_lt, Some, ◌∙◌, subst, refl}
-use Rattle.command_words.specs.Words.{ReplayLine}
+use Rattle.bugnet.proofs.Common.{◌+◌, ℕ, List, ◌∷◌, length, nat_lt, Some, ◌∙◌, subst, refl, ReplayLine, pieces_of, FilesAreRead, file_bytes2, Content, IsEndOf, run_of, SalvagedFilesSuffice, Part, SaysEnd, Headline, fits, of_false}
 use Rattle.log_blocks.specs.Fields.{head_in, dropped_in}
 use Rattle.log_blocks.specs.File.{HasBlocks, dropped_before}
-use Rattle.log_blocks.specs.Laws.{pieces_of}
 use Rattle.log_blocks.specs.Pieces.{Piece}
-use Rattle.log_blocks.specs.Readings.{FilesAreRead}
-use Rattle.log_file.specs.Layout.{file_bytes2}
-use Rattle.log_order.specs.Content.{Content}
-use Rattle.run_model.specs.KeptRecords.{IsEndOf}
-use Rattle.run_model.specs.Runs.{run_of}
-use Rattle.file_laws.specs.Laws.{SalvagedFilesSuffice}
-use Rattle.bugnet.specs.Headline.{Part, SaysEnd, Headline}
 use Rattle.bugnet.specs.SalvagedLogs.{SalvagesRun, SalvagedSayEnds, SalvagedAreReplayed}
-use Rattle.log_commands.proofs.Loads.{fits, of_false}
 
 -- the laws of salvaged logs and their files
 pub record SalvageLaws : Type 0 where

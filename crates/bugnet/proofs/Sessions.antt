@@ -1,36 +1,14 @@
 -- The places that sessions of the debugger reach, and which of their lines are `quit`.
-use Rattle.std.proofs.Common.{◌≡◌, ◌≢◌, ℕ, zero, suc, ◌+◌, ◌-◌, ◌==◌, nat_lt, Bool, true, false, not, codes, refl, sym, ap, ◌∙◌, subst, arith, List, [], ◌∷◌, ◌++◌, length, take, drop, slice_get, map, Option, Some, None}
-use Rattle.std.specs.Prelude.{Result, Ok, Err}
-use Rattle.std.specs.List.{filter}
-use Rattle.std.proofs.lemmas.List.{map-append, take-append-drop}
-use Rattle.bn_base.specs.Programs.{Program}
-use Rattle.log_record.specs.declared.record.Record.{Record}
-use Rattle.hart_replay.specs.declared.error.ReplayError.{ReplayError}
-use Rattle.joint_replay.specs.declared.error.JointError.{JointError}
-use Rattle.joint_replay.specs.declared.kinds.Readiness.{Readiness}
+use Rattle.bugnet.proofs.Common.{◌≡◌, ◌≢◌, ℕ, zero, suc, ◌+◌, ◌-◌, ◌==◌, nat_lt, Bool, true, false, not, codes, refl, sym, ap, ◌∙◌, subst, arith, List, [], ◌∷◌, ◌++◌, length, take, drop, slice_get, map, Option, Some, None, Result, Ok, Err, filter, map-append, take-append-drop, Program, Record, ReplayError, JointError, Readiness, Next, Joining, Walk, begun, longer, readiness, readiness_of, choice, choice_from, next_step, move, steps_left, Lane, Item, lane_step, IsBegun, ready_step, walk_on, Recording, IsLogOf, OfBeginnings, begin, GoesOn, IsNotRefused, ReachedSayTheRun, entry_of, harts_of, Trace, at_start, with_entry, trace_step, cut, Stop, Moves, Session, hart_text, address_text, word_text, registers_text, places_from, break_limit, is_set, stop_unless, step_by, step_up_to, go_past, go_by, go_for, go_on, back_by, stop_below, back_to, back_to_stop, says, moved, unknown, answer, command_of, goes_on_by, answers, DebugCommand, Ending, session_after, SessionsShowTheRun, NoQuit}
 use Rattle.joint_replay.specs.declared.kinds.Readiness.TheVariants as is
-use Rattle.joint_replay.specs.declared.kinds.Next.{Next}
 use Rattle.joint_replay.specs.declared.kinds.Next.TheVariants as next
 use Rattle.joint_replay.specs.Calls.{bare, state_at, IsReached}
-use Rattle.joint_replay.specs.Joining.{Joining, Walk, begun, longer, readiness, readiness_of, choice, choice_from, next_step, move, steps_left}
 use Rattle.joint_replay.specs.Memory.{word_in}
-use Rattle.joint_replay.specs.Lanes.{Lane, Item, lane_step}
 use Rattle.joint_replay.specs.Lanes as lanes
-use Rattle.joint_replay.specs.Orders.{IsBegun, ready_step, walk_on}
-use Rattle.joint_laws.specs.Recordings.{Recording, IsLogOf, OfBeginnings, begin}
-use Rattle.joint_laws.specs.Laws.{GoesOn, IsNotRefused, ReachedSayTheRun}
 use Rattle.back_step.specs.declared.entry.Entry.{Entry}
-use Rattle.back_step.specs.Traces.{entry_of, harts_of, Trace, at_start, with_entry, trace_step, cut}
-use Rattle.step_debugger.specs.declared.stop.Stop.{Stop}
-use Rattle.step_debugger.specs.Answers.{Moves, Session, Answer, hart_text, address_text, word_text, registers_text, places_from, break_limit, is_set, stop_unless, step_by, step_up_to, go_past, go_by, go_for, go_on, back_by, stop_below, back_to, back_to_stop, says, moved, unknown, answer, begin as session_begin}
-use Rattle.step_debugger.specs.Commands.{command_of}
-use Rattle.step_debugger.specs.Transcript.{goes_on_by, answers}
-use Rattle.step_debugger.specs.declared.command.DebugCommand.{DebugCommand}
+use Rattle.step_debugger.specs.Answers.{Answer, begin as session_begin}
 use Rattle.step_debugger.specs.declared.command.DebugCommand.TheVariants as to
-use Rattle.step_debugger.specs.declared.session.Ending.{Ending}
 use Rattle.step_debugger.specs.declared.session.Ending.TheVariants as ending
-use Rattle.bugnet.specs.DebugSessions.{session_after, SessionsShowTheRun}
-use Rattle.bugnet.specs.Sessions.{NoQuit}
 
 -- ---- the lowest ready hart is ready
 

@@ -1,12 +1,8 @@
 -- The file of what a recording keeps has its size, in the version of its settings' format.
-use Rattle.std.proofs.Common.{◌≡◌, ◌+◌, ◌*◌, ◌==◌, ℕ, Bool, true, false, List, length, arith}
+use Rattle.bugnet.proofs.Common.{◌≡◌, ◌+◌, ◌*◌, ◌==◌, ℕ, Bool, true, false, List, length, arith, file_bytes, file_bytes2, Content, IsContent, total, IsWithin}
 use Rattle.log_file.specs.Blocks.{blocks_of}
 use Rattle.log_file.specs.Laws as of_first
-use Rattle.log_file.specs.Layout.{file_bytes, file_bytes2}
 use Rattle.log_blocks.specs.Laws as of_second
-use Rattle.log_order.specs.Content.{Content, IsContent}
-use Rattle.log_record.specs.Spelling.{total}
-use Rattle.bugnet.specs.Saves.{IsWithin}
 
 in-all : (whole records blocks : ℕ) → whole ≡ records + 136 + 48 * blocks → whole ≡ records + (136 + 48 * blocks)
 in-all whole records blocks e = omega (arith, e)

@@ -1,50 +1,10 @@
 -- The answer to the replay of a recorded interval is the text of the run's own rows.
-use Rattle.std.proofs.Common.{◌≡◌, ℕ, ◌<◌, ◌≤◌, ◌^◌, Bool, true, false, List, length, nat_lt, Option, Some, ◌∙◌, ap, subst, sym, refl, arith, inl, inr, ◌⊎◌}
-use Rattle.std.specs.Prelude.{Result, Ok}
-use Rattle.std.specs.Io.KnownBytes.{Appends}
-use Rattle.std.specs.Str.{bytes_eq}
-use Rattle.std.proofs.lemmas.Slice.Eq.{bytes_eq-Decides}
-use Rattle.sha2.specs.Sha256.{sha256}
-use Rattle.bn_base.specs.Programs.{Program}
-use Rattle.bn_base.specs.declared.row.Row.{Row}
-use Rattle.bn_base.specs.declared.settings.RawSettings.{RawSettings}
-use Rattle.bn_outside.specs.Files.{Files}
-use Rattle.command_words.specs.Words.{Line, ReplayLine}
-use Rattle.elf_loader.specs.Loaded.{image_of}
-use Rattle.elf_loader.specs.declared.error.ElfError.{ElfError}
-use Rattle.log_record.specs.declared.head.Head.{Head}
-use Rattle.log_order.specs.Content.{Content, IsContent}
+use Rattle.bugnet.proofs.Common.{◌≡◌, ℕ, ◌<◌, ◌≤◌, ◌^◌, Bool, true, false, List, length, nat_lt, Option, Some, ◌∙◌, ap, subst, sym, refl, arith, inl, inr, ◌⊎◌, Result, Ok, Appends, bytes_eq, bytes_eq-Decides, sha256, Program, Row, RawSettings, Files, Line, ReplayLine, image_of, ElfError, Head, Content, IsContent, file_bytes, file_bytes2, is_second, SavedHaveTheirLimit, Reads, FilesAreRead, Damage, Done, Replayed, Interval, replayed, file_of, content_of, start, run_of, KeptIsAnEnd, EndsSuffice, RowsStandTogether, IsRecording, LogsAreContents, FileNames, Told, refused, printed, Either, IsByFile, WithFile, by_log, IsByLog, replay_with, replay_found, interval_told, ended, pair_loaded, pair_same, pair_of, IsPairOf, IsPair, names_in, names_by, IsAnswer, Part, interval_rows, run_text, SaysEnd, ReplaysRun, IsReplayed, Headline, part_of, RecordingsAreReplayed, RecordingsSayEnds, PrintsRun, WithFiles, Call, IsFree, SomeTold, Tells, StoppedEarly, TellsAnswer, Role, TooLong, fits, of_false, with-files, stopped-free}
 use Rattle.log_file.specs.Laws as of_first
-use Rattle.log_file.specs.Layout.{file_bytes, file_bytes2}
-use Rattle.log_blocks.specs.Faults.{is_second}
-use Rattle.log_blocks.specs.Laws.{SavedHaveTheirLimit}
 use Rattle.log_blocks.specs.Laws as of_second
-use Rattle.log_blocks.specs.Readings.{Reads, FilesAreRead}
-use Rattle.log_blocks.specs.declared.damage.Damage.{Damage}
-use Rattle.hart_replay.specs.Replay.{Done, Replayed, Interval, replayed}
-use Rattle.run_files.specs.Files.{file_of}
-use Rattle.run_model.specs.KeptRecords.{content_of}
 use Rattle.run_model.specs.Rows.{rows_in}
-use Rattle.run_model.specs.Runs.{start, run_of}
-use Rattle.run_laws.specs.Laws.{KeptIsAnEnd}
-use Rattle.replay_laws.specs.Law.{EndsSuffice, RowsStandTogether}
-use Rattle.file_laws.specs.Given.{IsRecording}
-use Rattle.file_laws.specs.Laws.{LogsAreContents}
-use Rattle.log_commands.specs.Names.{FileNames}
-use Rattle.log_commands.specs.Told.{Told, refused, printed}
-use Rattle.log_commands.specs.Commands.{Either, IsByFile, WithFile, by_log, IsByLog, replay_with, replay_found, interval_told, ended}
-use Rattle.log_commands.specs.Pairs.{pair_loaded, pair_same, pair_of, IsPairOf, IsPair}
-use Rattle.bugnet.specs.Answers.{names_in, names_by, IsAnswer}
-use Rattle.bugnet.specs.Headline.{Part, interval_rows, run_text, SaysEnd, ReplaysRun, IsReplayed, Headline, part_of, RecordingsAreReplayed, RecordingsSayEnds, PrintsRun}
-use Rattle.log_commands.specs.Outside.{WithFiles}
-use Rattle.log_commands.specs.Effects.{Call, IsFree, SomeTold, Tells}
-use Rattle.bugnet.specs.Run.{StoppedEarly, TellsAnswer}
-use Rattle.log_commands.specs.declared.names.Role.{Role}
 use Rattle.log_commands.specs.declared.names.Role.TheVariants as role
-use Rattle.log_commands.specs.declared.refusal.Refusal.TheVariants.{TooLong}
-use Rattle.log_commands.proofs.Loads.{fits, of_false}
 use Rattle.bugnet.proofs.Single.{Grammar}
-use Rattle.log_commands.proofs.Tells.{with-files, stopped-free}
 use Rattle.bugnet.proofs.LineTells.{early-free}
 
 -- ---- the log file
@@ -176,15 +136,15 @@ replayed-so laws ends law r old new l hart number v kept files log elf log_is el
 
 -- by its status, and what out gains
 abbrev Prints : ℕ → Call → Part → Interval → Type 0
-Prints status k p v = IsFree status ⊎ Either (nat_lt 67108864 (length p.elf)) (status ≡ 5) ((status ≡ 0) × Appends k.old.out k.new.out (run_text p v))
+Prints status k p v = IsFree status ⊎ Either (nat_lt 67108864 (length p.elf)) (status ≡ 5) ((status ≡ 0) × Appends k.old.out.text k.new.out.text (run_text p v))
 
 told-so : (long : Bool) (names : FileNames) (text : List ℕ) (what : Told) (status : ℕ) (k : Call) → Either long (what ≡ refused names (TooLong role.Elf)) (what ≡ printed text) → Tells names what status k
-    → IsFree status ⊎ Either long (status ≡ 5) ((status ≡ 0) × Appends k.old.out k.new.out text)
+    → IsFree status ⊎ Either long (status ≡ 5) ((status ≡ 0) × Appends k.old.out.text k.new.out.text text)
 unfolding refused
 told-so true names text what status k e (inl done) = inr (done.status_is ∙ ap (λ (t : Told). t.status) e)
 told-so true names text what status k e (inr stopped) = inl (stopped-free names what status k stopped)
 told-so false names text what status k e (inl done) =
-    inr (done.status_is ∙ ap (λ (t : Told). t.status) e, subst (λ (t : List ℕ). Appends k.old.out k.new.out t) (ap (λ (t : Told). t.out) e) done.out)
+    inr (done.status_is ∙ ap (λ (t : Told). t.status) e, subst (λ (t : List ℕ). Appends k.old.out.text k.new.out.text t) (ap (λ (t : Told). t.out) e) done.out)
 told-so false names text what status k e (inr stopped) = inl (stopped-free names what status k stopped)
 
 printed-so : Headline → (line : Option Line) (files : Files) (p : Part) (v : Interval) (r : ReplaysRun line files p v) (status : ℕ) (k : Call)
@@ -193,7 +153,7 @@ printed-so law line files p v r status k (inr early) = inl (early-free line file
 printed-so law line files p v r status k (inl found) =
     told-so (nat_lt 67108864 (length p.elf)) (names_by line) (run_text p v) found.0 status k (law line files p v r found.0 found.1) found.2
 
-pub prints-run : Headline → (line : Option Line) (status : ℕ) (k : Call) → TellsAnswer line status k → WithFiles k.old.files (λ files. PrintsRun line files status k.old.out k.new.out)
+pub prints-run : Headline → (line : Option Line) (status : ℕ) (k : Call) → TellsAnswer line status k → WithFiles k.old.store.files (λ files. PrintsRun line files status k.old.out.text k.new.out.text)
 prints-run law line status k h =
-    with-files k.old.files (λ files. SomeTold (IsAnswer line files) (λ what. Tells (names_by line) what status k) ⊎ StoppedEarly line files status k)
-    (λ files. PrintsRun line files status k.old.out k.new.out) (λ files found p v r. printed-so law line files p v r status k found) h
+    with-files k.old.store.files (λ files. SomeTold (IsAnswer line files) (λ what. Tells (names_by line) what status k) ⊎ StoppedEarly line files status k)
+    (λ files. PrintsRun line files status k.old.out.text k.new.out.text) (λ files found p v r. printed-so law line files p v r status k found) h

@@ -1,7 +1,5 @@
 -- Sums over the last marks of harts.
-use Rattle.std.proofs.Common.{◌≡◌, ℕ, ◌+◌, ◌*◌, ◌^◌, ◌≤◌, List, drop, Option}
-use Rattle.bn_base.specs.declared.end_mark.EndMark.{EndMark}
-use Rattle.bugnet.specs.Recordings.{instructions_of}
+use Rattle.bugnet.proofs.Common.{◌≡◌, ℕ, ◌+◌, ◌*◌, ◌^◌, ◌≤◌, List, drop, Option, EndMark, instructions_of}
 
 -- the counts of the first k marks sum to this, and each is below 2 ^ 64
 pub record Summing (marks : List (Option EndMark)) (k sum : ℕ) : Type 0 where

@@ -1,12 +1,6 @@
 -- Settings that were tested are in range.
-use Rattle.std.proofs.Common.{◌≡◌, ◌≤◌, ℕ, ◌%◌, ◌^◌, ◌==◌, ◌&&◌, Bool, true, false, nat_le, Option, None, refl, arith}
+use Rattle.bugnet.proofs.Common.{◌≡◌, ◌≤◌, ℕ, ◌%◌, ◌^◌, ◌==◌, ◌&&◌, Bool, true, false, nat_le, Option, None, refl, arith, nat_tests, RawSettings, BadSetting, is_between, is_small_power, is_memory_size, is_second_sets, is_second_ways, most_harts, bad_or, first_bad, IsSetting, SeededListsEnd, SeedsAreWhole}
 use Rattle.std.specs.Int.{is_power_of_two}
-use Rattle.std.proofs.lemmas.Bool.Decides.{nat_tests}
-use Rattle.bn_base.specs.declared.settings.RawSettings.{RawSettings}
-use Rattle.bn_base.specs.declared.settings.BadSetting.{BadSetting}
-use Rattle.bn_base.specs.Ranges.{is_between, is_small_power, is_memory_size, is_second_sets, is_second_ways, most_harts, bad_or, first_bad, IsSetting}
-use Rattle.whole_runs.specs.Laws.{SeededListsEnd}
-use Rattle.bugnet.specs.Laws.{SeedsAreWhole}
 
 -- a test that wasn't failed, and those after it
 passed : (t : Bool) (bad : BadSetting) (later : Option BadSetting) → bad_or t bad later ≡ None → (t ≡ true) × (later ≡ None)

@@ -1,31 +1,9 @@
 -- What `races` and `slice` answer of a log that says an end of a recording.
-use Rattle.std.proofs.Common.{◌≡◌, ◌<◌, ◌^◌, ℕ, Bool, true, false, nat_lt, List, length, Option, Some, None, ◌∙◌, ap, refl, arith}
-use Rattle.sha2.specs.Sha256.{sha256}
-use Rattle.log_record.specs.declared.head.Head.{Head}
-use Rattle.log_order.specs.Content.{Content}
-use Rattle.joint_replay.specs.Joining.{fresh, run_all}
-use Rattle.hart_replay.specs.Replay.{Replayed, Interval, interval_of, replayed, replayed_in}
-use Rattle.joint_replay.specs.declared.error.JointError.{JointError}
-use Rattle.joint_laws.specs.Laws.{JointReplaysSayTheRun}
-use Rattle.joint_laws.specs.Recordings.{Recording, IsLogOf}
-use Rattle.replay_laws.specs.Law.{EndsSuffice}
-use Rattle.log_record.specs.declared.record.Record.{Record}
-use Rattle.race_report.specs.Races.{race_count, races_of}
-use Rattle.race_report.specs.Reports.{points_in}
+use Rattle.bugnet.proofs.Common.{◌≡◌, ◌<◌, ◌^◌, ℕ, Bool, true, false, nat_lt, List, length, Option, Some, None, ◌∙◌, ap, refl, arith, sha256, Head, Content, fresh, run_all, Replayed, Interval, interval_of, replayed, replayed_in, JointError, JointReplaysSayTheRun, Recording, IsLogOf, EndsSuffice, Record, race_count, races_of, points_in, text_of, FileNames, Told, refused, Either, TooLong, RacesLine, SliceLine, names_in, joint_run, races_listed, races_unless, races_in, races_with, slice_told, slice_with}
 use Rattle.race_report.specs.declared.race.Race.{Race}
 use Rattle.report_laws.specs.Laws.{SayTheRun, RacesSayTheRun}
 use Rattle.slice_back.specs.Slices.{slice_in}
-use Rattle.slice_back.specs.Texts.{text_of}
-use Rattle.log_commands.specs.Names.{FileNames}
-use Rattle.log_commands.specs.Told.{Told, refused}
-use Rattle.log_commands.specs.Commands.{Either}
 use Rattle.log_commands.specs.declared.names.Role.TheVariants as role
-use Rattle.log_commands.specs.declared.refusal.Refusal.TheVariants.{TooLong}
-use Rattle.command_words.specs.Words.{RacesLine, SliceLine}
-use Rattle.bugnet.specs.Answers.{names_in}
-use Rattle.bugnet.specs.Jointly.{joint_run}
-use Rattle.log_commands.specs.RaceAnswers.{races_listed, races_unless, races_in, races_with}
-use Rattle.log_commands.specs.SliceAnswers.{slice_told, slice_with}
 use Rattle.bugnet.specs.Traced.{races_kept, RacesAreTold, ListsRaces, PrintedRacesSayTheRun, slice_kept, SlicesAreTold}
 use Rattle.bugnet.proofs.Jointly.{Limits, is-log, pair-so}
 use Rattle.bugnet.proofs.Single.{Grammar}

@@ -1,31 +1,9 @@
 -- A session whose whole input isn't refused is refused at no prefix of it.
-use Rattle.std.proofs.Common.{◌≡◌, ◌⊎◌, ℕ, ◌+◌, Bool, true, false, nat_lt, List, [], ◌∷◌, ◌++◌, length, Option, Some, None, ◌∙◌, ap, subst, sym, refl, inl, inr, append_assoc, append-nil}
-use Rattle.std.specs.Prelude.{Result, Ok, Err}
-use Rattle.std.specs.Io.KnownBytes.{Consumes}
-use Rattle.bn_base.specs.Programs.{Program}
-use Rattle.bn_outside.specs.Files.{Files}
-use Rattle.bn_outside.specs.Streams.{ConsumesAll, Notes}
-use Rattle.elf_loader.specs.Loaded.{image_of}
-use Rattle.elf_loader.specs.declared.error.ElfError.{ElfError}
-use Rattle.log_blocks.specs.Readings.{Reads}
-use Rattle.log_blocks.specs.declared.damage.Damage.{Damage}
-use Rattle.log_order.specs.Content.{Content, IsContent}
-use Rattle.log_file.specs.Layout.{saved_bytes, file_bytes2}
-use Rattle.joint_replay.specs.declared.error.JointError.{JointError}
-use Rattle.joint_replay.specs.Joining.{Joining}
-use Rattle.back_step.specs.Traces.{Trace, at_start}
-use Rattle.step_debugger.specs.Answers.{Session, Answer, begin_at, answer}
-use Rattle.step_debugger.specs.Commands.{command_of}
-use Rattle.step_debugger.specs.Lines.{Input, input_limit, is_line_feed, is_over, ends_in, with_line, input_from, input_of}
-use Rattle.step_debugger.specs.Transcript.{goes_on_by, answers, lines_in, result_by, transcript_from, EndsThere, EndsAll, Debugs}
-use Rattle.step_debugger.specs.declared.error.DebugError.{DebugError}
+use Rattle.bugnet.proofs.Common.{◌≡◌, ◌⊎◌, ℕ, ◌+◌, Bool, true, false, nat_lt, List, [], ◌∷◌, ◌++◌, length, Option, Some, None, ◌∙◌, ap, subst, sym, refl, inl, inr, append_assoc, Result, Ok, Err, Consumes, Program, Files, ConsumesAll, ReadNote, Stream, Supply, image_of, ElfError, Reads, Damage, Content, IsContent, saved_bytes, file_bytes2, JointError, Joining, Trace, at_start, Session, begin_at, answer, command_of, Input, input_limit, is_line_feed, is_over, ends_in, with_line, input_from, input_of, goes_on_by, answers, lines_in, result_by, transcript_from, EndsThere, EndsAll, Debugs, DebugError, Ending, joined, HoldsLog, ArePair, LoadedPair, IsFree, EndsBy, SessionOver, CanDebug, whole_input}
+use Rattle.std.proofs.Common.{append-nil}
+use Rattle.step_debugger.specs.Answers.{Answer}
 use Rattle.step_debugger.specs.declared.error.DebugError.TheVariants as stop
-use Rattle.step_debugger.specs.declared.session.Ending.{Ending}
 use Rattle.step_debugger.specs.declared.session.Ending.TheVariants as ending
-use Rattle.log_commands.specs.Joined.{joined}
-use Rattle.log_commands.specs.Pairs.{HoldsLog, ArePair, LoadedPair}
-use Rattle.log_commands.specs.Effects.{IsFree}
-use Rattle.bugnet.specs.Sessions.{EndsBy, SessionOver, CanDebug, whole_input}
 use Rattle.bugnet.proofs.Single.{Grammar}
 use Rattle.bugnet.proofs.Suffices.{FileLaws}
 
@@ -112,7 +90,7 @@ replay-stops t gone rest e there =
     let first = lines-first gone rest 0 [] in
     let tail = lines-tail i in
     let all : lines_in i ≡ lines ++ (first.0 ++ tail.0) = tail.1 ∙ ap (λ (ls : List (List ℕ)). ls ++ tail.0) first.1 ∙ append_assoc lines first.0 tail.0 in
-    let here : (answers lines (begin_at t)).ends ≡ ending.Refused e = ap (λ (ls : List (List ℕ)). (answers ls (begin_at t)).ends) there.lines ∙ there.there in
+    let here : (answers lines (begin_at t)).ends ≡ ending.Refused e = ap (λ (ls : List (List ℕ)). (answers ls (begin_at t)).ends) there.line_is.lines ∙ there.there in
     let ends : (answers (lines_in i) (begin_at t)).ends ≡ ending.Refused e = ap (λ (ls : List (List ℕ)). (answers ls (begin_at t)).ends) all ∙ still-refused lines (first.0 ++ tail.0) (begin_at t) e here in
     ap (λ (x : Ending). result_by x i.refused) ends
 
@@ -140,21 +118,22 @@ gone-first left now_left gone all is taken = by now_left (subst (λ (o : Option 
     by None h = absurd h
     by (Some rest) h = (rest, h)
 
-module _ (t : Trace) (status : ℕ) (left now_left : Option (List ℕ)) (before now : ℕ) (written now_written : Option (List ℕ)) (b n : ℕ) (all gone : List ℕ) (is : left ≡ Some all) (taken : Consumes left now_left gone)
+module _ (t : Trace) (status : ℕ) (input now_input : Supply) (out now_out : Stream) (all gone : List ℕ) (is : input.left ≡ Some all) (taken : Consumes input.left now_input.left gone)
     (whole : (transcript_from t (input_of all)).result ≡ Ok (tt {0})) where
   abbrev all_told : Result (Unit {0}) DebugError
   all_told = (transcript_from t (input_of all)).result
 
   not-stopped : (e : DebugError) → ((rest : List ℕ) → (transcript_from t (input_of (gone ++ rest))).result ≡ Err e) → ⊥
   not-stopped e stops =
-      let r = gone-first left now_left gone all is taken in
+      let r = gone-first input.left now_input.left gone all is taken in
       not-ok all_told e (ap (λ (bytes : List ℕ). (transcript_from t (input_of bytes)).result) r.1 ∙ stops r.0) whole
 
-  all-gone : EndsAll t left now_left gone → gone ≡ all
-  all-gone h = (subst (λ (o : Option (List ℕ)). ConsumesAll o now_left gone) is h.all).0
+  all-gone : EndsAll t input now_input gone → gone ≡ all
+  all-gone h = (subst (λ (o : Option (List ℕ)). ConsumesAll o now_input.left gone) is h.all).0
 
-  by-end : (result : Result (Unit {0}) DebugError) → Debugs t gone left now_left before now written now_written b n result → EndsBy result status → IsWhole status
+  by-end : (result : Result (Unit {0}) DebugError) → Debugs t gone input now_input out now_out result → EndsBy result status → IsWhole status
   by-end (Ok u) d ends = inr (inr ends)
+  by-end (Err e) d (inr ends) = inl (inr (inl ends))
   by-end (Err stop.ReadFault) d (inl ends) = inr (inl ends)
   by-end (Err stop.WriteFault) d (inl ends) = inl (inr (inr ends))
   by-end (Err stop.OutOfMemory) d (inl ends) = inl (inr (inl ends))
@@ -162,15 +141,9 @@ module _ (t : Trace) (status : ℕ) (left now_left : Option (List ℕ)) (before 
   by-end (Err (stop.TooMuch m)) d (inl ends) = absurd (not-stopped (stop.TooMuch m) (λ rest. input-stops t gone rest (stop.TooMuch m) (too-much m) d.0))
   by-end (Err (stop.Joint e)) d (inl ends) = absurd (by d.2)
     where
-      by : EndsThere t gone (ending.Refused e) ⊎ EndsAll t left now_left gone → ⊥
+      by : EndsThere t gone (ending.Refused e) ⊎ EndsAll t input now_input gone → ⊥
       by (inl there) = not-stopped (stop.Joint e) (λ rest. replay-stops t gone rest e there)
       by (inr h) = not-ok all_told (stop.Joint e) (ap (λ (bytes : List ℕ). (transcript_from t (input_of bytes)).result) (sym (all-gone h)) ∙ d.0) whole
-  by-end (Err stop.ReadFault) d (inr ends) = inl (inr (inl ends))
-  by-end (Err stop.WriteFault) d (inr ends) = inl (inr (inl ends))
-  by-end (Err stop.OutOfMemory) d (inr ends) = inl (inr (inl ends))
-  by-end (Err (stop.LineTooLong m)) d (inr ends) = inl (inr (inl ends))
-  by-end (Err (stop.TooMuch m)) d (inr ends) = inl (inr (inl ends))
-  by-end (Err (stop.Joint e)) d (inr ends) = inl (inr (inl ends))
 
 -- ---- the log and the program
 
@@ -203,9 +176,9 @@ one-pair-there g laws log elf files d e i k p q =
     ap (λ (c : Content). joined c i) content ∙ ap (λ (x : Program). joined e x) program
 
 -- a session that was begun
-pub whole-done : Grammar → FileLaws → (log elf : List ℕ) (files : Files) (d : Content) (i : Program) (bytes : List ℕ) (status : ℕ) (left now_left : Option (List ℕ)) (before now : ℕ) (notes : Notes) (noted : ℕ) (written now_written : Option (List ℕ)) (b n : ℕ)
-    → LoadedPair log elf files d i → SessionOver (joined d i) bytes status left now_left before now notes noted written now_written b n → (all : List ℕ) → left ≡ Some all → CanDebug (whole_input all) log elf files → IsWhole status
-whole-done g laws log elf files d i bytes status left now_left before now notes noted written now_written b n p s all is can =
+pub whole-done : Grammar → FileLaws → (log elf : List ℕ) (files : Files) (d : Content) (i : Program) (bytes : List ℕ) (status : ℕ) (input now_input : Supply) (notes : ReadNote) (out now_out : Stream)
+    → LoadedPair log elf files d i → SessionOver (joined d i) bytes status input now_input notes out now_out → (all : List ℕ) → input.left ≡ Some all → CanDebug (whole_input all) log elf files → IsWhole status
+whole-done g laws log elf files d i bytes status input now_input notes out now_out p s all is can =
     let j : joined d i ≡ joined can.content can.program = one-pair-there g laws log elf files d can.content i can.program p can.pair in
     let whole : (transcript_from (at_start (joined d i)) (input_of all)).result ≡ Ok (tt {0}) = ap (λ (x : Joining). (transcript_from (at_start x) (input_of all)).result) j ∙ can.goes_on in
-    by-end (at_start (joined d i)) status left now_left before now written now_written b n all s.counted.session.gone is s.counted.session.taken whole s.result s.counted.session.done s.ends
+    by-end (at_start (joined d i)) status input now_input out now_out all s.session.gone is s.session.taken whole s.result s.session.done s.ends

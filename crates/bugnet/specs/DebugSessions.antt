@@ -3,7 +3,7 @@ use Rattle.std.specs.Prelude.{◌≡◌, ◌≢◌, ◌⊎◌, ◌≤◌, ℕ, f
 use Rattle.std.specs.Io.KnownBytes.{Appends}
 use Rattle.bn_base.specs.Programs.{Program}
 use Rattle.bn_outside.specs.Files.{Files}
-use Rattle.bn_outside.specs.Streams.{Notes}
+use Rattle.bn_outside.specs.Streams.{ReadNote, Supply}
 use Rattle.command_words.specs.Words.{Line, DebugLine}
 use Rattle.log_record.specs.declared.record.Record.{Record}
 use Rattle.log_order.specs.Content.{Content, IsContent}
@@ -25,7 +25,7 @@ use Rattle.log_commands.specs.Effects.{Call, IsFree, SomeTold, Tells}
 use Rattle.bugnet.specs.Run.{StoppedEarly}
 use Rattle.log_commands.specs.Joined.{joined}
 use Rattle.log_commands.specs.Pairs.{LoadedPair, HasPair}
-use Rattle.bugnet.specs.Sessions.{Commands, AreRead, IsUnread, SessionOver, whole_input, input_in, session_status, IsSession, CanDebug}
+use Rattle.bugnet.specs.Sessions.{Commands, Reading, AreRead, IsUnread, SessionOver, whole_input, input_in, session_status, IsSession, CanDebug}
 use Rattle.log_commands.specs.Statuses.{code}
 use Rattle.log_commands.specs.declared.status.Status.TheVariants as exit
 
@@ -88,31 +88,31 @@ CanBegin (Some (DebugLine log elf)) files = HasPair log elf files
 CanBegin line files = ⊥
 
 -- a session with the log and the program that are there, which read these commands
-pub record BegunSession (c : Commands) (log elf : List ℕ) (files : Files) (status : ℕ) (left now_left : Option (List ℕ)) (before now : ℕ) (notes : Notes) (noted : ℕ) (k : Call) : Type 0 where
+pub record BegunSession (c : Commands) (log elf : List ℕ) (files : Files) (status : ℕ) (input now_input : Supply) (notes : ReadNote) (k : Call) : Type 0 where
   pub content : Content
   pub program : Program
   pub pair : LoadedPair log elf files content program
-  pub over : SessionOver (joined content program) c.bytes status left now_left before now notes noted k.old.out k.new.out k.old.out_faults k.new.out_faults
+  pub over : SessionOver (joined content program) c.bytes status input now_input notes k.old.out k.new.out
 
 -- nothing was read, or there was such a session
-abbrev pub SessionIs : Commands → (log elf : List ℕ) → Files → (status : ℕ) → (left now_left : Option (List ℕ)) → (before now : ℕ) (notes : Notes) (noted : ℕ) → Call → Type 0
-SessionIs c log elf files status left now_left before now notes noted k =
-    IsUnread c notes noted ⊎ BegunSession c log elf files status left now_left before now notes noted k
+abbrev pub SessionIs : Commands → (log elf : List ℕ) → Files → (status : ℕ) → (input now_input : Supply) → (notes : ReadNote) → Call → Type 0
+SessionIs c log elf files status input now_input notes k =
+    IsUnread c input now_input ⊎ BegunSession c log elf files status input now_input notes k
 
 -- By the files that are there and these commands it tells what it has to answer, or it was stopped before there was an
 -- answer. If they have all that it needs, it is done. It shows a recording's run
-pub record DebugsFiles (c : Commands) (log elf : List ℕ) (files : Files) (status : ℕ) (left now_left : Option (List ℕ)) (before now : ℕ) (notes : Notes) (noted : ℕ) (k : Call) : Type 0 where
+pub record DebugsFiles (c : Commands) (log elf : List ℕ) (files : Files) (status : ℕ) (input now_input : Supply) (notes : ReadNote) (k : Call) : Type 0 where
   pub tells : SomeTold (IsSession c files (names_in (DebugLine log elf))) (λ what. Tells (names_in (DebugLine log elf)) what status k)
       ⊎ StoppedEarly (Some (DebugLine log elf)) files status k
   pub done : CanDebug c log elf files → IsFree status ⊎ (status ≡ code exit.Done)
-  pub shows : ShowsSession c log elf files status k.old.out k.new.out
+  pub shows : ShowsSession c log elf files status k.old.out.text k.new.out.text
   -- what was read was read by a session with the log and the program that are there, no further than its end says
-  pub session : SessionIs c log elf files status left now_left before now notes noted k
+  pub session : SessionIs c log elf files status input now_input notes k
   -- if a session with all that the source had left isn't stopped, no prefix stops it: it is done, or a read failed
-  pub whole : (all : List ℕ) → left ≡ Some all → CanDebug (whole_input all) log elf files → IsFree status ⊎ ((status ≡ code exit.ReadFailed) ⊎ (status ≡ code exit.Done))
+  pub whole : (all : List ℕ) → input.left ≡ Some all → CanDebug (whole_input all) log elf files → IsFree status ⊎ ((status ≡ code exit.ReadFailed) ⊎ (status ≡ code exit.Done))
 
 -- a session reads commands, and does so by them
-abbrev pub Debugs : Option Line → (status : ℕ) → (left now_left : Option (List ℕ)) → (before now : ℕ) (notes : Notes) (noted : ℕ) → Call → Type 0
-Debugs (Some (DebugLine log elf)) status left now_left before now notes noted k =
-    (c : Commands) × AreRead c status left now_left before now notes noted × WithFiles k.old.files (λ files. DebugsFiles c log elf files status left now_left before now notes noted k)
-Debugs line status left now_left before now notes noted k = Unit {0}
+abbrev pub Debugs : {I : Type 0} → Option Line → (status : ℕ) → Reading I → Call → Type 0
+Debugs (Some (DebugLine log elf)) status i k =
+    (c : Commands) × AreRead c status i.before i.after i.notes × WithFiles k.old.store.files (λ files. DebugsFiles c log elf files status i.before i.after i.notes k)
+Debugs line status i k = Unit {0}

@@ -7,7 +7,7 @@ use Rattle.bugnet.specs.Asks.{FitsLine}
 use Rattle.bugnet.specs.Laws.{IsReadOnly}
 use Rattle.bugnet.specs.LineCalls.{needed_roles, AnswersDemo}
 use Rattle.log_commands.specs.FileCalls.{Note, CallsBy}
-use Rattle.log_commands.specs.Inputs.{Stored}
+use Rattle.bn_outside.specs.Files.{Stored}
 use Rattle.log_commands.specs.Names.{FileNames}
 use Rattle.log_commands.specs.Outside.{WithFiles, GivesBy, CauseBy, IsPrinted}
 use Rattle.log_commands.specs.declared.answer.Answer.{Answer}

@@ -80,24 +80,24 @@ pub record RefusedAfter (names : FileNames) (needed : List FileCall) (words : Op
     (status : ℕ) (k : Call) : Type 0 where
   pub refusal : Refusal
   pub at : ((words ≡ Some refusal) × (made ≡ [])) ⊎ StopsAt needed refusal made
-  pub out : Appends k.old.out k.new.out []
-  pub told : ToldRefusal names refusal status k.old.err k.new.err k.old.err_faults k.new.err_faults
+  pub out : Appends k.old.out.text k.new.out.text []
+  pub told : ToldRefusal names refusal status k.old.err.text k.new.err.text k.old.err.faults k.new.err.faults
 
 -- of these calls the first ones are made, in this order, and no other: all of them, unless it is refused
 pub record CallsSo (names : FileNames) (calls needed : List FileCall) (words : Option Refusal) (past : ℕ → Bool)
-    (status : ℕ) (note : Note) (before after : ℕ) (k : Call) : Type 0 where
+    (status : ℕ) (note : Note) (k : Call) : Type 0 where
   pub made : List FileCall
   pub left : List FileCall
   pub parts : calls ≡ made ++ left
-  pub noted : after ≡ noted_after note names before made
+  pub noted : k.new.store.noted ≡ noted_after note names k.old.store.noted made
   pub ends : ((left ≡ []) × (past status ≡ true)) ⊎ RefusedAfter names needed words made status k
 
 -- so it is with the calls of a line. Whatever its status, what it saves is what an answer to the files that are there saves
-pub record CallsOnly (line : Option Line) (status : ℕ) (note : Note) (before after : ℕ) (k : Call) : Type 0 where
+pub record CallsOnly (line : Option Line) (status : ℕ) (note : Note) (k : Call) : Type 0 where
   pub saved : Option Saved
   pub fits : MaySave line saved
-  pub so : CallsSo (names_by line) (calls_of line saved) (needed_of line) (refusal_by line) (past_of line) status note before after k
-  pub own : has_save so.made ≡ true → WithFiles k.old.files (λ files. SomeTold (IsAnswer line files) (λ what. what.saved ≡ saved))
+  pub so : CallsSo (names_by line) (calls_of line saved) (needed_of line) (refusal_by line) (past_of line) status note k
+  pub own : has_save so.made ≡ true → WithFiles k.old.store.files (λ files. SomeTold (IsAnswer line files) (λ what. what.saved ≡ saved))
 
 -- ---- what it tells, by any store
 
@@ -105,8 +105,8 @@ pub record CallsOnly (line : Option Line) (status : ℕ) (note : Note) (before a
 pub record TellsRefusal (names : FileNames) (status : ℕ) (k : Call) : Type 0 where
   pub refusal : Refusal
   pub status_is : status ≡ status_of refusal
-  pub out : Appends k.old.out k.new.out []
-  pub err : Wrote k.old.err k.new.err k.old.err_faults k.new.err_faults (line_of names refusal)
+  pub out : Appends k.old.out.text k.new.out.text []
+  pub err : Wrote k.old.err.text k.new.err.text k.old.err.faults k.new.err.faults (line_of names refusal)
 
 -- so it is unless the command is done, or memory ran out, a write failed, or a replay that was begun or a reading of commands
 -- stopped

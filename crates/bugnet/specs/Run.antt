@@ -17,7 +17,7 @@ StoppedEarly line files status k = StoppedBy (names_by line) (λ files. IsAnswer
 
 -- by the files that are there it tells what it has to answer, or was stopped before there was an answer
 abbrev pub TellsAnswer : Option Line → ℕ → Call → Type 0
-TellsAnswer line status k = WithFiles k.old.files (λ files. SomeTold (IsAnswer line files) (λ what. Tells (names_by line) what status k) ⊎ StoppedEarly line files status k)
+TellsAnswer line status k = WithFiles k.old.store.files (λ files. SomeTold (IsAnswer line files) (λ what. Tells (names_by line) what status k) ⊎ StoppedEarly line files status k)
 
 -- a command that its words alone refuse is told so, whatever the files are, and no other has that status
 abbrev pub ByWords : Option Line → ℕ → Call → Type 0
@@ -38,9 +38,9 @@ ChangesFew line old new =
 pub record Obeys (line : Option Line) (status : ℕ) (k : Call) : Type 0 where
   pub told : TellsAnswer line status k
   pub words : ByWords line status k
-  pub failed : status ≡ code exit.StoreFailed → Rose k.old.counts.faults k.new.counts.faults
-  pub missing : status ≡ code exit.Missing → Rose k.old.counts.misses k.new.counts.misses
-  pub long : status ≡ code exit.TooLong → Rose k.old.counts.longs k.new.counts.longs
+  pub failed : status ≡ code exit.StoreFailed → Rose k.old.store.counts.faults k.new.store.counts.faults
+  pub missing : status ≡ code exit.Missing → Rose k.old.store.counts.misses k.new.store.counts.misses
+  pub long : status ≡ code exit.TooLong → Rose k.old.store.counts.longs k.new.store.counts.longs
   pub write : status ≡ code exit.WriteFailed → WriteRose k
   pub later : NoWriteFell k
-  pub counts : NoneFell k.old.counts k.new.counts
+  pub counts : NoneFell k.old.store.counts k.new.store.counts

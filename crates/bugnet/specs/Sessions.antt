@@ -5,13 +5,13 @@ use Rattle.std.specs.Io.KnownBytes.{Consumes}
 use Rattle.bn_base.specs.Programs.{Program}
 use Rattle.bn_outside.specs.Counts.{Rose}
 use Rattle.bn_outside.specs.Files.{Files}
-use Rattle.bn_outside.specs.Streams.{ConsumesAll, Notes}
+use Rattle.bn_outside.specs.Streams.{ConsumesAll, ReadNote, Stream, Supply, noted_after}
 use Rattle.log_order.specs.Content.{Content}
 use Rattle.back_step.specs.Traces.{at_start}
 use Rattle.joint_replay.specs.Joining.{Joining}
 use Rattle.step_debugger.specs.Commands.{command_of}
 use Rattle.step_debugger.specs.Lines.{Input, input_of, EndsTooMany}
-use Rattle.step_debugger.specs.Transcript.{transcript, CountedSession, Told as Transcript}
+use Rattle.step_debugger.specs.Transcript.{transcript, Debugged, Told as Transcript}
 use Rattle.step_debugger.specs.declared.command.DebugCommand.TheVariants.{Quit}
 use Rattle.step_debugger.specs.declared.error.DebugError.{DebugError}
 use Rattle.step_debugger.specs.declared.error.DebugError.TheVariants.{ReadFault, WriteFault, TooMuch}
@@ -74,8 +74,19 @@ abbrev pub NoneEnds : Input → Type 0
 NoneEnds input = NoQuit input.lines × (input.refused ≡ None)
 
 -- all bytes of the source are gone, none of them is too many, and no line of them that ends with LF is `quit`
-abbrev pub ReadsAll : (left now_left : Option (List ℕ)) → List ℕ → Type 0
-ReadsAll left now_left bytes = ConsumesAll left now_left bytes × NoneEnds (input_of bytes)
+abbrev pub ReadsAll : (input now_input : Supply) → List ℕ → Type 0
+ReadsAll input now_input bytes = ConsumesAll input.left now_input.left bytes × NoneEnds (input_of bytes)
+
+-- an input before a call and after it: itself, what is known of it, and how it notes its reads
+pub record Reading (I : Type 0) : Type 0 where
+  pub old : I
+  pub new : I
+  pub before : Supply
+  pub after : Supply
+  pub notes : ReadNote
+
+abbrev pub reading : {I : Type 0} → (I → Supply) → ReadNote → I → I → Reading I
+reading source note i j = record { old = i; new = j; before = source i; after = source j; notes = note }
 
 -- ---- how a session ends
 
@@ -106,45 +117,45 @@ EndsBy (Err e) status = (status ≡ stop_status e) ⊎ (status ≡ code exit.Out
 -- failed: to that read. At too many bytes: to the first one of them. At a refused replay, or an answer that could not be
 -- written: to the end of a line or of the source. Out of memory: to the end of a line, or to a byte that isn't too many. No
 -- `quit` is passed
-abbrev pub ReadsUpTo : (bytes : List ℕ) → (left now_left : Option (List ℕ)) → Result (Unit {0}) DebugError → Type 0
-ReadsUpTo bytes left now_left (Ok u) = EndsWithQuit bytes ⊎ ReadsAll left now_left bytes
-ReadsUpTo bytes left now_left (Err ReadFault) = NoneEnds (input_of bytes)
-ReadsUpTo bytes left now_left (Err WriteFault) = EndsWithLine bytes ⊎ ReadsAll left now_left bytes
-ReadsUpTo bytes left now_left (Err (stop.LineTooLong n)) = NoQuit (input_of bytes).lines × EndsTooMany 0 bytes
-ReadsUpTo bytes left now_left (Err (TooMuch n)) = NoQuit (input_of bytes).lines × EndsTooMany 0 bytes
-ReadsUpTo bytes left now_left (Err (stop.Joint e)) = EndsWithLine bytes ⊎ ReadsAll left now_left bytes
-ReadsUpTo bytes left now_left (Err stop.OutOfMemory) = EndsWithLine bytes ⊎ NoneEnds (input_of bytes)
+abbrev pub ReadsUpTo : (bytes : List ℕ) → (input now_input : Supply) → Result (Unit {0}) DebugError → Type 0
+ReadsUpTo bytes input now_input (Ok u) = EndsWithQuit bytes ⊎ ReadsAll input now_input bytes
+ReadsUpTo bytes input now_input (Err ReadFault) = NoneEnds (input_of bytes)
+ReadsUpTo bytes input now_input (Err WriteFault) = EndsWithLine bytes ⊎ ReadsAll input now_input bytes
+ReadsUpTo bytes input now_input (Err (stop.LineTooLong n)) = NoQuit (input_of bytes).lines × EndsTooMany 0 bytes
+ReadsUpTo bytes input now_input (Err (TooMuch n)) = NoQuit (input_of bytes).lines × EndsTooMany 0 bytes
+ReadsUpTo bytes input now_input (Err (stop.Joint e)) = EndsWithLine bytes ⊎ ReadsAll input now_input bytes
+ReadsUpTo bytes input now_input (Err stop.OutOfMemory) = EndsWithLine bytes ⊎ NoneEnds (input_of bytes)
 
 -- how often it reads: once for each byte, and once more if a read failed or the end of the source was found
-abbrev pub ReadsOnce : (bytes : List ℕ) → (left now_left : Option (List ℕ)) → (reads : ℕ) → Result (Unit {0}) DebugError → Type 0
-ReadsOnce bytes left now_left reads (Err ReadFault) = reads ≡ length bytes + 1
-ReadsOnce bytes left now_left reads (Err (stop.LineTooLong n)) = reads ≡ length bytes
-ReadsOnce bytes left now_left reads (Err (TooMuch n)) = reads ≡ length bytes
-ReadsOnce bytes left now_left reads result = (reads ≡ length bytes) ⊎ (ReadsAll left now_left bytes × (reads ≡ length bytes + 1))
+abbrev pub ReadsOnce : (bytes : List ℕ) → (input now_input : Supply) → (reads : ℕ) → Result (Unit {0}) DebugError → Type 0
+ReadsOnce bytes input now_input reads (Err ReadFault) = reads ≡ length bytes + 1
+ReadsOnce bytes input now_input reads (Err (stop.LineTooLong n)) = reads ≡ length bytes
+ReadsOnce bytes input now_input reads (Err (TooMuch n)) = reads ≡ length bytes
+ReadsOnce bytes input now_input reads result = (reads ≡ length bytes) ⊎ (ReadsAll input now_input bytes × (reads ≡ length bytes + 1))
 
 -- a session that was begun read so far, as it ended. The source has noted each of its reads, with what out had been given
-pub record SessionReads (bytes : List ℕ) (status : ℕ) (left now_left : Option (List ℕ)) (notes : Notes) (noted : ℕ) : Type 0 where
+pub record SessionReads (bytes : List ℕ) (status : ℕ) (input now_input : Supply) (notes : ReadNote) : Type 0 where
   pub result : Result (Unit {0}) DebugError
   pub ends : EndsBy result status
-  pub up_to : ReadsUpTo bytes left now_left result
+  pub up_to : ReadsUpTo bytes input now_input result
   pub given : List (Option (List ℕ))
-  pub noted_is : noted ≡ notes given
-  pub count : ReadsOnce bytes left now_left (length given) result
+  pub noted_is : now_input.noted ≡ noted_after notes input.noted given
+  pub count : ReadsOnce bytes input now_input (length given) result
 
 -- nothing was read
-abbrev pub IsUnread : Commands → Notes → (noted : ℕ) → Type 0
-IsUnread c notes noted = (c.bytes ≡ []) × (c.failed ≡ false) × (noted ≡ notes [])
+abbrev pub IsUnread : Commands → (input now_input : Supply) → Type 0
+IsUnread c input now_input = (c.bytes ≡ []) × (c.failed ≡ false) × (now_input.noted ≡ input.noted)
 
 -- the commands are bytes of the source that are gone, by a call that ended so
-pub record AreRead (c : Commands) (status : ℕ) (left now_left : Option (List ℕ)) (before now : ℕ) (notes : Notes) (noted : ℕ) : Type 0 where
-  pub taken : Consumes left now_left c.bytes
+pub record AreRead (c : Commands) (status : ℕ) (input now_input : Supply) (notes : ReadNote) : Type 0 where
+  pub taken : Consumes input.left now_input.left c.bytes
   -- a read failed only if the source's count rose, and no `quit` was read before
-  pub failed : c.failed ≡ true → Rose before now × NoQuit (input_of c.bytes).lines
+  pub failed : c.failed ≡ true → Rose input.faults now_input.faults × NoQuit (input_of c.bytes).lines
   pub cause : status ≡ code exit.ReadFailed → c.failed ≡ true
   -- a session that is done has read nothing after the first `quit`; or all, and then no line that ends with LF is `quit`
-  pub done : status ≡ code exit.Done → EndsWithQuit c.bytes ⊎ ReadsAll left now_left c.bytes
+  pub done : status ≡ code exit.Done → EndsWithQuit c.bytes ⊎ ReadsAll input now_input c.bytes
   -- however it ended, it has read no further than its end says, and each byte once; before a session nothing is read
-  pub up_to : IsUnread c notes noted ⊎ SessionReads c.bytes status left now_left notes noted
+  pub up_to : IsUnread c input now_input ⊎ SessionReads c.bytes status input now_input notes
 
 -- ---- what is told
 
@@ -162,11 +173,11 @@ abbrev pub debug_with : FileNames → Commands → Content → Program → Told
 debug_with names c d i = session_told names (transcript (joined d i) (input_in c))
 
 -- a session over this joint replay, which read these bytes: it did what `step_debugger` promises of its end
-pub record SessionOver (j : Joining) (bytes : List ℕ) (status : ℕ) (left now_left : Option (List ℕ)) (before now : ℕ) (notes : Notes) (noted : ℕ) (out now_out : Option (List ℕ)) (out_faults now_out_faults : ℕ) : Type 0 where
+pub record SessionOver (j : Joining) (bytes : List ℕ) (status : ℕ) (input now_input : Supply) (notes : ReadNote) (out now_out : Stream) : Type 0 where
   pub result : Result (Unit {0}) DebugError
   pub ends : EndsBy result status
-  pub counted : CountedSession (at_start j) left now_left before now notes noted out now_out out_faults now_out_faults result
-  pub gone : counted.session.gone ≡ bytes
+  pub session : Debugged (at_start j) input now_input notes out now_out result
+  pub gone : session.gone ≡ bytes
 
 -- ---- the command
 

@@ -1,9 +1,9 @@
 -- What a recording begins with, by the files that it loads.
 use Rattle.std.specs.Prelude.{◌⊎◌, List, Result, Ok, Err}
-use Rattle.bn_outside.specs.Files.{Files}
+use Rattle.bn_outside.specs.Files.{Files, Stored}
 use Rattle.run_model.specs.declared.start.Start.{Start}
 use Rattle.log_commands.specs.FileCalls.{Note, CallsTo}
-use Rattle.log_commands.specs.Inputs.{Stored, OnlyLoads}
+use Rattle.log_commands.specs.Inputs.{OnlyLoads}
 use Rattle.log_commands.specs.Names.{FileNames}
 use Rattle.log_commands.specs.Told.{Told, refused}
 use Rattle.bugnet.specs.Recordings.{IsRun}

@@ -2,13 +2,12 @@
 //! The contract of `run` says all that is proved of the whole; code below it may change as long as that stands.
 ghost use Rattle.std.specs.Prelude.{◌≡◌, ◌≤◌, ◌⊎◌, true, Some, None, IfOk, MatchOption};
 ghost use Rattle.bn_outside.specs.Counts.{Rose, NoneFell};
-ghost use Rattle.bn_outside.specs.Streams.{noted_after};
 ghost use Rattle.command_words.specs.Words.{command_in, seen, seen_recording, RecordLine};
 ghost use Rattle.std.specs.Str.{bytes_eq};
 ghost use Rattle.bugnet.specs.ClosedRuns.{IsRecordingBy, MakesRecordings};
 ghost use Rattle.bugnet.specs.Answers.{manner_of, names_in, refusal_in, words_refusal, IsOn, KindOf, line_roles};
 ghost use Rattle.bugnet.specs.LineAnswers.{AnswersLine};
-ghost use Rattle.bugnet.specs.Replies.{RepliesAs, DoesAs, DoneAs, world_of, reading};
+ghost use Rattle.bugnet.specs.Replies.{RepliesTo, Does, DoesTo};
 ghost use Rattle.log_commands.specs.Answering.{Answers};
 ghost use Rattle.log_commands.specs.Inputs.{bytes_of};
 ghost use Rattle.log_commands.specs.Names.{FileNames};
@@ -17,7 +16,7 @@ ghost use Rattle.log_commands.specs.Statuses.{code};
 ghost use Rattle.bugnet.specs.Asks.{LineSaves};
 ghost use Rattle.bugnet.specs.LineCalls.{CallsOnly, HasShape, AnswersDemo, TellsDemo};
 ghost use Rattle.bugnet.specs.Laws.{NeedsNoThreads, IsReadOnly, IsNoSession, IsNoRecording};
-ghost use Rattle.bugnet.specs.Sessions.{is_begun};
+ghost use Rattle.bugnet.specs.Sessions.{is_begun, reading};
 ghost use Rattle.bugnet.specs.DebugSessions.{CanBegin, Debugs};
 ghost use Rattle.bugnet.specs.Agreements.{AuditsRun};
 ghost use Rattle.bugnet.specs.Complete.{IsDone};
@@ -45,7 +44,6 @@ use log_commands::answer::{Answer, RunToTell};
 use log_commands::commands::{audit, check, convert, joint, list, races, replay, salvage, slice};
 use log_commands::inputs::{Inputs, load_inputs};
 use log_commands::names::{Names, Role};
-use log_commands::outside::{SinkExt, StoreExt};
 use log_commands::refusal::Refusal;
 use log_commands::send::{close, done, refuse};
 use log_commands::status::Status;
@@ -112,15 +110,7 @@ fn refusal_of(command: &Command) -> Option<Refusal>
         Command::Record(_) => unreachable!(),
         Command::Convert { log, new } => name_refusal(log, new),
         Command::Salvage { log, new } => name_refusal(log, new),
-        Command::Replay { .. } => None,
-        Command::Joint { .. } => None,
-        Command::Debug { .. } => None,
-        Command::List { .. } => None,
-        Command::Check { .. } => None,
-        Command::Audit { .. } => None,
-        Command::Races { .. } => None,
-        Command::Slice { .. } => None,
-        Command::Demo { .. } => None,
+        _ => None,
     }
 }
 
@@ -187,7 +177,7 @@ fn evaluate(alloc: Global, command: &Command, inputs: Inputs) -> Result<Answer, 
 }
 
 // What a command answers by the files that it loads, once its words are tested.
-fn answer_loaded<S: StoreExt>(
+fn answer_loaded<S: Store>(
     alloc: Global,
     command: &Command,
     names: &Names,
@@ -205,7 +195,7 @@ fn answer_loaded<S: StoreExt>(
 
 // What a command answers, if it records nothing and reads no commands. Nothing is saved or printed before
 // that.
-fn answer_to<S: StoreExt>(
+fn answer_to<S: Store>(
     alloc: Global,
     command: &Command,
     names: &Names,
@@ -223,7 +213,7 @@ fn answer_to<S: StoreExt>(
 }
 
 // Finds the answer of a command that records nothing and reads no commands, and saves and prints it.
-fn reply<S: StoreExt, O: SinkExt, X: SinkExt>(
+fn reply<S: Store, O: Sink, X: Sink>(
     alloc: Global,
     command: &Command,
     names: &Names,
@@ -234,19 +224,14 @@ fn reply<S: StoreExt, O: SinkExt, X: SinkExt>(
     requires named { names.now ≡ names_in (seen command.now) }
     requires no_session { IsNoSession (Some (seen command.now)) }
     requires no_recording { IsNoRecording (Some (seen command.now)) }
-    ensures { RepliesAs S.stored O.stream X.stream (seen command.now) names.now S.note store.old out.old err.old store.new out.new err.new result }
+    ensures { RepliesTo (seen command.now) names.now S.note (call S.stored O.stream X.stream store.old out.old err.old store.new out.new err.new) result }
 {
     let answer = answer_to(alloc, command, names, store)?;
     act(alloc, names, &answer, store, out, err)
 }
 
 // Does what the words of a recording ask for. Its run is what `make` gives.
-fn keep_recording<
-    S: StoreExt,
-    O: SinkExt,
-    X: SinkExt,
-    F: FnOnce(&Start) -> Result<RunToTell, AllocError>,
->(
+fn keep_recording<S: Store, O: Sink, X: Sink, F: FnOnce(&Start) -> Result<RunToTell, AllocError>>(
     alloc: Global,
     options: &RecordOptions,
     names: &Names,
@@ -258,7 +243,7 @@ fn keep_recording<
     requires named { names.now ≡ names_in (RecordLine (seen_recording options.now)) }
     requires callable { F.IsAlwaysCallable make }
     requires made { MakesRecordings F.FnOnce make (manner_of (seen_recording options.now)) }
-    ensures { RepliesAs S.stored O.stream X.stream (RecordLine (seen_recording options.now)) names.now S.note store.old out.old err.old store.new out.new err.new result }
+    ensures { RepliesTo (RecordLine (seen_recording options.now)) names.now S.note (call S.stored O.stream X.stream store.old out.old err.old store.new out.new err.new) result }
 {
     // Laws:
     seeds_are_whole();
@@ -294,8 +279,8 @@ pub fn perform<S: Store, I: Source<O>, O: Sink, X: Sink>(
 ) -> Result<Status, Refusal>
     requires named { names.now ≡ names_in (seen command.now) }
     requires no_threads { NeedsNoThreads (Some (seen command.now)) }
-    ensures { DoesAs (world_of S.files S.saves S.counts S.noted O.written O.faults X.written X.faults) (reading I.left I.faults I.note I.noted input.old input.new)
-        (seen command.now) names.now S.note store.old out.old err.old store.new out.new err.new result }
+    ensures { DoesTo (seen command.now) names.now S.note (reading I.source I.note input.old input.new)
+        (call S.stored O.stream X.stream store.old out.old err.old store.new out.new err.new) result }
 {
     // Laws:
     readings_are_unique();
@@ -342,8 +327,8 @@ fn attempt<S: Store, I: Source<O>, O: Sink, X: Sink, G: Gate, R: Threads + Wait 
     gate: &G,
 ) -> Result<Status, Refusal>
     requires { names.now ≡ names_in (seen command.now) }
-    ensures { DoesAs (world_of S.files S.saves S.counts S.noted O.written O.faults X.written X.faults) (reading I.left I.faults I.note I.noted input.old input.new)
-        (seen command.now) names.now S.note store.old out.old err.old store.new out.new err.new result }
+    ensures { DoesTo (seen command.now) names.now S.note (reading I.source I.note input.old input.new)
+        (call S.stored O.stream X.stream store.old out.old err.old store.new out.new err.new) result }
 {
     match unseeded(command) {
         Some(options) => {
@@ -385,8 +370,8 @@ fn obey<S: Store, I: Source<O>, O: Sink, X: Sink, G: Gate, R: Threads + Wait + S
     err: &mut X,
     gate: &G,
 ) -> Status
-    ensures { DoneAs (world_of S.files S.saves S.counts S.noted O.written O.faults X.written X.faults) (reading I.left I.faults I.note I.noted input.old input.new)
-        (command_in words.now) (code result) S.note store.old out.old err.old store.new out.new err.new }
+    ensures { Does (command_in words.now) (code result) S.note (reading I.source I.note input.old input.new)
+        (call S.stored O.stream X.stream store.old out.old err.old store.new out.new err.new) }
 {
     match read_words(alloc, words) {
         Err(error) => refuse(alloc, &Names::none(), &words_refusal(error), err),
@@ -465,51 +450,51 @@ pub fn run<S: Store, I: Source<O>, O: Sink, X: Sink, G: Gate, R: Threads + Wait 
     // If the store's files are known, they and the words determine the status, the texts and the files
     // that are left. A recording without a seed has one more input: its list of turns. By any store the
     // words alone say whether the status is 2.
-    ensures told { TellsAnswer (command_in words.now) result (call S.files S.counts O.written O.faults X.written X.faults store.old out.old err.old store.new out.new err.new) }
-    ensures words { ByWords (command_in words.now) result (call S.files S.counts O.written O.faults X.written X.faults store.old out.old err.old store.new out.new err.new) }
+    ensures told { TellsAnswer (command_in words.now) result (call S.stored O.stream X.stream store.old out.old err.old store.new out.new err.new) }
+    ensures words { ByWords (command_in words.now) result (call S.stored O.stream X.stream store.old out.old err.old store.new out.new err.new) }
 
     // The log of a recording gives the recorded run: the replay of an interval from it prints that run's
     // own rows. A program file of more than 2 ^ 26 bytes is too long, also for a recording.
-    ensures headline { WithFiles (S.files store.old) (λ files. PrintsRun (command_in words.now) files result (O.written out.old) (O.written out.new)) }
+    ensures headline { WithFiles (S.stored store.old).files (λ files. PrintsRun (command_in words.now) files result (O.stream out.old).text (O.stream out.new).text) }
 
     // Its joint replay says the run: it keeps the recorded order of conflicting accesses, and prints each
     // hart's own rows, and words that the run had in memory.
-    ensures jointly { WithFiles (S.files store.old) (λ files. PrintsJointly (command_in words.now) files result (O.written out.old) (O.written out.new)) }
+    ensures jointly { WithFiles (S.stored store.old).files (λ files. PrintsJointly (command_in words.now) files result (O.stream out.old).text (O.stream out.new).text) }
 
     // If the words and the files are as the command needs them, it is done, unless it runs out of memory,
     // or the store or a write fails.
-    ensures done { WithFiles (S.files store.old) (λ files. IsDone (command_in words.now) files result) }
+    ensures done { WithFiles (S.stored store.old).files (λ files. IsDone (command_in words.now) files result) }
 
     // What was to be saved is saved, LOG before BOOK. Whatever happens, only a recording, `convert` and
     // `salvage` change files, and of these only LOG and BOOK, or NEW. If nothing was to be saved, as at a
     // replay, all stay as they were. Until LOG is saved BOOK does.
-    ensures kept { Keeps (command_in words.now) result (S.files store.old) (S.files store.new) }
-    ensures others { ChangesFew (command_in words.now) (S.files store.old) (S.files store.new) }
-    ensures still { IsReadOnly (command_in words.now) → S.files store.new ≡ S.files store.old }
+    ensures kept { Keeps (command_in words.now) result (S.stored store.old).files (S.stored store.new).files }
+    ensures others { ChangesFew (command_in words.now) (S.stored store.old).files (S.stored store.new).files }
+    ensures still { IsReadOnly (command_in words.now) → (S.stored store.new).files ≡ (S.stored store.old).files }
 
     // A recording that is done has saved each of its two files once, a lean one its log once, as have
     // `convert` and `salvage` NEW. A refused one has saved at most so often, and no other command saves.
-    ensures saves { LineSaves (command_in words.now) result (S.saves store.old) (S.saves store.new) }
+    ensures saves { LineSaves (command_in words.now) result (S.stored store.old).saves (S.stored store.new).saves }
 
     // It makes the calls of its words, in their order, and no other. Whatever its status, even out of memory, each
     // save has the bytes of an answer to the files that are there. If the store refuses a call, that is the last,
     // nothing is printed, and err has the line of that call's file. A recording that is done has made them all;
     // words that are refused make none.
-    ensures calls { CallsOnly (command_in words.now) result S.note (S.noted store.old) (S.noted store.new) (call S.files S.counts O.written O.faults X.written X.faults store.old out.old err.old store.new out.new err.new) }
+    ensures calls { CallsOnly (command_in words.now) result S.note (call S.stored O.stream X.stream store.old out.old err.old store.new out.new err.new) }
 
     // By any store a command that isn't done is refused, unless memory ran out or a write failed. Then
     // nothing is printed, and err has the line of a refusal of this status. But what `replay`, `joint` and
     // `debug` print may end with 15, if a replay that was begun stops. That of `debug` may end too when it
     // can read no more commands. `demo` tells its text.
-    ensures shape { HasShape (command_in words.now) result (call S.files S.counts O.written O.faults X.written X.faults store.old out.old err.old store.new out.new err.new) }
-    ensures demo { TellsDemo (command_in words.now) result (call S.files S.counts O.written O.faults X.written X.faults store.old out.old err.old store.new out.new err.new) }
+    ensures shape { HasShape (command_in words.now) result (call S.stored O.stream X.stream store.old out.old err.old store.new out.new err.new) }
+    ensures demo { TellsDemo (command_in words.now) result (call S.stored O.stream X.stream store.old out.old err.old store.new out.new err.new) }
 
     // A recording leaves under LOG the file of the run of a legal and finished list of turns: with a seed
     // of the list that it chooses. The file has the version of the settings' format. Its records have at
     // most log-size bytes. The file has 124 bytes more in version 1; in version 2 it has 136 more, and 48
     // for each block. The status says how that run ended. BOOK has the list; only a lean recording leaves
     // BOOK as it was.
-    ensures recorded { LeavesRun (command_in words.now) result (S.files store.old) (S.files store.new) }
+    ensures recorded { LeavesRun (command_in words.now) result (S.stored store.old).files (S.stored store.new).files }
 
     // Only `debug` reads commands, and only once its files are loaded and tested. What they make it tell is
     // told: the text of its session, up to a read that failed, a line or commands that are too long, or a
@@ -519,26 +504,25 @@ pub fn run<S: Store, I: Source<O>, O: Sink, X: Sink, G: Gate, R: Threads + Wait 
     // whole lines read so far, and nothing else. A session that isn't stopped by its whole input is stopped
     // at no prefix of it. If the log is a recording's, all that it shows is the run's, and no replay is
     // refused.
-    ensures session { Debugs (command_in words.now) result (I.left input.old) (I.left input.new) (I.faults input.old) (I.faults input.new) (noted_after I.note (I.noted input.old)) (I.noted input.new)
-        (call S.files S.counts O.written O.faults X.written X.faults store.old out.old err.old store.new out.new err.new) }
+    ensures session { Debugs (command_in words.now) result (reading I.source I.note input.old input.new) (call S.stored O.stream X.stream store.old out.old err.old store.new out.new err.new) }
     ensures first { (is_begun result ≡ true) ⊎ (input.new ≡ input.old) }
-    ensures begins { (input.new ≡ input.old) ⊎ WithFiles (S.files store.old) (λ files. CanBegin (command_in words.now) files) }
+    ensures begins { (input.new ≡ input.old) ⊎ WithFiles (S.stored store.old).files (λ files. CanBegin (command_in words.now) files) }
     ensures unread { IsNoSession (command_in words.now) → input.new ≡ input.old }
 
     // If an audit is done, LOG is the file of the run of BOOK's turns, or that file in version 2. They are
     // legal and finished, with settings in range, the program and the input.
-    ensures audited { WithFiles (S.files store.old) (λ files. AuditsRun (command_in words.now) files result) }
+    ensures audited { WithFiles (S.stored store.old).files (λ files. AuditsRun (command_in words.now) files result) }
 
     // A refusal by the outside comes only if its count rose, and no count falls.
-    ensures failed { result ≡ 3 → Rose (S.counts store.old).faults (S.counts store.new).faults }
-    ensures missing { result ≡ 4 → Rose (S.counts store.old).misses (S.counts store.new).misses }
-    ensures long { result ≡ 5 → Rose (S.counts store.old).longs (S.counts store.new).longs }
-    ensures read { result ≡ 12 → Rose (I.faults input.old) (I.faults input.new) }
-    ensures write { result ≡ 13 → Rose (O.faults out.old) (O.faults out.new) ⊎ Rose (X.faults err.old) (X.faults err.new) }
-    ensures later { NoneFell (S.counts store.old) (S.counts store.new) }
-    ensures out_later { O.faults out.old ≤ O.faults out.new }
-    ensures err_later { X.faults err.old ≤ X.faults err.new }
-    ensures read_later { I.faults input.old ≤ I.faults input.new }
+    ensures failed { result ≡ 3 → Rose (S.stored store.old).counts.faults (S.stored store.new).counts.faults }
+    ensures missing { result ≡ 4 → Rose (S.stored store.old).counts.misses (S.stored store.new).counts.misses }
+    ensures long { result ≡ 5 → Rose (S.stored store.old).counts.longs (S.stored store.new).counts.longs }
+    ensures read { result ≡ 12 → Rose (I.source input.old).faults (I.source input.new).faults }
+    ensures write { result ≡ 13 → Rose (O.stream out.old).faults (O.stream out.new).faults ⊎ Rose (X.stream err.old).faults (X.stream err.new).faults }
+    ensures later { NoneFell (S.stored store.old).counts (S.stored store.new).counts }
+    ensures out_later { (O.stream out.old).faults ≤ (O.stream out.new).faults }
+    ensures err_later { (X.stream err.old).faults ≤ (X.stream err.new).faults }
+    ensures read_later { (I.source input.old).faults ≤ (I.source input.new).faults }
 {
     headline();
     joint_headline();

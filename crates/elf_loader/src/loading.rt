@@ -144,7 +144,7 @@ fn program(
 pub fn load(alloc: Global, bytes: &[u8], settings: &Settings) -> Result<Image, ElfError>
     ensures loaded { IfOk result (λ i. image_of bytes.now settings.now ≡ Ok i) }
     ensures refused { IfErr result (λ e. (e ≡ OutOfMemory) ⊎ (image_of bytes.now settings.now ≡ Err e)) }
-    ensures wanting { IfErr result (λ e. (refusal bytes.now settings.now ≡ None) ⊎ (image_of bytes.now settings.now ≡ Err e)) }
+    ensures memory { IfErr result (λ e. (refusal bytes.now settings.now ≡ None) ⊎ (image_of bytes.now settings.now ≡ Err e)) }
 {
     let header = checked_header(bytes)?;
     let table = read_table(bytes, header);

@@ -19,5 +19,5 @@ abbrev pub IsMissing : {T : Type 0} → Result T Error → Type 0
 IsMissing found = IsErrAnd found (λ e. error_kind e ≡ NotFound)
 
 -- a try to open a file ran out of memory
-abbrev pub IsWanting : {T : Type 0} → Result T Error → Type 0
-IsWanting found = IsErrAnd found (λ e. error_kind e ≡ OutOfMemory)
+abbrev pub RanOutOfMemory : {T : Type 0} → Result T Error → Type 0
+RanOutOfMemory found = IsErrAnd found (λ e. error_kind e ≡ OutOfMemory)

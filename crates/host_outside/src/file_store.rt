@@ -2,7 +2,7 @@
 ghost use Rattle.std.specs.Prelude.{◌≡◌, ◌≤◌, ◌↔◌, None, Ok, Err, IfOk, IsFalse, OnOk, vec_len};
 ghost use Rattle.std.specs.List.{Contains};
 ghost use Rattle.host_outside.specs.Answers.{AnswersSomeTry, AnswersTry, FileTells, OpensToLoad, WroteSome};
-ghost use Rattle.host_outside.specs.Kinds.{IsMissing, IsWanting};
+ghost use Rattle.host_outside.specs.Kinds.{IsMissing, RanOutOfMemory};
 ghost use Rattle.host_outside.specs.declared.spared_files.FileId.{FileId as AnyFile};
 
 use crate::limits::most_bytes;
@@ -26,7 +26,9 @@ use std::{fs, io};
 pub struct FileStore<'a, R: Files> {
     rt: &'a R,
     alloc: Global,
+    // What was loaded or saved, which no save may replace.
     spared: SparedFiles,
+    // How many loads found no such name, found too many bytes, and how many calls failed.
     misses: u64,
     longs: u64,
     faults: u64,
@@ -57,7 +59,7 @@ impl<'a, R: Files + AllocGlobal> FileStore<'a, R> {
 // Only a name that isn't there is missing: a file without permission is a failure, and so is a folder once it is read.
 fn load_error(kind: ErrorKind) -> LoadError
     ensures missing { (result ≡ LoadError.Missing) ↔ (kind ≡ ErrorKind.NotFound) }
-    ensures wanting { (result ≡ LoadError.OutOfMemory) ↔ (kind ≡ ErrorKind.OutOfMemory) }
+    ensures memory { (result ≡ LoadError.OutOfMemory) ↔ (kind ≡ ErrorKind.OutOfMemory) }
 {
     match kind {
         ErrorKind::NotFound => LoadError::Missing,
@@ -155,7 +157,7 @@ fn open_to_save<F: Drop>(
     spared: &SparedFiles,
 ) -> Result<Opened<F>, SaveError>
     ensures spared { IfOk result (λ o. Contains spared.now o.id → ⊥) }
-    ensures wanting { (result ≡ Err SaveError.OutOfMemory) ↔ IsWanting opened }
+    ensures memory { (result ≡ Err SaveError.OutOfMemory) ↔ RanOutOfMemory opened }
     ensures others { IfOk opened (λ o. (Contains spared.now o.id → ⊥) → result ≡ Ok o) }
 {
     match opened {
@@ -234,14 +236,13 @@ fn save_file<R: Files>(
 }
 
 impl<'a, R: Files> Store for FileStore<'a, R> {
-    ghost files = { λ _. None };
-
-    ghost counts = { λ s. record { misses = s.misses; longs = s.longs; faults = s.faults } };
-
-    ghost saves = { λ s. s.saves };
-
     // It notes nothing.
-    ghost noted = { λ _. 0 };
+    ghost stored = { λ s. record {
+      files = None;
+      saves = s.saves;
+      counts = record { misses = s.misses; longs = s.longs; faults = s.faults };
+      noted = 0;
+    } };
 
     ghost note = { λ _ _. 0 };
 

@@ -30,13 +30,13 @@ impl<R: Read> ReaderSource<R> {
 }
 
 impl<R: Read, O: Sink> Source<O> for ReaderSource<R> {
-    ghost left = { λ s. cond s.inner.has_ended (Some []) (R.remaining s.inner.inner) };
-
-    ghost faults = { λ s. s.faults };
-
-    ghost noted = { λ s. s.reads };
-
     // It counts its reads.
+    ghost source = { λ s. record {
+      left = cond s.inner.has_ended (Some []) (R.remaining s.inner.inner);
+      faults = s.faults;
+      noted = s.reads;
+    } };
+
     ghost note = { λ reads _. counted reads };
 
     #[tactic(auto, using(crate::proofs::AtEnd::ends_exactly))]
@@ -70,9 +70,7 @@ impl<W: Write> Writing<W> {
 }
 
 impl<W: Write> Sink for Writing<W> {
-    ghost written = { λ s. W.contents s.inner };
-
-    ghost faults = { λ s. s.faults };
+    ghost stream = { λ s. record { text = W.contents s.inner; faults = s.faults } };
 
     // A writer that takes nothing of a piece has failed.
     fn write(&mut self, piece: &[u8]) -> Result<usize, Failed> {

@@ -1,19 +1,8 @@
 -- How a command that has its answer ends, from how its text was sent and what was told.
-use Rattle.std.proofs.Common.{◌≡◌, ◌≤◌, ◌⊎◌, ℕ, List, Option, Some, None, sym, subst, arith, inl, inr}
-use Rattle.std.specs.Prelude.{Result, Ok, Err}
-use Rattle.std.specs.Io.KnownBytes.{Appends}
-use Rattle.bn_outside.specs.Counts.{Counts, NoneFell}
-use Rattle.bn_outside.specs.Files.{Files}
-use Rattle.bn_outside.specs.Streams.{AppendsPart}
-use Rattle.log_commands.specs.Names.{FileNames}
-use Rattle.log_commands.specs.Outside.{Stream, SendStops, Sends, SendsUntil, Always, ToldRefusal}
-use Rattle.log_commands.specs.Told.{Told, printed, printed_until}
-use Rattle.log_commands.specs.declared.refusal.Refusal.{Refusal}
-use Rattle.log_commands.specs.declared.refusal.Refusal.TheVariants.{OutOfMemory}
-use Rattle.log_commands.specs.Effects.{Call, Tells, NoWriteFell, Prints, Acts, printing_on, PrintsTo}
+use Rattle.log_commands.proofs.Common.{◌≡◌, ◌≤◌, ◌⊎◌, ℕ, List, Option, Some, None, sym, subst, arith, inl, inr, Result, Ok, Err, Appends, Counts, NoneFell, Stored, AppendsPart, Stream, FileNames, SendStops, Sends, SendsUntil, Always, ToldRefusal, Told, printed, printed_until, Refusal, OutOfMemory, Call, Tells, NoWriteFell, Prints, Acts, printing_on, PrintsTo}
 use Rattle.log_commands.proofs.Causes.{Sends as Stops, sends-told, IsStop, sends-stop}
 use Rattle.log_commands.proofs.Prints.{appends-nothing, part-none, part-whole}
-use Rattle.log_commands.proofs.Tells.{untouched, printed-told, stopped-told, wanting}
+use Rattle.log_commands.proofs.Tells.{untouched, printed-told, stopped-told, memory}
 
 pub sends-done : (before now : ℕ) → Stops before now 0
 sends-done before now = record {
@@ -25,7 +14,7 @@ sends-done before now = record {
   write = λ e. absurd (omega (arith, e));
 }
 
-pub prints-so : (names : FileNames) (what : Told) (status : ℕ) (k : Call) → Tells names what status k → NoWriteFell k → Stops k.old.out_faults k.new.out_faults status → Prints names what status k
+pub prints-so : (names : FileNames) (what : Told) (status : ℕ) (k : Call) → Tells names what status k → NoWriteFell k → Stops k.old.out.faults k.new.out.faults status → Prints names what status k
 prints-so names what status k told later s = record {
   told = told;
   words = s.words;
@@ -37,7 +26,7 @@ prints-so names what status k told later s = record {
   later = later;
 }
 
-pub acts-so : (names : FileNames) (what : Told) (status : ℕ) (k : Call) → NoneFell k.old.counts k.new.counts → Prints names what status k → Acts names what status k
+pub acts-so : (names : FileNames) (what : Told) (status : ℕ) (k : Call) → NoneFell k.old.store.counts k.new.store.counts → Prints names what status k → Acts names what status k
 acts-so names what status k counts p = record {
   told = p.told;
   words = p.words;
@@ -61,13 +50,13 @@ closed-done P status err end h p = subst (λ (n : ℕ). P n end) (sym h.0) (subs
 
 -- a text that was sent is printed
 pub sent-prints : (text : List ℕ) (old new : Stream) (result : Result (Unit {0}) Refusal) → Sends text Always old new result → PrintsTo (λ names. printed text) old new result
-sent-prints text old new (Ok u) h = λ names files had status err end closed.
-    closed-done (λ n e. Prints names (printed text) n (printing_on files had old new err e)) status err end closed
-    (prints-so names (printed text) 0 (printing_on files had old new err err) (printed-told names text (printing_on files had old new err err) h.sent.0 (appends-nothing err.text) (untouched files))
+sent-prints text old new (Ok u) h = λ names store status err end closed.
+    closed-done (λ n e. Prints names (printed text) n (printing_on store old new err e)) status err end closed
+    (prints-so names (printed text) 0 (printing_on store old new err err) (printed-told names text (printing_on store old new err err) h.sent.0 (appends-nothing err.text) (untouched store.files))
     (record { out = h.later; err = omega arith }) (sends-done old.faults new.faults))
-sent-prints text old new (Err r) h = λ names files had status err end closed.
-    prints-so names (printed text) status (printing_on files had old new err end)
-    (stopped-told names (printed text) r status (printing_on files had old new err end) h.sent (untouched files) closed.0)
+sent-prints text old new (Err r) h = λ names store status err end closed.
+    prints-so names (printed text) status (printing_on store old new err end)
+    (stopped-told names (printed text) r status (printing_on store old new err end) h.sent (untouched store.files) closed.0)
     (record { out = h.later; err = closed.1 })
     (sends-told names r status err.text end.text err.faults end.faults old.faults new.faults h.sent.1 closed.0)
 
@@ -75,24 +64,24 @@ sent-prints text old new (Err r) h = λ names files had status err end closed.
 
 -- all was sent, and then it was refused
 refused-prints : (text : List ℕ) (r : Refusal) (old new : Stream) → IsStop r → Appends old.text new.text text → old.faults ≤ new.faults → PrintsTo {A = Unit {0}} (λ names. printed_until names text (Some r)) old new (Err r)
-refused-prints text r old new is sent later = λ names files had status err end closed.
-    let k = printing_on files had old new err end in
-    prints-so names (printed_until names text (Some r)) status k (told names files had status err end closed.0) (record { out = later; err = closed.1 })
+refused-prints text r old new is sent later = λ names store status err end closed.
+    let k = printing_on store old new err end in
+    prints-so names (printed_until names text (Some r)) status k (told names store status err end closed.0) (record { out = later; err = closed.1 })
     (sends-stop names r status err.text end.text err.faults end.faults old.faults new.faults is closed.0)
   where
-    told : (names : FileNames) (files : Option Files) (had : Counts) (status : ℕ) (err end : Stream) → ToldRefusal names r status err.text end.text err.faults end.faults
-        → Tells names (printed_until names text (Some r)) status (printing_on files had old new err end)
-    told names files had status err end (inl h) = inl (record { status_is = h.0; out = sent; err = h.1; files = untouched files })
-    told names files had status err end (inr h) =
-        inr (wanting names (printed_until names text (Some r)) status (printing_on files had old new err end) (part-whole old.text new.text text sent) (untouched files) (inl h))
+    told : (names : FileNames) (store : Stored) (status : ℕ) (err end : Stream) → ToldRefusal names r status err.text end.text err.faults end.faults
+        → Tells names (printed_until names text (Some r)) status (printing_on store old new err end)
+    told names store status err end (inl h) = inl (record { status_is = h.0; out = sent; err = h.1; files = untouched store.files })
+    told names store status err end (inr h) =
+        inr (memory names (printed_until names text (Some r)) status (printing_on store old new err end) (part-whole old.text new.text text sent) (untouched store.files) (inl h))
 
 -- sending it stopped
 stopped-prints : (text : List ℕ) (stop : Option Refusal) (r : Refusal) (old new : Stream) → AppendsPart old.text new.text text × SendStops old.faults new.faults r → old.faults ≤ new.faults
     → PrintsTo {A = Unit {0}} (λ names. printed_until names text stop) old new (Err r)
 stopped-prints text None r old new h later = sent-prints text old new (Err r) (record { sent = h; later = later })
-stopped-prints text (Some x) r old new h later = λ names files had status err end closed.
-    let k = printing_on files had old new err end in
-    prints-so names (printed_until names text (Some x)) status k (stopped-told names (printed_until names text (Some x)) r status k h (untouched files) closed.0) (record { out = later; err = closed.1 })
+stopped-prints text (Some x) r old new h later = λ names store status err end closed.
+    let k = printing_on store old new err end in
+    prints-so names (printed_until names text (Some x)) status k (stopped-told names (printed_until names text (Some x)) r status k h (untouched store.files) closed.0) (record { out = later; err = closed.1 })
     (sends-told names r status err.text end.text err.faults end.faults old.faults new.faults h.1 closed.0)
 
 pub until-prints : (text : List ℕ) (stop : Option Refusal) (old new : Stream) (result : Result (Unit {0}) Refusal) → ((r : Refusal) → stop ≡ Some r → IsStop r) → SendsUntil text stop old new result

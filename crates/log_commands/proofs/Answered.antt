@@ -1,17 +1,5 @@
 -- What a command answers once its files are loaded, or by the load that was refused.
-use Rattle.std.proofs.Common.{◌≡◌, ℕ, length, List, [], ◌∷◌, Option, Some, None, subst, sym, refl, true, false, Bool, nat_lt, inl, inr}
-use Rattle.std.specs.Prelude.{Result, Ok, Err}
-use Rattle.bn_outside.specs.Files.{Files}
-use Rattle.log_commands.specs.Answering.{IsByFiles}
-use Rattle.log_commands.specs.Commands.{Either, IsByFile, WithFile}
-use Rattle.log_commands.specs.Inputs.{Bytes, bytes_of, no_bytes, put, limit_of, unless_long, file_bytes, on_bytes, loaded_with, IsLoaded}
-use Rattle.log_commands.specs.Names.{FileNames, name_of}
-use Rattle.log_commands.specs.Outside.{WithFiles, without, GivesTo, GivesOf}
-use Rattle.log_commands.specs.Told.{Told, refused}
-use Rattle.log_commands.specs.declared.inputs.Inputs.{Inputs}
-use Rattle.log_commands.specs.declared.names.Role.{Role}
-use Rattle.log_commands.specs.declared.refusal.Refusal.{Refusal}
-use Rattle.log_commands.specs.declared.refusal.Refusal.TheVariants.{Missing, TooLong}
+use Rattle.log_commands.proofs.Common.{◌≡◌, ℕ, length, List, [], ◌∷◌, Option, Some, None, subst, sym, refl, true, false, Bool, nat_lt, inl, inr, Result, Ok, Err, Files, IsByFiles, Either, IsByFile, WithFile, Bytes, bytes_of, no_bytes, put, limit_of, unless_long, file_bytes, on_bytes, loaded_with, IsLoaded, FileNames, name_of, WithFiles, without, GivesTo, GivesOf, Told, refused, Inputs, Role, Refusal, Missing, TooLong}
 use Rattle.log_commands.proofs.Loads.{missing-named}
 
 -- what is loaded decides: a refusal is told, or what the bytes come to

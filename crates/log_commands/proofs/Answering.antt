@@ -1,22 +1,6 @@
 -- What a command makes of a log, or of a log and its program.
-use Rattle.std.proofs.Common.{◌≡◌, ℕ, List, ◌∙◌, ap, subst, sym, refl, inl, inr}
-use Rattle.std.specs.Prelude.{Result, Ok, Err, IsErrAnd}
-use Rattle.bn_outside.specs.Counts.{Counts}
-use Rattle.std.specs.Str.{bytes_eq}
-use Rattle.sha2.specs.Sha256.{sha256}
-use Rattle.log_order.specs.Content.{Content}
-use Rattle.log_commands.specs.Answering.{Answers}
-use Rattle.log_commands.specs.Commands.{IsByLog}
-use Rattle.log_commands.specs.Evaluated.{Makes, where_same, IsPairOfBytes, told_by}
-use Rattle.log_commands.specs.Names.{FileNames}
-use Rattle.log_commands.specs.Outside.{LogTells, Gives, GivesTo, RefusalCause}
-use Rattle.log_commands.specs.PairAnswers.{by_reading}
-use Rattle.log_commands.specs.Pairs.{ByPair, pair_of}
-use Rattle.log_commands.specs.Told.{Told}
-use Rattle.log_commands.specs.declared.answer.Answer.{Answer}
-use Rattle.log_commands.specs.declared.pairs.JointReading.{JointReading}
-use Rattle.log_commands.specs.declared.refusal.Refusal.{Refusal}
-use Rattle.log_commands.proofs.Loads.{log-read, log-refused}
+use Rattle.log_commands.proofs.Common.{◌≡◌, ℕ, List, ◌∙◌, ap, subst, sym, refl, inl, inr, Result, Ok, Err, IsErrAnd, Counts, bytes_eq, sha256, Content, Answers, IsByLog, Makes, where_same, IsPairOfBytes, told_by, FileNames, LogTells, Gives, GivesTo, RefusalCause, by_reading, ByPair, pair_of, Told, Answer, JointReading, Refusal}
+use Rattle.log_commands.proofs.Loads.{TellsDamage, refused-log, log-read, log-refused}
 use Rattle.log_commands.proofs.SamePair.{same-log}
 
 -- what `?` returns is the refusal that it was given
@@ -52,8 +36,11 @@ paired log elf d (Err x) reads (inr e) = inr (record { says = Ok d; reads = read
 
 -- one that is refused doesn't
 pub unpaired : (log elf : List ℕ) (x : Refusal) → LogTells log (Err x) → Makes (IsPairOfBytes log elf) (Err x)
-unpaired log elf x (inl memory) = inl memory
-unpaired log elf x (inr h) = inr (record { says = Err h.0; reads = h.2; is = ap (λ (y : Refusal). Err y) h.1 })
+unpaired log elf x h = by (refused-log log h.0 x h.1 h.2)
+  where
+    by : TellsDamage log x → Makes (IsPairOfBytes log elf) (Err x)
+    by (inl memory) = inl memory
+    by (inr k) = inr (record { says = Err k.0; reads = k.2; is = ap (λ (y : Refusal). Err y) k.1 })
 
 -- whatever is told by the two
 pub pair-gives : (log elf : List ℕ) (go : ByPair) (names : FileNames) (result : Result JointReading Refusal) → Makes (IsPairOfBytes log elf) result → GivesTo (by_reading go) names (IsByLog names log (pair_of go names elf)) result

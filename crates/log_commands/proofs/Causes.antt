@@ -1,18 +1,7 @@
 -- Which statuses a refused command can end with, by why it was refused.
-use Rattle.std.proofs.Common.{◌≡◌, ◌≢◌, ◌≤◌, ℕ, List, [], Option, Some, None, ◌∙◌, ap, subst, sym, arith, inl, inr, ◌⊎◌}
-use Rattle.std.specs.Prelude.{Result, Ok, Err}
-use Rattle.std.specs.Io.KnownBytes.{Appends}
-use Rattle.bn_outside.specs.Counts.{Counts, Rose}
-use Rattle.hart_replay.specs.declared.error.ReplayError.{ReplayError}
+use Rattle.log_commands.proofs.Common.{◌≡◌, ◌≢◌, ◌≤◌, ℕ, List, [], Option, Some, None, ◌∙◌, ap, subst, sym, arith, inl, inr, ◌⊎◌, Result, Ok, Err, Appends, Counts, Rose, ReplayError, JointError, FileNames, status_of, replay_status, joint_refusal, SendStops, ToldRefusal, RefusalCause, CauseBy, Call, IsByWords, Refusal, WordsRefused, OutOfRange, SameName, StoreFailed, Missing, TooLong, OutOfMemory, WriteFailed, ReplayStopped, ReadFailed, LineTooLong, CommandsTooLong}
 use Rattle.hart_replay.specs.declared.error.ReplayError.TheVariants as replay
-use Rattle.joint_replay.specs.declared.error.JointError.{JointError}
 use Rattle.joint_replay.specs.declared.error.JointError.TheVariants as joint
-use Rattle.log_commands.specs.Names.{FileNames}
-use Rattle.log_commands.specs.Refusals.{status_of, replay_status, joint_refusal}
-use Rattle.log_commands.specs.Outside.{SendStops, ToldRefusal, RefusalCause, CauseBy}
-use Rattle.log_commands.specs.Effects.{Call, IsByWords}
-use Rattle.log_commands.specs.declared.refusal.Refusal.{Refusal}
-use Rattle.log_commands.specs.declared.refusal.Refusal.TheVariants.{WordsRefused, OutOfRange, SameName, StoreFailed, Missing, TooLong, OutOfMemory, WriteFailed, ReplayStopped, ReadFailed, LineTooLong, CommandsTooLong}
 
 -- the statuses of the store come where its counts rose, and this isn't that of a write or of a read
 pub record Causes (before now : Counts) (status : ℕ) : Type 0 where
@@ -95,11 +84,11 @@ refusal-causes A (Some x) before now names r status err_old err_new m n c told =
 refusal-causes A None before now names r status err_old err_new m n c told = (caused names before now r status err_old err_new m n c told).causes
 
 pub refusal-words : (A : Type 0) (o : Option Refusal) (before now : Counts) (names : FileNames) (r : Refusal) (status : ℕ) (k : Call)
-    → CauseBy {A = A} o before now (Err r) → Appends k.old.out k.new.out [] → ToldRefusal names r status k.old.err k.new.err k.old.err_faults k.new.err_faults
+    → CauseBy {A = A} o before now (Err r) → Appends k.old.out.text k.new.out.text [] → ToldRefusal names r status k.old.err.text k.new.err.text k.old.err.faults k.new.err.faults
     → IsByWords o names status k
 refusal-words A (Some x) before now names r status k c out told =
-    (out, subst (λ (y : Refusal). ToldRefusal names y status k.old.err k.new.err k.old.err_faults k.new.err_faults) (same_refusal A r x c.0) told)
-refusal-words A None before now names r status k c out told = (caused names before now r status k.old.err k.new.err k.old.err_faults k.new.err_faults c told).words
+    (out, subst (λ (y : Refusal). ToldRefusal names y status k.old.err.text k.new.err.text k.old.err.faults k.new.err.faults) (same_refusal A r x c.0) told)
+refusal-words A None before now names r status k c out told = (caused names before now r status k.old.err.text k.new.err.text k.old.err.faults k.new.err.faults c told).words
 
 -- one that has its answer
 pub answer-words : (A : Type 0) (a : A) (o : Option Refusal) (before now : Counts) (names : FileNames) (status : ℕ) (k : Call) → CauseBy o before now (Ok a) → status ≢ 2 → IsByWords o names status k
@@ -110,8 +99,8 @@ answer-words A a (Some x) before now names status k c other = absurd (no-answer 
 answer-words A a None before now names status k c other = other
 
 -- no memory for the words
-pub memory-words : (o : Option Refusal) (names : FileNames) (status : ℕ) (k : Call) → Appends k.old.out k.new.out []
-    → ToldRefusal names OutOfMemory status k.old.err k.new.err k.old.err_faults k.new.err_faults → IsByWords o names status k
+pub memory-words : (o : Option Refusal) (names : FileNames) (status : ℕ) (k : Call) → Appends k.old.out.text k.new.out.text []
+    → ToldRefusal names OutOfMemory status k.old.err.text k.new.err.text k.old.err.faults k.new.err.faults → IsByWords o names status k
 memory-words (Some x) names status k out (inl h) = (out, inr h)
 memory-words (Some x) names status k out (inr h) = (out, inr h)
 memory-words None names status k out (inl h) = λ e. omega (arith, e, h.0)

@@ -1,9 +1,6 @@
 -- The lines of a log, record by record.
-use Rattle.std.proofs.Common.{◌≡◌, ℕ, ◌+◌, ◌≤◌, ◌<◌, List, [], ◌∷◌, ◌++◌, length, get_or, drop, sym, ap, ◌∙◌, add-one}
+use Rattle.log_commands.proofs.Common.{◌≡◌, ℕ, ◌+◌, ◌≤◌, ◌<◌, List, [], ◌∷◌, ◌++◌, length, get_or, drop, sym, ap, ◌∙◌, add-one, drop_all, Record, record_text, list_text}
 use Rattle.std.proofs.Math.Seq.{drop-cons}
-use Rattle.std.proofs.lemmas.List.{drop_all}
-use Rattle.log_record.specs.declared.record.Record.{Record}
-use Rattle.log_commands.specs.Texts.{record_text, list_text}
 
 -- the k-th record, as a loop has it, and those after it
 pub left : (records : List Record) (k : ℕ) (x : Record) → k < length records → x ≡ get_or records k x → drop k records ≡ x ∷ drop (k + 1) records

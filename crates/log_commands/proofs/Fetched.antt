@@ -1,18 +1,5 @@
 -- The loads of a command's files, one after another.
-use Rattle.std.proofs.Common.{◌≡◌, ℕ, ◌≤◌, ◌<◌, length, List, ◌∷◌, Option, Some, None, ◌∙◌, ap, subst, sym, refl, arith, true, false, Bool, inl, inr, ◌⊎◌, Vec, Global}
-use Rattle.std.specs.Prelude.{Result, Ok, Err, IsSomeAnd}
-use Rattle.std.specs.Str.{bytes_eq}
-use Rattle.std.proofs.lemmas.Slice.Eq.{bytes_eq-Decides}
-use Rattle.bn_outside.specs.Counts.{Counts, NoneFell}
-use Rattle.bn_outside.specs.Files.{Files}
-use Rattle.bn_outside.specs.StoreCalls.{StoreCall}
-use Rattle.log_commands.specs.Names.{FileNames, name_of}
-use Rattle.log_commands.specs.Inputs.{Bytes, bytes_of, put, limit_of, unless_long, file_bytes, on_bytes, loaded_with, loaded, Misses, IsLoaded, Stored, OnlyLoads}
-use Rattle.log_commands.specs.Outside.{WithFiles, FetchTells, unless, without, ResultCause}
-use Rattle.log_commands.specs.declared.inputs.Inputs.{Inputs}
-use Rattle.log_commands.specs.declared.names.Role.{Role}
-use Rattle.log_commands.specs.declared.refusal.Refusal.{Refusal}
-use Rattle.log_commands.specs.declared.refusal.Refusal.TheVariants.{WordsRefused, OutOfRange, SameName, StoreFailed, Missing, TooLong, WriteFailed, ReadFailed, LineTooLong, CommandsTooLong}
+use Rattle.log_commands.proofs.Common.{◌≡◌, ℕ, ◌≤◌, ◌<◌, length, List, ◌∷◌, Option, Some, None, ◌∙◌, ap, subst, sym, refl, arith, true, false, Bool, inl, inr, ◌⊎◌, Vec, Global, Result, Ok, Err, IsSomeAnd, bytes_eq, bytes_eq-Decides, Counts, NoneFell, Files, Stored, StoreCall, FileNames, name_of, Bytes, bytes_of, put, limit_of, unless_long, file_bytes, on_bytes, loaded_with, loaded, Misses, IsLoaded, OnlyLoads, WithFiles, FetchTells, unless, without, ResultCause, Inputs, Role, Refusal, WordsRefused, OutOfRange, SameName, StoreFailed, Missing, TooLong, WriteFailed, ReadFailed, LineTooLong, CommandsTooLong}
 use Rattle.log_commands.proofs.Loads.{passes, fits}
 use Rattle.log_commands.proofs.Prints.{rose-later}
 use Rattle.log_commands.proofs.FileCalls.{CalledSoFar}

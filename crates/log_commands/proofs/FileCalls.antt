@@ -1,18 +1,6 @@
 -- The calls that a command makes of its store.
-use Rattle.std.proofs.Common.{◌≡◌, ◌≢◌, ℕ, false, List, [], ◌∷◌, ◌++◌, ◌∙◌, ap, subst, sym, refl, inl, inr, ◌⊎◌, append_assoc, Option}
-use Rattle.std.specs.Prelude.{Result, Ok, Err}
-use Rattle.std.specs.Io.KnownBytes.{Appends}
-use Rattle.std.proofs.lemmas.List.{append-nil}
-use Rattle.bn_outside.specs.StoreCalls.{StoreCall, LoadCall}
-use Rattle.log_commands.specs.Names.{FileNames, name_of}
-use Rattle.log_commands.specs.FileCalls.{FileCall, Loads, Saves, store_call, noted_after, loads_of, EndsWith, StopsAt, LoadsUpTo, CallsTo, LoadsTo, IsOfLoad, IsOfSave, SavesUpTo, SavesTo, SavesTold, book_saves, has_save}
-use Rattle.log_commands.specs.Inputs.{limit_of}
-use Rattle.log_commands.specs.Outside.{IsOwn, ToldRefusal}
-use Rattle.log_commands.specs.Effects.{Call}
-use Rattle.log_commands.specs.declared.names.Role.{Role}
+use Rattle.log_commands.proofs.Common.{◌≡◌, ◌≢◌, ℕ, false, List, [], ◌∷◌, ◌++◌, ◌∙◌, ap, subst, sym, refl, inl, inr, ◌⊎◌, append_assoc, Option, Result, Ok, Err, Appends, append-nil, StoreCall, LoadCall, FileNames, name_of, FileCall, Loads, Saves, store_call, noted_after, loads_of, EndsWith, StopsAt, LoadsUpTo, CallsTo, LoadsTo, IsOfLoad, IsOfSave, SavesUpTo, SavesTo, SavesTold, book_saves, has_save, limit_of, IsOwn, ToldRefusal, Call, Role, Refusal, OutOfMemory, StoreFailed}
 use Rattle.log_commands.specs.declared.names.Role.TheVariants as role
-use Rattle.log_commands.specs.declared.refusal.Refusal.{Refusal}
-use Rattle.log_commands.specs.declared.refusal.Refusal.TheVariants.{OutOfMemory, StoreFailed}
 
 -- ---- what is noted
 
@@ -161,7 +149,7 @@ loads-alone (r ∷ roles) (c ∷ made) left e = subst (λ (x : FileCall). has_sa
 
 -- an answer whose saves were refused
 pub saves-refused : (note : ℕ → StoreCall → ℕ) (names : FileNames) (saves : List FileCall) (r : Refusal) (status : ℕ) (before after : ℕ) (k : Call) → SavesUpTo names saves note before after r
-    → Appends k.old.out k.new.out [] → ToldRefusal names r status k.old.err k.new.err k.old.err_faults k.new.err_faults → SavesTold names saves status note before after k
+    → Appends k.old.out.text k.new.out.text [] → ToldRefusal names r status k.old.err.text k.new.err.text k.old.err.faults k.new.err.faults → SavesTold names saves status note before after k
 saves-refused note names saves r status before after k s out told = record {
   made = s.made;
   left = s.left;

@@ -1,25 +1,7 @@
 -- The steps and the known words of a joint replay, sent one after another, and what is told of them.
-use Rattle.std.proofs.Common.{◌≡◌, ℕ, ◌≤◌, nat_lt, Bool, true, false, List, [], ◌∷◌, ◌++◌, Option, Some, None, ◌∙◌, ap, subst, sym, refl, arith, inl, inr, ◌⊎◌, append_assoc}
-use Rattle.std.specs.Prelude.{Result, Ok, Err, option_map}
-use Rattle.std.specs.Io.KnownBytes.{Appends}
-use Rattle.bn_outside.specs.Streams.{AppendsPart}
-use Rattle.hart_replay.specs.declared.error.ReplayError.{ReplayError}
-use Rattle.joint_replay.specs.declared.error.JointError.{JointError}
+use Rattle.log_commands.proofs.Common.{◌≡◌, ℕ, ◌≤◌, nat_lt, Bool, true, false, List, [], ◌∷◌, ◌++◌, Option, Some, None, ◌∙◌, ap, subst, sym, refl, arith, inl, inr, ◌⊎◌, append_assoc, Result, Ok, Err, option_map, Appends, AppendsPart, Stream, ReplayError, JointError, known_from, Joining, Ran, begun, ran, run_all, item_text, known_text, steps_text, memory_text, joint_text, one_step, Advanced, Advances, IsFirstTaken, RunsGoOn, RunsEnd, stop_of, ran_told, joined, told_of_joint, SendsSteps, Sends, SendsUntil, SentUntil, SendStops, Always, PrintsTo, joint_refusal, printed_until, JointReading, Refusal, OutOfMemory}
 use Rattle.joint_replay.specs.declared.error.JointError.TheVariants.{Replay, Stuck}
 use Rattle.joint_replay.specs.declared.error.JointError.TheVariants as joint
-use Rattle.joint_replay.specs.Memory.{known_from}
-use Rattle.joint_replay.specs.Joining.{Joining, Ran, begun, ran, run_all}
-use Rattle.joint_replay.specs.Texts.{item_text, known_text, steps_text, memory_text, joint_text}
-use Rattle.joint_replay.specs.Runs.{one_step, Advanced, Advances, IsFirstTaken, RunsGoOn, RunsEnd}
-use Rattle.log_commands.specs.Joined.{stop_of, ran_told, joined}
-use Rattle.log_commands.specs.JointEnds.{told_of_joint, SendsSteps}
-use Rattle.log_commands.specs.Outside.{Stream, Sends, SendsUntil, SentUntil, SendStops, Always}
-use Rattle.log_commands.specs.Effects.{PrintsTo}
-use Rattle.log_commands.specs.Refusals.{joint_refusal}
-use Rattle.log_commands.specs.Told.{printed_until}
-use Rattle.log_commands.specs.declared.pairs.JointReading.{JointReading}
-use Rattle.log_commands.specs.declared.refusal.Refusal.{Refusal}
-use Rattle.log_commands.specs.declared.refusal.Refusal.TheVariants.{OutOfMemory}
 use Rattle.log_commands.proofs.Prints.{SoFar, so_far-none, so_far-more, so_far-gathered, so_far-done, so_far-stopped, so_far-ends, part-longer, part-behind, stops-later, appends-both}
 use Rattle.log_commands.proofs.Acts.{until-prints, memory-prints}
 use Rattle.log_commands.proofs.Causes.{IsStop, joint-stop}

@@ -1,30 +1,8 @@
 -- What is done with an answer, from how its files were saved and its texts sent.
-use Rattle.std.proofs.Common.{◌≡◌, ◌≢◌, ◌≤◌, ◌<◌, ◌∙◌, ℕ, Bool, true, false, List, [], Option, Some, None, ap, refl, sym, subst, arith, inl, inr, ◌⊎◌}
-use Rattle.std.specs.Prelude.{Result, Ok, Err}
-use Rattle.std.proofs.lemmas.Bool.{cases_lt}
-use Rattle.bn_outside.specs.Counts.{Counts, Rose, counted}
-use Rattle.bn_outside.specs.Files.{Files, WhereTold}
-use Rattle.log_commands.specs.Acting.{StopsSaving, SavesFile, SavesAll, World, world, between, with_err, ActsOn, ActsTo}
-use Rattle.log_commands.specs.Effects.{Acts, PrintsTo, done_of}
-use Rattle.log_commands.specs.FileCalls.{FileCall, Note, Saves, store_call, saves_in, saves_of, book_saves, SavesTold}
-use Rattle.log_commands.specs.Inputs.{Stored}
-use Rattle.log_commands.specs.Names.{FileNames}
-use Rattle.log_commands.specs.Outside.{Stream, Sends, SendsBytes, Always, Unsaved, Refuses, SaveBroke, KeptLog, KeptSaved, KeptFiles, saved_of, saved_new, told_of, told_of_recording}
-use Rattle.log_commands.specs.Refusals.{status_of}
-use Rattle.log_commands.specs.RunEnds.{end_status}
-use Rattle.log_commands.specs.SaveCounts.{saves_after, AtMostSaves, SavesEach, AnswerSaves, is_lean}
-use Rattle.log_commands.specs.Texts.{check_line}
-use Rattle.log_commands.specs.Told.{Told, Saved}
-use Rattle.log_commands.specs.declared.answer.Answer.{Answer}
-use Rattle.log_commands.specs.declared.answer.Answer.TheVariants.{Recorded, Renewed}
-use Rattle.log_commands.specs.declared.answer.NewLog.{NewLog}
+use Rattle.log_commands.proofs.Common.{◌≡◌, ◌≢◌, ◌≤◌, ◌<◌, ◌∙◌, ℕ, Bool, true, false, List, [], Option, Some, None, ap, refl, sym, subst, arith, inl, inr, ◌⊎◌, Result, Ok, Err, cases_lt, Counts, Rose, counted, Files, WhereTold, Stored, StopsSaving, SavesFile, SavesAll, with_err, ActsOn, ActsTo, Acts, PrintsTo, done_of, World, world, between, FileCall, Note, Saves, store_call, saves_in, saves_of, book_saves, SavesTold, FileNames, Stream, Sends, SendsBytes, Always, Unsaved, Refuses, SaveBroke, KeptLog, KeptSaved, KeptFiles, saved_of, saved_new, told_of, told_of_recording, status_of, end_status, saves_after, AtMostSaves, SavesEach, AnswerSaves, is_lean, check_line, Told, Saved, Answer, Recorded, Renewed, NewLog, RunToTell, Role, Refusal, StoreFailed, OutOfMemory}
 use Rattle.log_commands.specs.declared.answer.RunEnd.{RunEnd}
 use Rattle.log_commands.specs.declared.answer.RunEnd.TheVariants as run_end
-use Rattle.log_commands.specs.declared.answer.RunToTell.{RunToTell}
-use Rattle.log_commands.specs.declared.names.Role.{Role}
 use Rattle.log_commands.specs.declared.names.Role.TheVariants as role
-use Rattle.log_commands.specs.declared.refusal.Refusal.{Refusal}
-use Rattle.log_commands.specs.declared.refusal.Refusal.TheVariants.{StoreFailed, OutOfMemory}
 use Rattle.log_commands.specs.Statuses.{code}
 use Rattle.log_commands.specs.declared.status.Status.{Status}
 use Rattle.log_commands.proofs.Acts.{closed-done, prints-so, acts-so, none-fell, sends-done}
@@ -279,7 +257,7 @@ run-kept names r value note old new out printed err mid is s h last = λ status 
 pub prints-act : (names : FileNames) (answer : Answer) (note : Note) (s : Stored) (out printed err : Stream) (result : Result (Unit {0}) Refusal) → saves_in answer ≡ [] → ((status : ℕ) → AnswerSaves answer status s.saves s.saves)
     → PrintsTo (λ names. told_of names answer) out printed result → ActsTo names answer note (world s out err) (world s printed err) (done_of result)
 prints-act names answer note s out printed err result none saves p = λ status end closed.
-    let q = p names s.files s.counts status err end closed in
+    let q = p names s status err end closed in
     let k = between (world s out err) (world s printed end) in
     record {
       acts = acts-so names (told_of names answer) status k (none-fell s.counts) q;

@@ -1,25 +1,7 @@
 -- What a command answers after its loads.
-use Rattle.std.proofs.Common.{◌≡◌, ℕ, ◌≤◌, ◌<◌, length, List, [], ◌++◌, Option, Some, None, ap, subst, sym, refl, arith, true, false, Bool, nat_lt, inl, inr, ◌⊎◌, Vec, Global}
-use Rattle.std.specs.Prelude.{Result, Ok, Err, IsSomeAnd, codes}
-use Rattle.std.specs.Str.{bytes_eq}
-use Rattle.std.proofs.lemmas.Slice.Eq.{bytes_eq-Decides}
-use Rattle.std.proofs.lemmas.Bool.Decides.{nat_tests}
-use Rattle.bn_outside.specs.Counts.{Counts}
-use Rattle.bn_outside.specs.Files.{Files}
-use Rattle.log_order.specs.Content.{Content}
+use Rattle.log_commands.proofs.Common.{◌≡◌, ℕ, ◌≤◌, ◌<◌, length, List, [], ◌++◌, Option, Some, None, ap, subst, sym, refl, arith, true, false, Bool, nat_lt, inl, inr, ◌⊎◌, Vec, Global, Result, Ok, Err, IsSomeAnd, codes, bytes_eq, bytes_eq-Decides, nat_tests, Counts, Files, Content, IsRefusal, Reads, Damage, FileNames, name_of, line_of, said_of, log_refusal, Told, refused, Either, IsByFile, WithFile, IsByLog, WithFiles, FetchTells, LogTells, Gives, unless, without, GivesTo, GivesOf, RefusalCause, told_of, Role, Answer, Refusal, Missing, TooLong, LogRefused, OutOfMemory}
 use Rattle.log_file.specs.declared.error.FileError.TheVariants as file
-use Rattle.log_blocks.specs.File.{IsRefusal}
-use Rattle.log_blocks.specs.declared.damage.Damage.{Damage}
 use Rattle.log_blocks.specs.declared.damage.Damage.TheVariants.{File, BadBlock}
-use Rattle.log_commands.specs.Names.{FileNames, name_of}
-use Rattle.log_commands.specs.Refusals.{line_of, said_of, log_refusal}
-use Rattle.log_commands.specs.Told.{Told, refused}
-use Rattle.log_commands.specs.Commands.{Either, IsByFile, WithFile, IsByLog}
-use Rattle.log_commands.specs.Outside.{WithFiles, FetchTells, LogTells, Gives, unless, without, GivesTo, GivesOf, RefusalCause, told_of}
-use Rattle.log_commands.specs.declared.names.Role.{Role}
-use Rattle.log_commands.specs.declared.answer.Answer.{Answer}
-use Rattle.log_commands.specs.declared.refusal.Refusal.{Refusal}
-use Rattle.log_commands.specs.declared.refusal.Refusal.TheVariants.{Missing, TooLong}
 
 -- the first or the second by what the test says
 pub on_true : (b : Bool) (A B : Type 0) → b ≡ true → A → Either b A B
@@ -111,13 +93,11 @@ loaded A tells files names here limit bytes (Err r) Go h (inr go) = inr (by-byte
 
 -- ---- logs
 
--- a log that is refused ends the command
-pub made-refused : (A : Type 0) (tells : A → Told) (names : FileNames) (bytes : List ℕ) (go : Content → Told) (r : Refusal) → LogTells bytes (Err r) → GivesTo tells names (IsByLog names bytes go) (Err r)
-made-refused A tells names bytes go r (inl e) = inl e
-made-refused A tells names bytes go r (inr h) = inr (record { says = Err h.0; reads = h.2; is = ap (λ (x : Refusal). refused names x) h.1 })
+-- memory ran out, or the log's damage is told
+abbrev pub TellsDamage : List ℕ → Refusal → Type 0
+TellsDamage bytes r = (r ≡ OutOfMemory) ⊎ ((e : Damage) × (r ≡ LogRefused e) × Reads bytes (Err e))
 
--- the refusal of a log by its damage
-pub refused-log : (bytes : List ℕ) (e : Damage) (r : Refusal) → r ≡ log_refusal e → IsRefusal bytes e → LogTells bytes (Err r)
+pub refused-log : (bytes : List ℕ) (e : Damage) (r : Refusal) → r ≡ log_refusal e → IsRefusal bytes e → TellsDamage bytes r
 refused-log bytes (BadBlock at) r is h = inr (BadBlock at, is, (h, λ e. absurd cc))
 refused-log bytes (File (file.Short length)) r is h = inr (File (file.Short length), is, (h, λ e. absurd cc))
 refused-log bytes (File file.BadMagic) r is h = inr (File file.BadMagic, is, (h, λ e. absurd cc))
@@ -128,6 +108,14 @@ refused-log bytes (File (file.DigestDiffers kept found)) r is h = inr (File (fil
 refused-log bytes (File (file.BadRecord at)) r is h = inr (File (file.BadRecord at), is, (h, λ e. absurd cc))
 refused-log bytes (File (file.BadOrder at rule)) r is h = inr (File (file.BadOrder at rule), is, (h, λ e. absurd cc))
 refused-log bytes (File file.OutOfMemory) r is h = inl is
+
+-- a log that is refused ends the command
+pub made-refused : (A : Type 0) (tells : A → Told) (names : FileNames) (bytes : List ℕ) (go : Content → Told) (r : Refusal) → LogTells bytes (Err r) → GivesTo tells names (IsByLog names bytes go) (Err r)
+made-refused A tells names bytes go r h = by (refused-log bytes h.0 r h.1 h.2)
+  where
+    by : TellsDamage bytes r → GivesTo tells names (IsByLog names bytes go) (Err r)
+    by (inl e) = inl e
+    by (inr k) = inr (record { says = Err k.0; reads = k.2; is = ap (λ (x : Refusal). refused names x) k.1 })
 
 own-refusal : (before now : Counts) (e : Damage) → RefusalCause before now (log_refusal e)
 own-refusal before now (File (file.Short length)) = tt

@@ -1,7 +1,7 @@
 -- Records that say nothing of the mark of an interval.
-use Rattle.std.proofs.Common.{◌≡◌, ℕ, ◌==◌, Bool, true, false, ◌∷◌, refl}
+use Rattle.log_commands.proofs.Common.{◌≡◌, ℕ, ◌==◌, Bool, true, false, ◌∷◌, refl, Logged}
 use Rattle.log_record.specs.declared.record.Record.TheVariants.{FirstLoad, ScOk, ScFailed}
-use Rattle.hart_replay.specs.Replay.{Logged, put}
+use Rattle.hart_replay.specs.Replay.{put}
 
 same_mark : (b : Bool) (m l : Logged) → m.mark ≡ l.mark → (elim b as (λ x. Logged) [ true ↦ m | false ↦ l ]).mark ≡ l.mark
 same_mark true m l e = e

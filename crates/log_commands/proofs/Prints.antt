@@ -1,14 +1,5 @@
 -- Texts that are sent one after another.
-use Rattle.std.proofs.Common.{◌≡◌, ℕ, suc, ◌+◌, ◌≤◌, ◌<◌, List, [], ◌∷◌, ◌++◌, length, take, Option, Some, None, ◌∙◌, ap, subst, sym, refl, arith, inl, inr, ◌⊎◌, append_assoc}
-use Rattle.std.specs.Prelude.{Result, Ok, Err, OnOk, OnErr}
-use Rattle.std.specs.Io.KnownBytes.{Appends}
-use Rattle.std.proofs.lemmas.List.{append-nil, take_all, take-append-le}
-use Rattle.std.proofs.lemmas.Bool.{cases_lt}
-use Rattle.bn_outside.specs.Counts.{Rose}
-use Rattle.bn_outside.specs.Streams.{AppendsPart}
-use Rattle.log_commands.specs.Outside.{Sent, SendStops, Gathered, Wrote}
-use Rattle.log_commands.specs.declared.refusal.Refusal.{Refusal}
-use Rattle.log_commands.specs.declared.refusal.Refusal.TheVariants.{OutOfMemory, WriteFailed}
+use Rattle.log_commands.proofs.Common.{◌≡◌, ℕ, suc, ◌+◌, ◌≤◌, ◌<◌, List, [], ◌∷◌, ◌++◌, length, take, Option, Some, None, ◌∙◌, ap, subst, sym, refl, arith, inl, inr, ◌⊎◌, append_assoc, Result, Ok, Err, OnOk, OnErr, Appends, append-nil, take_all, take-append-le, cases_lt, Rose, AppendsPart, Sent, SendStops, Gathered, Wrote, Refusal, OutOfMemory, WriteFailed}
 
 pub appends-nothing : (known : Option (List ℕ)) → Appends known known []
 appends-nothing None = tt

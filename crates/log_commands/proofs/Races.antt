@@ -1,20 +1,10 @@
 -- The races of a log.
-use Rattle.std.proofs.Common.{◌≡◌, ℕ, Bool, List, Option, ◌∙◌, ap, sym}
-use Rattle.std.specs.Prelude.{Ok, Err}
-use Rattle.bn_outside.specs.Counts.{Counts}
-use Rattle.joint_replay.specs.declared.error.JointError.{JointError}
+use Rattle.log_commands.proofs.Common.{◌≡◌, ℕ, Bool, List, Option, ◌∙◌, ap, sym, Ok, Err, Counts, JointError, Ran, FileNames, joint_refusal, refused, printed, races_listed, races_unless, races_in, RefusalCause, TooManyRaces}
 use Rattle.joint_replay.specs.declared.error.JointError.TheVariants as joint
-use Rattle.joint_replay.specs.Joining.{Ran}
 use Rattle.race_report.specs.Races.{race_count, races_of}
 use Rattle.race_report.specs.Reports.{points_in}
 use Rattle.race_report.specs.Texts.{IsReportText}
 use Rattle.race_report.specs.declared.error.RaceError.TheVariants.{Joint, TooMany}
-use Rattle.log_commands.specs.Names.{FileNames}
-use Rattle.log_commands.specs.Refusals.{joint_refusal}
-use Rattle.log_commands.specs.Told.{refused, printed}
-use Rattle.log_commands.specs.RaceAnswers.{races_listed, races_unless, races_in}
-use Rattle.log_commands.specs.Outside.{RefusalCause}
-use Rattle.log_commands.specs.declared.refusal.Refusal.TheVariants.{TooManyRaces}
 use Rattle.log_commands.proofs.Loads.{passes, fits}
 
 -- they are listed

@@ -1,21 +1,12 @@
 -- Logs that are made of others.
-use Rattle.std.proofs.Common.{◌≡◌, ℕ, List, [], Some, ◌∙◌, ap, refl}
-use Rattle.std.specs.Prelude.{◌≢◌, Ok, Err}
-use Rattle.log_order.specs.Content.{Content}
+use Rattle.log_commands.proofs.Common.{◌≡◌, ℕ, List, [], Some, ◌∙◌, ap, refl, Ok, Err, Content, LogCounts, IsSalvageRefusal, FileNames, check_line, Told, refused, renewed, salvage_refusal, IsBySalvage, saved_new, told_of_new, NewLog}
+use Rattle.std.specs.Prelude.{◌≢◌}
 use Rattle.log_file.specs.Layout.{file_bytes2}
 use Rattle.log_file.specs.Counts.{counts_of}
-use Rattle.log_file.specs.declared.counting.LogCounts.{LogCounts}
 use Rattle.log_blocks.specs.Counts.{RenewsSalvaged}
-use Rattle.log_blocks.specs.File.{IsSalvageRefusal}
 use Rattle.log_blocks.specs.declared.damage.SalvageError.{SalvageError}
 use Rattle.log_blocks.specs.declared.damage.SalvageError.TheVariants.{OutOfMemory}
 use Rattle.log_blocks.specs.declared.salvaging.NewFile.{NewFile}
-use Rattle.log_commands.specs.Names.{FileNames}
-use Rattle.log_commands.specs.Texts.{check_line}
-use Rattle.log_commands.specs.Told.{Told, refused}
-use Rattle.log_commands.specs.NewLogs.{renewed, salvage_refusal, IsBySalvage}
-use Rattle.log_commands.specs.Outside.{saved_new, told_of_new}
-use Rattle.log_commands.specs.declared.answer.NewLog.{NewLog}
 
 -- ---- what is told
 

@@ -1,19 +1,7 @@
 -- The rows of a replay, sent one after another.
-use Rattle.std.proofs.Common.{◌≡◌, ℕ, ◌≤◌, List, [], ◌∷◌, Option, ◌∙◌, ap, subst, sym, refl, ◌++◌, inl, inr, ◌⊎◌, arith, append_assoc}
-use Rattle.std.specs.Io.KnownBytes.{Appends}
-use Rattle.bn_base.specs.declared.row.Row.{Row}
-use Rattle.bn_outside.specs.Streams.{AppendsPart}
-use Rattle.rv_text.specs.Rows.{row_text}
-use Rattle.hart_replay.specs.Replay.{Outcome, Done, Refused, Replayed}
-use Rattle.hart_replay.specs.Coming.{with_rows, over}
-use Rattle.hart_replay.specs.declared.error.ReplayError.{ReplayError}
+use Rattle.log_commands.proofs.Common.{◌≡◌, ℕ, ◌≤◌, List, [], ◌∷◌, Option, ◌∙◌, ap, subst, sym, refl, ◌++◌, inl, inr, ◌⊎◌, arith, append_assoc, Appends, Row, AppendsPart, row_text, Outcome, Done, Refused, Replayed, with_rows, over, ReplayError, rows_text, EndMark, outcome_of, ending_of, end_of_interval, Sent, SendStops, Refusal}
 use Rattle.hart_replay.specs.declared.error.ReplayError.TheVariants as replay
-use Rattle.log_commands.specs.Texts.{rows_text}
-use Rattle.bn_base.specs.declared.end_mark.EndMark.{EndMark}
-use Rattle.log_commands.specs.Printed.{outcome_of, ending_of, end_of_interval}
-use Rattle.log_commands.specs.Outside.{Sent, SendStops}
 use Rattle.log_commands.specs.declared.replay_lines.ReplayEnd.TheVariants as ending
-use Rattle.log_commands.specs.declared.refusal.Refusal.{Refusal}
 use Rattle.log_commands.proofs.Prints.{SoFar, so_far-none, so_far-more, so_far-gathered, so_far-done, so_far-stopped, so_far-ends, part-behind, stops-later}
 
 -- of the rows of a replay some were sent, a text waits, and these are left

@@ -1,15 +1,7 @@
 -- What the audit of a log and its program tells.
-use Rattle.std.proofs.Common.{◌≡◌, ℕ, List, ◌∙◌, ap, inl, inr}
-use Rattle.std.specs.Prelude.{Result, Ok, Err}
-use Rattle.bn_base.specs.Programs.{Program}
+use Rattle.log_commands.proofs.Common.{◌≡◌, ℕ, List, ◌∙◌, ap, inl, inr, Result, Ok, Err, Program, FileNames, audit_by, audited, shown, told_by, Makes, GivesTo, JointReading, Refusal}
 use Rattle.bn_base.specs.declared.settings.RawSettings.{RawSettings}
 use Rattle.run_model.specs.declared.start.Start.{Start}
-use Rattle.log_commands.specs.Names.{FileNames}
-use Rattle.log_commands.specs.Audits.{audit_by, audited, shown}
-use Rattle.log_commands.specs.Evaluated.{told_by, Makes}
-use Rattle.log_commands.specs.Outside.{GivesTo}
-use Rattle.log_commands.specs.declared.pairs.JointReading.{JointReading}
-use Rattle.log_commands.specs.declared.refusal.Refusal.{Refusal}
 
 -- with a recording of these parts it is what is compared of the pair
 same-start : (log book input : List ℕ) (r : JointReading) (s : Start) → s.image ≡ r.image → s.settings ≡ r.log.head.settings → s.digest ≡ r.log.head.digest → s.input.items ≡ input

@@ -1,27 +1,9 @@
 -- A log and its program that were loaded and read.
-use Rattle.std.proofs.Common.{◌≡◌, ◌≤◌, nat_lt, length, List, [], Bool, true, false, Option, Some, None, sym, subst, refl, arith}
-use Rattle.std.specs.Prelude.{ℕ, Result, Ok, Err, IfOk}
-use Rattle.std.specs.Str.{bytes_eq}
-use Rattle.std.proofs.lemmas.Bool.Decides.{nat_tests}
-use Rattle.sha2.specs.Sha256.{sha256}
-use Rattle.bn_base.specs.Programs.{Program}
-use Rattle.bn_outside.specs.Files.{Files}
+use Rattle.log_commands.proofs.Common.{◌≡◌, ◌≤◌, nat_lt, length, List, [], Bool, true, false, Option, Some, None, sym, subst, refl, arith, Result, Ok, Err, IfOk, bytes_eq, nat_tests, sha256, Program, Files, Content, Damage, FileNames, by_log, with_image, where_same, pair_by, IsPairOfBytes, told_by, Makes, Reads, Bytes, bytes_of, unless_long, file_bytes, on_bytes, IsLoaded, WithFiles, ByPair, pair_roles, pair_loaded, pair_same, pair_of, LoadedPair, by_reading, Inputs, JointReading, Refusal}
+use Rattle.std.specs.Prelude.{ℕ}
 use Rattle.elf_loader.specs.Loaded.{image_of}
 use Rattle.elf_loader.specs.declared.error.ElfError.{ElfError}
-use Rattle.log_order.specs.Content.{Content}
-use Rattle.log_blocks.specs.declared.damage.Damage.{Damage}
-use Rattle.log_commands.specs.Names.{FileNames}
-use Rattle.log_commands.specs.Commands.{by_log}
-use Rattle.log_commands.specs.Evaluated.{with_image, where_same, pair_by, IsPairOfBytes, told_by, Makes}
-use Rattle.log_blocks.specs.Readings.{Reads}
-use Rattle.log_commands.specs.Inputs.{Bytes, bytes_of, unless_long, file_bytes, on_bytes, IsLoaded}
-use Rattle.log_commands.specs.Outside.{WithFiles}
-use Rattle.log_commands.specs.Pairs.{ByPair, pair_roles, pair_loaded, pair_same, pair_of, LoadedPair}
-use Rattle.log_commands.specs.PairAnswers.{by_reading}
-use Rattle.log_commands.specs.declared.inputs.Inputs.{Inputs}
 use Rattle.log_commands.specs.declared.names.Role.TheVariants as role
-use Rattle.log_commands.specs.declared.pairs.JointReading.{JointReading}
-use Rattle.log_commands.specs.declared.refusal.Refusal.{Refusal}
 
 same-image : (go : ByPair) (names : FileNames) (d : Content) (i : Result Program ElfError) → told_by (by_reading go) names (with_image d i) ≡ pair_loaded go names d i
 same-image go names d (Err e) = refl

@@ -1,15 +1,5 @@
 -- How often a command asks its store to save.
-use Rattle.std.proofs.Common.{◌≡◌, ◌≢◌, ℕ, Bool, true, false, List, Option, Some, ◌∙◌, ap, arith, inl, inr}
-use Rattle.bn_outside.specs.Counts.{Counts}
-use Rattle.bn_outside.specs.Files.{Files}
-use Rattle.log_commands.specs.SaveCounts.{SavedAll, SavesEach, AtMostSaves}
-use Rattle.log_commands.specs.Names.{FileNames}
-use Rattle.log_commands.specs.Outside.{ToldRefusal, Unsaved}
-use Rattle.log_commands.specs.Refusals.{status_of}
-use Rattle.log_commands.specs.RunEnds.{IsRecorded}
-use Rattle.log_commands.specs.Told.{Saved}
-use Rattle.log_commands.specs.declared.refusal.Refusal.{Refusal}
-use Rattle.log_commands.specs.declared.refusal.Refusal.TheVariants.{OutOfMemory}
+use Rattle.log_commands.proofs.Common.{◌≡◌, ◌≢◌, ℕ, Bool, true, false, List, Option, Some, ◌∙◌, ap, arith, inl, inr, Counts, Files, SavedAll, SavesEach, AtMostSaves, FileNames, ToldRefusal, Unsaved, status_of, IsRecorded, Saved, Refusal, OutOfMemory}
 use Rattle.log_commands.proofs.StatusesApart.{told-apart}
 
 -- neither a recording that is done, nor one whose texts a write refused

@@ -1,31 +1,13 @@
 -- What is told of the replay of an interval.
-use Rattle.std.proofs.Common.{◌≡◌, ℕ, List, [], ◌++◌, Option, Some, None, ◌∙◌, ap, subst, sym, refl, inl, inr, ◌⊎◌, append_assoc}
-use Rattle.std.specs.Io.KnownBytes.{Appends}
-use Rattle.std.proofs.lemmas.List.{append-nil}
-use Rattle.bn_base.specs.declared.end_mark.EndMark.{EndMark}
+use Rattle.log_commands.proofs.Common.{◌≡◌, ℕ, List, [], ◌++◌, Option, Some, None, ◌∙◌, ap, subst, sym, refl, inl, inr, ◌⊎◌, append_assoc, Appends, append-nil, EndMark, WhereTold, AppendsPart, Replaying, Outcome, Done, Refused, Replayed, Interval, interval_of, ReplayError, FileNames, begin_text, rows_text, Told, Saved, refused, outcome_of, end_of_interval, rest_text, ended, replay_found, SendStops, ToldRefusal, told_of_reading, SameFiles, KeptFiles, Call, AreKept, Tells, ReplayEnd, Refusal, OutOfMemory, ReplayStopped}
 use Rattle.bn_base.specs.declared.state.HartState.{HartState}
-use Rattle.bn_outside.specs.Files.{WhereTold}
-use Rattle.bn_outside.specs.Streams.{AppendsPart}
-use Rattle.hart_replay.specs.Coming.{Replaying}
-use Rattle.hart_replay.specs.Replay.{Outcome, Done, Refused, Replayed, Interval, interval_of}
-use Rattle.hart_replay.specs.declared.error.ReplayError.{ReplayError}
 use Rattle.hart_replay.specs.declared.error.ReplayError.TheVariants.{NoInterval}
-use Rattle.log_commands.specs.Names.{FileNames}
 use Rattle.rv_text.specs.Marks.{end_text}
-use Rattle.log_commands.specs.Texts.{begin_text, rows_text}
-use Rattle.log_commands.specs.Told.{Told, Saved, refused}
-use Rattle.log_commands.specs.Printed.{outcome_of, end_of_interval, rest_text}
-use Rattle.log_commands.specs.Commands.{ended, replay_found}
 use Rattle.log_commands.specs.Logs.{IsBegun}
-use Rattle.log_commands.specs.Outside.{SendStops, ToldRefusal, told_of_reading, SameFiles, KeptFiles}
-use Rattle.log_commands.specs.Effects.{Call, AreKept, Tells}
 use Rattle.log_commands.specs.declared.answer.IntervalToReplay.{IntervalToReplay}
-use Rattle.log_commands.specs.declared.replay_lines.ReplayEnd.{ReplayEnd}
 use Rattle.log_commands.specs.declared.replay_lines.ReplayEnd.TheVariants as ending
-use Rattle.log_commands.specs.declared.refusal.Refusal.{Refusal}
-use Rattle.log_commands.specs.declared.refusal.Refusal.TheVariants.{OutOfMemory, ReplayStopped}
 use Rattle.log_commands.proofs.Prints.{part-whole}
-use Rattle.log_commands.proofs.Tells.{wanting, refused-told, stopped-told, printed-told}
+use Rattle.log_commands.proofs.Tells.{memory, refused-told, stopped-told, printed-told}
 
 -- ---- an interval
 
@@ -61,14 +43,14 @@ back : (names : FileNames) (reading : IntervalToReplay) (r : Replaying) (mark : 
     → Tells names (shown names reading.hart reading.interval mark r.state r.left) status k → Tells names (told_of_reading names reading) status k
 back names reading r mark status k b h = subst (λ (t : Told). Tells names t status k) (sym (begun-told names reading r mark b)) h
 
-done-told : (names : FileNames) (hart interval : ℕ) (mark : EndMark) (text : List ℕ) (k : Call) → Appends k.old.out k.new.out (ended names hart interval mark text Done).out
-    → Appends k.old.err k.new.err [] → WhereTold k.old.files k.new.files SameFiles → Tells names (ended names hart interval mark text Done) 0 k
+done-told : (names : FileNames) (hart interval : ℕ) (mark : EndMark) (text : List ℕ) (k : Call) → Appends k.old.out.text k.new.out.text (ended names hart interval mark text Done).out
+    → Appends k.old.err.text k.new.err.text [] → WhereTold k.old.store.files k.new.store.files SameFiles → Tells names (ended names hart interval mark text Done) 0 k
 unfolding ended
 done-told names hart interval mark text k h err files = printed-told names (text ++ end_text hart interval mark) k h err files
 
 pub interval-done : (names : FileNames) (reading : IntervalToReplay) (r : Replaying) (mark : EndMark) (x : ReplayEnd) (k : Call)
-    → IsBegun reading r mark → Appends k.old.out k.new.out (begin_text reading.hart reading.interval r.state.ic ++ rest_text reading.hart reading.interval mark r.left)
-    → outcome_of x ≡ r.left.outcome → x ≡ ending.Done → Appends k.old.err k.new.err [] → WhereTold k.old.files k.new.files SameFiles
+    → IsBegun reading r mark → Appends k.old.out.text k.new.out.text (begin_text reading.hart reading.interval r.state.ic ++ rest_text reading.hart reading.interval mark r.left)
+    → outcome_of x ≡ r.left.outcome → x ≡ ending.Done → Appends k.old.err.text k.new.err.text [] → WhereTold k.old.store.files k.new.store.files SameFiles
     → Tells names (told_of_reading names reading) 0 k
 interval-done names reading r mark x k b h same done err files =
     let hart = reading.hart in
@@ -76,50 +58,50 @@ interval-done names reading r mark x k b h same done err files =
     let e : r.left.outcome ≡ Done = sym same ∙ ap outcome_of done in
     let begin = begin_text hart n r.state.ic in
     let rows = rows_text r.left.rows in
-    let whole : Appends k.old.out k.new.out (ended names hart n mark (begin ++ rows) r.left.outcome).out =
-    subst (λ (t : List ℕ). Appends k.old.out k.new.out t) (ended-out names hart n mark begin rows r.left.outcome) h in
-    let there : Appends k.old.out k.new.out (ended names hart n mark (begin ++ rows) Done).out = subst (λ (o : Outcome). Appends k.old.out k.new.out (ended names hart n mark (begin ++ rows) o).out) e whole in
+    let whole : Appends k.old.out.text k.new.out.text (ended names hart n mark (begin ++ rows) r.left.outcome).out =
+    subst (λ (t : List ℕ). Appends k.old.out.text k.new.out.text t) (ended-out names hart n mark begin rows r.left.outcome) h in
+    let there : Appends k.old.out.text k.new.out.text (ended names hart n mark (begin ++ rows) Done).out = subst (λ (o : Outcome). Appends k.old.out.text k.new.out.text (ended names hart n mark (begin ++ rows) o).out) e whole in
     back names reading r mark 0 k b
     (subst (λ (o : Outcome). Tells names (ended names hart n mark (begin ++ rows) o) 0 k) (sym e) (done-told names hart n mark (begin ++ rows) k there err files))
 
 differs-told : (names : FileNames) (hart interval : ℕ) (mark : EndMark) (text : List ℕ) (e : ReplayError) (status : ℕ) (k : Call)
-    → Appends k.old.out k.new.out (ended names hart interval mark text (Refused e)).out → WhereTold k.old.files k.new.files SameFiles
-    → ToldRefusal names (ReplayStopped e) status k.old.err k.new.err k.old.err_faults k.new.err_faults → Tells names (ended names hart interval mark text (Refused e)) status k
+    → Appends k.old.out.text k.new.out.text (ended names hart interval mark text (Refused e)).out → WhereTold k.old.store.files k.new.store.files SameFiles
+    → ToldRefusal names (ReplayStopped e) status k.old.err.text k.new.err.text k.old.err.faults k.new.err.faults → Tells names (ended names hart interval mark text (Refused e)) status k
 unfolding ended
 differs-told names hart interval mark text e status k h files (inl told) = inl (record { status_is = told.0; out = h; err = told.1; files = files })
 differs-told names hart interval mark text e status k h files (inr told) =
-    inr (wanting names (ended names hart interval mark text (Refused e)) status k (part-whole k.old.out k.new.out text h) files (inl told))
+    inr (memory names (ended names hart interval mark text (Refused e)) status k (part-whole k.old.out.text k.new.out.text text h) files (inl told))
 
 pub interval-differs : (names : FileNames) (reading : IntervalToReplay) (r : Replaying) (mark : EndMark) (x : ReplayEnd) (e : ReplayError) (status : ℕ) (k : Call)
-    → IsBegun reading r mark → Appends k.old.out k.new.out (begin_text reading.hart reading.interval r.state.ic ++ rest_text reading.hart reading.interval mark r.left)
-    → outcome_of x ≡ r.left.outcome → x ≡ ending.Stopped e → WhereTold k.old.files k.new.files SameFiles
-    → ToldRefusal names (ReplayStopped e) status k.old.err k.new.err k.old.err_faults k.new.err_faults → Tells names (told_of_reading names reading) status k
+    → IsBegun reading r mark → Appends k.old.out.text k.new.out.text (begin_text reading.hart reading.interval r.state.ic ++ rest_text reading.hart reading.interval mark r.left)
+    → outcome_of x ≡ r.left.outcome → x ≡ ending.Stopped e → WhereTold k.old.store.files k.new.store.files SameFiles
+    → ToldRefusal names (ReplayStopped e) status k.old.err.text k.new.err.text k.old.err.faults k.new.err.faults → Tells names (told_of_reading names reading) status k
 interval-differs names reading r mark x e status k b h same differs files told =
     let hart = reading.hart in
     let n = reading.interval in
     let is : r.left.outcome ≡ Refused e = sym same ∙ ap outcome_of differs in
     let begin = begin_text hart n r.state.ic in
     let rows = rows_text r.left.rows in
-    let whole : Appends k.old.out k.new.out (ended names hart n mark (begin ++ rows) r.left.outcome).out =
-    subst (λ (t : List ℕ). Appends k.old.out k.new.out t) (ended-out names hart n mark begin rows r.left.outcome) h in
-    let there : Appends k.old.out k.new.out (ended names hart n mark (begin ++ rows) (Refused e)).out = subst (λ (o : Outcome). Appends k.old.out k.new.out (ended names hart n mark (begin ++ rows) o).out) is whole in
+    let whole : Appends k.old.out.text k.new.out.text (ended names hart n mark (begin ++ rows) r.left.outcome).out =
+    subst (λ (t : List ℕ). Appends k.old.out.text k.new.out.text t) (ended-out names hart n mark begin rows r.left.outcome) h in
+    let there : Appends k.old.out.text k.new.out.text (ended names hart n mark (begin ++ rows) (Refused e)).out = subst (λ (o : Outcome). Appends k.old.out.text k.new.out.text (ended names hart n mark (begin ++ rows) o).out) is whole in
     back names reading r mark status k b
     (subst (λ (o : Outcome). Tells names (ended names hart n mark (begin ++ rows) o) status k) (sym is) (differs-told names hart n mark (begin ++ rows) e status k there files told))
 
-kept-none : (names : FileNames) (what : Told) (k : Call) → what.saved ≡ None → WhereTold k.old.files k.new.files SameFiles → AreKept names what k
-kept-none names what k e files = subst (λ (s : Option Saved). WhereTold k.old.files k.new.files (KeptFiles s names.log names.book)) (sym e) files
+kept-none : (names : FileNames) (what : Told) (k : Call) → what.saved ≡ None → WhereTold k.old.store.files k.new.store.files SameFiles → AreKept names what k
+kept-none names what k e files = subst (λ (s : Option Saved). WhereTold k.old.store.files k.new.store.files (KeptFiles s names.log names.book)) (sym e) files
 
 -- sending stopped
 pub interval-stopped : (names : FileNames) (reading : IntervalToReplay) (r : Replaying) (mark : EndMark) (why : Refusal) (status : ℕ) (k : Call)
     → IsBegun reading r mark
-    → AppendsPart k.old.out k.new.out (begin_text reading.hart reading.interval r.state.ic ++ rest_text reading.hart reading.interval mark r.left) × SendStops k.old.out_faults k.new.out_faults why
-    → WhereTold k.old.files k.new.files SameFiles → ToldRefusal names why status k.old.err k.new.err k.old.err_faults k.new.err_faults
+    → AppendsPart k.old.out.text k.new.out.text (begin_text reading.hart reading.interval r.state.ic ++ rest_text reading.hart reading.interval mark r.left) × SendStops k.old.out.faults k.new.out.faults why
+    → WhereTold k.old.store.files k.new.store.files SameFiles → ToldRefusal names why status k.old.err.text k.new.err.text k.old.err.faults k.new.err.faults
     → Tells names (told_of_reading names reading) status k
 interval-stopped names reading r mark why status k b h files told =
     let hart = reading.hart in
     let n = reading.interval in
     let what = shown names hart n mark r.state r.left in
-    let there = subst (λ (t : List ℕ). AppendsPart k.old.out k.new.out t) (ended-out names hart n mark (begin_text hart n r.state.ic) (rows_text r.left.rows) r.left.outcome) h.0 in
+    let there = subst (λ (t : List ℕ). AppendsPart k.old.out.text k.new.out.text t) (ended-out names hart n mark (begin_text hart n r.state.ic) (rows_text r.left.rows) r.left.outcome) h.0 in
     back names reading r mark status k b
     (stopped-told names what why status k (there, h.1) (kept-none names what k (ended-saved names hart n mark (begin_text hart n r.state.ic ++ rows_text r.left.rows) r.left.outcome) files) told)
 
@@ -131,8 +113,8 @@ found-saved names reading (Some v) = ended-saved names reading.hart reading.inte
 -- the log keeps no such interval, or there was no memory for its replay
 pub not-begun : (names : FileNames) (reading : IntervalToReplay) (r : Refusal) (status : ℕ) (k : Call)
     → ((r ≡ ReplayStopped (NoInterval reading.hart reading.interval)) × (interval_of reading.hart reading.interval reading.log.records ≡ None)) ⊎ (r ≡ OutOfMemory)
-    → Appends k.old.out k.new.out [] → WhereTold k.old.files k.new.files SameFiles
-    → ToldRefusal names r status k.old.err k.new.err k.old.err_faults k.new.err_faults → Tells names (told_of_reading names reading) status k
+    → Appends k.old.out.text k.new.out.text [] → WhereTold k.old.store.files k.new.store.files SameFiles
+    → ToldRefusal names r status k.old.err.text k.new.err.text k.old.err.faults k.new.err.faults → Tells names (told_of_reading names reading) status k
 not-begun names reading r status k (inl h) out files told =
     let is : told_of_reading names reading ≡ refused names r =
     ap (λ (o : Option Interval). replay_found names reading.hart reading.interval reading.log reading.image o) h.1 ∙ ap (λ (x : Refusal). refused names x) (sym h.0) in
@@ -140,5 +122,5 @@ not-begun names reading r status k (inl h) out files told =
 not-begun names reading r status k (inr h) out files told =
     let what = told_of_reading names reading in
     let saved : what.saved ≡ None = found-saved names reading (interval_of reading.hart reading.interval reading.log.records) in
-    inr (wanting names what status k (0, out) (kept-none names what k saved files)
-    (subst (λ (x : Refusal). ToldRefusal names x status k.old.err k.new.err k.old.err_faults k.new.err_faults) h told))
+    inr (memory names what status k (0, out) (kept-none names what k saved files)
+    (subst (λ (x : Refusal). ToldRefusal names x status k.old.err.text k.new.err.text k.old.err.faults k.new.err.faults) h told))

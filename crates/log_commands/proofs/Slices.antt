@@ -1,16 +1,8 @@
 -- Slices.
-use Rattle.std.proofs.Common.{◌≡◌, ℕ, List, ap, inl, inr, arith}
-use Rattle.std.specs.Prelude.{Result, Ok, Err}
-use Rattle.bn_base.specs.Programs.{Program}
-use Rattle.log_order.specs.Content.{Content}
-use Rattle.hart_replay.specs.declared.error.ReplayError.{ReplayError}
+use Rattle.log_commands.proofs.Common.{◌≡◌, ℕ, List, ap, inl, inr, arith, Result, Ok, Err, Program, Content, ReplayError, FileNames, refused, printed, slice_told, slice_with, ReplayStopped, NoRow}
 use Rattle.slice_back.specs.Texts.{IsTextAnswer}
 use Rattle.slice_back.specs.declared.error.SliceError.{SliceError}
 use Rattle.slice_back.specs.declared.error.SliceError.TheVariants as back
-use Rattle.log_commands.specs.Names.{FileNames}
-use Rattle.log_commands.specs.Told.{refused, printed}
-use Rattle.log_commands.specs.SliceAnswers.{slice_told, slice_with}
-use Rattle.log_commands.specs.declared.refusal.Refusal.TheVariants.{ReplayStopped, NoRow}
 
 -- it is printed
 pub slice-shown : (names : FileNames) (hart interval ic : ℕ) (d : Content) (i : Program) (text : List ℕ) → IsTextAnswer i d.records hart interval ic (Ok text) → printed text ≡ slice_with names hart interval ic d i

@@ -1,14 +1,6 @@
 -- No refusal has the status of a recording that is done.
-use Rattle.std.proofs.Common.{◌≡◌, ◌≢◌, ℕ, List, Option, ◌∙◌, subst, sym, refl, arith, inl, inr}
-use Rattle.hart_replay.specs.declared.error.ReplayError.{ReplayError}
+use Rattle.log_commands.proofs.Common.{◌≡◌, ◌≢◌, ℕ, List, Option, ◌∙◌, subst, sym, refl, arith, inl, inr, ReplayError, FileNames, status_of, replay_status, Told, refused, ToldRefusal, IsRecorded, Refusal, OutOfMemory, ReplayStopped}
 use Rattle.hart_replay.specs.declared.error.ReplayError.TheVariants as replay
-use Rattle.log_commands.specs.Names.{FileNames}
-use Rattle.log_commands.specs.Refusals.{status_of, replay_status}
-use Rattle.log_commands.specs.Told.{Told, refused}
-use Rattle.log_commands.specs.Outside.{ToldRefusal}
-use Rattle.log_commands.specs.RunEnds.{IsRecorded}
-use Rattle.log_commands.specs.declared.refusal.Refusal.{Refusal}
-use Rattle.log_commands.specs.declared.refusal.Refusal.TheVariants.{OutOfMemory, ReplayStopped}
 
 -- ---- no refusal has the status of a recording
 
@@ -19,6 +11,7 @@ apart status n is a b c (inr (inr e)) = c (sym is ∙ e)
 
 replays-apart : (e : ReplayError) → IsRecorded (replay_status e) → ⊥
 replays-apart (replay.NoInterval hart interval) is = apart 14 14 refl (λ e. omega (arith, e)) (λ e. omega (arith, e)) (λ e. omega (arith, e)) is
+replays-apart replay.OutOfMemory is = apart 9 9 refl (λ e. omega (arith, e)) (λ e. omega (arith, e)) (λ e. omega (arith, e)) is
 replays-apart other is = apart 15 15 refl (λ e. omega (arith, e)) (λ e. omega (arith, e)) (λ e. omega (arith, e)) is
 
 refusals-apart : (r : Refusal) → IsRecorded (status_of r) → ⊥

@@ -1,43 +1,28 @@
 -- What a whole call of the program does, from what its parts do.
-use Rattle.std.proofs.Common.{◌≡◌, ◌≤◌, ℕ, List, [], Option, Some, None, ◌∙◌, ap, subst, sym, refl, arith, inl, inr, ◌⊎◌}
-use Rattle.std.specs.Prelude.{IsSomeAnd}
-use Rattle.std.specs.Io.KnownBytes.{Appends}
-use Rattle.bn_outside.specs.Counts.{Counts, Rose, NoneFell}
-use Rattle.bn_outside.specs.Files.{Files, WhereTold, SameElsewhere}
-use Rattle.bn_outside.specs.Streams.{AppendsPart, AppendsShort}
-use Rattle.log_commands.specs.Names.{FileNames}
-use Rattle.log_commands.specs.RunEnds.{end_status}
-use Rattle.log_commands.specs.Refusals.{line_of, said_of, status_of}
-use Rattle.log_commands.specs.Told.{Told, Saved, refused, printed}
-use Rattle.log_commands.specs.Outside.{SendStops, ToldRefusal, WithFiles, told_of_recording, SameFiles, LogAlone, SaveBroke, KeptBoth, KeptLog, KeptSaved, KeptFiles, MayChange, Unsaved}
-use Rattle.log_commands.specs.Effects.{Call, IsFree, IsUnsaved, AreKept, SavingStopped, OutStopped, ErrStopped, ErrWaits, Stopped, Tells}
-use Rattle.log_commands.specs.declared.names.Role.{Role}
+use Rattle.log_commands.proofs.Common.{◌≡◌, ◌≤◌, ℕ, List, [], Option, Some, None, ◌∙◌, ap, subst, sym, refl, arith, inl, inr, ◌⊎◌, IsSomeAnd, Appends, Counts, Rose, NoneFell, Files, Stored, WhereTold, SameElsewhere, AppendsPart, AppendsShort, FileNames, end_status, line_of, said_of, status_of, Told, Saved, refused, printed, SendStops, ToldRefusal, WithFiles, told_of_recording, SameFiles, LogAlone, SaveBroke, KeptBoth, KeptLog, KeptSaved, KeptFiles, MayChange, Unsaved, Call, between, world, IsFree, IsUnsaved, AreKept, SavingStopped, OutStopped, ErrStopped, ErrWaits, Stopped, Tells, Role, RunToTell, Refusal, StoreFailed, OutOfMemory, WriteFailed}
 use Rattle.log_commands.specs.declared.names.Role.TheVariants as role
-use Rattle.log_commands.specs.declared.answer.RunToTell.{RunToTell}
-use Rattle.log_commands.specs.declared.refusal.Refusal.{Refusal}
-use Rattle.log_commands.specs.declared.refusal.Refusal.TheVariants.{StoreFailed, OutOfMemory, WriteFailed}
 use Rattle.log_commands.proofs.Prints.{part-whole, rose-later}
 
 -- ---- a refusal
 
 -- out of memory after all of a text for out
-pub wanting : (names : FileNames) (what : Told) (status : ℕ) (k : Call) → AppendsPart k.old.out k.new.out what.out → AreKept names what k
-    → ToldRefusal names OutOfMemory status k.old.err k.new.err k.old.err_faults k.new.err_faults → Stopped names what status k
-wanting names what status k out files told = record {
+pub memory : (names : FileNames) (what : Told) (status : ℕ) (k : Call) → AppendsPart k.old.out.text k.new.out.text what.out → AreKept names what k
+    → ToldRefusal names OutOfMemory status k.old.err.text k.new.err.text k.old.err.faults k.new.err.faults → Stopped names what status k
+memory names what status k out files told = record {
   refusal = OutOfMemory;
-  mid = k.old.err;
-  faults = k.old.err_faults;
+  mid = k.old.err.text;
+  faults = k.old.err.faults;
   later = omega arith;
   place = inl (record { text = refl; count = refl }, inr (record { out = out; cause = tt; files = files }));
   line = told;
 }
 
 -- a refusal that words and files explain
-pub refused-told : (names : FileNames) (r : Refusal) (status : ℕ) (k : Call) → Appends k.old.out k.new.out [] → WhereTold k.old.files k.new.files SameFiles
-    → ToldRefusal names r status k.old.err k.new.err k.old.err_faults k.new.err_faults → Tells names (refused names r) status k
+pub refused-told : (names : FileNames) (r : Refusal) (status : ℕ) (k : Call) → Appends k.old.out.text k.new.out.text [] → WhereTold k.old.store.files k.new.store.files SameFiles
+    → ToldRefusal names r status k.old.err.text k.new.err.text k.old.err.faults k.new.err.faults → Tells names (refused names r) status k
 unfolding refused
 refused-told names r status k out files (inl h) = inl (record { status_is = h.0; out = out; err = h.1; files = files })
-refused-told names r status k out files (inr h) = inr (wanting names (refused names r) status k (part-whole k.old.out k.new.out [] out) files (inl h))
+refused-told names r status k out files (inr h) = inr (memory names (refused names r) status k (part-whole k.old.out.text k.new.out.text [] out) files (inl h))
 
 -- the refusals that they don't explain
 abbrev FreeRefusal : Refusal → Type 0
@@ -131,9 +116,9 @@ stopped-free names what status k s = by s.place
   where
     by : ErrWaits k s.mid s.faults × (SavingStopped names what s.refusal k ⊎ OutStopped names what s.refusal k) ⊎ ErrStopped names what s.refusal k s.mid s.faults → IsFree status
     by (inl (waits, inl x)) =
-        unsaved-free status (unsaved-status what.saved names k.old.files k.new.files k.old.counts k.new.counts s.refusal status s.mid k.new.err s.faults k.new.err_faults x.files s.line)
-    by (inl (waits, inr x)) = free-status names s.refusal status s.mid k.new.err s.faults k.new.err_faults (sends-free s.refusal k.old.out_faults k.new.out_faults x.cause) s.line
-    by (inr x) = free-status names s.refusal status s.mid k.new.err s.faults k.new.err_faults (subst (λ (r : Refusal). FreeRefusal r) (sym x.refusal_is) tt) s.line
+        unsaved-free status (unsaved-status what.saved names k.old.store.files k.new.store.files k.old.store.counts k.new.store.counts s.refusal status s.mid k.new.err.text s.faults k.new.err.faults x.files s.line)
+    by (inl (waits, inr x)) = free-status names s.refusal status s.mid k.new.err.text s.faults k.new.err.faults (sends-free s.refusal k.old.out.faults k.new.out.faults x.cause) s.line
+    by (inr x) = free-status names s.refusal status s.mid k.new.err.text s.faults k.new.err.faults (subst (λ (r : Refusal). FreeRefusal r) (sym x.refusal_is) tt) s.line
 
 -- it keeps what was to be saved, unless a save was refused
 pub tells-keeps : (names : FileNames) (what : Told) (status : ℕ) (k : Call) → Tells names what status k → IsUnsaved status ⊎ AreKept names what k
@@ -142,49 +127,49 @@ tells-keeps names what status k (inr s) = by s.place
   where
     by : ErrWaits k s.mid s.faults × (SavingStopped names what s.refusal k ⊎ OutStopped names what s.refusal k) ⊎ ErrStopped names what s.refusal k s.mid s.faults → IsUnsaved status ⊎ AreKept names what k
     by (inl (waits, inl x)) =
-        inl (unsaved-status what.saved names k.old.files k.new.files k.old.counts k.new.counts s.refusal status s.mid k.new.err s.faults k.new.err_faults x.files s.line)
+        inl (unsaved-status what.saved names k.old.store.files k.new.store.files k.old.store.counts k.new.store.counts s.refusal status s.mid k.new.err.text s.faults k.new.err.faults x.files s.line)
     by (inl (waits, inr x)) = inr x.files
     by (inr x) = inr x.files
 
-pub tells-few : (names : FileNames) (what : Told) (status : ℕ) (k : Call) → Tells names what status k → WhereTold k.old.files k.new.files (MayChange what.saved names.log names.book)
-tells-few names what status k (inl done) = where-told k.old.files k.new.files (KeptFiles what.saved names.log names.book) (MayChange what.saved names.log names.book) (kept-few what.saved names.log names.book) done.files
+pub tells-few : (names : FileNames) (what : Told) (status : ℕ) (k : Call) → Tells names what status k → WhereTold k.old.store.files k.new.store.files (MayChange what.saved names.log names.book)
+tells-few names what status k (inl done) = where-told k.old.store.files k.new.store.files (KeptFiles what.saved names.log names.book) (MayChange what.saved names.log names.book) (kept-few what.saved names.log names.book) done.files
 tells-few names what status k (inr s) = by s.place
   where
     by : ErrWaits k s.mid s.faults × (SavingStopped names what s.refusal k ⊎ OutStopped names what s.refusal k) ⊎ ErrStopped names what s.refusal k s.mid s.faults
-        → WhereTold k.old.files k.new.files (MayChange what.saved names.log names.book)
-    by (inl (waits, inl x)) = unsaved-few what.saved names k.old.files k.new.files k.old.counts k.new.counts s.refusal x.files
-    by (inl (waits, inr x)) = where-told k.old.files k.new.files (KeptFiles what.saved names.log names.book) (MayChange what.saved names.log names.book) (kept-few what.saved names.log names.book) x.files
-    by (inr x) = where-told k.old.files k.new.files (KeptFiles what.saved names.log names.book) (MayChange what.saved names.log names.book) (kept-few what.saved names.log names.book) x.files
+        → WhereTold k.old.store.files k.new.store.files (MayChange what.saved names.log names.book)
+    by (inl (waits, inl x)) = unsaved-few what.saved names k.old.store.files k.new.store.files k.old.store.counts k.new.store.counts s.refusal x.files
+    by (inl (waits, inr x)) = where-told k.old.store.files k.new.store.files (KeptFiles what.saved names.log names.book) (MayChange what.saved names.log names.book) (kept-few what.saved names.log names.book) x.files
+    by (inr x) = where-told k.old.store.files k.new.store.files (KeptFiles what.saved names.log names.book) (MayChange what.saved names.log names.book) (kept-few what.saved names.log names.book) x.files
 
 -- ---- what is printed
 
 -- sending to out stopped
 pub stopped-told : (names : FileNames) (what : Told) (r : Refusal) (status : ℕ) (k : Call)
-    → AppendsPart k.old.out k.new.out what.out × SendStops k.old.out_faults k.new.out_faults r → AreKept names what k
-    → ToldRefusal names r status k.old.err k.new.err k.old.err_faults k.new.err_faults → Tells names what status k
+    → AppendsPart k.old.out.text k.new.out.text what.out × SendStops k.old.out.faults k.new.out.faults r → AreKept names what k
+    → ToldRefusal names r status k.old.err.text k.new.err.text k.old.err.faults k.new.err.faults → Tells names what status k
 stopped-told names what r status k h files told = inr (record {
   refusal = r;
-  mid = k.old.err;
-  faults = k.old.err_faults;
+  mid = k.old.err.text;
+  faults = k.old.err.faults;
   later = omega arith;
   place = inl (record { text = refl; count = refl }, inr (record { out = h.0; cause = h.1; files = files }));
   line = told;
 })
 
 -- a text is printed
-pub printed-told : (names : FileNames) (text : List ℕ) (k : Call) → Appends k.old.out k.new.out text → Appends k.old.err k.new.err [] → WhereTold k.old.files k.new.files SameFiles
+pub printed-told : (names : FileNames) (text : List ℕ) (k : Call) → Appends k.old.out.text k.new.out.text text → Appends k.old.err.text k.new.err.text [] → WhereTold k.old.store.files k.new.store.files SameFiles
     → Tells names (printed text) 0 k
 printed-told names text k out err files = inl (record { status_is = refl; out = out; err = inl err; files = files })
 
 -- ---- a recording
 
 -- saving stopped
-pub unsaved-told : (names : FileNames) (what : Told) (r : Refusal) (status : ℕ) (k : Call) → Appends k.old.out k.new.out []
-    → Unsaved what.saved names k.old.files k.new.files k.old.counts k.new.counts r → ToldRefusal names r status k.old.err k.new.err k.old.err_faults k.new.err_faults → Tells names what status k
+pub unsaved-told : (names : FileNames) (what : Told) (r : Refusal) (status : ℕ) (k : Call) → Appends k.old.out.text k.new.out.text []
+    → Unsaved what.saved names k.old.store.files k.new.store.files k.old.store.counts k.new.store.counts r → ToldRefusal names r status k.old.err.text k.new.err.text k.old.err.faults k.new.err.faults → Tells names what status k
 unsaved-told names what r status k out files told = inr (record {
   refusal = r;
-  mid = k.old.err;
-  faults = k.old.err_faults;
+  mid = k.old.err.text;
+  faults = k.old.err.faults;
   later = omega arith;
   place = inl (record { text = refl; count = refl }, inl (record { out = out; files = files }));
   line = told;
@@ -192,8 +177,8 @@ unsaved-told names what r status k out files told = inr (record {
 
 -- sending to err stopped
 pub half-told : (names : FileNames) (what : RunToTell) (r : Refusal) (status : ℕ) (k : Call) (mid : Option (List ℕ)) (faults : ℕ)
-    → Appends k.old.out k.new.out what.out.items → AppendsShort k.old.err mid what.err.items × Rose k.old.err_faults faults → r ≡ WriteFailed → k.old.err_faults ≤ faults
-    → AreKept names (told_of_recording what) k → ToldRefusal names r status mid k.new.err faults k.new.err_faults
+    → Appends k.old.out.text k.new.out.text what.out.items → AppendsShort k.old.err.text mid what.err.items × Rose k.old.err.faults faults → r ≡ WriteFailed → k.old.err.faults ≤ faults
+    → AreKept names (told_of_recording what) k → ToldRefusal names r status mid k.new.err.text faults k.new.err.faults
     → Tells names (told_of_recording what) status k
 half-told names what r status k mid faults out h is later files told = inr (record {
   refusal = r;
@@ -205,7 +190,7 @@ half-told names what r status k mid faults out h is later files told = inr (reco
 })
 
 -- all of it is done
-pub recorded-told : (names : FileNames) (what : RunToTell) (k : Call) → Appends k.old.out k.new.out what.out.items → Appends k.old.err k.new.err what.err.items
+pub recorded-told : (names : FileNames) (what : RunToTell) (k : Call) → Appends k.old.out.text k.new.out.text what.out.items → Appends k.old.err.text k.new.err.text what.err.items
     → AreKept names (told_of_recording what) k → Tells names (told_of_recording what) (end_status what.end) k
 recorded-told names what k out err files = inl (record { status_is = refl; out = out; err = err; files = files })
 
@@ -269,35 +254,32 @@ with-any (Some files) P h = h files
 -- ---- a part of a call
 
 -- a call that began earlier, with a store of the same files
-abbrev pub from : Option Files → Counts → Call → Call
-from files counts k = record {
-  old = record { files = files; counts = counts; out = k.old.out; out_faults = k.old.out_faults; err = k.old.err; err_faults = k.old.err_faults };
-  new = k.new;
-}
+abbrev pub from : Stored → Call → Call
+from store k = between (world store k.old.out k.old.err) k.new
 
 unsaved-from : (saved : Option Saved) (names : FileNames) (old new : Option Files) (before mid now : Counts) (r : Refusal) → NoneFell before mid → Unsaved saved names old new mid now r → Unsaved saved names old new before now r
 unsaved-from None names old new before mid now r n u = absurd u
 unsaved-from (Some saved) names old new before mid now r n (inl (role, is, broke, rose)) = inl (role, is, broke, rose-later before.faults mid.faults now.faults n.faults rose)
 unsaved-from (Some saved) names old new before mid now r n (inr memory) = inr memory
 
-pub tells-from : (names : FileNames) (what : Told) (status : ℕ) (files : Option Files) (counts : Counts) (k : Call) → k.old.files ≡ files → NoneFell counts k.old.counts
-    → Tells names what status k → Tells names what status (from files counts k)
-tells-from names what status files counts k e n (inl done) = inl (record {
+pub tells-from : (names : FileNames) (what : Told) (status : ℕ) (store : Stored) (k : Call) → k.old.store.files ≡ store.files → NoneFell store.counts k.old.store.counts
+    → Tells names what status k → Tells names what status (from store k)
+tells-from names what status store k e n (inl done) = inl (record {
   status_is = done.status_is;
   out = done.out;
   err = done.err;
-  files = subst (λ (x : Option Files). WhereTold x k.new.files (KeptFiles what.saved names.log names.book)) e done.files;
+  files = subst (λ (x : Option Files). WhereTold x k.new.store.files (KeptFiles what.saved names.log names.book)) e done.files;
 })
-tells-from names what status files counts k e n (inr s) = inr (record { refusal = s.refusal; mid = s.mid; faults = s.faults; later = s.later; place = place s.place; line = s.line })
+tells-from names what status store k e n (inr s) = inr (record { refusal = s.refusal; mid = s.mid; faults = s.faults; later = s.later; place = place s.place; line = s.line })
   where
     place : ErrWaits k s.mid s.faults × (SavingStopped names what s.refusal k ⊎ OutStopped names what s.refusal k) ⊎ ErrStopped names what s.refusal k s.mid s.faults
-        → ErrWaits (from files counts k) s.mid s.faults × (SavingStopped names what s.refusal (from files counts k) ⊎ OutStopped names what s.refusal (from files counts k)) ⊎ ErrStopped names what s.refusal (from files counts k) s.mid s.faults
+        → ErrWaits (from store k) s.mid s.faults × (SavingStopped names what s.refusal (from store k) ⊎ OutStopped names what s.refusal (from store k)) ⊎ ErrStopped names what s.refusal (from store k) s.mid s.faults
     place (inl (waits, inl x)) = inl (
       record { text = waits.text; count = waits.count },
       inl (record {
         out = x.out;
-        files = subst (λ (y : Option Files). Unsaved what.saved names y k.new.files counts k.new.counts s.refusal) e
-            (unsaved-from what.saved names k.old.files k.new.files counts k.old.counts k.new.counts s.refusal n x.files);
+        files = subst (λ (y : Option Files). Unsaved what.saved names y k.new.store.files store.counts k.new.store.counts s.refusal) e
+            (unsaved-from what.saved names k.old.store.files k.new.store.files store.counts k.old.store.counts k.new.store.counts s.refusal n x.files);
       }),
     )
     place (inl (waits, inr x)) = inl (
@@ -305,7 +287,7 @@ tells-from names what status files counts k e n (inr s) = inr (record { refusal 
       inr (record {
         out = x.out;
         cause = x.cause;
-        files = subst (λ (y : Option Files). WhereTold y k.new.files (KeptFiles what.saved names.log names.book)) e x.files;
+        files = subst (λ (y : Option Files). WhereTold y k.new.store.files (KeptFiles what.saved names.log names.book)) e x.files;
       }),
     )
     place (inr x) = inr (record {
@@ -313,5 +295,5 @@ tells-from names what status files counts k e n (inr s) = inr (record { refusal 
       out = x.out;
       err = x.err;
       cause = x.cause;
-      files = subst (λ (y : Option Files). WhereTold y k.new.files (KeptFiles what.saved names.log names.book)) e x.files;
+      files = subst (λ (y : Option Files). WhereTold y k.new.store.files (KeptFiles what.saved names.log names.book)) e x.files;
     })

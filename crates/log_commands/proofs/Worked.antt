@@ -1,10 +1,6 @@
 -- The saves of small logs, worked out.
-use Rattle.std.proofs.Common.{◌≡◌, ◌∷◌, ◌++◌, [], List, ap, ◌∙◌, sym, refl, arith}
-use Rattle.log_commands.specs.Effects.{Call}
+use Rattle.log_commands.proofs.Common.{◌≡◌, ◌∷◌, ◌++◌, [], List, ap, ◌∙◌, sym, refl, arith, Call, FileCall, Saves, SavesTold, saves_of, noted_after, no_names, Log, Book}
 use Rattle.log_commands.specs.Examples.{by_size, a_log, a_recording}
-use Rattle.log_commands.specs.FileCalls.{FileCall, Saves, SavesTold, saves_of, noted_after}
-use Rattle.log_commands.specs.Names.{no_names}
-use Rattle.log_commands.specs.declared.names.Role.TheVariants.{Log, Book}
 
 pub saves_are : saves_of a_recording ≡ Saves Log (7 ∷ 8 ∷ []) ∷ Saves Book (0 ∷ []) ∷ []
 saves_are = refl

@@ -1,12 +1,12 @@
 -- What is done with an answer: its files are saved, and its texts printed.
 use Rattle.std.specs.Prelude.{◌≡◌, ◌⊎◌, ℕ, Bool, List, Some, Result, OnOk, IfErr}
 use Rattle.bn_outside.specs.Counts.{Rose, NoneFell, counted}
-use Rattle.bn_outside.specs.Files.{WhereTold, SameElsewhere}
-use Rattle.log_commands.specs.Effects.{Call, Acts, IsClosed}
+use Rattle.bn_outside.specs.Files.{SameElsewhere, Stored, WhereTold}
+use Rattle.bn_outside.specs.Streams.{Stream}
+use Rattle.log_commands.specs.Effects.{World, between, Acts, IsClosed}
 use Rattle.log_commands.specs.FileCalls.{Note, Saves, store_call, saves_in, saves_of, SavesTo, SavesTold}
-use Rattle.log_commands.specs.Inputs.{Stored}
 use Rattle.log_commands.specs.Names.{FileNames, name_of}
-use Rattle.log_commands.specs.Outside.{Stream, SaveTells, IsPrinted, told_of}
+use Rattle.log_commands.specs.Outside.{SaveTells, IsPrinted, told_of}
 use Rattle.log_commands.specs.SaveCounts.{saves_after, AtMostSaves, AnswerSaves}
 use Rattle.log_commands.specs.Told.{Saved}
 use Rattle.log_commands.specs.declared.answer.Answer.{Answer}
@@ -38,29 +38,11 @@ pub record SavesAll (names : FileNames) (saved : Saved) (lean : Bool) (note : No
   pub all : OnOk result (new.saves ≡ saves_after lean old.saves)
   pub calls : SavesTo names (saves_of (Some saved)) note old.noted new.noted result
 
--- ---- the whole outside
+-- ---- an answer
 
--- what a store, out and err tell at one time
-pub record World : Type 0 where
-  pub store : Stored
-  pub out : Stream
-  pub err : Stream
-
-abbrev pub world : Stored → (out err : Stream) → World
-world s out err = record { store = s; out = out; err = err }
-
--- a call that began in the one and ended in the other
-abbrev pub between : (old new : World) → Call
-between old new = record {
-  old = record { files = old.store.files; counts = old.store.counts; out = old.out.text; out_faults = old.out.faults; err = old.err.text; err_faults = old.err.faults };
-  new = record { files = new.store.files; counts = new.store.counts; out = new.out.text; out_faults = new.out.faults; err = new.err.text; err_faults = new.err.faults };
-}
-
--- once err was given more
+-- the outside, once err was given more
 abbrev pub with_err : World → Stream → World
 with_err w end = record { store = w.store; out = w.out; err = end }
-
--- ---- an answer
 
 -- what an answer says is done, printed and saved
 pub record ActsOn (names : FileNames) (answer : Answer) (status : ℕ) (note : Note) (old new : World) : Type 0 where

@@ -2,10 +2,10 @@
 use Rattle.std.specs.Prelude.{◌≡◌, ℕ, List, [], ◌∷◌, Vec, Result, IfOk, IfErr}
 use Rattle.std.specs.declared.alloc.Global.{Global}
 use Rattle.bn_outside.specs.Counts.{NoneFell}
-use Rattle.bn_outside.specs.Files.{Files}
+use Rattle.bn_outside.specs.Files.{Files, Stored}
 use Rattle.log_commands.specs.Commands.{WithFile}
 use Rattle.log_commands.specs.FileCalls.{Note, Loads, store_call, LoadsTo, IsOfLoad}
-use Rattle.log_commands.specs.Inputs.{Bytes, put, Stored, limit_of, IsLoaded, OnlyLoads}
+use Rattle.log_commands.specs.Inputs.{Bytes, put, limit_of, IsLoaded, OnlyLoads}
 use Rattle.log_commands.specs.Names.{FileNames, name_of}
 use Rattle.log_commands.specs.Told.{Told}
 use Rattle.log_commands.specs.Outside.{Gives, IsOwn, WithFiles, FetchTells, ResultCause}

@@ -1,41 +1,39 @@
 -- What a whole call of the program does.
 use Rattle.std.specs.Prelude.{◌≡◌, ◌≢◌, ◌≤◌, ◌⊎◌, ℕ, List, [], Option, Some, None, Result, Ok, Err}
 use Rattle.std.specs.Io.KnownBytes.{Appends}
-use Rattle.bn_outside.specs.Counts.{Counts, Rose, NoneFell}
-use Rattle.bn_outside.specs.Files.{Files, WhereTold}
-use Rattle.bn_outside.specs.Streams.{AppendsPart, AppendsShort}
+use Rattle.bn_outside.specs.Counts.{Rose, NoneFell}
+use Rattle.bn_outside.specs.Files.{Files, Stored, WhereTold}
+use Rattle.bn_outside.specs.Streams.{AppendsPart, AppendsShort, Stream}
 use Rattle.log_commands.specs.Names.{FileNames}
 use Rattle.log_commands.specs.Told.{Told, Saved}
-use Rattle.log_commands.specs.Outside.{Stream, Refuses, Wrote, SendStops, ToldRefusal, IsEarly, KeptFiles, Unsaved}
+use Rattle.log_commands.specs.Outside.{Refuses, Wrote, SendStops, ToldRefusal, IsEarly, KeptFiles, Unsaved}
 use Rattle.log_commands.specs.declared.refusal.Refusal.{Refusal}
 use Rattle.log_commands.specs.declared.refusal.Refusal.TheVariants as why
 use Rattle.log_commands.specs.Statuses.{code}
 use Rattle.log_commands.specs.declared.status.Status.{Status}
 use Rattle.log_commands.specs.declared.status.Status.TheVariants as exit
 
--- ---- what is around a call
+-- ---- the whole outside
 
--- what a store, out and err tell: the files, how often the store failed, and what each stream was given and how often a
--- write to it failed
-pub record Outside : Type 0 where
-  pub files : Option Files
-  pub counts : Counts
-  pub out : Option (List ℕ)
-  pub out_faults : ℕ
-  pub err : Option (List ℕ)
-  pub err_faults : ℕ
+-- what a store, out and err tell at one time
+pub record World : Type 0 where
+  pub store : Stored
+  pub out : Stream
+  pub err : Stream
+
+abbrev pub world : Stored → (out err : Stream) → World
+world s out err = record { store = s; out = out; err = err }
 
 -- that before a call and after it
 pub record Call : Type 0 where
-  pub old : Outside
-  pub new : Outside
+  pub old : World
+  pub new : World
 
-abbrev pub call : {S O X : Type 0} → (S → Option Files) → (S → Counts) → (O → Option (List ℕ)) → (O → ℕ) → (X → Option (List ℕ)) → (X → ℕ)
-    → S → O → X → S → O → X → Call
-call files counts out out_faults err err_faults s o e t p f = record {
-  old = record { files = files s; counts = counts s; out = out o; out_faults = out_faults o; err = err e; err_faults = err_faults e };
-  new = record { files = files t; counts = counts t; out = out p; out_faults = out_faults p; err = err f; err_faults = err_faults f };
-}
+abbrev pub between : (old new : World) → Call
+between old new = record { old = old; new = new }
+
+abbrev pub call : {S O X : Type 0} → (S → Stored) → (O → Stream) → (X → Stream) → S → O → X → S → O → X → Call
+call stored out err s o e t p f = between (world (stored s) (out o) (err e)) (world (stored t) (out p) (err f))
 
 -- ---- the statuses
 
@@ -56,24 +54,24 @@ ErrHas None old new before now text = Wrote old new before now text
 
 -- what was to be saved is saved, and nothing else
 abbrev pub AreKept : FileNames → Told → Call → Type 0
-AreKept names what k = WhereTold k.old.files k.new.files (KeptFiles what.saved names.log names.book)
+AreKept names what k = WhereTold k.old.store.files k.new.store.files (KeptFiles what.saved names.log names.book)
 
 -- all of what is told is done
 pub record Done (names : FileNames) (what : Told) (status : ℕ) (k : Call) : Type 0 where
   pub status_is : status ≡ what.status
-  pub out : Appends k.old.out k.new.out what.out
-  pub err : ErrHas what.saved k.old.err k.new.err k.old.err_faults k.new.err_faults what.err
+  pub out : Appends k.old.out.text k.new.out.text what.out
+  pub err : ErrHas what.saved k.old.err.text k.new.err.text k.old.err.faults k.new.err.faults what.err
   pub files : AreKept names what k
 
 -- a save was refused: nothing is printed
 pub record SavingStopped (names : FileNames) (what : Told) (refusal : Refusal) (k : Call) : Type 0 where
-  pub out : Appends k.old.out k.new.out []
-  pub files : Unsaved what.saved names k.old.files k.new.files k.old.counts k.new.counts refusal
+  pub out : Appends k.old.out.text k.new.out.text []
+  pub files : Unsaved what.saved names k.old.store.files k.new.store.files k.old.store.counts k.new.store.counts refusal
 
 -- sending to out stopped, by running out of memory or by a write: out has a prefix of its text
 pub record OutStopped (names : FileNames) (what : Told) (refusal : Refusal) (k : Call) : Type 0 where
-  pub out : AppendsPart k.old.out k.new.out what.out
-  pub cause : SendStops k.old.out_faults k.new.out_faults refusal
+  pub out : AppendsPart k.old.out.text k.new.out.text what.out
+  pub cause : SendStops k.old.out.faults k.new.out.faults refusal
   pub files : AreKept names what k
 
 -- what a recording writes to err
@@ -83,24 +81,24 @@ own_err what = elim what.saved [ None ↦ [] | Some saved ↦ what.err ]
 -- a write of a recording's text to err failed: a prefix of it is there, and not all
 pub record ErrStopped (names : FileNames) (what : Told) (refusal : Refusal) (k : Call) (mid : Option (List ℕ)) (faults : ℕ) : Type 0 where
   pub refusal_is : refusal ≡ why.WriteFailed
-  pub out : Appends k.old.out k.new.out what.out
-  pub err : AppendsShort k.old.err mid (own_err what)
-  pub cause : Rose k.old.err_faults faults
+  pub out : Appends k.old.out.text k.new.out.text what.out
+  pub err : AppendsShort k.old.err.text mid (own_err what)
+  pub cause : Rose k.old.err.faults faults
   pub files : AreKept names what k
 
 -- err is as it was
 pub record ErrWaits (k : Call) (mid : Option (List ℕ)) (faults : ℕ) : Type 0 where
-  pub text : mid ≡ k.old.err
-  pub count : faults ≡ k.old.err_faults
+  pub text : mid ≡ k.old.err.text
+  pub count : faults ≡ k.old.err.faults
 
 -- it was stopped by the store, by running out of memory or by a write, and after that err has the refusal's line
 pub record Stopped (names : FileNames) (what : Told) (status : ℕ) (k : Call) : Type 0 where
   pub refusal : Refusal
   pub mid : Option (List ℕ)
   pub faults : ℕ
-  pub later : k.old.err_faults ≤ faults
+  pub later : k.old.err.faults ≤ faults
   pub place : ErrWaits k mid faults × (SavingStopped names what refusal k ⊎ OutStopped names what refusal k) ⊎ ErrStopped names what refusal k mid faults
-  pub line : ToldRefusal names refusal status mid k.new.err faults k.new.err_faults
+  pub line : ToldRefusal names refusal status mid k.new.err.text faults k.new.err.faults
 
 -- what is told is done, or it was stopped
 abbrev pub Tells : FileNames → Told → ℕ → Call → Type 0
@@ -113,9 +111,9 @@ Tells names what status k = Done names what status k ⊎ Stopped names what stat
 pub record StoppedBy (names : FileNames) (Is : Files → Told → Type 0) (files : Files) (status : ℕ) (k : Call) : Type 0 where
   pub refusal : Refusal
   pub early : IsEarly names Is files refusal
-  pub out : Appends k.old.out k.new.out []
-  pub same : k.new.files ≡ k.old.files
-  pub told : ToldRefusal names refusal status k.old.err k.new.err k.old.err_faults k.new.err_faults
+  pub out : Appends k.old.out.text k.new.out.text []
+  pub same : k.new.store.files ≡ k.old.store.files
+  pub told : ToldRefusal names refusal status k.old.err.text k.new.err.text k.old.err.faults k.new.err.faults
 
 -- there is such an answer, of which this holds
 abbrev pub SomeTold : (Told → Type 0) → (Told → Type 0) → Type 0
@@ -124,18 +122,18 @@ SomeTold Is Also = (what : Told) × Is what × Also what
 -- a refusal by the words alone is told, and nothing is printed; without one the status is another
 abbrev pub IsByWords : Option Refusal → FileNames → ℕ → Call → Type 0
 IsByWords None names status k = status ≢ code exit.WordsRefused
-IsByWords (Some refusal) names status k = Appends k.old.out k.new.out [] × ToldRefusal names refusal status k.old.err k.new.err k.old.err_faults k.new.err_faults
+IsByWords (Some refusal) names status k = Appends k.old.out.text k.new.out.text [] × ToldRefusal names refusal status k.old.err.text k.new.err.text k.old.err.faults k.new.err.faults
 
 -- ---- a command that has its answer, and how it ends
 
 -- outputs whose counts of failed writes don't fall
 pub record NoWriteFell (k : Call) : Type 0 where
-  pub out : k.old.out_faults ≤ k.new.out_faults
-  pub err : k.old.err_faults ≤ k.new.err_faults
+  pub out : k.old.out.faults ≤ k.new.out.faults
+  pub err : k.old.err.faults ≤ k.new.err.faults
 
 -- a write failed in this call
 abbrev pub WriteRose : Call → Type 0
-WriteRose k = Rose k.old.out_faults k.new.out_faults ⊎ Rose k.old.err_faults k.new.err_faults
+WriteRose k = Rose k.old.out.faults k.new.out.faults ⊎ Rose k.old.err.faults k.new.err.faults
 
 -- a text is printed, or it was stopped: not by words, the store or what it reads, and by a write only if one failed
 pub record Prints (names : FileNames) (what : Told) (status : ℕ) (k : Call) : Type 0 where
@@ -153,21 +151,13 @@ pub record Prints (names : FileNames) (what : Told) (status : ℕ) (k : Call) : 
 pub record Acts (names : FileNames) (what : Told) (status : ℕ) (k : Call) : Type 0 where
   pub told : Tells names what status k
   pub words : status ≢ code exit.WordsRefused
-  pub failed : status ≡ code exit.StoreFailed → Rose k.old.counts.faults k.new.counts.faults
+  pub failed : status ≡ code exit.StoreFailed → Rose k.old.store.counts.faults k.new.store.counts.faults
   pub missing : status ≢ code exit.Missing
   pub long : status ≢ code exit.TooLong
   pub read : status ≢ code exit.ReadFailed
   pub write : status ≡ code exit.WriteFailed → WriteRose k
   pub later : NoWriteFell k
-  pub counts : NoneFell k.old.counts k.new.counts
-
--- a call that leaves a store alone, by what its outputs were given
-abbrev pub printing_to : Option Files → Counts → (out_old out_new : Option (List ℕ)) → (before now : ℕ)
-    → (err_old err_new : Option (List ℕ)) → (err_before err_now : ℕ) → Call
-printing_to files counts out_old out_new before now err_old err_new err_before err_now = record {
-  old = record { files = files; counts = counts; out = out_old; out_faults = before; err = err_old; err_faults = err_before };
-  new = record { files = files; counts = counts; out = out_new; out_faults = now; err = err_new; err_faults = err_now };
-}
+  pub counts : NoneFell k.old.store.counts k.new.store.counts
 
 -- ---- before a refusal is told
 
@@ -182,10 +172,10 @@ IsClosed names (Ok value) status err end = (status ≡ code value) × (end ≡ e
 IsClosed names (Err refusal) status err end = Refuses names refusal status err end
 
 -- a call that leaves a store alone
-abbrev pub printing_on : Option Files → Counts → (out printed err end : Stream) → Call
-printing_on files had out printed err end = printing_to files had out.text printed.text out.faults printed.faults err.text end.text err.faults end.faults
+abbrev pub printing_on : Stored → (out printed err end : Stream) → Call
+printing_on store out printed err end = between (world store out err) (world store printed end)
 
 -- once the refusal is told, if there is one, this is printed, or it was stopped
 abbrev pub PrintsTo : {A : Type 0} → (FileNames → Told) → (old new : Stream) → Result A Refusal → Type 0
-PrintsTo what old new result = (names : FileNames) (files : Option Files) (had : Counts) (status : ℕ) (err end : Stream)
-    → IsClosed names (done_of result) status err end → Prints names (what names) status (printing_on files had old new err end)
+PrintsTo what old new result = (names : FileNames) (store : Stored) (status : ℕ) (err end : Stream)
+    → IsClosed names (done_of result) status err end → Prints names (what names) status (printing_on store old new err end)

@@ -168,8 +168,8 @@ SavesTo names saves note before after (Err refusal) = SavesUpTo names saves note
 pub record SaveRefused (names : FileNames) (made : List FileCall) (status : ℕ) (k : Call) : Type 0 where
   pub refusal : Refusal
   pub at : IsOfSave refusal made
-  pub out : Appends k.old.out k.new.out []
-  pub told : ToldRefusal names refusal status k.old.err k.new.err k.old.err_faults k.new.err_faults
+  pub out : Appends k.old.out.text k.new.out.text []
+  pub told : ToldRefusal names refusal status k.old.err.text k.new.err.text k.old.err.faults k.new.err.faults
 
 -- the saves of an answer: all of them, or up to one that was refused
 pub record SavesTold (names : FileNames) (saves : List FileCall) (status : ℕ) (note : Note) (before after : ℕ)

@@ -1,7 +1,7 @@
 -- What a command loads before it answers: the files that it needs, in its order.
 use Rattle.std.specs.Prelude.{◌≡◌, ◌⊎◌, ℕ, nat_lt, Bool, true, false, List, [], ◌∷◌, length, Option, Some, None, Result, Ok, Err}
-use Rattle.bn_outside.specs.Counts.{Counts, NoneFell}
-use Rattle.bn_outside.specs.Files.{Files}
+use Rattle.bn_outside.specs.Counts.{NoneFell}
+use Rattle.bn_outside.specs.Files.{Files, Stored}
 use Rattle.log_commands.specs.Names.{FileNames, name_of}
 use Rattle.log_commands.specs.Outside.{ResultCause, without}
 use Rattle.log_commands.specs.declared.inputs.Inputs.{Inputs}
@@ -79,13 +79,6 @@ IsLoaded names roles files (Ok inputs) = loaded files names roles ≡ Ok (bytes_
 IsLoaded names roles files (Err refusal) = StopsLoading names roles files refusal ⊎ (loaded files names roles ≡ Err refusal)
 
 -- ---- the store
-
--- a store by what is known of it: its files, how often it was asked to save, its failed calls, and what it noted of all
-pub record Stored : Type 0 where
-  pub files : Option Files
-  pub saves : ℕ
-  pub counts : Counts
-  pub noted : ℕ
 
 -- a store was read only: its files stay, no save was asked for, no count fell, and a refusal by it comes only if its count rose
 pub record OnlyLoads {A : Type 0} (old new : Stored) (result : Result A Refusal) : Type 0 where

@@ -4,7 +4,8 @@ use Rattle.joint_replay.specs.Joining.{Joining, run_all}
 use Rattle.joint_replay.specs.Texts.{steps_text}
 use Rattle.log_commands.specs.Names.{FileNames}
 use Rattle.log_commands.specs.Told.{Told}
-use Rattle.log_commands.specs.Outside.{Stream, SendsUntil}
+use Rattle.bn_outside.specs.Streams.{Stream}
+use Rattle.log_commands.specs.Outside.{SendsUntil}
 use Rattle.log_commands.specs.Joined.{joint_with, stop_of}
 use Rattle.log_commands.specs.declared.pairs.JointReading.{JointReading}
 use Rattle.log_commands.specs.declared.refusal.Refusal.{Refusal}

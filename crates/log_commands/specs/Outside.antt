@@ -6,16 +6,17 @@ use Rattle.std.specs.declared.vec.Vec.{Vec}
 use Rattle.std.specs.declared.alloc.Global.{Global}
 use Rattle.bn_outside.specs.Counts.{Counts, Rose}
 use Rattle.bn_outside.specs.Files.{Files, SameElsewhere, WhereTold}
-use Rattle.bn_outside.specs.Streams.{AppendsPart, AppendsShort}
+use Rattle.bn_outside.specs.Streams.{AppendsPart, AppendsShort, Stream}
 use Rattle.bn_base.specs.Programs.{Program}
 use Rattle.bn_base.specs.declared.settings.RawSettings.{RawSettings}
 use Rattle.elf_loader.specs.Loaded.{image_of}
 use Rattle.elf_loader.specs.declared.error.ElfError.{ElfError}
 use Rattle.log_order.specs.Content.{Content}
+use Rattle.log_blocks.specs.File.{IsRefusal}
 use Rattle.log_blocks.specs.Readings.{Reads}
 use Rattle.log_blocks.specs.declared.damage.Damage.{Damage}
 use Rattle.log_commands.specs.Names.{FileNames, name_of}
-use Rattle.log_commands.specs.Refusals.{status_of, line_of}
+use Rattle.log_commands.specs.Refusals.{status_of, line_of, log_refusal}
 use Rattle.log_commands.specs.Told.{Told, Saved, refused, printed}
 use Rattle.log_commands.specs.Texts.{check_line, agree_text}
 use Rattle.log_commands.specs.RunEnds.{end_status}
@@ -47,10 +48,11 @@ FetchTells role limit there (Err refusal) =
     ((refusal ≡ why.OutOfMemory) ⊎ (refusal ≡ why.StoreFailed role))
     ⊎ (((there ≡ None) × (refusal ≡ why.Missing role)) ⊎ (IsSomeAnd there (λ bytes. limit < length bytes) × (refusal ≡ why.TooLong role)))
 
--- a log that was read, or why it is refused
+-- a log that was read, or why it is refused. A damage is never told as out of memory: that comes only if the records alone were
+-- still to be looked at
 abbrev pub LogTells : List ℕ → Result Content Refusal → Type 0
 LogTells bytes (Ok d) = Reads bytes (Ok d)
-LogTells bytes (Err refusal) = (refusal ≡ why.OutOfMemory) ⊎ ((e : Damage) × (refusal ≡ why.LogRefused e) × Reads bytes (Err e))
+LogTells bytes (Err refusal) = (e : Damage) × (refusal ≡ log_refusal e) × IsRefusal bytes e
 
 -- a program that was loaded, or why it is refused
 abbrev pub ProgramTells : List ℕ → RawSettings → Result Program Refusal → Type 0
@@ -250,11 +252,6 @@ SaveTells saved names old new before now (Ok value) = WhereTold old new (KeptFil
 SaveTells saved names old new before now (Err refusal) = Unsaved (Some saved) names old new before now refusal
 
 -- ---- an output
-
--- what it was given, if it tells that, and how often a write failed
-pub record Stream : Type 0 where
-  pub text : Option (List ℕ)
-  pub faults : ℕ
 
 -- nothing is asked of a value
 abbrev pub Always : {A : Type 0} → A → Type 0

@@ -1,7 +1,8 @@
 -- What is told by a log and a program that were loaded.
 use Rattle.std.specs.Prelude.{Result, IfOk}
 use Rattle.log_commands.specs.FileCalls.{Note, LoadsTo}
-use Rattle.log_commands.specs.Inputs.{Stored, OnlyLoads}
+use Rattle.bn_outside.specs.Files.{Stored}
+use Rattle.log_commands.specs.Inputs.{OnlyLoads}
 use Rattle.log_commands.specs.Names.{FileNames}
 use Rattle.log_commands.specs.Outside.{GivesOf, WithFiles}
 use Rattle.log_commands.specs.Pairs.{ByPair, pair_roles, IsPair, LoadedPair}

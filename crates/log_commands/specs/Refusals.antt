@@ -28,6 +28,7 @@ use Rattle.log_commands.specs.declared.status.Status.TheVariants as exit
 
 abbrev pub replay_status : ReplayError → ℕ
 replay_status (replay.NoInterval hart interval) = code exit.NoInterval
+replay_status replay.OutOfMemory = code exit.OutOfMemory
 replay_status error = code exit.ReplayStopped
 
 abbrev pub status_of : Refusal → ℕ

@@ -1,32 +1,44 @@
 //! What is done with an answer: its files are saved, and then its texts printed.
-ghost use Rattle.log_commands.specs.Acting.{SavesAll, world, ActsTo};
-ghost use Rattle.log_commands.specs.Effects.{done_of};
-ghost use Rattle.log_commands.specs.Outside.{Stream, saved_of};
+ghost use Rattle.bn_outside.specs.Streams.{Stream};
+ghost use Rattle.log_commands.specs.Acting.{SavesFile, SavesAll, ActsTo};
+ghost use Rattle.log_commands.specs.Effects.{done_of, world};
+ghost use Rattle.log_commands.specs.Outside.{saved_of};
 ghost use Rattle.log_commands.specs.SaveCounts.{is_lean};
 ghost use Rattle.log_commands.specs.declared.answer.Answer.TheVariants.{Recorded, Renewed};
 
 use crate::answer::{Answer, NewLog, RunToTell};
 use crate::commands::{audit, check, joint, list, replay};
 use crate::names::{Names, Role};
-use crate::outside::{SinkExt, StoreExt};
 use crate::refusal::Refusal;
-use crate::send::{done, send};
+use crate::send::{done, send, send_bytes};
 use crate::status::Status;
+use bn_outside::{SaveError, Sink, Store};
 use std::alloc::Global;
 
+// Saves the file in a role.
+fn save_file<S: Store>(names: &Names, role: Role, file: &[u8], store: &mut S) -> Result<(), Refusal>
+    ensures { SavesFile names.now role file.now S.note (S.stored store.old) (S.stored store.new) result }
+{
+    match store.save(names.of(role), file) {
+        Ok(()) => Ok(()),
+        Err(SaveError::Failed) => Err(Refusal::StoreFailed(role)),
+        Err(SaveError::OutOfMemory) => Err(Refusal::OutOfMemory),
+    }
+}
+
 // Saves the log of a recording, and then the list of its turns, if there is one.
-fn save_run<S: StoreExt>(names: &Names, run: &RunToTell, store: &mut S) -> Result<(), Refusal>
+fn save_run<S: Store>(names: &Names, run: &RunToTell, store: &mut S) -> Result<(), Refusal>
     ensures { SavesAll names.now (saved_of run.now) (is_lean run.now) S.note (S.stored store.old) (S.stored store.new) result }
 {
-    store.save_file(names, Role::Log, &run.log)?;
+    save_file(names, Role::Log, &run.log, store)?;
     match &run.book {
         None => Ok(()),
-        Some(list) => store.save_file(names, Role::Book, list),
+        Some(list) => save_file(names, Role::Book, list, store),
     }
 }
 
 // Saves a recording, and then sends the guest's streams and the summary.
-fn keep_run<S: StoreExt, O: SinkExt, X: SinkExt>(
+fn keep_run<S: Store, O: Sink, X: Sink>(
     names: &Names,
     run: &RunToTell,
     store: &mut S,
@@ -36,13 +48,13 @@ fn keep_run<S: StoreExt, O: SinkExt, X: SinkExt>(
     ensures { ActsTo names.now (Recorded run.now) S.note (world (S.stored store.old) (O.stream out.old) (X.stream err.old)) (world (S.stored store.new) (O.stream out.new) (X.stream err.new)) result }
 {
     save_run(names, run, store)?;
-    out.send_bytes(&run.out)?;
-    err.send_bytes(&run.err)?;
+    send_bytes(out, &run.out)?;
+    send_bytes(err, &run.err)?;
     Ok(run.end.status())
 }
 
 // Saves a log that was made of another, and then sends what it has.
-fn keep_new<S: StoreExt, O: SinkExt>(
+fn keep_new<S: Store, O: Sink>(
     alloc: Global,
     names: &Names,
     new: &NewLog,
@@ -51,12 +63,12 @@ fn keep_new<S: StoreExt, O: SinkExt>(
 ) -> Result<(), Refusal>
     ensures { (err : Stream) → ActsTo names.now (Renewed new.now) S.note (world (S.stored store.old) (O.stream out.old) err) (world (S.stored store.new) (O.stream out.new) err) (done_of result) }
 {
-    store.save_file(names, Role::Log, &new.file)?;
+    save_file(names, Role::Log, &new.file, store)?;
     check::send_check(alloc, &new.counts, out)
 }
 
 /// Saves and prints an answer. On a refusal nothing is told on err: the caller does that.
-pub fn act<S: StoreExt, O: SinkExt, X: SinkExt>(
+pub fn act<S: Store, O: Sink, X: Sink>(
     alloc: Global,
     names: &Names,
     answer: &Answer,

@@ -1,15 +1,9 @@
 //! The files that a command loads before it answers.
-ghost use Rattle.std.specs.Prelude.{◌≡◌, IfErr};
-ghost use Rattle.bn_outside.specs.Counts.{NoneFell};
-ghost use Rattle.bn_outside.specs.StoreCalls.{LoadCall};
-ghost use Rattle.log_commands.specs.Answering.{LoadsAll};
-ghost use Rattle.log_commands.specs.FileCalls.{IsOfLoad};
+ghost use Rattle.std.specs.Prelude.{◌≡◌};
+ghost use Rattle.log_commands.specs.Answering.{Fetches, LoadsAll};
 ghost use Rattle.log_commands.specs.Inputs.{no_bytes, bytes_of, put, limit_of};
-ghost use Rattle.log_commands.specs.Names.{name_of};
-ghost use Rattle.log_commands.specs.Outside.{ResultCause, WithFiles, FetchTells};
 
 use crate::names::{Names, Role};
-use crate::outside::StoreExt;
 use crate::refusal::Refusal;
 use bn_outside::{LoadError, Store};
 use std::alloc::Global;
@@ -26,23 +20,16 @@ pub const INPUT_LIMIT: usize = 16_777_216;
 /// The most bytes of a list of turns.
 pub const BOOK_LIMIT: usize = 1_073_741_824;
 
-/// Loads the bytes of a file.
+/// Loads the file in a role.
 pub fn fetch<S: Store>(
     alloc: Global,
     names: &Names,
-    store: &mut S,
     role: Role,
-    limit: usize,
+    store: &mut S,
 ) -> Result<Vec<u8>, Refusal>
-    ensures told { WithFiles (S.files store.old) (λ files. FetchTells role limit (files (name_of names.now role)) result) }
-    ensures same { S.files store.new ≡ S.files store.old }
-    ensures asks { S.saves store.new ≡ S.saves store.old }
-    ensures later { NoneFell (S.counts store.old) (S.counts store.new) }
-    ensures cause { ResultCause (S.counts store.old) (S.counts store.new) result }
-    ensures called { S.noted store.new ≡ S.note (S.noted store.old) (LoadCall (name_of names.now role) limit) }
-    ensures stops { IfErr result (IsOfLoad role) }
+    ensures { Fetches names.now role S.note (S.stored store.old) (S.stored store.new) result }
 {
-    match store.load(alloc, names.of(role), limit) {
+    match store.load(alloc, names.of(role), limit_of(role)) {
         Ok(bytes) => Ok(bytes),
         Err(LoadError::OutOfMemory) => Err(Refusal::OutOfMemory),
         Err(LoadError::Failed) => Err(Refusal::StoreFailed(role)),
@@ -101,7 +88,7 @@ pub fn limit_of(role: Role) -> usize
 }
 
 /// Loads the files of these roles, in this order. The first file that is refused ends it.
-pub fn load_inputs<S: StoreExt>(
+pub fn load_inputs<S: Store>(
     alloc: Global,
     names: &Names,
     roles: &[Role],
@@ -111,7 +98,7 @@ pub fn load_inputs<S: StoreExt>(
 {
     let mut inputs = Inputs::none(alloc);
     for role in roles {
-        let bytes = store.fetch(alloc, names, *role)?;
+        let bytes = fetch(alloc, names, *role, store)?;
         inputs.put(*role, bytes);
     }
     Ok(inputs)

@@ -10,7 +10,6 @@ pub mod examples;
 pub mod inputs;
 mod lines;
 pub mod names;
-pub mod outside;
 pub mod pairs;
 pub mod refusal;
 pub mod replay_lines;

@@ -10,9 +10,9 @@ ghost use Rattle.log_commands.specs.Pairs.{pair_roles};
 use crate::answer::{digest_of, load_program, read_log};
 use crate::inputs::load_inputs;
 use crate::names::{Names, Role};
-use crate::outside::StoreExt;
 use crate::refusal::Refusal;
 use bn_base::Image;
+use bn_outside::Store;
 use log_order::KeptLog;
 use std::alloc::Global;
 
@@ -60,7 +60,7 @@ fn pair_roles() -> &'static [Role]
 }
 
 /// Loads a log and a program, LOG first, and reads them.
-pub fn load_pair<S: StoreExt>(
+pub fn load_pair<S: Store>(
     alloc: Global,
     names: &Names,
     store: &mut S,

@@ -79,7 +79,7 @@ fn replay_status(error: &ReplayError) -> Status
         ReplayError::ScMissing { .. } => Status::ReplayStopped,
         ReplayError::RecordsLeft { .. } => Status::ReplayStopped,
         ReplayError::EndDiffers { .. } => Status::ReplayStopped,
-        ReplayError::OutOfMemory => Status::ReplayStopped,
+        ReplayError::OutOfMemory => Status::OutOfMemory,
     }
 }
 

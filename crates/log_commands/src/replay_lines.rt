@@ -5,11 +5,11 @@ ghost use Rattle.log_commands.specs.Texts.{rows_text, begin_text};
 ghost use Rattle.log_commands.specs.Printed.{EndsAs, outcome_of, ending_of, end_of_interval, rest_text, text_from};
 ghost use Rattle.log_commands.specs.Outside.{Sends, Gathers, Always};
 
-use crate::outside::SinkExt;
 use crate::refusal::Refusal;
 use crate::send::{send, send_block, send_short};
 use crate::texts::push_begin;
 use bn_base::{EndMark, Row};
+use bn_outside::Sink;
 use hart_replay::{ReplayError, Replayer};
 use rv_text::{RowLines, Text, write_end};
 use std::alloc::Global;
@@ -24,7 +24,7 @@ pub enum ReplayEnd {
 }
 
 // Puts the line of a row after what waits.
-fn gather_row<O: SinkExt>(
+fn gather_row<O: Sink>(
     lines: &mut RowLines,
     text: &mut Text,
     row: &Row,
@@ -53,7 +53,7 @@ fn ending_of(error: ReplayError) -> Result<ReplayEnd, Refusal>
 }
 
 // Sends the rows that are left of a replay, in blocks; at first none waits.
-fn send_left<O: SinkExt>(
+fn send_left<O: Sink>(
     replayer: &mut Replayer,
     lines: &mut RowLines,
     text: &mut Text,
@@ -78,7 +78,7 @@ fn send_left<O: SinkExt>(
 }
 
 // Sends the rows that are left of a replay.
-fn send_rows<O: SinkExt>(
+fn send_rows<O: Sink>(
     alloc: Global,
     replayer: &mut Replayer,
     out: &mut O,
@@ -91,7 +91,7 @@ fn send_rows<O: SinkExt>(
 }
 
 // Sends the line before the rows.
-fn send_begin<O: SinkExt>(
+fn send_begin<O: Sink>(
     alloc: Global,
     hart: u64,
     interval: u64,
@@ -106,7 +106,7 @@ fn send_begin<O: SinkExt>(
 }
 
 // Sends the line after the rows, if the end was reached.
-fn send_end<O: SinkExt>(
+fn send_end<O: Sink>(
     alloc: Global,
     hart: u64,
     interval: u64,
@@ -127,7 +127,7 @@ fn send_end<O: SinkExt>(
 }
 
 // Sends the rows that are left of a replay and the line after them.
-fn send_rest<O: SinkExt>(
+fn send_rest<O: Sink>(
     alloc: Global,
     hart: u64,
     interval: u64,
@@ -143,7 +143,7 @@ fn send_rest<O: SinkExt>(
 }
 
 /// Sends all that the replay of an interval prints, and answers how it ends.
-pub fn send_interval<O: SinkExt>(
+pub fn send_interval<O: Sink>(
     alloc: Global,
     hart: u64,
     interval: u64,

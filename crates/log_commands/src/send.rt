@@ -1,14 +1,10 @@
 //! Texts sent to an output, whole or in blocks, and how a command ends.
-ghost use Rattle.std.specs.Prelude.{◌≡◌, ◌≤◌, IfErr, OnErr};
-ghost use Rattle.bn_outside.specs.Counts.{Rose};
-ghost use Rattle.bn_outside.specs.Streams.{AppendsShort};
+ghost use Rattle.std.specs.Prelude.{◌≡◌};
 ghost use Rattle.log_commands.specs.Effects.{done_of, IsClosed};
-ghost use Rattle.log_commands.specs.Outside.{Sent, Sends, Gathers, Always, ToldRefusal};
+ghost use Rattle.log_commands.specs.Outside.{Sends, SendsBytes, Gathers, Refuses, Always};
 ghost use Rattle.log_commands.specs.Statuses.{code};
-ghost use Rattle.log_commands.specs.declared.refusal.Refusal.TheVariants.{WriteFailed};
 
 use crate::names::Names;
-use crate::outside::SinkExt;
 use crate::refusal::Refusal;
 use crate::status::Status;
 use bn_outside::{Sink, send_all};
@@ -20,10 +16,7 @@ const BLOCK: usize = 65_536;
 
 /// Sends bytes.
 pub fn send_bytes<K: Sink>(sink: &mut K, bytes: &[u8]) -> Result<(), Refusal>
-    ensures sent { Sent (K.written sink.old) (K.written sink.new) (K.faults sink.old) (K.faults sink.new) bytes.now (λ _. Unit {0}) result }
-    ensures short { OnErr result (AppendsShort (K.written sink.old) (K.written sink.new) bytes.now × Rose (K.faults sink.old) (K.faults sink.new)) }
-    ensures write { IfErr result (λ refusal. refusal ≡ WriteFailed) }
-    ensures later { K.faults sink.old ≤ K.faults sink.new }
+    ensures { SendsBytes bytes.now (K.stream sink.old) (K.stream sink.new) result }
 {
     match send_all(sink, bytes) {
         Ok(()) => Ok(()),
@@ -32,16 +25,15 @@ pub fn send_bytes<K: Sink>(sink: &mut K, bytes: &[u8]) -> Result<(), Refusal>
 }
 
 /// Sends a text.
-pub fn send<K: SinkExt>(sink: &mut K, text: &Text) -> Result<(), Refusal>
+pub fn send<K: Sink>(sink: &mut K, text: &Text) -> Result<(), Refusal>
     ensures { Sends text.now Always (K.stream sink.old) (K.stream sink.new) result }
 {
-    sink.send_bytes(text.as_bytes())
+    send_bytes(sink, text.as_bytes())
 }
 
 /// Tells a refusal on err, and answers its status; out of memory if its line finds no memory.
 pub fn refuse<X: Sink>(alloc: Global, names: &Names, refusal: &Refusal, err: &mut X) -> Status
-    ensures told { ToldRefusal names.now refusal.now (code result) (X.written err.old) (X.written err.new) (X.faults err.old) (X.faults err.new) }
-    ensures later { X.faults err.old ≤ X.faults err.new }
+    ensures { Refuses names.now refusal.now (code result) (X.stream err.old) (X.stream err.new) }
 {
     let mut line = Text::new(alloc);
     match refusal.push_line(alloc, names, &mut line) {
@@ -65,7 +57,7 @@ pub fn done(printed: Result<(), Refusal>) -> Result<Status, Refusal>
 }
 
 /// Ends a command: a refusal, if there is one, is told on err, and gives the status.
-pub fn close<X: SinkExt>(
+pub fn close<X: Sink>(
     alloc: Global,
     names: &Names,
     ending: Result<Status, Refusal>,
@@ -75,12 +67,12 @@ pub fn close<X: SinkExt>(
 {
     match ending {
         Ok(status) => status,
-        Err(refusal) => err.refuse(alloc, names, &refusal),
+        Err(refusal) => refuse(alloc, names, &refusal, err),
     }
 }
 
 /// Sends what waits, if it is a block or more.
-pub fn send_block<O: SinkExt>(text: &mut Text, out: &mut O) -> Result<(), Refusal>
+pub fn send_block<O: Sink>(text: &mut Text, out: &mut O) -> Result<(), Refusal>
     ensures { Gathers text.old text.new (O.stream out.old) (O.stream out.new) result }
 {
     if text.len() < BLOCK {
@@ -92,7 +84,7 @@ pub fn send_block<O: SinkExt>(text: &mut Text, out: &mut O) -> Result<(), Refusa
 }
 
 /// Sends what waits, if memory ran out for more of it.
-pub fn send_short<O: SinkExt>(text: &Text, out: &mut O) -> Result<(), Refusal>
+pub fn send_short<O: Sink>(text: &Text, out: &mut O) -> Result<(), Refusal>
     ensures { Sends text.now (λ _. ⊥) (O.stream out.old) (O.stream out.new) result }
 {
     send(out, text)?;

@@ -94,7 +94,7 @@ fn push_last_counts(
     text.push_str("\n")
 }
 
-/// Appends the line of a log.
+/// Appends what `check` prints of a log that passes: a line that begins with `ok`.
 #[tactic(auto, unfolding(crate::specs::Texts::check_line))]
 pub fn push_check(text: &mut Text, log: &LogCounts) -> Result<(), AllocError>
     ensures { OnOk result (text.new ≡ text.old ++ check_line log.now) }

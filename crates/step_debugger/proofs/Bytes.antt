@@ -1,14 +1,15 @@
 -- Lines read byte after byte.
-use Rattle.std.proofs.Common.{◌≡◌, ℕ, ◌<◌, ◌≤◌, true, false, refl, sym, ap, subst, ◌∙◌, arith, inl, inr, List, [], ◌∷◌, ◌++◌, append_assoc, append-nil, length, take, Option, Some, None}
+use Rattle.std.proofs.Common.{◌≡◌, ℕ, ◌<◌, ◌≤◌, true, false, refl, sym, ap, subst, ◌∙◌, arith, inl, inr, List, [], ◌∷◌, ◌++◌, append_assoc, append-nil, length, map, take, Option, Some, None}
 use Rattle.std.specs.Prelude.{Ok, Err}
 use Rattle.std.specs.Io.KnownBytes.{Consumes}
-use Rattle.std.proofs.KnownBytes.{Consumes-trans, Consumes-nil}
+use Rattle.std.proofs.KnownBytes.{Consumes-trans}
 use Rattle.bn_outside.specs.Counts.{Rose}
-use Rattle.bn_outside.specs.Streams.{ConsumesAll, EndsExactly}
+use Rattle.bn_outside.specs.Streams.{ConsumesAll, EndsExactly, ReadNote, Stream, Supply, noted_after}
 use Rattle.step_debugger.specs.declared.error.DebugError.{DebugError}
 use Rattle.step_debugger.specs.declared.error.DebugError.TheVariants.{ReadFault, WriteFault, LineTooLong, TooMuch, Joint, OutOfMemory}
 use Rattle.step_debugger.specs.Lines.{Reading, Input, input_from, line_limit, NoLine, TakesByte, ReadsLine, EndsTooMany, StopsAt, NextLine}
-use Rattle.step_debugger.proofs.InTurn.{unended_more}
+use Rattle.step_debugger.proofs.InTurn.{unended_more, one_read, line_byte_read}
+use Rattle.step_debugger.proofs.ReadCounts.{byte_read, not_taken}
 
 -- a read of no byte
 pub no_byte : (old new : Option (List ℕ)) (n : ℕ) (buffer : List ℕ) → n ≡ 0 → 0 < length buffer → Consumes old new (take n buffer) → EndsExactly old n buffer → ConsumesAll old new []
@@ -19,101 +20,137 @@ no_byte (Some left) (Some rest) n buffer none room p e =
     (sym all, ap Some (sym (p ∙ ap (λ k. take k buffer ++ rest) none) ∙ all))
 
 -- the end, after some bytes
-pub all_gone : (a b c : Option (List ℕ)) (bytes : List ℕ) → Consumes a b bytes → ConsumesAll b c [] → ConsumesAll a c bytes × Consumes a c bytes
+all_gone : (a b c : Option (List ℕ)) (bytes : List ℕ) → Consumes a b bytes → ConsumesAll b c [] → ConsumesAll a c bytes × Consumes a c bytes
 all_gone None b c bytes p q = (tt, tt)
 all_gone (Some x) None c bytes p q = absurd p
 all_gone (Some x) (Some y) c bytes p q =
     let whole : x ≡ bytes = p ∙ ap (λ z. bytes ++ z) (sym q.0) ∙ append-nil bytes in
     ((sym whole, q.1), subst (λ (d : Option (List ℕ)). Consumes (Some x) d bytes) (sym q.1) (whole ∙ sym (append-nil bytes)))
 
--- the bytes of the line so far are gone
-pub record SoFar (start count : ℕ) (line : List ℕ) (old now : Option (List ℕ)) (before after : ℕ) : Type 0 where
-  pub room : length line ≤ line_limit
-  pub gone : Consumes old now line
-  pub unended : NoLine line
-  pub as_far : (more : List ℕ) → input_from start [] (line ++ more) ≡ input_from count line more
-  pub later : before ≤ after
-  pub grown : start ≤ count
+rose_later : (a b c : ℕ) → a ≤ b → Rose b c → Rose a c
+rose_later a b c h (inl less) = inl (omega (arith, h, less))
+rose_later a b c h (inr last) = inr last
 
-pub none_yet : (count : ℕ) (line : List ℕ) (old : Option (List ℕ)) (before : ℕ) → line ≡ [] → SoFar count count line old old before before
-none_yet count line old before e = subst (λ (l : List ℕ). SoFar count count l old old before before) (sym e) (record { room = omega arith; gone = Consumes-nil old; unended = tt; as_far = λ more. refl; later = omega arith; grown = omega arith })
+-- the bytes of the line so far are gone, each by a read
+pub record SoFar (start : ℕ) (r : Reading) (old now : Supply) (note : ReadNote) (out : Stream) : Type 0 where
+  pub room : length r.line ≤ line_limit
+  pub gone : Consumes old.left now.left r.line
+  pub unended : NoLine r.line
+  pub as_far : (more : List ℕ) → input_from start [] (r.line ++ more) ≡ input_from r.count r.line more
+  pub later : old.faults ≤ now.faults
+  pub grown : start ≤ r.count
+  pub notes : now.noted ≡ noted_after note old.noted (map (λ byte. out.text) r.line)
 
 -- one byte more
-pub behind_byte : (start count : ℕ) (line : List ℕ) (byte : ℕ) (more : List ℕ) (x : Input) → input_from start [] (line ++ byte ∷ more) ≡ input_from count line (byte ∷ more)
+behind_byte : (start count : ℕ) (line : List ℕ) (byte : ℕ) (more : List ℕ) (x : Input) → input_from start [] (line ++ byte ∷ more) ≡ input_from count line (byte ∷ more)
     → input_from count line (byte ∷ more) ≡ x → input_from start [] ((line ++ byte ∷ []) ++ more) ≡ x
 behind_byte start count line byte more x h k = ap (input_from start []) (append_assoc line (byte ∷ []) more) ∙ h ∙ k
 
-pub one_more : (start count : ℕ) (line : List ℕ) (byte : ℕ) (new : Reading) (old now next : Option (List ℕ)) (before after last : ℕ)
-    → SoFar start count line old now before after → Consumes now next (byte ∷ []) → TakesByte (record { count = count; line = line }) byte (Ok false) new → after ≤ last
-    → SoFar start new.count new.line old next before last
-one_more start count line byte new old now next before after last s p t fell = record {
-  room = t.2;
-  gone = subst (Consumes old next) (sym t.1) (Consumes-trans old now next line (byte ∷ []) s.gone p);
-  unended = unended_more line new.line byte t.1 s.unended t.4;
-  as_far = λ more. ap (λ (l : List ℕ). input_from start [] (l ++ more)) t.1 ∙ behind_byte start count line byte more _ (s.as_far (byte ∷ more)) (t.3 more);
-  later = omega (arith, s.later, fell);
-  grown = omega (arith, s.grown, t.0);
-}
+module _ (start : Reading) {r : Reading} {old now : Supply} (next : Supply) {note : ReadNote} {out : Stream} (s : SoFar start.count r old now note out) (called : next.noted ≡ note now.noted out.text) where
+  notes_more : next.noted ≡ noted_after note old.noted (map (λ byte. out.text) r.line ++ out.text ∷ [])
+  notes_more = one_read note old.noted now.noted next.noted out.text r.line s.notes called
 
--- the line ends
-unfoldable pub line_read : (start : Reading) (count : ℕ) (line : List ℕ) (byte : ℕ) (new : Reading) (old now next : Option (List ℕ)) (before after last : ℕ)
-    → SoFar start.count count line old now before after → Consumes now next (byte ∷ []) → TakesByte (record { count = count; line = line }) byte (Ok true) new
-    → NextLine start old next before last (Ok true) new
-line_read start count line byte new old now next before after last s p t = record {
-  gone = line ++ byte ∷ [];
-  taken = Consumes-trans old now next line (byte ∷ []) s.gone p;
-  read = (omega (arith, s.grown, t.0), t.1, λ more. behind_byte start.count count line byte more _ (s.as_far (byte ∷ more)) (t.2 more));
-  stops = tt;
-}
+  -- the source ends
+  pub last_read : ConsumesAll now.left next.left [] → NextLine start old next note out (Ok false) r
+  last_read p =
+      let all = all_gone old.left now.left next.left r.line s.gone p in
+      record {
+        gone = r.line;
+        taken = all.1;
+        read = (ap (input_from start.count []) (sym (append-nil r.line)) ∙ s.as_far [], all.0);
+        stops = tt;
+        front = r.line;
+        last = [];
+        parts = sym (append-nil r.line);
+        unended = s.unended;
+        count = refl;
+        notes = notes_more;
+      }
 
--- the source ends
-unfoldable pub last_read : (start : Reading) (count : ℕ) (line : List ℕ) (old now next : Option (List ℕ)) (before after last : ℕ)
-    → SoFar start.count count line old now before after → ConsumesAll now next [] → NextLine start old next before last (Ok false) (record { count = count; line = line })
-last_read start count line old now next before after last s p =
-    let all = all_gone old now next line s.gone p in
-    record { gone = line; taken = all.1; read = (ap (input_from start.count []) (sym (append-nil line)) ∙ s.as_far [], all.0); stops = tt }
+  -- a read fails
+  pub read_failed : Consumes now.left next.left [] → Rose now.faults next.faults → NextLine start old next note out (Err ReadFault) r
+  read_failed p rose = record {
+    gone = r.line;
+    taken = subst (Consumes old.left next.left) (append-nil r.line) (Consumes-trans old.left now.left next.left r.line [] s.gone p);
+    read = (ap (input_from start.count []) (sym (append-nil r.line)) ∙ s.as_far [], rose_later old.faults now.faults next.faults s.later rose);
+    stops = tt;
+    front = r.line;
+    last = [];
+    parts = sym (append-nil r.line);
+    unended = s.unended;
+    count = refl;
+    notes = notes_more;
+  }
 
--- a read fails
-unfoldable pub read_failed : (start : Reading) (count : ℕ) (line : List ℕ) (old now next : Option (List ℕ)) (before after last : ℕ)
-    → SoFar start.count count line old now before after → Consumes now next [] → Rose after last → NextLine start old next before last (Err ReadFault) (record { count = count; line = line })
-read_failed start count line old now next before after last s p rose = record {
-  gone = line;
-  taken = subst (Consumes old next) (append-nil line) (Consumes-trans old now next line [] s.gone p);
-  read = (ap (input_from start.count []) (sym (append-nil line)) ∙ s.as_far [], rose_later before after last s.later rose);
-  stops = tt;
-}
-  where
-    rose_later : (a b c : ℕ) → a ≤ b → Rose b c → Rose a c
-    rose_later a b c h (inl less) = inl (omega (arith, h, less))
-    rose_later a b c h (inr last) = inr last
+  module _ (byte : ℕ) (p : Consumes now.left next.left (byte ∷ [])) where
+    taken : Consumes old.left next.left (r.line ++ byte ∷ [])
+    taken = Consumes-trans old.left now.left next.left r.line (byte ∷ []) s.gone p
 
--- the line isn't read
-unfoldable pub refused_read : (start : Reading) (count : ℕ) (line : List ℕ) (byte : ℕ) (e : DebugError) (new : Reading) (old now next : Option (List ℕ)) (before after last : ℕ)
-    → SoFar start.count count line old now before after → Consumes now next (byte ∷ []) → TakesByte (record { count = count; line = line }) byte (Err e) new
-    → NextLine start old next before last (Err e) new
-refused_read start count line byte e new old now next before after last s p t =
-    record { gone = line ++ byte ∷ []; taken = Consumes-trans old now next line (byte ∷ []) s.gone p; read = by e t; stops = at e }
-  where
-    too_many : EndsTooMany start.count (line ++ byte ∷ [])
-    too_many = record {
-      front = line;
-      byte = byte;
-      parts = refl;
-      none = ap (λ (i : Input). i.refused) (ap (input_from start.count []) (sym (append-nil line)) ∙ s.as_far []);
+    behind : (more : List ℕ) (x : Input) → input_from r.count r.line (byte ∷ more) ≡ x → input_from start.count [] ((r.line ++ byte ∷ []) ++ more) ≡ x
+    behind more x k = behind_byte start.count r.count r.line byte more x (s.as_far (byte ∷ more)) k
+
+    -- one byte more
+    pub one_more : (new : Reading) → TakesByte r byte (Ok false) new → now.faults ≤ next.faults → SoFar start.count new old next note out
+    one_more new t fell = record {
+      room = t.2;
+      gone = subst (Consumes old.left next.left) (sym t.1) taken;
+      unended = unended_more r.line new.line byte t.1 s.unended t.4;
+      as_far = λ more. ap (λ (l : List ℕ). input_from start.count [] (l ++ more)) t.1 ∙ behind more _ (t.3 more);
+      later = omega (arith, s.later, fell);
+      grown = omega (arith, s.grown, t.0);
+      notes = line_byte_read note old.noted now.noted next.noted out.text r.line new.line byte t.1 s.notes called;
     }
 
-    at : (e : DebugError) → StopsAt start.count (line ++ byte ∷ []) (Err e)
-    at (LineTooLong n) = too_many
-    at (TooMuch n) = too_many
-    at OutOfMemory = tt
-    at ReadFault = tt
-    at WriteFault = tt
-    at (Joint f) = tt
+    -- the line ends
+    pub line_read : (new : Reading) → TakesByte r byte (Ok true) new → NextLine start old next note out (Ok true) new
+    line_read new t = record {
+      gone = r.line ++ byte ∷ [];
+      taken = taken;
+      read = (omega (arith, s.grown, t.0), t.1, λ more. behind more _ (t.2 more));
+      stops = tt;
+      front = r.line;
+      last = byte ∷ [];
+      parts = refl;
+      unended = s.unended;
+      count = byte_read r.line byte;
+      notes = notes_more;
+    }
 
-    by : (e : DebugError) → TakesByte (record { count = count; line = line }) byte (Err e) new → ReadsLine start (line ++ byte ∷ []) old next before last (Err e) new
-    by (LineTooLong n) t = λ more. behind_byte start.count count line byte more _ (s.as_far (byte ∷ more)) (t more)
-    by (TooMuch n) t = λ more. behind_byte start.count count line byte more _ (s.as_far (byte ∷ more)) (t more)
-    by OutOfMemory t = (byte, λ more. behind_byte start.count count line byte more _ (s.as_far (byte ∷ more)) (t more))
-    by ReadFault t = absurd t
-    by WriteFault t = absurd t
-    by (Joint f) t = absurd t
+    -- the line isn't read
+    pub refused_read : (new : Reading) (e : DebugError) → TakesByte r byte (Err e) new → NextLine start old next note out (Err e) new
+    refused_read new e t = record {
+      gone = r.line ++ byte ∷ [];
+      taken = taken;
+      read = by e t;
+      stops = at_most e;
+      front = r.line;
+      last = byte ∷ [];
+      parts = refl;
+      unended = s.unended;
+      count = not_taken r byte new e t;
+      notes = notes_more;
+    }
+      where
+        too_many : EndsTooMany start.count (r.line ++ byte ∷ [])
+        too_many = record {
+          front = r.line;
+          byte = byte;
+          parts = refl;
+          none = ap (λ (i : Input). i.refused) (ap (input_from start.count []) (sym (append-nil r.line)) ∙ s.as_far []);
+        }
+
+        at_most : (e : DebugError) → StopsAt start.count (r.line ++ byte ∷ []) (Err e)
+        at_most (LineTooLong n) = too_many
+        at_most (TooMuch n) = too_many
+        at_most OutOfMemory = tt
+        at_most ReadFault = tt
+        at_most WriteFault = tt
+        at_most (Joint f) = tt
+
+        by : (e : DebugError) → TakesByte r byte (Err e) new → ReadsLine start (r.line ++ byte ∷ []) old next (Err e) new
+        by (LineTooLong n) t = λ more. behind more _ (t more)
+        by (TooMuch n) t = λ more. behind more _ (t more)
+        by OutOfMemory t = (byte, λ more. behind more _ (t more))
+        by ReadFault t = absurd t
+        by WriteFault t = absurd t
+        by (Joint f) t = absurd t

@@ -1,6 +1,5 @@
 -- Numbers read digit after digit.
-use Rattle.std.proofs.Common.{◌≡◌, ℕ, suc, ◌+◌, ◌*◌, ◌^◌, ◌<◌, ◌≤◌, refl, sym, ap, ◌∙◌, arith, List, ◌∷◌, length, Option, Some, None}
-use Rattle.std.proofs.Common.{pow-suc}
+use Rattle.std.proofs.Common.{◌≡◌, ℕ, suc, ◌+◌, ◌*◌, ◌^◌, ◌<◌, ◌≤◌, refl, sym, ap, ◌∙◌, arith, List, ◌∷◌, length, Option, Some, None, pow-suc}
 use Rattle.std.proofs.lemmas.Grind.{pow_more}
 use Rattle.std.proofs.Math.Nat.{pow-le-pow_right}
 use Rattle.step_debugger.specs.Numbers.{digit_in, sum_of, placed, number_in}
@@ -19,10 +18,6 @@ one_more base number digit byte rest e = ap (λ (o : Option ℕ). sum_of (Some (
     by : (o : Option ℕ) → sum_of (Some (number * base ^ suc (length rest))) (sum_of (Some (digit * base ^ length rest)) o) ≡ sum_of (Some ((number * base + digit) * base ^ length rest)) o
     by None = refl
     by (Some n) = ap Some (ap (λ p. number * p + (digit * base ^ length rest + n)) (pow-suc base (length rest)) ∙ shifted base number digit (base ^ length rest) n)
-
--- another byte
-pub none_more : (base number byte : ℕ) (rest : List ℕ) → None ≡ digit_in base byte → None ≡ more base number (byte ∷ rest)
-none_more base number byte rest e = ap (λ (o : Option ℕ). sum_of (Some (number * base ^ suc (length rest))) (sum_of (placed base (length rest) o) (number_in base rest))) e
 
 -- it stays small
 pub bounded : (base number digit place : ℕ) → base ≤ 16 → place < 8 → digit < base → number < 16 ^ place → number * base + digit < 16 ^ (place + 1)

@@ -1,10 +1,11 @@
 -- What a source notes of its reads, and what out had been given at each.
-use Rattle.std.proofs.Common.{◌≡◌, ℕ, ◌+◌, Bool, true, false, List, [], ◌∷◌, ◌++◌, append_assoc, append-nil, length, length-append, map, nat_lt, Option, Some, None, refl, sym, ap, subst, ◌∙◌, arith}
+use Rattle.std.proofs.Common.{◌≡◌, ℕ, ◌+◌, Bool, true, false, List, [], ◌∷◌, ◌++◌, append_assoc, append-nil, length, length-append, map, nat_lt, Option, refl, sym, ap, subst, ◌∙◌, arith}
+use Rattle.std.specs.Prelude.{Result}
 use Rattle.std.specs.Io.KnownBytes.{Appends}
-use Rattle.bn_outside.specs.Streams.{ReadNote, noted_after}
+use Rattle.bn_outside.specs.Streams.{ReadNote, Stream, Supply, noted_after}
 use Rattle.back_step.specs.Traces.{Trace}
-use Rattle.step_debugger.specs.declared.error.DebugError.TheVariants.{LineTooLong, TooMuch}
-use Rattle.step_debugger.specs.Lines.{Input, input_limit, is_line_feed, is_over, ends_in, with_line, input_from, NoLine}
+use Rattle.step_debugger.specs.declared.error.DebugError.{DebugError}
+use Rattle.step_debugger.specs.Lines.{Reading, input_limit, is_line_feed, is_over, input_from, NoLine, NextLine, reads_for}
 use Rattle.step_debugger.specs.Transcript.{answered_in, InTurn, AnswersInTurn}
 use Rattle.step_debugger.proofs.Prefixes.{next}
 
@@ -71,18 +72,18 @@ module _ (t : Trace) (written : Option (List ℕ)) where
       let less : length ls ≡ length xs = omega (arith, same) in
       (first.0, then_more (come ++ x ∷ []) xs ys ls ms less first.1 (subst (λ (bs : List ℕ). InTurn t written bs ys ms) (sym (append_assoc come (x ∷ []) xs)) rest))
 
-  -- the reads of a further line
-  pub further : (note : ReadNote) (noted mid now : ℕ) (had : Option (List ℕ)) (gone line front last : List ℕ) (reads : ℕ) → AnswersInTurn t gone written (noted_after note noted) mid (length gone) → ((p : List ℕ) → NoLine p → Appends written had (answered_in t (gone ++ p)))
-      → line ≡ front ++ last → NoLine front → length front + 1 ≡ reads → now ≡ noted_after note mid (map (λ byte. had) front ++ had ∷ []) → AnswersInTurn t (gone ++ line) written (noted_after note noted) now (length gone + reads)
-  further note noted mid now had gone line front last reads a each parts none count notes =
-      let more : List (Option (List ℕ)) = map (λ byte. had) front ++ had ∷ [] in
-      record {
-        given = a.given ++ more;
-        each = then_more [] gone line a.given more a.reads_is a.each (subst (λ (bs : List ℕ). InTurn t written gone bs more) (sym parts) (stays had gone front last each none));
-        noted_is = notes ∙ ap (λ n. noted_after note n more) a.noted_is ∙ sym (noted_more note noted a.given more);
-        reads_is = let sizes = length-append a.given more in let size : length more ≡ length front + 1 = size_of front in omega (arith, sizes, size, a.reads_is, count);
-      }
-    where
-      size_of : (front : List ℕ) → length (map (λ byte. had) front ++ had ∷ []) ≡ length front + 1
-      size_of [] = refl
-      size_of (b ∷ bs) = let less = size_of bs in omega (arith, less)
+-- the reads of a further line
+pub further : {t : Trace} {old new : Reading} {input mid now : Supply} {note : ReadNote} {out had : Stream} {gone : List ℕ} {result : Result Bool DebugError} → AnswersInTurn t gone input mid note out (length gone)
+    → ((p : List ℕ) → NoLine p → Appends out.text had.text (answered_in t (gone ++ p))) → (n : NextLine old mid now note had result new) → AnswersInTurn t (gone ++ n.gone) input now note out (length gone + reads_for n.gone result)
+further {t = t} {input = input} {note = note} {out = out} {had = had} {gone = gone} a each n =
+    let more : List (Option (List ℕ)) = map (λ byte. had.text) n.front ++ had.text ∷ [] in
+    record {
+      given = a.given ++ more;
+      each = then_more t out.text [] gone n.gone a.given more a.reads_is a.each (subst (λ (bs : List ℕ). InTurn t out.text gone bs more) (sym n.parts) (stays t out.text had.text gone n.front n.last each n.unended));
+      noted_is = n.notes ∙ ap (λ m. noted_after note m more) a.noted_is ∙ sym (noted_more note input.noted a.given more);
+      reads_is = let sizes = length-append a.given more in let size : length more ≡ length n.front + 1 = size_of n.front in omega (arith, sizes, size, a.reads_is, n.count);
+    }
+  where
+    size_of : (front : List ℕ) → length (map (λ byte. had.text) front ++ had.text ∷ []) ≡ length front + 1
+    size_of [] = refl
+    size_of (b ∷ bs) = let less = size_of bs in omega (arith, less)

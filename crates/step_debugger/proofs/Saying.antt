@@ -1,6 +1,7 @@
 -- Answers that are sent.
-use Rattle.std.proofs.Common.{◌≡◌, ℕ, ◌≤◌, List, [], ◌++◌, Option, ◌∙◌, ap, subst, sym}
+use Rattle.std.proofs.Common.{◌≡◌, ℕ, ◌≤◌, List, [], ◌++◌, ◌∙◌, ap, subst, sym}
 use Rattle.std.specs.Prelude.{Result, Ok}
+use Rattle.bn_outside.specs.Streams.{Stream}
 use Rattle.back_step.specs.Traces.{Trace}
 use Rattle.step_debugger.specs.declared.error.DebugError.{DebugError}
 use Rattle.step_debugger.specs.declared.session.Ending.{Ending}
@@ -10,12 +11,12 @@ use Rattle.step_debugger.specs.Goings.{Stops, SendsPart, Gathers, session_of}
 use Rattle.step_debugger.proofs.Sent.{cut_behind, stops_later}
 
 -- what is asked of a command
-abbrev pub Performs : Answer → Trace → Focus → (text now_text : List ℕ) → (old now : Option (List ℕ)) → (before after : ℕ) → Result Ending DebugError → Type 0
-Performs a j d text now_text old now before after result = Gathers (text ++ a.text) (λ (x : Ending). (session_of j d ≡ a.session) × (x ≡ a.ends)) old now before after now_text result
+abbrev pub Performs : Answer → Trace → Focus → (text now_text : List ℕ) → (old now : Stream) → Result Ending DebugError → Type 0
+Performs a j d text now_text old now result = Gathers (text ++ a.text) (λ (x : Ending). (session_of j d ≡ a.session) × (x ≡ a.ends)) old now now_text result
 
 -- what waits of an answer is not sent
-pub sent_short : (a : Answer) (j : Trace) (d : Focus) (text waiting : List ℕ) (old now next : Option (List ℕ)) (before after last : ℕ) (ending : Ending) (e : DebugError) → text ≡ [] → Performs a j d text waiting old now before after (Ok ending)
-    → before ≤ after → SendsPart e now next waiting × Stops after last e → SendsPart e old next a.text × Stops before last e
-sent_short a j d text waiting old now next before after last ending e none g fell h =
+pub sent_short : (a : Answer) (j : Trace) (d : Focus) (text waiting : List ℕ) (old now next : Stream) (ending : Ending) (e : DebugError) → text ≡ [] → Performs a j d text waiting old now (Ok ending)
+    → old.faults ≤ now.faults → SendsPart e now.text next.text waiting × Stops now next e → SendsPart e old.text next.text a.text × Stops old next e
+sent_short a j d text waiting old now next ending e none g fell h =
     let whole : a.text ≡ g.0 ++ waiting = ap (λ (t : List ℕ). t ++ a.text) (sym none) ∙ g.2 in
-    (subst (λ (t : List ℕ). SendsPart e old next t) (sym whole) (cut_behind e old now next g.0 waiting g.1 h.0), stops_later before after last e fell h.1)
+    (subst (λ (t : List ℕ). SendsPart e old.text next.text t) (sym whole) (cut_behind e old.text now.text next.text g.0 waiting g.1 h.0), stops_later old now next e fell h.1)

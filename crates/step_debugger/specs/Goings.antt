@@ -2,7 +2,7 @@
 use Rattle.std.specs.Prelude.{◌≡◌, ℕ, ◌+◌, Bool, true, List, ◌++◌, Option, Some, None, Result, Ok, Err}
 use Rattle.std.specs.Io.KnownBytes.{Appends}
 use Rattle.bn_outside.specs.Counts.{Rose}
-use Rattle.bn_outside.specs.Streams.{AppendsPart, AppendsShort}
+use Rattle.bn_outside.specs.Streams.{AppendsPart, AppendsShort, Stream}
 use Rattle.hart_replay.specs.declared.error.ReplayError.{ReplayError}
 use Rattle.hart_replay.specs.declared.error.ReplayError.TheVariants as replay
 use Rattle.joint_replay.specs.declared.error.JointError.{JointError}
@@ -88,10 +88,10 @@ StopsApart old (Err e) new = Unit {0}
 -- ---- what is sent
 
 -- why sending stopped: memory ran out, or a write failed
-abbrev pub Stops : ℕ → ℕ → DebugError → Type 0
-Stops before now OutOfMemory = Unit {0}
-Stops before now WriteFault = Rose before now
-Stops before now e = ⊥
+abbrev pub Stops : (old new : Stream) → DebugError → Type 0
+Stops old new OutOfMemory = Unit {0}
+Stops old new WriteFault = Rose old.faults new.faults
+Stops old new e = ⊥
 
 -- a prefix of a text was sent; not all of it, if a write failed
 abbrev pub SendsPart : DebugError → Option (List ℕ) → Option (List ℕ) → List ℕ → Type 0
@@ -99,14 +99,14 @@ SendsPart WriteFault written now_written text = AppendsShort written now_written
 SendsPart e written now_written text = AppendsPart written now_written text
 
 -- a text was sent, or a prefix of it
-abbrev pub Sends : {A : Type 0} → List ℕ → (A → Type 0) → (written now_written : Option (List ℕ)) → (before now : ℕ) → Result A DebugError → Type 0
-Sends text P written now_written before now (Ok value) = Appends written now_written text × P value
-Sends text P written now_written before now (Err e) = SendsPart e written now_written text × Stops before now e
+abbrev pub Sends : {A : Type 0} → List ℕ → (A → Type 0) → (old new : Stream) → Result A DebugError → Type 0
+Sends text P old new (Ok value) = Appends old.text new.text text × P value
+Sends text P old new (Err e) = SendsPart e old.text new.text text × Stops old new e
 
 -- of a text some was sent and the rest waits, or a prefix of it was sent
-abbrev pub Gathers : {A : Type 0} → List ℕ → (A → Type 0) → (written now_written : Option (List ℕ)) → (before now : ℕ) → (waiting : List ℕ) → Result A DebugError → Type 0
-Gathers text P written now_written before now waiting (Ok value) = (sent : List ℕ) × Appends written now_written sent × (text ≡ sent ++ waiting) × P value
-Gathers text P written now_written before now waiting (Err e) = SendsPart e written now_written text × Stops before now e
+abbrev pub Gathers : {A : Type 0} → List ℕ → (A → Type 0) → (old new : Stream) → (waiting : List ℕ) → Result A DebugError → Type 0
+Gathers text P old new waiting (Ok value) = (sent : List ℕ) × Appends old.text new.text sent × (text ≡ sent ++ waiting) × P value
+Gathers text P old new waiting (Err e) = SendsPart e old.text new.text text × Stops old new e
 
 -- ---- a session, by its parts
 
@@ -130,16 +130,16 @@ Goes breaks old result new text now_text = MovesBy (go_on true breaks old) resul
 -- ---- commands
 
 -- what a hart's steps print is appended to a text
-abbrev pub TellsSteps : ℕ → ℕ → (old new : Trace) → (text now_text : List ℕ) → (written now_written : Option (List ℕ)) → (before now : ℕ) → Result Ending DebugError → Type 0
-TellsSteps h count old new text now_text written now_written before now result =
-    let m : Moves = step_up_to h count old in Gathers (text ++ m.text) (λ ending. (new ≡ m.now) × (ending ≡ m.ends)) written now_written before now now_text result
+abbrev pub TellsSteps : ℕ → ℕ → (old new : Trace) → (text now_text : List ℕ) → (out now_out : Stream) → Result Ending DebugError → Type 0
+TellsSteps h count old new text now_text out now_out result =
+    let m : Moves = step_up_to h count old in Gathers (text ++ m.text) (λ ending. (new ≡ m.now) × (ending ≡ m.ends)) out now_out now_text result
 
 -- the answer of a command is appended to a text
-abbrev pub Performs : DebugCommand → (old new : Session) → (text now_text : List ℕ) → (written now_written : Option (List ℕ)) → (before now : ℕ) → Result Ending DebugError → Type 0
-Performs command old new text now_text written now_written before now result =
-    let a : Answer = answer old command in Gathers (text ++ a.text) (λ ending. (new ≡ a.session) × (ending ≡ a.ends)) written now_written before now now_text result
+abbrev pub Performs : DebugCommand → (old new : Session) → (text now_text : List ℕ) → (out now_out : Stream) → Result Ending DebugError → Type 0
+Performs command old new text now_text out now_out result =
+    let a : Answer = answer old command in Gathers (text ++ a.text) (λ ending. (new ≡ a.session) × (ending ≡ a.ends)) out now_out now_text result
 
 -- the answer of a line is sent
-abbrev pub IsAnswered : List ℕ → (old new : Session) → (written now_written : Option (List ℕ)) → (before now : ℕ) → Result Ending DebugError → Type 0
-IsAnswered line old new written now_written before now result =
-    let a : Answer = answer old (command_of line) in Sends a.text (λ ending. (new ≡ a.session) × (ending ≡ a.ends)) written now_written before now result
+abbrev pub IsAnswered : List ℕ → (old new : Session) → (out now_out : Stream) → Result Ending DebugError → Type 0
+IsAnswered line old new out now_out result =
+    let a : Answer = answer old (command_of line) in Sends a.text (λ ending. (new ≡ a.session) × (ending ≡ a.ends)) out now_out result

@@ -3,7 +3,7 @@ use Rattle.std.specs.Prelude.{◌≡◌, ℕ, ◌+◌, ◌^◌, ◌<◌, ◌≤�
 use Rattle.std.specs.List.{AllByRecursion}
 use Rattle.std.specs.Io.KnownBytes.{Consumes}
 use Rattle.bn_outside.specs.Counts.{Rose}
-use Rattle.bn_outside.specs.Streams.{ConsumesAll, ReadNote, noted_after}
+use Rattle.bn_outside.specs.Streams.{ConsumesAll, ReadNote, Stream, Supply, noted_after}
 use Rattle.bn_outside.specs.declared.Failed.{Failed}
 use Rattle.step_debugger.specs.declared.error.DebugError.{DebugError}
 use Rattle.step_debugger.specs.declared.error.DebugError.TheVariants.{ReadFault, LineTooLong, TooMuch, OutOfMemory}
@@ -70,21 +70,21 @@ TakesByte old byte (Err OutOfMemory) new = (more : List ℕ) → input_from old.
 TakesByte old byte (Err e) new = ⊥
 
 -- a source gives its next byte, or is at its end, or fails
-abbrev pub GivesByte : (old new : Option (List ℕ)) → (before now : ℕ) → Result (Option ℕ) Failed → Type 0
-GivesByte old new before now (Ok (Some byte)) = Consumes old new (byte ∷ [])
-GivesByte old new before now (Ok None) = ConsumesAll old new []
-GivesByte old new before now (Err e) = Consumes old new [] × Rose before now
+abbrev pub GivesByte : (old new : Supply) → Result (Option ℕ) Failed → Type 0
+GivesByte old new (Ok (Some byte)) = Consumes old.left new.left (byte ∷ [])
+GivesByte old new (Ok None) = ConsumesAll old.left new.left []
+GivesByte old new (Err e) = Consumes old.left new.left [] × Rose old.faults new.faults
 
 -- what is read next, of a source of which these bytes are gone then. It is a line that ends with LF (`true`), the end of the
 -- source and the bytes before it, or why there is none, if memory runs out for the last byte that is gone
-abbrev pub ReadsLine : Reading → (gone : List ℕ) → (left now_left : Option (List ℕ)) → (before now : ℕ) → Result Bool DebugError → Reading → Type 0
-ReadsLine old gone left now_left before now (Ok true) new = (old.count < new.count) × (new.count ≤ input_limit) × ((more : List ℕ) → input_from old.count [] (gone ++ more) ≡ with_line new.line (input_from new.count [] more))
-ReadsLine old gone left now_left before now (Ok false) new = (input_from old.count [] gone ≡ ends_in new.line None) × ConsumesAll left now_left gone
-ReadsLine old gone left now_left before now (Err ReadFault) new = (input_from old.count [] gone ≡ ends_in new.line None) × Rose before now
-ReadsLine old gone left now_left before now (Err (LineTooLong n)) new = (more : List ℕ) → input_from old.count [] (gone ++ more) ≡ ends_in new.line (Some (LineTooLong n))
-ReadsLine old gone left now_left before now (Err (TooMuch n)) new = (more : List ℕ) → input_from old.count [] (gone ++ more) ≡ ends_in new.line (Some (TooMuch n))
-ReadsLine old gone left now_left before now (Err OutOfMemory) new = (byte : ℕ) × ((more : List ℕ) → input_from old.count [] (gone ++ more) ≡ input_from new.count (new.line ++ byte ∷ []) more)
-ReadsLine old gone left now_left before now (Err e) new = ⊥
+abbrev pub ReadsLine : Reading → (gone : List ℕ) → (input now_input : Supply) → Result Bool DebugError → Reading → Type 0
+ReadsLine old gone input now_input (Ok true) new = (old.count < new.count) × (new.count ≤ input_limit) × ((more : List ℕ) → input_from old.count [] (gone ++ more) ≡ with_line new.line (input_from new.count [] more))
+ReadsLine old gone input now_input (Ok false) new = (input_from old.count [] gone ≡ ends_in new.line None) × ConsumesAll input.left now_input.left gone
+ReadsLine old gone input now_input (Err ReadFault) new = (input_from old.count [] gone ≡ ends_in new.line None) × Rose input.faults now_input.faults
+ReadsLine old gone input now_input (Err (LineTooLong n)) new = (more : List ℕ) → input_from old.count [] (gone ++ more) ≡ ends_in new.line (Some (LineTooLong n))
+ReadsLine old gone input now_input (Err (TooMuch n)) new = (more : List ℕ) → input_from old.count [] (gone ++ more) ≡ ends_in new.line (Some (TooMuch n))
+ReadsLine old gone input now_input (Err OutOfMemory) new = (byte : ℕ) × ((more : List ℕ) → input_from old.count [] (gone ++ more) ≡ input_from new.count (new.line ++ byte ∷ []) more)
+ReadsLine old gone input now_input (Err e) new = ⊥
 
 -- bytes end with the first one that is too many
 pub record EndsTooMany (count : ℕ) (bytes : List ℕ) : Type 0 where
@@ -99,13 +99,6 @@ StopsAt count gone (Err (LineTooLong n)) = EndsTooMany count gone
 StopsAt count gone (Err (TooMuch n)) = EndsTooMany count gone
 StopsAt count gone result = Unit {0}
 
--- bytes of the source are gone, and they are what is read
-pub record NextLine (old : Reading) (left now_left : Option (List ℕ)) (before now : ℕ) (result : Result Bool DebugError) (new : Reading) : Type 0 where
-  pub gone : List ℕ
-  pub taken : Consumes left now_left gone
-  pub read : ReadsLine old gone left now_left before now result new
-  pub stops : StopsAt old.count gone result
-
 -- how often a source is read for a line: once for each byte, and once more if its end is found or a read fails
 abbrev pub reads_for : List ℕ → Result Bool DebugError → ℕ
 reads_for gone (Ok true) = length gone
@@ -117,13 +110,16 @@ reads_for gone (Err e) = length gone
 abbrev pub NoLine : List ℕ → Type 0
 NoLine bytes = AllByRecursion (λ byte. is_line_feed byte ≡ false) bytes
 
--- the next line, and what the source noted of its reads. At each of them out had been given the same, and before the last
--- of them no line ended
-pub record CountedLine (old : Reading) (left now_left : Option (List ℕ)) (before now : ℕ) (note : ReadNote) (had : Option (List ℕ)) (noted now_noted : ℕ) (result : Result Bool DebugError) (new : Reading) : Type 0 where
-  pub line : NextLine old left now_left before now result new
+-- bytes of the source are gone, and they are what is read. At each of its reads out had been given the same, and before the
+-- last of them no line ended
+pub record NextLine (old : Reading) (input now_input : Supply) (note : ReadNote) (out : Stream) (result : Result Bool DebugError) (new : Reading) : Type 0 where
+  pub gone : List ℕ
+  pub taken : Consumes input.left now_input.left gone
+  pub read : ReadsLine old gone input now_input result new
+  pub stops : StopsAt old.count gone result
   pub front : List ℕ
   pub last : List ℕ
-  pub parts : line.gone ≡ front ++ last
+  pub parts : gone ≡ front ++ last
   pub unended : NoLine front
-  pub count : length front + 1 ≡ reads_for line.gone result
-  pub notes : now_noted ≡ noted_after note noted (map (λ byte. had) front ++ had ∷ [])
+  pub count : length front + 1 ≡ reads_for gone result
+  pub notes : now_input.noted ≡ noted_after note input.noted (map (λ byte. out.text) front ++ out.text ∷ [])

@@ -2,7 +2,7 @@
 use Rattle.std.specs.Prelude.{◌≡◌, ◌⊎◌, ℕ, ◌+◌, List, [], ◌∷◌, ◌++◌, length, Option, Some, None, Result, Ok, Err}
 use Rattle.std.specs.Io.KnownBytes.{Appends, Consumes}
 use Rattle.bn_outside.specs.Counts.{Rose}
-use Rattle.bn_outside.specs.Streams.{AppendsPart, ConsumesAll, Notes}
+use Rattle.bn_outside.specs.Streams.{AppendsPart, ConsumesAll, ReadNote, Stream, Supply, noted_after}
 use Rattle.joint_replay.specs.Joining.{Joining}
 use Rattle.back_step.specs.Traces.{Trace, at_start}
 use Rattle.step_debugger.specs.declared.error.DebugError.{DebugError}
@@ -56,16 +56,6 @@ transcript j input = transcript_from (at_start j) input
 
 -- ---- what a session does
 
--- the bytes end with the line that ended the session: none of those after it is gone, not even one that is too many
-pub record EndsThere (t : Trace) (gone : List ℕ) (e : Ending) : Type 0 where
-  pub front : List (List ℕ)
-  pub line : List ℕ
-  pub lines : (input_of gone).lines ≡ front ++ line ∷ []
-  pub last : (input_of gone).last ≡ []
-  pub none : (input_of gone).refused ≡ None
-  pub before : (answers front (begin_at t)).ends ≡ GoesOn
-  pub there : (answers (front ++ line ∷ []) (begin_at t)).ends ≡ e
-
 -- the bytes end with a line that ends with LF, none of them is too many, and no line before it ended the session
 pub record EndsWithLine (t : Trace) (gone : List ℕ) : Type 0 where
   pub front : List (List ℕ)
@@ -75,87 +65,84 @@ pub record EndsWithLine (t : Trace) (gone : List ℕ) : Type 0 where
   pub none : (input_of gone).refused ≡ None
   pub before : (answers front (begin_at t)).ends ≡ GoesOn
 
+-- the bytes end with such a line, and it ended the session: none of those after it is gone, not even one that is too many
+pub record EndsThere (t : Trace) (gone : List ℕ) (e : Ending) : Type 0 where
+  pub line_is : EndsWithLine t gone
+  pub there : (answers (line_is.front ++ line_is.line ∷ []) (begin_at t)).ends ≡ e
+
 -- the answers of lines are written whole, and then a prefix of the answer of the next line; not all of that, if a write
 -- failed
-abbrev pub WritesUpTo : Trace → List (List ℕ) → List ℕ → DebugError → (written now_written : Option (List ℕ)) → Type 0
-WritesUpTo t lines line e written now_written =
+abbrev pub WritesUpTo : Trace → List (List ℕ) → List ℕ → DebugError → (out now_out : Stream) → Type 0
+WritesUpTo t lines line e out now_out =
     let before : Answer = answers lines (begin_at t) in
     let next : Answer = answer before.session (command_of line) in
-    (then_written : Option (List ℕ)) × Appends written then_written before.text × SendsPart e then_written now_written next.text
+    (then_text : Option (List ℕ)) × Appends out.text then_text before.text × SendsPart e then_text now_out.text next.text
 
 -- the bytes end with a line whose answer an error stopped, and the answers of the lines before it are written whole
-pub record StopsAtLine (t : Trace) (gone : List ℕ) (e : DebugError) (written now_written : Option (List ℕ)) : Type 0 where
+pub record StopsAtLine (t : Trace) (gone : List ℕ) (e : DebugError) (out now_out : Stream) : Type 0 where
   pub line_is : EndsWithLine t gone
-  pub sent : WritesUpTo t line_is.front line_is.line e written now_written
+  pub sent : WritesUpTo t line_is.front line_is.line e out now_out
 
 -- all bytes are gone, none of them is too many, and no line of them that ends with LF ended the session: what comes
 -- after the last LF may have
-pub record EndsAll (t : Trace) (left now_left : Option (List ℕ)) (gone : List ℕ) : Type 0 where
-  pub all : ConsumesAll left now_left gone
+pub record EndsAll (t : Trace) (input now_input : Supply) (gone : List ℕ) : Type 0 where
+  pub all : ConsumesAll input.left now_input.left gone
   pub none : (input_of gone).refused ≡ None
   pub before : (answers (input_of gone).lines (begin_at t)).ends ≡ GoesOn
 
 -- a session ends as its transcript does, and its text is written: at the line that ended it, or at the end of its source, or
 -- since no more lines are read. Or a read failed before, and the whole lines before that are answered; or a write failed, or
 -- memory ran out, and a prefix of the text is written
-abbrev pub Debugs : Trace → (gone : List ℕ) → (left now_left : Option (List ℕ)) → (read_before read_now : ℕ) → (written now_written : Option (List ℕ)) → (before now : ℕ) → Result (Unit {0}) DebugError → Type 0
-Debugs t gone left now_left read_before read_now written now_written before now (Ok u) =
+abbrev pub Debugs : Trace → (gone : List ℕ) → (input now_input : Supply) → (out now_out : Stream) → Result (Unit {0}) DebugError → Type 0
+Debugs t gone input now_input out now_out (Ok u) =
     let told : Told = transcript_from t (input_of gone) in
-    (told.result ≡ Ok (tt {0})) × Appends written now_written told.text × (EndsThere t gone Quits ⊎ EndsAll t left now_left gone)
-Debugs t gone left now_left read_before read_now written now_written before now (Err (why.Joint e)) =
+    (told.result ≡ Ok (tt {0})) × Appends out.text now_out.text told.text × (EndsThere t gone Quits ⊎ EndsAll t input now_input gone)
+Debugs t gone input now_input out now_out (Err (why.Joint e)) =
     let told : Told = transcript_from t (input_of gone) in
-    (told.result ≡ Err (why.Joint e)) × Appends written now_written told.text × (EndsThere t gone (Refused e) ⊎ EndsAll t left now_left gone)
-Debugs t gone left now_left read_before read_now written now_written before now (Err ReadFault) =
+    (told.result ≡ Err (why.Joint e)) × Appends out.text now_out.text told.text × (EndsThere t gone (Refused e) ⊎ EndsAll t input now_input gone)
+Debugs t gone input now_input out now_out (Err ReadFault) =
     let a : Answer = answers (input_of gone).lines (begin_at t) in
-    (a.ends ≡ GoesOn) × ((input_of gone).refused ≡ None) × Appends written now_written a.text × Rose read_before read_now
-Debugs t gone left now_left read_before read_now written now_written before now (Err WriteFault) =
-    AppendsPart written now_written (transcript_from t (input_of gone)).text × Rose before now
-Debugs t gone left now_left read_before read_now written now_written before now (Err OutOfMemory) =
-    AppendsPart written now_written (transcript_from t (input_of gone)).text
-Debugs t gone left now_left read_before read_now written now_written before now (Err e) =
+    (a.ends ≡ GoesOn) × ((input_of gone).refused ≡ None) × Appends out.text now_out.text a.text × Rose input.faults now_input.faults
+Debugs t gone input now_input out now_out (Err WriteFault) =
+    AppendsPart out.text now_out.text (transcript_from t (input_of gone)).text × Rose out.faults now_out.faults
+Debugs t gone input now_input out now_out (Err OutOfMemory) =
+    AppendsPart out.text now_out.text (transcript_from t (input_of gone)).text
+Debugs t gone input now_input out now_out (Err e) =
     let told : Told = transcript_from t (input_of gone) in
-    (told.result ≡ Err e) × Appends written now_written told.text
+    (told.result ≡ Err e) × Appends out.text now_out.text told.text
 
 -- all bytes are gone, an error stopped the answer of what comes after the last LF, and those of the lines are written
 -- whole
-pub record StopsAtEnd (t : Trace) (gone : List ℕ) (left now_left : Option (List ℕ)) (e : DebugError) (written now_written : Option (List ℕ)) : Type 0 where
-  pub at_end : EndsAll t left now_left gone
-  pub sent : WritesUpTo t (input_of gone).lines (input_of gone).last e written now_written
+pub record StopsAtEnd (t : Trace) (gone : List ℕ) (input now_input : Supply) (e : DebugError) (out now_out : Stream) : Type 0 where
+  pub at_end : EndsAll t input now_input gone
+  pub sent : WritesUpTo t (input_of gone).lines (input_of gone).last e out now_out
 
 -- the bytes end within a line, none of them is too many, no line before ended the session, and their answers are
 -- written whole
-pub record StopsInLine (t : Trace) (gone : List ℕ) (written now_written : Option (List ℕ)) : Type 0 where
+pub record StopsInLine (t : Trace) (gone : List ℕ) (out now_out : Stream) : Type 0 where
   pub none : (input_of gone).refused ≡ None
   pub before : (answers (input_of gone).lines (begin_at t)).ends ≡ GoesOn
-  pub sent : Appends written now_written (answers (input_of gone).lines (begin_at t)).text
+  pub sent : Appends out.text now_out.text (answers (input_of gone).lines (begin_at t)).text
 
 -- how far a session reads that an error stops. After the line that ended it, or whose answer could not be written,
 -- nothing is read; nor is it after the first byte that is too many. If memory ran out, it was for a line's answer or for
 -- a byte. `Debugs` says it of the other results
-abbrev pub ReadsUpTo : Trace → (gone : List ℕ) → (left now_left written now_written : Option (List ℕ)) → Result (Unit {0}) DebugError → Type 0
-ReadsUpTo t gone left now_left written now_written (Err WriteFault) =
-    StopsAtLine t gone WriteFault written now_written ⊎ StopsAtEnd t gone left now_left WriteFault written now_written
-ReadsUpTo t gone left now_left written now_written (Err OutOfMemory) =
-    StopsAtLine t gone OutOfMemory written now_written
-    ⊎ (StopsAtEnd t gone left now_left OutOfMemory written now_written ⊎ StopsInLine t gone written now_written)
-ReadsUpTo t gone left now_left written now_written (Err (LineTooLong n)) = EndsTooMany 0 gone
-ReadsUpTo t gone left now_left written now_written (Err (TooMuch n)) = EndsTooMany 0 gone
-ReadsUpTo t gone left now_left written now_written result = Unit {0}
-
--- bytes of the source are gone, and they are the commands
-pub record Debugged (t : Trace) (left now_left : Option (List ℕ)) (read_before read_now : ℕ) (written now_written : Option (List ℕ)) (before now : ℕ) (result : Result (Unit {0}) DebugError) : Type 0 where
-  pub gone : List ℕ
-  pub taken : Consumes left now_left gone
-  pub done : Debugs t gone left now_left read_before read_now written now_written before now result
-  pub up_to : ReadsUpTo t gone left now_left written now_written result
+abbrev pub ReadsUpTo : Trace → (gone : List ℕ) → (input now_input : Supply) → (out now_out : Stream) → Result (Unit {0}) DebugError → Type 0
+ReadsUpTo t gone input now_input out now_out (Err WriteFault) =
+    StopsAtLine t gone WriteFault out now_out ⊎ StopsAtEnd t gone input now_input WriteFault out now_out
+ReadsUpTo t gone input now_input out now_out (Err OutOfMemory) =
+    StopsAtLine t gone OutOfMemory out now_out ⊎ (StopsAtEnd t gone input now_input OutOfMemory out now_out ⊎ StopsInLine t gone out now_out)
+ReadsUpTo t gone input now_input out now_out (Err (LineTooLong n)) = EndsTooMany 0 gone
+ReadsUpTo t gone input now_input out now_out (Err (TooMuch n)) = EndsTooMany 0 gone
+ReadsUpTo t gone input now_input out now_out result = Unit {0}
 
 -- the source was read once for each byte that is gone, and once more if a read failed, or if its end was found and no line that
 -- ends with LF had ended the session
-abbrev pub IsReadOnce : Trace → (gone : List ℕ) → (left now_left : Option (List ℕ)) → (reads : ℕ) → Result (Unit {0}) DebugError → Type 0
-IsReadOnce t gone left now_left reads (Err ReadFault) = reads ≡ length gone + 1
-IsReadOnce t gone left now_left reads (Err (LineTooLong n)) = reads ≡ length gone
-IsReadOnce t gone left now_left reads (Err (TooMuch n)) = reads ≡ length gone
-IsReadOnce t gone left now_left reads result = (reads ≡ length gone) ⊎ (EndsAll t left now_left gone × (reads ≡ length gone + 1))
+abbrev pub IsReadOnce : Trace → (gone : List ℕ) → (input now_input : Supply) → (reads : ℕ) → Result (Unit {0}) DebugError → Type 0
+IsReadOnce t gone input now_input reads (Err ReadFault) = reads ≡ length gone + 1
+IsReadOnce t gone input now_input reads (Err (LineTooLong n)) = reads ≡ length gone
+IsReadOnce t gone input now_input reads (Err (TooMuch n)) = reads ≡ length gone
+IsReadOnce t gone input now_input reads result = (reads ≡ length gone) ⊎ (EndsAll t input now_input gone × (reads ≡ length gone + 1))
 
 -- the answers to the whole lines of some bytes
 abbrev pub answered_in : Trace → List ℕ → List ℕ
@@ -169,15 +156,18 @@ InTurn t written come [] (had ∷ given) = Appends written had (answered_in t co
 InTurn t written come (byte ∷ more) (had ∷ given) = Appends written had (answered_in t come) × InTurn t written (come ++ byte ∷ []) more given
 
 -- so it was at each of so many reads, of which the source has noted this
-pub record AnswersInTurn (t : Trace) (gone : List ℕ) (written : Option (List ℕ)) (notes : Notes) (noted reads : ℕ) : Type 0 where
+pub record AnswersInTurn (t : Trace) (gone : List ℕ) (input now_input : Supply) (note : ReadNote) (out : Stream) (reads : ℕ) : Type 0 where
   pub given : List (Option (List ℕ))
-  pub each : InTurn t written [] gone given
-  pub noted_is : noted ≡ notes given
+  pub each : InTurn t out.text [] gone given
+  pub noted_is : now_input.noted ≡ noted_after note input.noted given
   pub reads_is : length given ≡ reads
 
--- a session, how often its source was read, and what out had been given at each read
-pub record CountedSession (t : Trace) (left now_left : Option (List ℕ)) (read_before read_now : ℕ) (notes : Notes) (noted : ℕ) (written now_written : Option (List ℕ)) (before now : ℕ) (result : Result (Unit {0}) DebugError) : Type 0 where
-  pub session : Debugged t left now_left read_before read_now written now_written before now result
+-- bytes of the source are gone, and they are the commands. They were read once, and each was answered in turn
+pub record Debugged (t : Trace) (input now_input : Supply) (note : ReadNote) (out now_out : Stream) (result : Result (Unit {0}) DebugError) : Type 0 where
+  pub gone : List ℕ
+  pub taken : Consumes input.left now_input.left gone
+  pub done : Debugs t gone input now_input out now_out result
+  pub up_to : ReadsUpTo t gone input now_input out now_out result
   pub reads : ℕ
-  pub count : IsReadOnce t session.gone left now_left reads result
-  pub in_turn : AnswersInTurn t session.gone written notes noted reads
+  pub count : IsReadOnce t gone input now_input reads result
+  pub in_turn : AnswersInTurn t gone input now_input note out reads

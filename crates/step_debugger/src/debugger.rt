@@ -1,9 +1,8 @@
 //! The debugger's loop: a line is read, its command done, and its answer sent.
 ghost use Rattle.std.specs.Prelude.{◌≤◌};
-ghost use Rattle.bn_outside.specs.Streams.{noted_after};
 ghost use Rattle.step_debugger.specs.Goings.{session_of, StopsApart};
 ghost use Rattle.step_debugger.specs.Turns.{TakesLine, LineApart};
-ghost use Rattle.step_debugger.specs.Transcript.{Debugged, CountedSession};
+ghost use Rattle.step_debugger.specs.Transcript.{Debugged};
 
 use crate::error::DebugError;
 use crate::focus::Focus;
@@ -23,11 +22,11 @@ fn answer_next<I: Source<O>, O: Sink>(
     input: &mut I,
     out: &mut O,
 ) -> Result<bool, DebugError>
-    ensures taken { TakesLine (session_of trail.old.trace focus.old) (session_of trail.new.trace focus.new) reader.old reader.new (I.left input.old) (I.left input.new)
-        (I.faults input.old) (I.faults input.new) I.note (I.noted input.old) (I.noted input.new) (O.written out.old) (O.written out.new) (O.faults out.old) (O.faults out.new) result }
+    ensures taken { TakesLine (session_of trail.old.trace focus.old) (session_of trail.new.trace focus.new) reader.old reader.new
+        (I.source input.old) (I.source input.new) I.note (O.stream out.old) (O.stream out.new) result }
     ensures apart { LineApart trail.old.trace result trail.new.trace }
-    ensures read { I.faults input.old ≤ I.faults input.new }
-    ensures later { O.faults out.old ≤ O.faults out.new }
+    ensures read { (I.source input.old).faults ≤ (I.source input.new).faults }
+    ensures later { (O.stream out.old).faults ≤ (O.stream out.new).faults }
 {
     let whole = match reader.next(input, out) {
         Err(failed) => return Err(failed),
@@ -58,13 +57,10 @@ pub fn debug<I: Source<O>, O: Sink>(
     input: &mut I,
     out: &mut O,
 ) -> Result<(), DebugError>
-    ensures told { Debugged trail.old.trace (I.left input.old) (I.left input.new) (I.faults input.old) (I.faults input.new)
-        (O.written out.old) (O.written out.new) (O.faults out.old) (O.faults out.new) result }
-    ensures counted { CountedSession trail.old.trace (I.left input.old) (I.left input.new) (I.faults input.old) (I.faults input.new) (noted_after I.note (I.noted input.old)) (I.noted input.new)
-        (O.written out.old) (O.written out.new) (O.faults out.old) (O.faults out.new) result }
+    ensures told { Debugged trail.old.trace (I.source input.old) (I.source input.new) I.note (O.stream out.old) (O.stream out.new) result }
     ensures apart { StopsApart trail.old.trace result trail.new.trace }
-    ensures read { I.faults input.old ≤ I.faults input.new }
-    ensures later { O.faults out.old ≤ O.faults out.new }
+    ensures read { (I.source input.old).faults ≤ (I.source input.new).faults }
+    ensures later { (O.stream out.old).faults ≤ (O.stream out.new).faults }
 {
     let mut reader = LineReader::new(alloc);
     let mut focus = Focus {

@@ -1,6 +1,5 @@
 //! Small sessions, worked out by hand.
-ghost use Rattle.std.specs.Prelude.{◌≡◌, ◌+◌, ◌++◌, ◌^◌, [], ◌∷◌, length, Some, None};
-ghost use Rattle.std.specs.Prelude.{replicate};
+ghost use Rattle.std.specs.Prelude.{◌≡◌, ◌+◌, ◌++◌, ◌^◌, [], ◌∷◌, length, replicate, Some, None};
 ghost use Rattle.step_debugger.specs.declared.command.DebugCommand.TheVariants.{Other};
 ghost use Rattle.step_debugger.specs.declared.error.DebugError.TheVariants.{LineTooLong, TooMuch};
 ghost use Rattle.step_debugger.specs.Lines.{ends_in, with_line};

@@ -1,6 +1,6 @@
 //! The lines of the commands, read from a source.
 ghost use Rattle.std.specs.Prelude.{◌≡◌, ◌≤◌, []};
-ghost use Rattle.step_debugger.specs.Lines.{is_over, TakesByte, GivesByte, CountedLine};
+ghost use Rattle.step_debugger.specs.Lines.{is_over, TakesByte, GivesByte, NextLine};
 
 use crate::error::DebugError;
 use bn_outside::{Failed, Sink, Source};
@@ -92,9 +92,8 @@ impl LineReader {
         source: &mut I,
         out: &O,
     ) -> Result<bool, DebugError>
-        ensures read { CountedLine self.old (I.left source.old) (I.left source.new) (I.faults source.old) (I.faults source.new)
-            I.note (O.written out.now) (I.noted source.old) (I.noted source.new) result self.new }
-        ensures later { I.faults source.old ≤ I.faults source.new }
+        ensures read { NextLine self.old (I.source source.old) (I.source source.new) I.note (O.stream out.now) result self.new }
+        ensures later { (I.source source.old).faults ≤ (I.source source.new).faults }
     {
         self.line.clear();
         'bytes: loop {
@@ -114,9 +113,9 @@ impl LineReader {
 
 // The next byte of a source; `None` at its end.
 fn next_byte<I: Source<O>, O: Sink>(source: &mut I, out: &O) -> Result<Option<u8>, Failed>
-    ensures given { GivesByte (I.left source.old) (I.left source.new) (I.faults source.old) (I.faults source.new) result }
-    ensures later { I.faults source.old ≤ I.faults source.new }
-    ensures called { I.noted source.new ≡ I.note (I.noted source.old) (O.written out.now) }
+    ensures given { GivesByte (I.source source.old) (I.source source.new) result }
+    ensures later { (I.source source.old).faults ≤ (I.source source.new).faults }
+    ensures called { (I.source source.new).noted ≡ I.note (I.source source.old).noted (O.stream out.now).text }
 {
     let mut buffer = [0u8; 1];
     match source.read(out, &mut buffer) {

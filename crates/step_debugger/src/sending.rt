@@ -12,8 +12,8 @@ const BLOCK: usize = 65_536;
 
 /// Sends what waits of a text. The only error is that of a write.
 pub(crate) fn send<O: Sink>(text: &Text, out: &mut O) -> Result<(), DebugError>
-    ensures sent { Sends text.now (λ _. Unit {0}) (O.written out.old) (O.written out.new) (O.faults out.old) (O.faults out.new) result }
-    ensures later { O.faults out.old ≤ O.faults out.new }
+    ensures sent { Sends text.now (λ _. Unit {0}) (O.stream out.old) (O.stream out.new) result }
+    ensures later { (O.stream out.old).faults ≤ (O.stream out.new).faults }
     ensures cause { IfErr result (λ e. e ≡ WriteFault) }
 {
     match send_all(out, text.as_bytes()) {
@@ -24,8 +24,8 @@ pub(crate) fn send<O: Sink>(text: &Text, out: &mut O) -> Result<(), DebugError>
 
 /// Sends what waits of a text, if it is a block or more. The only error is that of a write.
 pub(crate) fn send_block<O: Sink>(text: &mut Text, out: &mut O) -> Result<(), DebugError>
-    ensures sent { Gathers text.old (λ _. Unit {0}) (O.written out.old) (O.written out.new) (O.faults out.old) (O.faults out.new) text.new result }
-    ensures later { O.faults out.old ≤ O.faults out.new }
+    ensures sent { Gathers text.old (λ _. Unit {0}) (O.stream out.old) (O.stream out.new) text.new result }
+    ensures later { (O.stream out.old).faults ≤ (O.stream out.new).faults }
     ensures cause { IfErr result (λ e. e ≡ WriteFault) }
 {
     if text.len() < BLOCK {

@@ -51,7 +51,7 @@ fn is_set(focus: &Focus, addr: Addr) -> bool
     focus.breaks.contains(&addr)
 }
 
-// Adds a breakpoint.
+// Adds a breakpoint, and says so. One that is set is set again; a 65th isn't set, and the text says `full`.
 fn add_break(
     trail: &Trail,
     focus: &mut Focus,
@@ -146,9 +146,9 @@ fn step_up_to<O: Sink>(
     text: &mut Text,
     out: &mut O,
 ) -> Result<Ending, DebugError>
-    ensures sent { TellsSteps hart count trail.old.trace trail.new.trace text.old text.new (O.written out.old) (O.written out.new) (O.faults out.old) (O.faults out.new) result }
+    ensures sent { TellsSteps hart count trail.old.trace trail.new.trace text.old text.new (O.stream out.old) (O.stream out.new) result }
     ensures apart { TellsApart trail.old.trace result trail.new.trace }
-    ensures later { O.faults out.old ≤ O.faults out.new }
+    ensures later { (O.stream out.old).faults ≤ (O.stream out.new).faults }
 {
     for done in 0..count {
         match step_once(trail, hart, text) {
@@ -198,10 +198,9 @@ fn perform<O: Sink>(
     text: &mut Text,
     out: &mut O,
 ) -> Result<Ending, DebugError>
-    ensures sent { Performs command (session_of trail.old.trace focus.old) (session_of trail.new.trace focus.new) text.old text.new
-        (O.written out.old) (O.written out.new) (O.faults out.old) (O.faults out.new) result }
+    ensures sent { Performs command (session_of trail.old.trace focus.old) (session_of trail.new.trace focus.new) text.old text.new (O.stream out.old) (O.stream out.new) result }
     ensures apart { TellsApart trail.old.trace result trail.new.trace }
-    ensures later { O.faults out.old ≤ O.faults out.new }
+    ensures later { (O.stream out.old).faults ≤ (O.stream out.new).faults }
 {
     match command {
         DebugCommand::Empty => Ok(Ending::GoesOn),
@@ -228,10 +227,9 @@ pub(crate) fn answer<O: Sink>(
     text: &mut Text,
     out: &mut O,
 ) -> Result<Ending, DebugError>
-    ensures sent { IsAnswered line.now (session_of trail.old.trace focus.old) (session_of trail.new.trace focus.new)
-        (O.written out.old) (O.written out.new) (O.faults out.old) (O.faults out.new) result }
+    ensures sent { IsAnswered line.now (session_of trail.old.trace focus.old) (session_of trail.new.trace focus.new) (O.stream out.old) (O.stream out.new) result }
     ensures apart { TellsApart trail.old.trace result trail.new.trace }
-    ensures later { O.faults out.old ≤ O.faults out.new }
+    ensures later { (O.stream out.old).faults ≤ (O.stream out.new).faults }
 {
     text.clear();
     match perform(trail, focus, command_of(line), text, out) {

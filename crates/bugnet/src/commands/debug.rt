@@ -2,15 +2,13 @@
 ghost use Rattle.std.specs.Prelude.{◌≡◌};
 ghost use Rattle.back_step.specs.Traces.{at_start};
 ghost use Rattle.joint_replay.specs.Joining.{Joining};
-ghost use Rattle.bugnet.specs.Replies.{reading};
-ghost use Rattle.bugnet.specs.Sessions.{stop_refusal};
+ghost use Rattle.bugnet.specs.Sessions.{reading, stop_refusal};
 ghost use Rattle.bugnet.specs.Steps.{SessionTo, DebugsTo};
 ghost use Rattle.log_commands.specs.Joined.{joined};
 
 use back_step::Trail;
-use bn_outside::{Sink, Source};
+use bn_outside::{Sink, Source, Store};
 use log_commands::names::Names;
-use log_commands::outside::StoreExt;
 use log_commands::pairs::{JointReading, load_pair};
 use log_commands::refusal::Refusal;
 use std::alloc::Global;
@@ -40,8 +38,8 @@ fn debug_trail<I: Source<O>, O: Sink>(
     input: &mut I,
     out: &mut O,
 ) -> Result<(), Refusal>
-    ensures { (first : Joining) → trail.old.trace ≡ at_start first → SessionTo first (reading I.left I.faults I.note I.noted input.old input.new)
-        (record { text = O.written out.old; faults = O.faults out.old }) (record { text = O.written out.new; faults = O.faults out.new }) result }
+    ensures { (first : Joining) → trail.old.trace ≡ at_start first → SessionTo first (reading I.source I.note input.old input.new)
+        (O.stream out.old) (O.stream out.new) result }
 {
     match debug(alloc, trail, input, out) {
         Ok(()) => Ok(()),
@@ -56,8 +54,8 @@ fn debug_pair<I: Source<O>, O: Sink>(
     input: &mut I,
     out: &mut O,
 ) -> Result<(), Refusal>
-    ensures { SessionTo (joined pair.now.log pair.now.image) (reading I.left I.faults I.note I.noted input.old input.new)
-        (record { text = O.written out.old; faults = O.faults out.old }) (record { text = O.written out.new; faults = O.faults out.new }) result }
+    ensures { SessionTo (joined pair.now.log pair.now.image) (reading I.source I.note input.old input.new)
+        (O.stream out.old) (O.stream out.new) result }
 {
     match Trail::begin(alloc, &pair.image, &pair.log, COPY_EVERY) {
         Err(_) => Err(Refusal::OutOfMemory),
@@ -67,15 +65,15 @@ fn debug_pair<I: Source<O>, O: Sink>(
 
 /// Loads a log and a program, and makes a session of the debugger: it reads commands from `input`, and
 /// sends their answers to `out`. Before the files are loaded and tested nothing is read.
-pub fn debug_files<S: StoreExt, I: Source<O>, O: Sink>(
+pub fn debug_files<S: Store, I: Source<O>, O: Sink>(
     alloc: Global,
     names: &Names,
     store: &mut S,
     input: &mut I,
     out: &mut O,
 ) -> Result<(), Refusal>
-    ensures { DebugsTo names.now S.note (reading I.left I.faults I.note I.noted input.old input.new) (S.stored store.old) (S.stored store.new)
-        (record { text = O.written out.old; faults = O.faults out.old }) (record { text = O.written out.new; faults = O.faults out.new }) result }
+    ensures { DebugsTo names.now S.note (reading I.source I.note input.old input.new) (S.stored store.old) (S.stored store.new)
+        (O.stream out.old) (O.stream out.new) result }
 {
     let pair = load_pair(alloc, names, store)?;
     debug_pair(alloc, &pair, input, out)

@@ -18,10 +18,11 @@ ghost use Rattle.log_commands.specs.Outside.{WithFiles};
 
 use crate::manner::Manner;
 use bn_base::{RawSettings, Settings};
+use bn_outside::Store;
 use command_words::RecordOptions;
 use log_commands::answer::{Answer, RunToTell, digest_of, load_program};
+use log_commands::inputs::fetch;
 use log_commands::names::{Names, Role};
-use log_commands::outside::StoreExt;
 use log_commands::refusal::Refusal;
 use run_model::Start;
 use std::alloc::{AllocError, Global};
@@ -37,7 +38,7 @@ fn manner_of(options: &RecordOptions) -> Manner
 }
 
 // Loads the input, if there is one, for a start whose own input is empty.
-fn load_input<S: StoreExt>(
+fn load_input<S: Store>(
     alloc: Global,
     names: &Names,
     mut start: Start,
@@ -51,13 +52,13 @@ fn load_input<S: StoreExt>(
     if !has_input {
         return Ok(start);
     }
-    let input = store.fetch(alloc, names, Role::Input)?;
+    let input = fetch(alloc, names, Role::Input, store)?;
     start.input = input;
     Ok(start)
 }
 
 // Loads a program from its bytes, and then the input.
-fn load_start<S: StoreExt>(
+fn load_start<S: Store>(
     alloc: Global,
     names: &Names,
     elf: &[u8],
@@ -80,7 +81,7 @@ fn load_start<S: StoreExt>(
 }
 
 // Loads the program file, and then the input.
-fn load_files<S: StoreExt>(
+fn load_files<S: Store>(
     alloc: Global,
     names: &Names,
     settings: &Settings,
@@ -91,7 +92,7 @@ fn load_files<S: StoreExt>(
     ensures loads { LoadsStart names.now (λ how files. IsByNames false files names.now settings.now how has_input)
         (record_roles has_input) elf_roles S.note (S.stored store.old) (S.stored store.new) result }
 {
-    let elf = store.fetch(alloc, names, Role::Elf)?;
+    let elf = fetch(alloc, names, Role::Elf, store)?;
     load_start(alloc, names, &elf, settings, has_input, store)
 }
 
@@ -120,7 +121,7 @@ fn tested(names: &Names, settings: &RawSettings, how: &Manner) -> Result<Setting
 }
 
 /// Tests the settings and the names, loads the program and its input, and has `make` record the run.
-pub fn evaluate<S: StoreExt, F: FnOnce(&Start) -> Result<RunToTell, AllocError>>(
+pub fn evaluate<S: Store, F: FnOnce(&Start) -> Result<RunToTell, AllocError>>(
     alloc: Global,
     names: &Names,
     options: &RecordOptions,

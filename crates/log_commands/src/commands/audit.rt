@@ -9,10 +9,10 @@ ghost use Rattle.log_commands.specs.Outside.{IsOwn, Sends, Always};
 
 use crate::answer::Answer;
 use crate::names::Role;
-use crate::outside::SinkExt;
 use crate::pairs::{JointReading, read_pair};
 use crate::refusal::Refusal;
 use crate::send::send;
+use bn_outside::Sink;
 use run_files::{Verdict, audit, verdicts_are_unique};
 use run_model::{Start, TurnError};
 use rv_text::Text;
@@ -80,7 +80,7 @@ pub fn roles_of(has_input: bool) -> &'static [Role]
 
 /// Sends the line of a log that agrees.
 #[tactic(auto, unfolding(crate::specs::Texts::agree_text))]
-pub fn send_agreement<O: SinkExt>(alloc: Global, out: &mut O) -> Result<(), Refusal>
+pub fn send_agreement<O: Sink>(alloc: Global, out: &mut O) -> Result<(), Refusal>
     ensures { Sends agree_text Always (O.stream out.old) (O.stream out.new) result }
 {
     let mut text = Text::new(alloc);

@@ -6,10 +6,10 @@ ghost use Rattle.log_commands.specs.Answering.{Answers};
 ghost use Rattle.log_commands.specs.Outside.{Sends, Always};
 
 use crate::answer::Answer;
-use crate::outside::SinkExt;
 use crate::refusal::Refusal;
 use crate::send::send;
 use crate::texts::push_check;
+use bn_outside::Sink;
 use log_blocks::count_file;
 use log_file::LogCounts;
 use rv_text::Text;
@@ -26,7 +26,7 @@ pub fn evaluate(alloc: Global, log: &[u8]) -> Result<Answer, Refusal>
 }
 
 /// Sends the line of a log.
-pub fn send_check<O: SinkExt>(alloc: Global, log: &LogCounts, out: &mut O) -> Result<(), Refusal>
+pub fn send_check<O: Sink>(alloc: Global, log: &LogCounts, out: &mut O) -> Result<(), Refusal>
     ensures { Sends (check_line log.now) Always (O.stream out.old) (O.stream out.new) result }
 {
     let mut text = Text::new(alloc);

@@ -11,10 +11,10 @@ ghost use Rattle.log_commands.specs.Outside.{IsPrinted, Sends, SendsUntil, Gathe
 ghost use Rattle.log_commands.specs.Pairs.{pair_of};
 
 use crate::answer::Answer;
-use crate::outside::SinkExt;
 use crate::pairs::{JointReading, read_pair};
 use crate::refusal::Refusal;
 use crate::send::{send, send_block, send_short};
+use bn_outside::Sink;
 use joint_replay::laws::{runs_end, runs_go_on};
 use joint_replay::{Joint, write_known};
 use rv_text::{RowLines, Text};
@@ -29,7 +29,7 @@ pub fn evaluate(alloc: Global, log: &[u8], elf: &[u8]) -> Result<Answer, Refusal
 }
 
 // Sends the lines of all steps, in blocks; at first none waits. It is refused if the run stopped.
-fn send_run<O: SinkExt>(
+fn send_run<O: Sink>(
     joint: &mut Joint,
     lines: &mut RowLines,
     text: &mut Text,
@@ -53,7 +53,7 @@ fn send_run<O: SinkExt>(
     }
 }
 
-fn send_steps<O: SinkExt>(alloc: Global, joint: &mut Joint, out: &mut O) -> Result<(), Refusal>
+fn send_steps<O: Sink>(alloc: Global, joint: &mut Joint, out: &mut O) -> Result<(), Refusal>
     ensures { SendsSteps joint.old joint.new (O.stream out.old) (O.stream out.new) result }
 {
     let mut text = Text::new(alloc);
@@ -62,12 +62,7 @@ fn send_steps<O: SinkExt>(alloc: Global, joint: &mut Joint, out: &mut O) -> Resu
 }
 
 // Puts the line of a known word after what waits.
-fn gather_word<O: SinkExt>(
-    text: &mut Text,
-    addr: u32,
-    word: u32,
-    out: &mut O,
-) -> Result<(), Refusal>
+fn gather_word<O: Sink>(text: &mut Text, addr: u32, word: u32, out: &mut O) -> Result<(), Refusal>
     ensures { Gathers (text.old ++ known_text (addr, word)) text.new (O.stream out.old) (O.stream out.new) result }
 {
     match write_known(addr, word, text) {
@@ -77,7 +72,7 @@ fn gather_word<O: SinkExt>(
 }
 
 // Sends the lines of the known words, in blocks.
-fn send_words<O: SinkExt>(alloc: Global, joint: &Joint, out: &mut O) -> Result<(), Refusal>
+fn send_words<O: Sink>(alloc: Global, joint: &Joint, out: &mut O) -> Result<(), Refusal>
     ensures { Sends (memory_text joint.now.memory) Always (O.stream out.old) (O.stream out.new) result }
 {
     let mut text = Text::new(alloc);
@@ -94,7 +89,7 @@ fn send_words<O: SinkExt>(alloc: Global, joint: &Joint, out: &mut O) -> Result<(
 }
 
 // Sends all that a joint replay prints: the lines of its steps, and then the known words.
-fn send_joint<O: SinkExt>(alloc: Global, joint: &mut Joint, out: &mut O) -> Result<(), Refusal>
+fn send_joint<O: Sink>(alloc: Global, joint: &mut Joint, out: &mut O) -> Result<(), Refusal>
     ensures { let r = run_all joint.old in SendsUntil (joint_text r) (stop_of r) (O.stream out.old) (O.stream out.new) result }
 {
     send_steps(alloc, joint, out)?;
@@ -102,7 +97,7 @@ fn send_joint<O: SinkExt>(alloc: Global, joint: &mut Joint, out: &mut O) -> Resu
 }
 
 /// Prints the joint replay of a log. It is refused if the replay stopped.
-pub fn print_joint<O: SinkExt>(
+pub fn print_joint<O: Sink>(
     alloc: Global,
     reading: &JointReading,
     out: &mut O,

@@ -7,11 +7,11 @@ ghost use Rattle.log_commands.specs.Answering.{Answers};
 ghost use Rattle.log_commands.specs.Outside.{Sends, Gathers, Always};
 
 use crate::answer::{Answer, read_log};
-use crate::outside::SinkExt;
 use crate::refusal::Refusal;
 use crate::send::{send, send_block};
 use crate::texts::push_interval;
 use bn_base::EndMark;
+use bn_outside::Sink;
 use hart_replay::scan::next_mark;
 use log_order::KeptLog;
 use log_record::{Record, RecordList};
@@ -27,7 +27,7 @@ pub fn evaluate(alloc: Global, log: &[u8]) -> Result<Answer, Refusal>
 }
 
 // Puts the line of an interval after what waits.
-fn gather_interval<O: SinkExt>(
+fn gather_interval<O: Sink>(
     text: &mut Text,
     hart: u64,
     interval: u64,
@@ -42,7 +42,7 @@ fn gather_interval<O: SinkExt>(
 }
 
 // Adds the line of a record before those from a place on, if it has one, to what waits.
-fn gather_record<O: SinkExt>(
+fn gather_record<O: Sink>(
     text: &mut Text,
     entry: &Record,
     records: &RecordList,
@@ -70,7 +70,7 @@ fn gather_record<O: SinkExt>(
 }
 
 /// Sends the lines of the intervals of a log, in blocks.
-pub fn send_list<O: SinkExt>(alloc: Global, log: &KeptLog, out: &mut O) -> Result<(), Refusal>
+pub fn send_list<O: Sink>(alloc: Global, log: &KeptLog, out: &mut O) -> Result<(), Refusal>
     ensures { Sends (list_text log.now.records) Always (O.stream out.old) (O.stream out.new) result }
 {
     let records = log.records();

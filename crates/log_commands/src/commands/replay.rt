@@ -9,11 +9,11 @@ ghost use Rattle.log_commands.specs.Pairs.{pair_of};
 ghost use Rattle.log_commands.specs.Effects.{PrintsTo};
 
 use crate::answer::{Answer, IntervalToReplay};
-use crate::outside::SinkExt;
 use crate::pairs::read_pair;
 use crate::refusal::Refusal;
 use crate::replay_lines::{ReplayEnd, send_interval};
 use bn_base::EndMark;
+use bn_outside::Sink;
 use hart_replay::{ReplayError, Replayer};
 use std::alloc::Global;
 
@@ -55,7 +55,7 @@ fn begin(alloc: Global, reading: &IntervalToReplay) -> Result<Replayer<'_>, Refu
 }
 
 // Prints an interval whose replay was begun.
-fn print_begun<O: SinkExt>(
+fn print_begun<O: Sink>(
     alloc: Global,
     reading: &IntervalToReplay,
     mark: &EndMark,
@@ -73,7 +73,7 @@ fn print_begun<O: SinkExt>(
 }
 
 /// Prints an interval.
-pub fn print_interval<O: SinkExt>(
+pub fn print_interval<O: Sink>(
     alloc: Global,
     reading: &IntervalToReplay,
     out: &mut O,

@@ -14,11 +14,11 @@ pub returns-in_err-gather_within-clause-long : goal.returns-in_err-gather_within
 returns-in_err-gather_within-clause-long g c = λ e. more_left _ _ _ _ _ (vec_len c.pieces.bytes) _ c.pieces.invariant.gone c.in_ok-count.ensures.moved
     (omega (arith, c.pieces.bytes.ok)) (c.in_err-gather_within.ensures.long (search rules))
 
-pub returns-in_err-gather_within-clause-wanting : goal.returns-in_err-gather_within-clause-wanting
-returns-in_err-gather_within-clause-wanting g c = λ e.
+pub returns-in_err-gather_within-clause-memory : goal.returns-in_err-gather_within-clause-memory
+returns-in_err-gather_within-clause-memory g c = λ e.
     let some : 0 < length (take c.in_ok-count.count c.read.new.buffer) =
     omega (arith, length-take-le c.in_ok-count.count c.read.new.buffer c.in_ok-count.ensures.bound, c.if-count-eq0.false) in (
-      omega (arith, some, c.in_err-gather_within.ensures.wanting (search rules)),
+      omega (arith, some, c.in_err-gather_within.ensures.memory (search rules)),
       more_left _ _ _ _ _ (vec_len c.pieces.bytes) _ c.pieces.invariant.gone c.in_ok-count.ensures.moved (omega (arith, c.pieces.bytes.ok)) (omega (arith, some)),
     )
 

@@ -6,8 +6,8 @@ abbrev pub invariant-pieces : goal.invariant-pieces
 invariant-pieces g l = record {
   within : vec_len l.bytes ≤ l.limit;
   room : length l.piece ≡ 65536;
-  gone : Consumes (g.I.Source.left l.fn.source) (g.I.Source.left l.source) l.bytes.items;
-  same : g.I.Source.faults l.source ≡ g.I.Source.faults l.fn.source;
+  gone : Consumes (g.I.Source.source l.fn.source).left (g.I.Source.source l.source).left l.bytes.items;
+  same : (g.I.Source.source l.source).faults ≡ (g.I.Source.source l.fn.source).faults;
 }
 
 abbrev pub decreases-pieces : goal.decreases-pieces

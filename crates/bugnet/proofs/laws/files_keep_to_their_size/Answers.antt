@@ -1,6 +1,4 @@
-use Rattle.sha2.specs.Sha256.{sha256}
-use Rattle.run_model.specs.KeptRecords.{content_of}
-use Rattle.run_model.specs.Runs.{run_of}
+use Rattle.bugnet.proofs.Common.{sha256, content_of, run_of}
 use Rattle.bugnet.proofs.Sizes.{SizeLaws, is-within}
 use Rattle.bugnet.proofs.laws.files_keep_to_their_size.Goals as goal
 

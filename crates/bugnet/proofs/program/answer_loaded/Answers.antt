@@ -1,14 +1,5 @@
-use Rattle.std.proofs.Common.{◌≡◌, ◌∙◌, List, subst, sym}
-use Rattle.std.specs.Prelude.{None, Err}
-use Rattle.command_words.specs.Words.{seen}
-use Rattle.log_commands.specs.FileCalls.{LoadsUpTo, CallsTo, noted_after, loads_of}
-use Rattle.log_commands.specs.declared.answer.Answer.{Answer}
-use Rattle.log_commands.specs.declared.names.Role.{Role}
-use Rattle.log_commands.proofs.Answering.{passed-on}
-use Rattle.log_commands.proofs.FileCalls.{own-loads}
-use Rattle.bugnet.specs.Answers.{refusal_in, line_roles}
-use Rattle.bugnet.specs.LineAnswers.{AnswersLine}
-use Rattle.bugnet.specs.LineCalls.{needed_roles}
+use Rattle.bugnet.proofs.Common.{◌≡◌, ◌∙◌, List, subst, sym, Err, seen, LoadsUpTo, CallsTo, noted_after, loads_of, Answer, Role, passed-on, own-loads, refusal_in, line_roles, AnswersLine, needed_roles}
+use Rattle.std.specs.Prelude.{None}
 use Rattle.bugnet.proofs.LineAnswers.{stops-line, gives-line, cause-line, needed-same, demo-loads, kind-fits, kind-printed}
 use Rattle.bugnet.proofs.LineCalls.{words-pass}
 use Rattle.bugnet.proofs.program.answer_loaded.Goals as goal
@@ -17,22 +8,22 @@ pub returns-in_err-inputs : goal.returns-in_err-inputs
 returns-in_err-inputs g c =
     let line = seen c.args.command.now in
     let names = c.args.names.now in
-    let old = g.S.StoreExt.stored c.args.store.now in
-    let new = g.S.StoreExt.stored c.load_inputs.new.store in
+    let old = g.S.Store.stored c.args.store.now in
+    let new = g.S.Store.stored c.load_inputs.new.store in
     let x = c.in_err-inputs.field-0.0 in
     let h = c.in_err-inputs.ensures in
     let e : refusal_in line ≡ None = c.requires.passes in
-    let upto : LoadsUpTo names (line_roles line) (line_roles line) g.S.StoreExt.note old.noted new.noted x =
-    subst (λ (rs : List Role). LoadsUpTo names rs rs g.S.StoreExt.note old.noted new.noted x) c.roles_of.ensures h.calls in
-    passed-on (AnswersLine line names g.S.StoreExt.note old new) x c.from_residual.result c.from_residual.ensures.1
+    let upto : LoadsUpTo names (line_roles line) (line_roles line) g.S.Store.note old.noted new.noted x =
+    subst (λ (rs : List Role). LoadsUpTo names rs rs g.S.Store.note old.noted new.noted x) c.roles_of.ensures h.calls in
+    passed-on (AnswersLine line names g.S.Store.note old new) x c.from_residual.result c.from_residual.ensures.1
     (record {
       told = stops-line line old.files names c.roles_of.result.now x c.requires.named c.roles_of.ensures c.requires.no_session c.requires.no_recording e h.loads;
       same = h.only.same;
       asks = h.only.asks;
       later = h.only.later;
       cause = cause-line (refusal_in line) old.counts new.counts (Err x) e h.only.cause;
-      calls = words-pass Answer g.S.StoreExt.note names (refusal_in line) (line_roles line) (needed_roles line) old.noted new.noted (Err x) e
-          (subst (λ (rs : List Role). LoadsUpTo names (line_roles line) rs g.S.StoreExt.note old.noted new.noted x) (sym (needed-same line c.requires.no_recording)) upto);
+      calls = words-pass Answer g.S.Store.note names (refusal_in line) (line_roles line) (needed_roles line) old.noted new.noted (Err x) e
+          (subst (λ (rs : List Role). LoadsUpTo names (line_roles line) rs g.S.Store.note old.noted new.noted x) (sym (needed-same line c.requires.no_recording)) upto);
       prints = λ p. tt;
       records = tt;
       demo = demo-loads line names x (λ empty. h.none (c.roles_of.ensures ∙ empty));
@@ -42,8 +33,8 @@ pub returns : goal.returns
 returns g c =
     let line = seen c.args.command.now in
     let names = c.args.names.now in
-    let old = g.S.StoreExt.stored c.args.store.now in
-    let new = g.S.StoreExt.stored c.load_inputs.new.store in
+    let old = g.S.Store.stored c.args.store.now in
+    let new = g.S.Store.stored c.load_inputs.new.store in
     let h = c.in_ok-inputs.ensures in
     let made = c.evaluate.ensures.answers in
     let e : refusal_in line ≡ None = c.requires.passes in
@@ -53,10 +44,10 @@ returns g c =
       asks = h.only.asks;
       later = h.only.later;
       cause = cause-line (refusal_in line) old.counts new.counts c.evaluate.result e (made.own old.counts new.counts);
-      calls = words-pass Answer g.S.StoreExt.note names (refusal_in line) (line_roles line) (needed_roles line) old.noted new.noted c.evaluate.result e
-          (subst (λ (rs : List Role). CallsTo names (line_roles line) rs g.S.StoreExt.note old.noted new.noted c.evaluate.result) (sym (needed-same line c.requires.no_recording))
-          (own-loads Answer g.S.StoreExt.note names (line_roles line) old.noted new.noted c.evaluate.result
-          (subst (λ (rs : List Role). new.noted ≡ noted_after g.S.StoreExt.note names old.noted (loads_of rs)) c.roles_of.ensures h.calls) made.own));
+      calls = words-pass Answer g.S.Store.note names (refusal_in line) (line_roles line) (needed_roles line) old.noted new.noted c.evaluate.result e
+          (subst (λ (rs : List Role). CallsTo names (line_roles line) rs g.S.Store.note old.noted new.noted c.evaluate.result) (sym (needed-same line c.requires.no_recording))
+          (own-loads Answer g.S.Store.note names (line_roles line) old.noted new.noted c.evaluate.result
+          (subst (λ (rs : List Role). new.noted ≡ noted_after g.S.Store.note names old.noted (loads_of rs)) c.roles_of.ensures h.calls) made.own));
       prints = λ p. kind-printed line c.evaluate.result made.kind p;
       records = kind-fits line c.evaluate.result made.kind;
       demo = c.evaluate.ensures.demo names;

@@ -1,10 +1,5 @@
-use Rattle.std.proofs.Common.{◌≡◌, sym, refl}
-use Rattle.std.specs.Prelude.{Some, Err}
-use Rattle.command_words.specs.Words.{seen}
-use Rattle.log_commands.specs.declared.answer.Answer.{Answer}
-use Rattle.log_commands.proofs.Acts.{none-fell}
-use Rattle.bugnet.specs.Answers.{refusal_in, line_roles}
-use Rattle.bugnet.specs.LineCalls.{needed_roles}
+use Rattle.bugnet.proofs.Common.{◌≡◌, sym, refl, Err, seen, Answer, none-fell, refusal_in, line_roles, needed_roles}
+use Rattle.std.specs.Prelude.{Some}
 use Rattle.bugnet.proofs.LineAnswers.{words-line, words-cause, demo-words}
 use Rattle.bugnet.proofs.LineCalls.{words-first}
 use Rattle.bugnet.proofs.program.answer_to.Goals as goal
@@ -13,7 +8,7 @@ pub returns-in-Some : goal.returns-in-Some
 returns-in-Some g c =
     let line = seen c.args.command.now in
     let names = c.args.names.now in
-    let old = g.S.StoreExt.stored c.args.store.now in
+    let old = g.S.Store.stored c.args.store.now in
     let e : refusal_in line ≡ Some c.in-Some.refusal = sym c.in-Some.ensures in
     record {
       told = words-line line old.files names c.in-Some.refusal c.requires.named c.requires.no_recording e;
@@ -21,7 +16,7 @@ returns-in-Some g c =
       asks = refl;
       later = none-fell old.counts;
       cause = words-cause line c.in-Some.refusal old.counts old.counts c.requires.no_recording e;
-      calls = words-first Answer g.S.StoreExt.note names (refusal_in line) c.in-Some.refusal (line_roles line) (needed_roles line) old.noted (Err c.in-Some.refusal) e;
+      calls = words-first Answer g.S.Store.note names (refusal_in line) c.in-Some.refusal (line_roles line) (needed_roles line) old.noted (Err c.in-Some.refusal) e;
       prints = λ p. tt;
       records = tt;
       demo = demo-words line names c.in-Some.refusal e;

@@ -1,14 +1,4 @@
-use Rattle.std.proofs.Common.{ℕ, List, subst}
-use Rattle.log_commands.specs.Answering.{Answers}
-use Rattle.log_commands.specs.Audits.{IsAuditOf}
-use Rattle.log_commands.specs.Commands.{IsByLog, list_of, check_of, replay_with}
-use Rattle.log_commands.specs.Joined.{joint_with}
-use Rattle.log_commands.specs.NewLogs.{renewed, IsBySalvage}
-use Rattle.log_commands.specs.Outside.{IsPrinted}
-use Rattle.log_commands.specs.Pairs.{pair_of}
-use Rattle.log_commands.specs.RaceAnswers.{races_with}
-use Rattle.log_commands.specs.SaveCounts.{IsMade, IsRenewed}
-use Rattle.log_commands.specs.SliceAnswers.{slice_with}
+use Rattle.bugnet.proofs.Common.{ℕ, List, subst, Answers, IsAuditOf, IsByLog, list_of, check_of, replay_with, joint_with, renewed, IsBySalvage, IsPrinted, pair_of, races_with, IsMade, IsRenewed, slice_with}
 use Rattle.bugnet.proofs.program.evaluate.Goals as goal
 
 pub returns-in-Replay-clause-answers : goal.returns-in-Replay-clause-answers

@@ -1,10 +1,4 @@
-use Rattle.std.proofs.Common.{Option, subst, sym}
-use Rattle.bn_outside.specs.Files.{Files}
-use Rattle.command_words.specs.Words.{RecordLine, seen_recording}
-use Rattle.log_commands.specs.Acting.{world}
-use Rattle.log_commands.proofs.Answering.{passed-on}
-use Rattle.bugnet.specs.Replies.{RepliesTo}
-use Rattle.bugnet.specs.Saves.{HasElf}
+use Rattle.bugnet.proofs.Common.{Option, subst, sym, Files, RecordLine, seen_recording, between, world, passed-on, RepliesTo, HasElf}
 use Rattle.bugnet.proofs.Leaves.{call-leaves}
 use Rattle.bugnet.proofs.RecordLoads.{record-bytes}
 use Rattle.bugnet.proofs.Replied.{line-refused, line-acted}
@@ -14,24 +8,24 @@ pub returns-in_err-answer : goal.returns-in_err-answer
 returns-in_err-answer g c =
     let line = RecordLine (seen_recording c.args.options.now) in
     let names = c.args.names.now in
-    let old = g.S.StoreExt.stored c.args.store.now in
-    let new = g.S.StoreExt.stored c.evaluate.new.store in
-    let out = g.O.SinkExt.stream c.args.out.now in
-    let err = g.X.SinkExt.stream c.args.err.now in
-    passed-on (RepliesTo line names g.S.StoreExt.note (world old out err) (world new out err)) _ c.from_residual.result c.from_residual.ensures.1
-    (line-refused line names g.S.StoreExt.note old new out err _ c.requires.named c.in_err-answer.ensures.answers)
+    let old = g.S.Store.stored c.args.store.now in
+    let new = g.S.Store.stored c.evaluate.new.store in
+    let out = g.O.Sink.stream c.args.out.now in
+    let err = g.X.Sink.stream c.args.err.now in
+    passed-on (RepliesTo line names g.S.Store.note (between (world old out err) (world new out err))) _ c.from_residual.result c.from_residual.ensures.1
+    (line-refused line names g.S.Store.note old new out err _ c.requires.named c.in_err-answer.ensures.answers)
 
 pub returns : goal.returns
 returns g c =
     let r = c.args.options.now in
     let line = RecordLine (seen_recording r) in
     let names = c.args.names.now in
-    let old = g.S.StoreExt.stored c.args.store.now in
-    let mid = g.S.StoreExt.stored c.evaluate.new.store in
-    let out = g.O.SinkExt.stream c.args.out.now in
-    let err = g.X.SinkExt.stream c.args.err.now in
-    let new = world (g.S.StoreExt.stored c.act.new.store) (g.O.SinkExt.stream c.act.new.out) (g.X.SinkExt.stream c.act.new.err) in
-    line-acted line names g.S.StoreExt.note old mid out err new c.in_ok-answer.answer c.act.result c.requires.named tt
+    let old = g.S.Store.stored c.args.store.now in
+    let mid = g.S.Store.stored c.evaluate.new.store in
+    let out = g.O.Sink.stream c.args.out.now in
+    let err = g.X.Sink.stream c.args.err.now in
+    let new = world (g.S.Store.stored c.act.new.store) (g.O.Sink.stream c.act.new.out) (g.X.Sink.stream c.act.new.err) in
+    line-acted line names g.S.Store.note old mid out err new c.in_ok-answer.answer c.act.result c.requires.named tt
     (λ status k same told.
     call-leaves c.seeds_are_whole.ensures c.files_keep_to_their_size.ensures c.logs_are_contents.ensures line status k
     (subst (λ (known : Option Files). HasElf line known) (sym same) (record-bytes old.files names r c.requires.named c.in_ok-answer.ensures.bytes)) told)

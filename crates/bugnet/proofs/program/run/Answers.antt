@@ -1,5 +1,4 @@
-use Rattle.command_words.specs.Words.{command_in}
-use Rattle.log_commands.specs.Effects.{call}
+use Rattle.bugnet.proofs.Common.{command_in, call}
 use Rattle.bugnet.proofs.Agrees.{call-audits}
 use Rattle.bugnet.proofs.Complete.{call-done}
 use Rattle.bugnet.proofs.Jointly.{prints-jointly}
@@ -9,25 +8,25 @@ use Rattle.bugnet.proofs.Suffices.{prints-run}
 use Rattle.bugnet.proofs.program.run.Goals as goal
 
 pub returns-clause-told : goal.returns-clause-told
-returns-clause-told g c = rw c.code.ensures c.obey.ensures.obeys.told
+returns-clause-told g c = rw c.code.ensures c.obey.ensures.replies.obeys.told
 
 pub returns-clause-words : goal.returns-clause-words
-returns-clause-words g c = rw c.code.ensures c.obey.ensures.obeys.words
+returns-clause-words g c = rw c.code.ensures c.obey.ensures.replies.obeys.words
 
 pub returns-clause-still : goal.returns-clause-still
-returns-clause-still g c = c.obey.ensures.still
+returns-clause-still g c = c.obey.ensures.replies.still
 
 pub returns-clause-saves : goal.returns-clause-saves
-returns-clause-saves g c = rw c.code.ensures c.obey.ensures.saves
+returns-clause-saves g c = rw c.code.ensures c.obey.ensures.replies.saves
 
 pub returns-clause-calls : goal.returns-clause-calls
-returns-clause-calls g c = rw c.code.ensures c.obey.ensures.calls
+returns-clause-calls g c = rw c.code.ensures c.obey.ensures.replies.calls
 
 pub returns-clause-demo : goal.returns-clause-demo
-returns-clause-demo g c = rw c.code.ensures c.obey.ensures.demo
+returns-clause-demo g c = rw c.code.ensures c.obey.ensures.replies.demo
 
 pub returns-clause-recorded : goal.returns-clause-recorded
-returns-clause-recorded g c = rw c.code.ensures c.obey.ensures.recorded
+returns-clause-recorded g c = rw c.code.ensures c.obey.ensures.replies.recorded
 
 pub returns-clause-session : goal.returns-clause-session
 returns-clause-session g c = rw c.code.ensures c.obey.ensures.session
@@ -42,63 +41,63 @@ pub returns-clause-unread : goal.returns-clause-unread
 returns-clause-unread g c = c.obey.ensures.unread
 
 pub returns-clause-failed : goal.returns-clause-failed
-returns-clause-failed g c = rw c.code.ensures c.obey.ensures.obeys.failed
+returns-clause-failed g c = rw c.code.ensures c.obey.ensures.replies.obeys.failed
 
 pub returns-clause-missing : goal.returns-clause-missing
-returns-clause-missing g c = rw c.code.ensures c.obey.ensures.obeys.missing
+returns-clause-missing g c = rw c.code.ensures c.obey.ensures.replies.obeys.missing
 
 pub returns-clause-long : goal.returns-clause-long
-returns-clause-long g c = rw c.code.ensures c.obey.ensures.obeys.long
+returns-clause-long g c = rw c.code.ensures c.obey.ensures.replies.obeys.long
 
 pub returns-clause-read : goal.returns-clause-read
 returns-clause-read g c = rw c.code.ensures c.obey.ensures.read
 
 pub returns-clause-write : goal.returns-clause-write
-returns-clause-write g c = rw c.code.ensures c.obey.ensures.obeys.write
+returns-clause-write g c = rw c.code.ensures c.obey.ensures.replies.obeys.write
 
 pub returns-clause-later : goal.returns-clause-later
-returns-clause-later g c = c.obey.ensures.obeys.counts
+returns-clause-later g c = c.obey.ensures.replies.obeys.counts
 
 pub returns-clause-out_later : goal.returns-clause-out_later
-returns-clause-out_later g c = c.obey.ensures.obeys.later.out
+returns-clause-out_later g c = c.obey.ensures.replies.obeys.later.out
 
 pub returns-clause-err_later : goal.returns-clause-err_later
-returns-clause-err_later g c = c.obey.ensures.obeys.later.err
+returns-clause-err_later g c = c.obey.ensures.replies.obeys.later.err
 
 pub returns-clause-read_later : goal.returns-clause-read_later
 returns-clause-read_later g c = c.obey.ensures.read_later
 
 pub returns-clause-headline : goal.returns-clause-headline
 returns-clause-headline g c =
-    let k = call (g.S.Store.files) (g.S.Store.counts) (g.O.Sink.written) (g.O.Sink.faults) (g.X.Sink.written) (g.X.Sink.faults) c.args.store.now c.args.out.now c.args.err.now c.obey.new.store c.obey.new.out c.obey.new.err in
+    let k = call g.S.Store.stored g.O.Sink.stream g.X.Sink.stream c.args.store.now c.args.out.now c.args.err.now c.obey.new.store c.obey.new.out c.obey.new.err in
     prints-run c.headline.ensures (command_in c.args.words.now) c.code.result k (returns-clause-told g c)
 
 pub returns-clause-jointly : goal.returns-clause-jointly
 returns-clause-jointly g c =
-    let k = call (g.S.Store.files) (g.S.Store.counts) (g.O.Sink.written) (g.O.Sink.faults) (g.X.Sink.written) (g.X.Sink.faults) c.args.store.now c.args.out.now c.args.err.now c.obey.new.store c.obey.new.out c.obey.new.err in
+    let k = call g.S.Store.stored g.O.Sink.stream g.X.Sink.stream c.args.store.now c.args.out.now c.args.err.now c.obey.new.store c.obey.new.out c.obey.new.err in
     prints-jointly c.joint_headline.ensures (command_in c.args.words.now) c.code.result k (returns-clause-told g c)
 
 pub returns-clause-done : goal.returns-clause-done
 returns-clause-done g c =
-    let k = call (g.S.Store.files) (g.S.Store.counts) (g.O.Sink.written) (g.O.Sink.faults) (g.X.Sink.written) (g.X.Sink.faults) c.args.store.now c.args.out.now c.args.err.now c.obey.new.store c.obey.new.out c.obey.new.err in
+    let k = call g.S.Store.stored g.O.Sink.stream g.X.Sink.stream c.args.store.now c.args.out.now c.args.err.now c.obey.new.store c.obey.new.out c.obey.new.err in
     call-done c.each_can_be_done.ensures (command_in c.args.words.now) c.code.result k (returns-clause-told g c)
 
 pub returns-clause-kept : goal.returns-clause-kept
 returns-clause-kept g c =
-    let k = call (g.S.Store.files) (g.S.Store.counts) (g.O.Sink.written) (g.O.Sink.faults) (g.X.Sink.written) (g.X.Sink.faults) c.args.store.now c.args.out.now c.args.err.now c.obey.new.store c.obey.new.out c.obey.new.err in
+    let k = call g.S.Store.stored g.O.Sink.stream g.X.Sink.stream c.args.store.now c.args.out.now c.args.err.now c.obey.new.store c.obey.new.out c.obey.new.err in
     answers-keep (command_in c.args.words.now) c.code.result k (returns-clause-told g c)
 
 pub returns-clause-others : goal.returns-clause-others
 returns-clause-others g c =
-    let k = call (g.S.Store.files) (g.S.Store.counts) (g.O.Sink.written) (g.O.Sink.faults) (g.X.Sink.written) (g.X.Sink.faults) c.args.store.now c.args.out.now c.args.err.now c.obey.new.store c.obey.new.out c.obey.new.err in
+    let k = call g.S.Store.stored g.O.Sink.stream g.X.Sink.stream c.args.store.now c.args.out.now c.args.err.now c.obey.new.store c.obey.new.out c.obey.new.err in
     answers-few (command_in c.args.words.now) c.code.result k (returns-clause-told g c)
 
 pub returns-clause-audited : goal.returns-clause-audited
 returns-clause-audited g c =
-    let k = call (g.S.Store.files) (g.S.Store.counts) (g.O.Sink.written) (g.O.Sink.faults) (g.X.Sink.written) (g.X.Sink.faults) c.args.store.now c.args.out.now c.args.err.now c.obey.new.store c.obey.new.out c.obey.new.err in
+    let k = call g.S.Store.stored g.O.Sink.stream g.X.Sink.stream c.args.store.now c.args.out.now c.args.err.now c.obey.new.store c.obey.new.out c.obey.new.err in
     call-audits c.audits_agree.ensures (command_in c.args.words.now) c.code.result k (returns-clause-told g c)
 
 pub returns-clause-shape : goal.returns-clause-shape
 returns-clause-shape g c =
-    let k = call (g.S.Store.files) (g.S.Store.counts) (g.O.Sink.written) (g.O.Sink.faults) (g.X.Sink.written) (g.X.Sink.faults) c.args.store.now c.args.out.now c.args.err.now c.obey.new.store c.obey.new.out c.obey.new.err in
-    call-shape g.S.Store.note (command_in c.args.words.now) c.code.result (g.S.Store.noted c.args.store.now) (g.S.Store.noted c.obey.new.store) k (returns-clause-calls g c)
+    let k = call g.S.Store.stored g.O.Sink.stream g.X.Sink.stream c.args.store.now c.args.out.now c.args.err.now c.obey.new.store c.obey.new.out c.obey.new.err in
+    call-shape g.S.Store.note (command_in c.args.words.now) c.code.result k (returns-clause-calls g c)

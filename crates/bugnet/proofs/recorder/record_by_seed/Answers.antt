@@ -1,8 +1,5 @@
-use Rattle.std.proofs.Common.{◌≡◌, ℕ, Bool, List, sym, subst, refl}
+use Rattle.bugnet.proofs.Common.{◌≡◌, ℕ, Bool, List, sym, subst, refl, seeded, book_if, Manner}
 use Rattle.std.specs.Prelude.{false, [], Some, None}
-use Rattle.run_model.specs.Runs.{seeded}
-use Rattle.bugnet.specs.Recordings.{book_if}
-use Rattle.bugnet.specs.declared.manner.Manner.{Manner}
 use Rattle.bugnet.proofs.Recorded.{recording-run}
 use Rattle.bugnet.proofs.recorder.record_by_seed.Goals as goal
 

@@ -1,7 +1,5 @@
-use Rattle.std.proofs.Common.{◌≡◌, ℕ, Bool, List, sym, subst, refl}
+use Rattle.bugnet.proofs.Common.{◌≡◌, ℕ, Bool, List, sym, subst, refl, AreTaken, book_if, Manner}
 use Rattle.std.specs.Prelude.{false, [], Some, None}
-use Rattle.bugnet.specs.Recordings.{AreTaken, book_if}
-use Rattle.bugnet.specs.declared.manner.Manner.{Manner}
 use Rattle.bugnet.proofs.Recorded.{recording-run}
 use Rattle.bugnet.proofs.recorder.record_unseeded.Goals as goal
 

@@ -29,9 +29,9 @@ returns-in_err-check_segments-clause-refused c =
     let refused : image_of c.args.bytes.now c.args.settings.now ≡ Err p.0 = refused-segments _ _ _ _ _ _ reads (sym c.in_err-check_segments.ensures ∙ ap (λ (e : ElfError). Some e) (sym p.2)) in
     rw p.1 (inr refused)
 
-pub returns-in_err-check_segments-clause-wanting : goal.returns-in_err-check_segments-clause-wanting
+pub returns-in_err-check_segments-clause-memory : goal.returns-in_err-check_segments-clause-memory
 unfolding segments
-returns-in_err-check_segments-clause-wanting c =
+returns-in_err-check_segments-clause-memory c =
     let p = err_from_is_err_and c.from_residual-in_err-check_segments.result c.from_residual-in_err-check_segments.ensures.1 in
     let reads : Reads c.args.bytes.now c.args.settings.now.memory c.deref.result.now c.deref-3.result.now c.memory.result = record {
       headers_are = c.deref.ensures.0 ∙ c.read_table-table.ensures;
@@ -59,9 +59,9 @@ returns-then-not-is_code-clause-refused c =
     refused-entry _ _ _ _ _ reads (sym c.in_ok-check_segments.ensures) (entry ∙ ap not c.if-not-is_code.true) ∙ ap (λ (f : FileHeader). Err (EntryOutside f.entry)) (sym c.in_ok-header.ensures.header) in
     inr refused
 
-pub returns-then-not-is_code-clause-wanting : goal.returns-then-not-is_code-clause-wanting
+pub returns-then-not-is_code-clause-memory : goal.returns-then-not-is_code-clause-memory
 unfolding segments program_of
-returns-then-not-is_code-clause-wanting c =
+returns-then-not-is_code-clause-memory c =
     let reads : Reads c.args.bytes.now c.args.settings.now.memory c.deref.result.now c.deref-3.result.now c.memory.result = record {
       headers_are = c.deref.ensures.0 ∙ c.read_table-table.ensures;
       segments_are = c.deref-3.ensures.0 ∙ c.segments-segments.ensures ∙ ap (filter is_segment) (c.deref-2.ensures.0 ∙ c.read_table-table.ensures);
@@ -75,9 +75,9 @@ returns-then-not-is_code-clause-wanting c =
     refused-entry _ _ _ _ _ reads (sym c.in_ok-check_segments.ensures) (entry ∙ ap not c.if-not-is_code.true) ∙ ap (λ (f : FileHeader). Err (EntryOutside f.entry)) (sym c.in_ok-header.ensures.header) in
     inr refused
 
-pub returns-in_err-program-clause-wanting : goal.returns-in_err-program-clause-wanting
+pub returns-in_err-program-clause-memory : goal.returns-in_err-program-clause-memory
 unfolding segments
-returns-in_err-program-clause-wanting c =
+returns-in_err-program-clause-memory c =
     let p = err_from_is_err_and c.from_residual-in_err-program.result c.from_residual-in_err-program.ensures.1 in
     let reads : Reads c.args.bytes.now c.args.settings.now.memory c.deref.result.now c.deref-3.result.now c.memory.result = record {
       headers_are = c.deref.ensures.0 ∙ c.read_table-table.ensures;

@@ -1,66 +1,83 @@
-use Rattle.std.proofs.Common.{◌≡◌, ◌∙◌, ℕ, List, Option, Some, None, ap, subst, refl, inl, inr, Vec, Global}
-use Rattle.std.specs.Prelude.{Err, IfSome}
-use Rattle.bn_outside.specs.Counts.{LoadCause}
-use Rattle.bn_outside.specs.Files.{Files, LoadTells}
-use Rattle.bn_outside.specs.StoreCalls.{LoadCall}
+use Rattle.log_commands.proofs.Common.{◌≡◌, ℕ, ◌≤◌, List, Option, Some, None, subst, refl, arith, inl, inr, Vec, Global, Ok, Err, IfSome, vec_len, Counts, NoneFell, LoadCause, Files, LoadTells, Stored, LoadCall, Fetches, Note, IsOfLoad, limit_of, FileNames, name_of, WithFiles, FetchTells, RefusalCause, Role, Refusal, StoreFailed, Missing, TooLong, OutOfMemory}
 use Rattle.bn_outside.specs.declared.store.LoadError.{LoadError}
 use Rattle.bn_outside.specs.declared.store.LoadError.TheVariants as load
-use Rattle.log_commands.specs.Names.{name_of}
-use Rattle.log_commands.specs.Outside.{WithFiles, FetchTells}
-use Rattle.log_commands.specs.declared.names.Role.{Role}
-use Rattle.log_commands.specs.declared.refusal.Refusal.TheVariants.{StoreFailed, Missing, TooLong}
 use Rattle.log_commands.proofs.inputs.fetch.Goals as goal
 
--- a load that failed says nothing of the file
-failed : (known : Option Files) (name : List ℕ) (limit : ℕ) (role : Role) → WithFiles known (λ files. FetchTells role limit (files name) (Err (StoreFailed role)))
-failed None name limit role = tt
-failed (Some files) name limit role = inl (inr refl)
+-- the refusal of a file that isn't loaded
+abbrev refusal_of : Role → LoadError → Refusal
+refusal_of r load.Missing = Missing r
+refusal_of r load.TooLong = TooLong r
+refusal_of r load.Failed = StoreFailed r
+refusal_of r load.OutOfMemory = OutOfMemory
 
--- there is no such file
-missing : (known : Option Files) (name told : List ℕ) (limit : ℕ) (role : Role) → told ≡ name → IfSome known (λ files. LoadTells {A = Global} (files told) limit (Err load.Missing))
-    → WithFiles known (λ files. FetchTells role limit (files name) (Err (Missing role)))
-missing None name told limit role is h = tt
-missing (Some files) name told limit role is h = inr (inl (subst (λ (n : List ℕ). files n ≡ None) is h, refl))
+-- if the store's files are known, it is the truth about the file
+there : (known : Option Files) (name : List ℕ) (r : Role) (bytes : Vec ℕ Global) → vec_len bytes ≤ limit_of r → IfSome known (λ files. LoadTells (files name) (limit_of r) (Ok bytes)) → WithFiles known (λ files. FetchTells r (limit_of r) (files name) (Ok bytes))
+there None name r bytes small h = tt
+there (Some files) name r bytes small h = (h, omega (arith, small, bytes.ok))
 
--- it has more bytes than the limit
-long : (known : Option Files) (name told : List ℕ) (limit : ℕ) (role : Role) → told ≡ name → IfSome known (λ files. LoadTells {A = Global} (files told) limit (Err load.TooLong))
-    → WithFiles known (λ files. FetchTells role limit (files name) (Err (TooLong role)))
-long None name told limit role is h = tt
-long (Some files) name told limit role is h = inr (inr (subst (λ (n : List ℕ). LoadTells {A = Global} (files n) limit (Err load.TooLong)) is h, refl))
+absent : (known : Option Files) (name : List ℕ) (r : Role) (e : LoadError) → IfSome known (λ files. LoadTells {A = Global} (files name) (limit_of r) (Err e)) → WithFiles known (λ files. FetchTells r (limit_of r) (files name) (Err (refusal_of r e)))
+absent None name r e h = tt
+absent (Some files) name r load.Missing h = inr (inl (h, refl))
+absent (Some files) name r load.TooLong h = inr (inr (h, refl))
+absent (Some files) name r load.Failed h = inl (inr refl)
+absent (Some files) name r load.OutOfMemory h = inl (inl refl)
 
-pub returns-in-Ok-clause-called : goal.returns-in-Ok-clause-called
-returns-in-Ok-clause-called g c = c.load.ensures.called ∙ ap (λ (name : List ℕ). g.S.Store.note (g.S.Store.noted c.args.store.now) (LoadCall name c.args.limit)) c.of.ensures
+caused : (old new : Counts) (r : Role) (e : LoadError) → LoadCause {T = Vec ℕ Global} old new (Err e) → RefusalCause old new (refusal_of r e) × IsOfLoad r (refusal_of r e)
+caused old new r load.Missing h = (h, inr (inr (inl refl)))
+caused old new r load.TooLong h = (h, inr (inr (inr refl)))
+caused old new r load.Failed h = (h, inr (inl refl))
+caused old new r load.OutOfMemory h = (tt, inl refl)
 
-pub returns-in-Err-OutOfMemory-clause-called : goal.returns-in-Err-OutOfMemory-clause-called
-returns-in-Err-OutOfMemory-clause-called g c = c.load.ensures.called ∙ ap (λ (name : List ℕ). g.S.Store.note (g.S.Store.noted c.args.store.now) (LoadCall name c.args.limit)) c.of.ensures
+module _ (names : FileNames) (r : Role) (note : Note) (old new : Stored) {name : List ℕ} {limit : ℕ} (is : name ≡ name_of names r) (most : limit ≡ limit_of r) (same : new.files ≡ old.files) (asks : new.saves ≡ old.saves)
+    (later : NoneFell old.counts new.counts) (called : new.noted ≡ note old.noted (LoadCall name limit)) where
+  by-role : (P : List ℕ → ℕ → Type 0) → P name limit → P (name_of names r) (limit_of r)
+  by-role P h = subst (λ (n : ℕ). P (name_of names r) n) most (subst (λ (n : List ℕ). P n limit) is h)
 
-pub returns-in-Err-Failed-clause-called : goal.returns-in-Err-Failed-clause-called
-returns-in-Err-Failed-clause-called g c = c.load.ensures.called ∙ ap (λ (name : List ℕ). g.S.Store.note (g.S.Store.noted c.args.store.now) (LoadCall name c.args.limit)) c.of.ensures
+  called-by : new.noted ≡ note old.noted (LoadCall (name_of names r) (limit_of r))
+  called-by = by-role (λ n m. new.noted ≡ note old.noted (LoadCall n m)) called
 
-pub returns-in-Err-Missing-clause-called : goal.returns-in-Err-Missing-clause-called
-returns-in-Err-Missing-clause-called g c = c.load.ensures.called ∙ ap (λ (name : List ℕ). g.S.Store.note (g.S.Store.noted c.args.store.now) (LoadCall name c.args.limit)) c.of.ensures
+  fetched : (bytes : Vec ℕ Global) → vec_len bytes ≤ limit → IfSome old.files (λ files. LoadTells (files name) limit (Ok bytes)) → Fetches names r note old new (Ok bytes)
+  fetched bytes small h = record {
+    told = there old.files (name_of names r) r bytes (by-role (λ n m. vec_len bytes ≤ m) small) (by-role (λ n m. IfSome old.files (λ files. LoadTells (files n) m (Ok bytes))) h);
+    same = same;
+    asks = asks;
+    later = later;
+    cause = tt;
+    called = called-by;
+    stops = tt;
+  }
 
-pub returns-in-Err-TooLong-clause-called : goal.returns-in-Err-TooLong-clause-called
-returns-in-Err-TooLong-clause-called g c = c.load.ensures.called ∙ ap (λ (name : List ℕ). g.S.Store.note (g.S.Store.noted c.args.store.now) (LoadCall name c.args.limit)) c.of.ensures
+  unfetched : (e : LoadError) {x : LoadError} → x ≡ e → IfSome old.files (λ files. LoadTells {A = Global} (files name) limit (Err x)) → LoadCause {T = Vec ℕ Global} old.counts new.counts (Err x)
+      → Fetches names r note old new (Err (refusal_of r e))
+  unfetched e was h cause =
+      let k = caused old.counts new.counts r e (subst (λ (x : LoadError). LoadCause {T = Vec ℕ Global} old.counts new.counts (Err x)) was cause) in
+      let said = subst (λ (x : LoadError). IfSome old.files (λ files. LoadTells {A = Global} (files name) limit (Err x))) was h in
+      record {
+        told = absent old.files (name_of names r) r e (by-role (λ n m. IfSome old.files (λ files. LoadTells {A = Global} (files n) m (Err e))) said);
+        same = same;
+        asks = asks;
+        later = later;
+        cause = k.0;
+        called = called-by;
+        stops = k.1;
+      }
 
-pub returns-in-Err-Failed-clause-cause : goal.returns-in-Err-Failed-clause-cause
-returns-in-Err-Failed-clause-cause g c = subst (λ (e : LoadError). LoadCause {T = Vec ℕ Global} (g.S.Store.counts c.args.store.now) (g.S.Store.counts c.load.new.self) (Err e)) c.in-Err-Failed.field-0-is c.in-Err-Failed.ensures.cause
+pub returns-in-Ok : goal.returns-in-Ok
+returns-in-Ok g c =
+    fetched _ _ _ _ _ c.of.ensures c.limit_of.ensures c.load.ensures.unchanged c.load.ensures.asked c.load.ensures.later c.load.ensures.called c.in-Ok.bytes c.in-Ok.ensures.bound c.in-Ok.ensures.told
 
-pub returns-in-Err-Missing-clause-cause : goal.returns-in-Err-Missing-clause-cause
-returns-in-Err-Missing-clause-cause g c = subst (λ (e : LoadError). LoadCause {T = Vec ℕ Global} (g.S.Store.counts c.args.store.now) (g.S.Store.counts c.load.new.self) (Err e)) c.in-Err-Missing.field-0-is c.in-Err-Missing.ensures.cause
+pub returns-in-Err-OutOfMemory : goal.returns-in-Err-OutOfMemory
+returns-in-Err-OutOfMemory g c =
+    unfetched _ _ _ _ _ c.of.ensures c.limit_of.ensures c.load.ensures.unchanged c.load.ensures.asked c.load.ensures.later c.load.ensures.called load.OutOfMemory c.in-Err-OutOfMemory.field-0-is c.in-Err-OutOfMemory.ensures.told c.in-Err-OutOfMemory.ensures.cause
 
-pub returns-in-Err-TooLong-clause-cause : goal.returns-in-Err-TooLong-clause-cause
-returns-in-Err-TooLong-clause-cause g c = subst (λ (e : LoadError). LoadCause {T = Vec ℕ Global} (g.S.Store.counts c.args.store.now) (g.S.Store.counts c.load.new.self) (Err e)) c.in-Err-TooLong.field-0-is c.in-Err-TooLong.ensures.cause
+pub returns-in-Err-Failed : goal.returns-in-Err-Failed
+returns-in-Err-Failed g c =
+    unfetched _ _ _ _ _ c.of.ensures c.limit_of.ensures c.load.ensures.unchanged c.load.ensures.asked c.load.ensures.later c.load.ensures.called load.Failed c.in-Err-Failed.field-0-is c.in-Err-Failed.ensures.told c.in-Err-Failed.ensures.cause
 
-pub returns-in-Err-Failed-clause-told : goal.returns-in-Err-Failed-clause-told
-returns-in-Err-Failed-clause-told g c = failed (g.S.Store.files c.args.store.now) (name_of c.args.names.now c.args.role) c.args.limit c.args.role
+pub returns-in-Err-Missing : goal.returns-in-Err-Missing
+returns-in-Err-Missing g c =
+    unfetched _ _ _ _ _ c.of.ensures c.limit_of.ensures c.load.ensures.unchanged c.load.ensures.asked c.load.ensures.later c.load.ensures.called load.Missing c.in-Err-Missing.field-0-is c.in-Err-Missing.ensures.told c.in-Err-Missing.ensures.cause
 
-pub returns-in-Err-Missing-clause-told : goal.returns-in-Err-Missing-clause-told
-returns-in-Err-Missing-clause-told g c =
-    missing (g.S.Store.files c.args.store.now) (name_of c.args.names.now c.args.role) c.of.result.now c.args.limit c.args.role c.of.ensures
-    (subst (λ (e : LoadError). IfSome (g.S.Store.files c.args.store.now) (λ files. LoadTells {A = Global} (files c.of.result.now) c.args.limit (Err e))) c.in-Err-Missing.field-0-is c.in-Err-Missing.ensures.told)
-
-pub returns-in-Err-TooLong-clause-told : goal.returns-in-Err-TooLong-clause-told
-returns-in-Err-TooLong-clause-told g c =
-    long (g.S.Store.files c.args.store.now) (name_of c.args.names.now c.args.role) c.of.result.now c.args.limit c.args.role c.of.ensures
-    (subst (λ (e : LoadError). IfSome (g.S.Store.files c.args.store.now) (λ files. LoadTells {A = Global} (files c.of.result.now) c.args.limit (Err e))) c.in-Err-TooLong.field-0-is c.in-Err-TooLong.ensures.told)
+pub returns-in-Err-TooLong : goal.returns-in-Err-TooLong
+returns-in-Err-TooLong g c =
+    unfetched _ _ _ _ _ c.of.ensures c.limit_of.ensures c.load.ensures.unchanged c.load.ensures.asked c.load.ensures.later c.load.ensures.called load.TooLong c.in-Err-TooLong.field-0-is c.in-Err-TooLong.ensures.told c.in-Err-TooLong.ensures.cause

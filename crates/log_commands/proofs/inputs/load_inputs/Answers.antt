@@ -1,7 +1,4 @@
-use Rattle.std.proofs.Common.{◌≡◌, ◌+◌, ◌∷◌, get_or, drop, add-one, drop-cons, refl}
-use Rattle.log_commands.specs.Answering.{LoadsAll}
-use Rattle.log_commands.specs.Inputs.{bytes_of, limit_of}
-use Rattle.log_commands.specs.declared.names.Role.TheVariants.{Elf}
+use Rattle.log_commands.proofs.Common.{◌≡◌, ◌+◌, ◌∷◌, get_or, drop, add-one, drop-cons, refl, LoadsAll, bytes_of, limit_of, Elf}
 use Rattle.log_commands.proofs.Answering.{passed-on}
 use Rattle.log_commands.proofs.FileCalls.{called-more, called-stops, some-left}
 use Rattle.log_commands.proofs.Fetched.{so_far-more, so_far-stopped, only-then}
@@ -13,18 +10,18 @@ returns-in_err-bytes g c =
     let k = c.loop-role.role-index in
     let r = get_or roles k Elf in
     let at : drop k roles ≡ r ∷ drop (k + 1) roles = rw add-one (drop-cons roles k Elf c.loop-role-test.true) in
-    let old = g.S.StoreExt.stored c.args.store.now in
-    let mid = g.S.StoreExt.stored c.loop-role.store in
-    let new = g.S.StoreExt.stored c.fetch.new.self in
+    let old = g.S.Store.stored c.args.store.now in
+    let mid = g.S.Store.stored c.loop-role.store in
+    let new = g.S.Store.stored c.fetch.new.store in
     let so_far = c.loop-role.invariant in
     let x = c.in_err-bytes.field-0.0 in
     let f = c.in_err-bytes.ensures in
-    passed-on (LoadsAll c.args.names.now roles g.S.StoreExt.note old new) x c.from_residual.result c.from_residual.ensures.1
+    passed-on (LoadsAll c.args.names.now roles g.S.Store.note old new) x c.from_residual.result c.from_residual.ensures.1
     (record {
       loads = so_far-stopped old.files mid.files c.args.names.now roles r (limit_of r) (drop k roles) (drop (k + 1) roles) (bytes_of c.loop-role.inputs) x
           so_far.only.same refl at so_far.reached f.told;
       only = only-then old mid new c.loop-role.inputs _ so_far.only f.same f.asks f.later f.cause;
-      calls = called-stops g.S.StoreExt.note c.args.names.now roles (drop k roles) (drop (k + 1) roles) r (limit_of r) old.noted mid.noted new.noted x
+      calls = called-stops g.S.Store.note c.args.names.now roles (drop k roles) (drop (k + 1) roles) r (limit_of r) old.noted mid.noted new.noted x
           refl at so_far.called f.called f.stops;
       none = λ empty. some-left roles (drop k roles) (drop (k + 1) roles) r so_far.called.made empty at so_far.called.parts;
     })
@@ -35,15 +32,15 @@ loop-role-preserved g c =
     let k = c.loop-role.role-index in
     let r = get_or roles k Elf in
     let at : drop k roles ≡ r ∷ drop (k + 1) roles = rw add-one (drop-cons roles k Elf c.loop-role-test.true) in
-    let old = g.S.StoreExt.stored c.args.store.now in
-    let mid = g.S.StoreExt.stored c.loop-role.store in
-    let new = g.S.StoreExt.stored c.fetch.new.self in
+    let old = g.S.Store.stored c.args.store.now in
+    let mid = g.S.Store.stored c.loop-role.store in
+    let new = g.S.Store.stored c.fetch.new.store in
     let so_far = c.loop-role.invariant in
     let f = c.in_ok-bytes.ensures in
     record {
       reached = so_far-more old.files mid.files c.args.names.now roles r (limit_of r) (drop k roles) (drop (k + 1) roles) (bytes_of c.loop-role.inputs) (bytes_of c.put.new.self) c.in_ok-bytes.bytes
           so_far.only.same refl at c.put.ensures so_far.reached f.told;
       only = only-then old mid new c.loop-role.inputs _ so_far.only f.same f.asks f.later tt;
-      called = called-more g.S.StoreExt.note c.args.names.now roles (drop k roles) (drop (k + 1) roles) r (limit_of r) old.noted mid.noted new.noted
+      called = called-more g.S.Store.note c.args.names.now roles (drop k roles) (drop (k + 1) roles) r (limit_of r) old.noted mid.noted new.noted
           refl at so_far.called f.called;
     }

@@ -1,5 +1,4 @@
-use Rattle.std.proofs.Common.{◌≡◌, ◌++◌, drop}
-use Rattle.log_commands.specs.Refusals.{digest_text}
+use Rattle.log_commands.proofs.Common.{◌≡◌, ◌++◌, drop, digest_text}
 use Rattle.log_commands.proofs.lines.push_digest.Given as goal
 
 abbrev pub invariant-loop-byte : goal.invariant-loop-byte

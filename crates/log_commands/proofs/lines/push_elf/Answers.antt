@@ -1,4 +1,4 @@
-use Rattle.log_commands.specs.Refusals.{elf_said}
+use Rattle.log_commands.proofs.Common.{elf_said}
 use Rattle.log_commands.proofs.lines.push_elf.Goals as goal
 
 pub returns-in-TooMany : goal.returns-in-TooMany

@@ -1,4 +1,4 @@
-use Rattle.std.specs.Prelude.{codes}
+use Rattle.log_commands.proofs.Common.{codes}
 use Rattle.log_commands.proofs.Prints.{joined}
 use Rattle.log_commands.proofs.lines.push_ends.Goals as goal
 

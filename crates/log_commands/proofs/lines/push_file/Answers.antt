@@ -1,4 +1,4 @@
-use Rattle.log_commands.specs.Refusals.{file_said}
+use Rattle.log_commands.proofs.Common.{file_said}
 use Rattle.log_commands.proofs.lines.push_file.Goals as goal
 
 pub returns-in-Short : goal.returns-in-Short

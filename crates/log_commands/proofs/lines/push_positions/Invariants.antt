@@ -1,5 +1,4 @@
-use Rattle.std.proofs.Common.{◌≡◌, ◌++◌, drop}
-use Rattle.log_commands.specs.Refusals.{positions_text}
+use Rattle.log_commands.proofs.Common.{◌≡◌, ◌++◌, drop, positions_text}
 use Rattle.log_commands.proofs.lines.push_positions.Given as goal
 
 abbrev pub invariant-loop-position : goal.invariant-loop-position

@@ -1,4 +1,4 @@
-use Rattle.log_commands.specs.Refusals.{replay_said}
+use Rattle.log_commands.proofs.Common.{replay_said}
 use Rattle.log_commands.proofs.lines.push_replay.Goals as goal
 
 pub returns-in-EndDiffers : goal.returns-in-EndDiffers

@@ -1,9 +1,4 @@
-use Rattle.std.proofs.Common.{◌≡◌, rules}
-use Rattle.std.specs.Str.{bytes_eq}
-use Rattle.sha2.specs.Sha256.{sha256}
-use Rattle.log_commands.specs.Evaluated.{Makes, where_same}
-use Rattle.log_commands.specs.Outside.{IsOwn}
-use Rattle.log_commands.specs.declared.pairs.JointReading.{JointReading}
+use Rattle.log_commands.proofs.Common.{◌≡◌, rules, bytes_eq, sha256, Makes, where_same, IsOwn, JointReading}
 use Rattle.log_commands.proofs.Answering.{passed-on}
 use Rattle.log_commands.proofs.pairs.pair_by.Goals as goal
 

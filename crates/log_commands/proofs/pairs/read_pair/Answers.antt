@@ -1,6 +1,4 @@
-use Rattle.log_commands.specs.Evaluated.{Makes, IsPairOfBytes}
-use Rattle.log_commands.specs.Outside.{IsOwn}
-use Rattle.log_commands.specs.declared.pairs.JointReading.{JointReading}
+use Rattle.log_commands.proofs.Common.{Makes, IsPairOfBytes, IsOwn, JointReading}
 use Rattle.log_commands.proofs.Answering.{passed-on, paired, unpaired}
 use Rattle.log_commands.proofs.pairs.read_pair.Goals as goal
 

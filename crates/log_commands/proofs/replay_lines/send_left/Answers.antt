@@ -1,21 +1,14 @@
-use Rattle.std.proofs.Common.{◌≡◌, ℕ, List, Option, sym, subst, arith}
-use Rattle.std.specs.Prelude.{Result, Ok, Some, None}
-use Rattle.bn_base.specs.declared.row.Row.{Row}
-use Rattle.hart_replay.specs.Coming.{Stepped}
-use Rattle.log_commands.specs.Texts.{rows_text}
-use Rattle.log_commands.specs.Printed.{outcome_of, EndsAs}
-use Rattle.log_commands.specs.Outside.{Sent, Sends}
-use Rattle.log_commands.specs.declared.replay_lines.ReplayEnd.{ReplayEnd}
-use Rattle.log_commands.specs.declared.refusal.Refusal.{Refusal}
+use Rattle.log_commands.proofs.Common.{◌≡◌, ℕ, List, Option, sym, subst, arith, Result, Ok, Row, Stepped, rows_text, outcome_of, EndsAs, Sent, Sends, ReplayEnd, Refusal}
+use Rattle.std.specs.Prelude.{Some, None}
 use Rattle.log_commands.proofs.Answering.{passed-on}
 use Rattle.log_commands.proofs.Rows.{RowsSoFar, stands-none, stands-more, stands-stopped, stands-sent, stands-short, stands-done, stands-refused}
 use Rattle.log_commands.proofs.replay_lines.send_left.Goals as goal
 
 pub rows-preserved : goal.rows-preserved
 rows-preserved g c =
-    let old = g.O.SinkExt.stream c.args.out.now in
-    let here = g.O.SinkExt.stream c.rows.out in
-    let there = g.O.SinkExt.stream c.gather_row.new.out in
+    let old = g.O.Sink.stream c.args.out.now in
+    let here = g.O.Sink.stream c.rows.out in
+    let there = g.O.Sink.stream c.gather_row.new.out in
     let step : Stepped c.rows.replayer (Ok (Some c.in-Ok-Some.row)) c.step.new.self = subst (λ (o : Option Row). Stepped c.rows.replayer (Ok o) c.step.new.self) c.in-Ok-Some.field-0-is c.in-Ok-Some.ensures in
     stands-more c.args.replayer.now.left c.rows.replayer.left c.step.new.self.left c.in-Ok-Some.row c.rows.text c.gather_row.new.text old.text here.text there.text old.faults here.faults there.faults
     step.0 c.rows.invariant c.in_ok-gather_row-in-Ok-Some.ensures.sent c.gather_row.ensures.later
@@ -23,9 +16,9 @@ rows-preserved g c =
 pub returns-in_err-gather_row-in-Ok-Some : goal.returns-in_err-gather_row-in-Ok-Some
 returns-in_err-gather_row-in-Ok-Some g c =
     let left = c.args.replayer.now.left in
-    let old = g.O.SinkExt.stream c.args.out.now in
-    let here = g.O.SinkExt.stream c.rows.out in
-    let there = g.O.SinkExt.stream c.gather_row.new.out in
+    let old = g.O.Sink.stream c.args.out.now in
+    let here = g.O.Sink.stream c.rows.out in
+    let there = g.O.Sink.stream c.gather_row.new.out in
     let x = c.in_err-gather_row-in-Ok-Some.field-0.0 in
     let step : Stepped c.rows.replayer (Ok (Some c.in-Ok-Some.row)) c.step.new.self = subst (λ (o : Option Row). Stepped c.rows.replayer (Ok o) c.step.new.self) c.in-Ok-Some.field-0-is c.in-Ok-Some.ensures in
     passed-on (Sends (rows_text left.rows) (EndsAs left.outcome) old there) x c.from_residual.result c.from_residual.ensures.1
@@ -37,9 +30,9 @@ returns-in_err-gather_row-in-Ok-Some g c =
 pub returns-in-Ok-None : goal.returns-in-Ok-None
 returns-in-Ok-None g c =
     let left = c.args.replayer.now.left in
-    let old = g.O.SinkExt.stream c.args.out.now in
-    let here = g.O.SinkExt.stream c.rows.out in
-    let there = g.O.SinkExt.stream c.send.new.sink in
+    let old = g.O.Sink.stream c.args.out.now in
+    let here = g.O.Sink.stream c.rows.out in
+    let there = g.O.Sink.stream c.send.new.sink in
     let step : Stepped c.rows.replayer (Ok None) c.step.new.self = subst (λ (o : Option Row). Stepped c.rows.replayer (Ok o) c.step.new.self) c.in-Ok-None.field-0-is c.in-Ok-None.ensures in
     record {
       sent = stands-done left c.rows.replayer.left old.text there.text old.faults there.faults step.0
@@ -50,9 +43,9 @@ returns-in-Ok-None g c =
 pub returns-in_err-send-in-Ok-None : goal.returns-in_err-send-in-Ok-None
 returns-in_err-send-in-Ok-None g c =
     let left = c.args.replayer.now.left in
-    let old = g.O.SinkExt.stream c.args.out.now in
-    let here = g.O.SinkExt.stream c.rows.out in
-    let there = g.O.SinkExt.stream c.send.new.sink in
+    let old = g.O.Sink.stream c.args.out.now in
+    let here = g.O.Sink.stream c.rows.out in
+    let there = g.O.Sink.stream c.send.new.sink in
     let x = c.in_err-send-in-Ok-None.field-0.0 in
     passed-on (Sends (rows_text left.rows) (EndsAs left.outcome) old there) x c.from_residual-in_err-send-in-Ok-None.result c.from_residual-in_err-send-in-Ok-None.ensures.1
     (record {
@@ -63,9 +56,9 @@ returns-in_err-send-in-Ok-None g c =
 pub returns-in-Err : goal.returns-in-Err
 returns-in-Err g c =
     let left = c.args.replayer.now.left in
-    let old = g.O.SinkExt.stream c.args.out.now in
-    let here = g.O.SinkExt.stream c.rows.out in
-    let there = g.O.SinkExt.stream c.send-in-Err.new.sink in
+    let old = g.O.Sink.stream c.args.out.now in
+    let here = g.O.Sink.stream c.rows.out in
+    let there = g.O.Sink.stream c.send-in-Err.new.sink in
     record {
       sent = subst (λ (r : Result ReplayEnd Refusal). Sent old.text there.text old.faults there.faults (rows_text left.rows) (λ ending. outcome_of ending ≡ left.outcome) r) (sym c.ending_of.ensures)
           (stands-refused left c.rows.replayer.left old.text there.text old.faults there.faults c.in-Err.error c.in-Err.ensures.0
@@ -76,9 +69,9 @@ returns-in-Err g c =
 pub returns-in_err-send-in-Err : goal.returns-in_err-send-in-Err
 returns-in_err-send-in-Err g c =
     let left = c.args.replayer.now.left in
-    let old = g.O.SinkExt.stream c.args.out.now in
-    let here = g.O.SinkExt.stream c.rows.out in
-    let there = g.O.SinkExt.stream c.send-in-Err.new.sink in
+    let old = g.O.Sink.stream c.args.out.now in
+    let here = g.O.Sink.stream c.rows.out in
+    let there = g.O.Sink.stream c.send-in-Err.new.sink in
     let x = c.in_err-send-in-Err.field-0.0 in
     passed-on (Sends (rows_text left.rows) (EndsAs left.outcome) old there) x c.from_residual-in_err-send-in-Err.result c.from_residual-in_err-send-in-Err.ensures.1
     (record {
@@ -89,6 +82,6 @@ returns-in_err-send-in-Err g c =
 pub rows-init : goal.rows-init
 rows-init g c =
     let left = c.args.replayer.now.left in
-    let known = (g.O.SinkExt.stream c.args.out.now).text in
-    let faults = (g.O.SinkExt.stream c.args.out.now).faults in
+    let known = (g.O.Sink.stream c.args.out.now).text in
+    let faults = (g.O.Sink.stream c.args.out.now).faults in
     subst (λ (t : List ℕ). RowsSoFar left left t known known faults faults) (sym c.requires) (stands-none left known faults)

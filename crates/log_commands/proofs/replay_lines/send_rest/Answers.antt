@@ -1,10 +1,4 @@
-use Rattle.std.proofs.Common.{◌≡◌, subst, arith}
-use Rattle.std.specs.Prelude.{Ok}
-use Rattle.std.specs.Io.KnownBytes.{Appends}
-use Rattle.hart_replay.specs.Replay.{Outcome}
-use Rattle.log_commands.specs.Outside.{Sends}
-use Rattle.log_commands.specs.Printed.{EndsAs, outcome_of, end_of_interval, rest_text}
-use Rattle.log_commands.specs.Texts.{rows_text}
+use Rattle.log_commands.proofs.Common.{◌≡◌, subst, arith, Ok, Appends, Outcome, Sends, EndsAs, outcome_of, end_of_interval, rest_text, rows_text}
 use Rattle.log_commands.proofs.Answering.{passed-on}
 use Rattle.log_commands.proofs.Prints.{sent-both, sent-stopped}
 use Rattle.log_commands.proofs.Rows.{sent-last}
@@ -13,8 +7,8 @@ use Rattle.log_commands.proofs.replay_lines.send_rest.Goals as goal
 pub returns-in_err-ending : goal.returns-in_err-ending
 returns-in_err-ending g c =
     let r = c.args.replayer.now.left in
-    let old = g.O.SinkExt.stream c.args.out.now in
-    let mid = g.O.SinkExt.stream c.send_rows.new.out in
+    let old = g.O.Sink.stream c.args.out.now in
+    let mid = g.O.Sink.stream c.send_rows.new.out in
     passed-on (Sends (rest_text c.args.hart c.args.interval c.args.mark.now r) (EndsAs r.outcome) old mid) _ c.from_residual.result c.from_residual.ensures.1
     (record {
       sent = sent-stopped old.text mid.text old.faults mid.faults (rows_text r.rows) (end_of_interval c.args.hart c.args.interval c.args.mark.now r.outcome) _ c.in_err-ending.ensures.sent;
@@ -24,9 +18,9 @@ returns-in_err-ending g c =
 pub returns-in_err-send_end : goal.returns-in_err-send_end
 returns-in_err-send_end g c =
     let r = c.args.replayer.now.left in
-    let old = g.O.SinkExt.stream c.args.out.now in
-    let mid = g.O.SinkExt.stream c.send_rows.new.out in
-    let new = g.O.SinkExt.stream c.send_end.new.out in
+    let old = g.O.Sink.stream c.args.out.now in
+    let mid = g.O.Sink.stream c.send_rows.new.out in
+    let new = g.O.Sink.stream c.send_end.new.out in
     passed-on (Sends (rest_text c.args.hart c.args.interval c.args.mark.now r) (EndsAs r.outcome) old new) _ c.from_residual-in_err-send_end.result c.from_residual-in_err-send_end.ensures.1
     (record {
       sent = sent-last old.text mid.text new.text old.faults mid.faults new.faults
@@ -37,9 +31,9 @@ returns-in_err-send_end g c =
 pub returns : goal.returns
 returns g c =
     let r = c.args.replayer.now.left in
-    let old = g.O.SinkExt.stream c.args.out.now in
-    let mid = g.O.SinkExt.stream c.send_rows.new.out in
-    let new = g.O.SinkExt.stream c.send_end.new.out in
+    let old = g.O.Sink.stream c.args.out.now in
+    let mid = g.O.Sink.stream c.send_rows.new.out in
+    let new = g.O.Sink.stream c.send_end.new.out in
     let last : Appends mid.text new.text (end_of_interval c.args.hart c.args.interval c.args.mark.now r.outcome) =
     subst (λ (o : Outcome). Appends mid.text new.text (end_of_interval c.args.hart c.args.interval c.args.mark.now o)) c.in_ok-ending.ensures.sent.1 c.in_ok-send_end.ensures.sent.0 in
     record {

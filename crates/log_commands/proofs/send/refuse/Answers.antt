@@ -1,11 +1,9 @@
-use Rattle.std.proofs.Common.{refl, inr}
-use Rattle.log_commands.specs.Refusals.{line_of, said_of}
-use Rattle.log_commands.specs.declared.refusal.Refusal.TheVariants.{OutOfMemory}
+use Rattle.log_commands.proofs.Common.{refl, inr, line_of, said_of, OutOfMemory}
 use Rattle.log_commands.proofs.Prints.{wrote}
 use Rattle.log_commands.proofs.send.refuse.Goals as goal
 
-pub returns-clause-told : goal.returns-clause-told
+pub returns : goal.returns
 unfolding line_of said_of
-returns-clause-told g c =
+returns g c =
     let sent = c.send_all-in-Err.ensures in
-    inr (refl, wrote (g.X.Sink.written c.args.err.now) (g.X.Sink.written c.send_all-in-Err.new.sink) (g.X.Sink.faults c.args.err.now) (g.X.Sink.faults c.send_all-in-Err.new.sink) (line_of c.args.names.now OutOfMemory) c.send_all-in-Err.result sent.ok sent.part sent.cause)
+    (inr (refl, wrote (g.X.Sink.stream c.args.err.now).text (g.X.Sink.stream c.send_all-in-Err.new.sink).text (g.X.Sink.stream c.args.err.now).faults (g.X.Sink.stream c.send_all-in-Err.new.sink).faults (line_of c.args.names.now OutOfMemory) c.send_all-in-Err.result sent.ok sent.part sent.cause), sent.later)

@@ -1,4 +1,4 @@
-use Rattle.log_commands.specs.Texts.{summary_text}
+use Rattle.log_commands.proofs.Common.{summary_text}
 use Rattle.log_commands.proofs.Prints.{joined}
 use Rattle.log_commands.proofs.texts.push_summary.Goals as goal
 

@@ -3,4 +3,4 @@ use Rattle.std.specs.Io.KnownBytes.{Appends}
 use Rattle.step_debugger.proofs.sending.send.Goals as goal
 
 pub returns-in-Ok-clause-sent : goal.returns-in-Ok-clause-sent
-returns-in-Ok-clause-sent g c = (subst (λ (x : List ℕ). Appends (g.O.Sink.written c.args.out.now) (g.O.Sink.written c.send_all.new.sink) x) c.as_bytes.ensures c.in-Ok.ensures.ok, tt)
+returns-in-Ok-clause-sent g c = (subst (λ (x : List ℕ). Appends (g.O.Sink.stream c.args.out.now).text (g.O.Sink.stream c.send_all.new.sink).text x) c.as_bytes.ensures c.in-Ok.ensures.ok, tt)

@@ -1,19 +1,4 @@
-use Rattle.std.proofs.Common.{refl, inl, subst, sym}
-use Rattle.std.specs.Prelude.{Ok, Err, is_some}
-use Rattle.bn_base.specs.Ranges.{first_bad}
-use Rattle.command_words.specs.Words.{RecordLine, seen_recording}
-use Rattle.log_commands.specs.FileCalls.{record_roles, elf_roles}
-use Rattle.log_commands.specs.declared.answer.Answer.{Answer}
-use Rattle.log_commands.specs.declared.answer.Answer.TheVariants.{Recorded}
-use Rattle.log_commands.specs.declared.refusal.Refusal.TheVariants.{OutOfMemory}
-use Rattle.log_commands.proofs.Acts.{none-fell}
-use Rattle.log_commands.proofs.Answering.{passed-on}
-use Rattle.log_commands.proofs.Tells.{with-any}
-use Rattle.bugnet.specs.Answers.{setting_refusal}
-use Rattle.bugnet.specs.ClosedRuns.{IsRecordingBy}
-use Rattle.bugnet.specs.Command.Record.{is_clash}
-use Rattle.bugnet.specs.LineAnswers.{AnswersLine}
-use Rattle.bugnet.specs.declared.manner.Manner.{Manner}
+use Rattle.bugnet.proofs.Common.{refl, inl, subst, sym, Ok, Err, is_some, first_bad, RecordLine, seen_recording, record_roles, elf_roles, Answer, Recorded, OutOfMemory, none-fell, passed-on, with-any, setting_refusal, IsRecordingBy, is_clash, AnswersLine, Manner}
 use Rattle.bugnet.proofs.LineAnswers.{cause-line}
 use Rattle.bugnet.proofs.Begins.{words-refused, words-cause, start-refused, run-recorded}
 use Rattle.bugnet.proofs.LineCalls.{words-first, words-pass, memory-loads, record-calls}
@@ -25,20 +10,20 @@ returns-in_err-settings-clause-answers g c =
     let r = c.args.options.now in
     let names = c.args.names.now in
     let how = c.manner_of-how.result in
-    let old = g.S.StoreExt.stored c.args.store.now in
+    let old = g.S.Store.stored c.args.store.now in
     let x = c.in_err-settings.field-0.0 in
     let h = c.in_err-settings.ensures.refused in
     let clash = is_clash how.lean names.log names.book in
     let has = is_some r.input in
-    passed-on (AnswersLine (RecordLine (seen_recording r)) names g.S.StoreExt.note old old) x c.from_residual.result c.from_residual.ensures.1
+    passed-on (AnswersLine (RecordLine (seen_recording r)) names g.S.Store.note old old) x c.from_residual.result c.from_residual.ensures.1
     (record {
       told = record-answers old.files names r how has (Err x) c.requires.named c.manner_of-how.ensures refl (words-refused old.files names r.settings how has x h);
       same = refl;
       asks = refl;
       later = none-fell old.counts;
       cause = record-cause names r how old.counts old.counts (Err x) c.requires.named c.manner_of-how.ensures (words-cause (first_bad r.settings) clash old.counts old.counts x h);
-      calls = record-calls Answer g.S.StoreExt.note names r how has old.noted old.noted (Err x) c.requires.named c.manner_of-how.ensures refl
-          (words-first Answer g.S.StoreExt.note names (setting_refusal (first_bad r.settings) clash) x (record_roles has) elf_roles old.noted (Err x) h);
+      calls = record-calls Answer g.S.Store.note names r how has old.noted old.noted (Err x) c.requires.named c.manner_of-how.ensures refl
+          (words-first Answer g.S.Store.note names (setting_refusal (first_bad r.settings) clash) x (record_roles has) elf_roles old.noted (Err x) h);
       prints = λ p. absurd p;
       records = tt;
       demo = tt;
@@ -50,21 +35,21 @@ returns-in_err-start-clause-answers g c =
     let names = c.args.names.now in
     let how = c.manner_of-how.result in
     let has = c.is_some.result in
-    let old = g.S.StoreExt.stored c.args.store.now in
-    let new = g.S.StoreExt.stored c.load_files.new.store in
+    let old = g.S.Store.stored c.args.store.now in
+    let new = g.S.Store.stored c.load_files.new.store in
     let x = c.in_err-start.field-0.0 in
     let ok = c.in_ok-settings.ensures.ok in
     let h = c.in_err-start.ensures.loads in
     let words = setting_refusal (first_bad r.settings) (is_clash how.lean names.log names.book) in
-    passed-on (AnswersLine (RecordLine (seen_recording r)) names g.S.StoreExt.note old new) x c.from_residual-in_err-start.result c.from_residual-in_err-start.ensures.1
+    passed-on (AnswersLine (RecordLine (seen_recording r)) names g.S.Store.note old new) x c.from_residual-in_err-start.result c.from_residual-in_err-start.ensures.1
     (record {
       told = record-answers old.files names r how has (Err x) c.requires.named c.manner_of-how.ensures c.is_some.ensures (start-refused old.files names r.settings c.in_ok-settings.settings how has x ok.0 ok.1 (h.told how));
       same = h.only.same;
       asks = h.only.asks;
       later = h.only.later;
       cause = record-cause names r how old.counts new.counts (Err x) c.requires.named c.manner_of-how.ensures (cause-line words old.counts new.counts (Err x) ok.1 h.only.cause);
-      calls = record-calls Answer g.S.StoreExt.note names r how has old.noted new.noted (Err x) c.requires.named c.manner_of-how.ensures c.is_some.ensures
-          (words-pass Answer g.S.StoreExt.note names words (record_roles has) elf_roles old.noted new.noted (Err x) ok.1 h.calls);
+      calls = record-calls Answer g.S.Store.note names r how has old.noted new.noted (Err x) c.requires.named c.manner_of-how.ensures c.is_some.ensures
+          (words-pass Answer g.S.Store.note names words (record_roles has) elf_roles old.noted new.noted (Err x) ok.1 h.calls);
       prints = λ p. absurd p;
       records = tt;
       demo = tt;
@@ -76,20 +61,20 @@ returns-in_err-run-clause-answers g c =
     let names = c.args.names.now in
     let how = c.manner_of-how.result in
     let has = c.is_some.result in
-    let old = g.S.StoreExt.stored c.args.store.now in
-    let new = g.S.StoreExt.stored c.load_files.new.store in
+    let old = g.S.Store.stored c.args.store.now in
+    let new = g.S.Store.stored c.load_files.new.store in
     let ok = c.in_ok-settings.ensures.ok in
     let h = c.in_ok-start.ensures.loads in
     let words = setting_refusal (first_bad r.settings) (is_clash how.lean names.log names.book) in
-    passed-on (AnswersLine (RecordLine (seen_recording r)) names g.S.StoreExt.note old new) OutOfMemory c.from_residual-in_err-run.result c.from_residual-in_err-run.ensures.1
+    passed-on (AnswersLine (RecordLine (seen_recording r)) names g.S.Store.note old new) OutOfMemory c.from_residual-in_err-run.result c.from_residual-in_err-run.ensures.1
     (record {
       told = with-any old.files _ (λ files. inl (inl refl));
       same = h.only.same;
       asks = h.only.asks;
       later = h.only.later;
       cause = record-cause names r how old.counts new.counts (Err OutOfMemory) c.requires.named c.manner_of-how.ensures (cause-line words old.counts new.counts (Err OutOfMemory) ok.1 tt);
-      calls = record-calls Answer g.S.StoreExt.note names r how has old.noted new.noted (Err OutOfMemory) c.requires.named c.manner_of-how.ensures c.is_some.ensures
-          (words-pass Answer g.S.StoreExt.note names words (record_roles has) elf_roles old.noted new.noted (Err OutOfMemory) ok.1 (memory-loads g.S.StoreExt.note names (record_roles has) elf_roles old.noted new.noted h.calls));
+      calls = record-calls Answer g.S.Store.note names r how has old.noted new.noted (Err OutOfMemory) c.requires.named c.manner_of-how.ensures c.is_some.ensures
+          (words-pass Answer g.S.Store.note names words (record_roles has) elf_roles old.noted new.noted (Err OutOfMemory) ok.1 (memory-loads g.S.Store.note names (record_roles has) elf_roles old.noted new.noted h.calls));
       prints = λ p. absurd p;
       records = tt;
       demo = tt;
@@ -101,8 +86,8 @@ returns-clause-answers g c =
     let names = c.args.names.now in
     let how = c.manner_of-how.result in
     let has = c.is_some.result in
-    let old = g.S.StoreExt.stored c.args.store.now in
-    let new = g.S.StoreExt.stored c.load_files.new.store in
+    let old = g.S.Store.stored c.args.store.now in
+    let new = g.S.Store.stored c.load_files.new.store in
     let ok = c.in_ok-settings.ensures.ok in
     let h = c.in_ok-start.ensures.loads in
     let run = c.in_ok-run.run' in
@@ -115,8 +100,8 @@ returns-clause-answers g c =
       asks = h.only.asks;
       later = h.only.later;
       cause = record-cause names r how old.counts new.counts (Ok (Recorded run)) c.requires.named c.manner_of-how.ensures (cause-line words old.counts new.counts (Ok (Recorded run)) ok.1 tt);
-      calls = record-calls Answer g.S.StoreExt.note names r how has old.noted new.noted (Ok (Recorded run)) c.requires.named c.manner_of-how.ensures c.is_some.ensures
-          (words-pass Answer g.S.StoreExt.note names words (record_roles has) elf_roles old.noted new.noted (Ok (Recorded run)) ok.1 h.calls);
+      calls = record-calls Answer g.S.Store.note names r how has old.noted new.noted (Ok (Recorded run)) c.requires.named c.manner_of-how.ensures c.is_some.ensures
+          (words-pass Answer g.S.Store.note names words (record_roles has) elf_roles old.noted new.noted (Ok (Recorded run)) ok.1 h.calls);
       prints = λ p. absurd p;
       records = record-lean r how (Recorded run) c.manner_of-how.ensures made.lean;
       demo = tt;

@@ -1,14 +1,6 @@
-use Rattle.std.proofs.Common.{[]}
-use Rattle.sha2.specs.Sha256.{sha256}
-use Rattle.elf_loader.specs.Loaded.{image_of}
-use Rattle.log_commands.specs.FileCalls.{input_roles}
-use Rattle.log_commands.proofs.Acts.{none-fell}
-use Rattle.log_commands.proofs.Answering.{passed-on}
-use Rattle.bugnet.specs.Command.Record.{IsByProgram}
-use Rattle.bugnet.specs.Starts.{LoadsStart}
+use Rattle.bugnet.proofs.Common.{[], refl, sha256, image_of, input_roles, none-fell, passed-on, IsByProgram, LoadsStart}
 use Rattle.bugnet.proofs.Begins.{begins-refused, begins-program}
 use Rattle.bugnet.proofs.LineCalls.{own-first}
-use Rattle.std.proofs.Common.{refl}
 use Rattle.bugnet.proofs.commands.record.load_start.Goals as goal
 
 pub returns-in_err-image-clause-loads : goal.returns-in_err-image-clause-loads
@@ -16,20 +8,20 @@ returns-in_err-image-clause-loads g c =
     let names = c.args.names.now in
     let elf = c.args.elf.now in
     let settings = c.args.settings.now in
-    let old = g.S.StoreExt.stored c.args.store.now in
+    let old = g.S.Store.stored c.args.store.now in
     let x = c.in_err-image.field-0.0 in
-    passed-on (LoadsStart names (λ how files. IsByProgram (image_of elf settings) files names settings how c.args.has_input (sha256 elf)) (input_roles c.args.has_input) [] g.S.StoreExt.note old old) x c.from_residual.result c.from_residual.ensures.1
+    passed-on (LoadsStart names (λ how files. IsByProgram (image_of elf settings) files names settings how c.args.has_input (sha256 elf)) (input_roles c.args.has_input) [] g.S.Store.note old old) x c.from_residual.result c.from_residual.ensures.1
     (record {
       told = λ how. begins-refused old.files names elf settings how c.args.has_input (sha256 elf) x c.in_err-image.ensures.loaded;
       only = record { same = refl; asks = refl; later = none-fell old.counts; cause = c.in_err-image.ensures.own old.counts old.counts };
-      calls = own-first g.S.StoreExt.note names (input_roles c.args.has_input) old.noted x c.in_err-image.ensures.own;
+      calls = own-first g.S.Store.note names (input_roles c.args.has_input) old.noted x c.in_err-image.ensures.own;
     })
 
 pub returns-clause-loads : goal.returns-clause-loads
 returns-clause-loads g c =
     let names = c.args.names.now in
     let elf = c.args.elf.now in
-    let old = g.S.StoreExt.stored c.args.store.now in
+    let old = g.S.Store.stored c.args.store.now in
     let loads = c.load_input.ensures in
     record {
       told = λ how. begins-program old.files names elf c.args.settings.now how c.args.has_input (sha256 elf) c.in_ok-image.image c.load_input.result c.in_ok-image.ensures.loaded (rw c.digest_of.ensures at (loads.told how));

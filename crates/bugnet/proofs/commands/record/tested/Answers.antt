@@ -1,5 +1,4 @@
-use Rattle.std.proofs.Common.{sym, ◌∙◌}
-use Rattle.bugnet.specs.Command.Record.{is_clash}
+use Rattle.bugnet.proofs.Common.{sym, ◌∙◌, is_clash}
 use Rattle.bugnet.proofs.Begins.{bad-refused, clash-refused, words-taken}
 use Rattle.bugnet.proofs.commands.record.tested.Goals as goal
 

@@ -1,5 +1,4 @@
-use Rattle.std.proofs.Common.{ap, sym}
-use Rattle.log_commands.specs.RunEnds.{end_status}
+use Rattle.log_commands.proofs.Common.{ap, sym, end_status}
 use Rattle.log_commands.proofs.answer.RunEnd.status.Goals as goal
 
 pub returns-in-Fault : goal.returns-in-Fault

@@ -1,10 +1,4 @@
-use Rattle.std.specs.Prelude.{Ok, Err}
-use Rattle.log_commands.specs.Answering.{Answers}
-use Rattle.log_commands.specs.Audits.{audited}
-use Rattle.log_commands.specs.Commands.{IsByLog}
-use Rattle.log_commands.specs.Pairs.{pair_of}
-use Rattle.log_commands.specs.SaveCounts.{IsMade}
-use Rattle.log_commands.specs.declared.answer.Answer.TheVariants.{Agreed}
+use Rattle.log_commands.proofs.Common.{Ok, Err, Answers, audited, IsByLog, pair_of, IsMade, Agreed}
 use Rattle.log_commands.proofs.Answering.{passed-on, unpaired-so, paired-so}
 use Rattle.log_commands.proofs.SameAudit.{compared-gives}
 use Rattle.log_commands.proofs.commands.audit.evaluate.Goals as goal

@@ -1,5 +1,4 @@
-use Rattle.std.proofs.Common.{ap, sym}
-use Rattle.log_commands.specs.Audits.{roles_of}
+use Rattle.log_commands.proofs.Common.{ap, sym, roles_of}
 use Rattle.log_commands.proofs.commands.audit.roles_of.Goals as goal
 
 pub returns-else-has_input : goal.returns-else-has_input

@@ -1,12 +1,6 @@
-use Rattle.std.proofs.Common.{ap}
-use Rattle.std.specs.Prelude.{Ok}
-use Rattle.log_file.specs.declared.counting.LogCounts.{LogCounts}
-use Rattle.log_commands.specs.Commands.{check_of}
-use Rattle.log_commands.specs.SaveCounts.{IsMade}
-use Rattle.log_commands.specs.Texts.{check_line}
-use Rattle.log_commands.specs.Told.{printed}
+use Rattle.log_commands.proofs.Common.{ap, Ok, LogCounts, check_of, IsMade, check_line, printed}
 use Rattle.log_commands.proofs.Answering.{unread}
-use Rattle.log_commands.proofs.Loads.{refused-log, own-log}
+use Rattle.log_commands.proofs.Loads.{own-log}
 use Rattle.log_commands.proofs.commands.check.evaluate.Goals as goal
 
 pub returns-in-Ok : goal.returns-in-Ok
@@ -20,5 +14,5 @@ returns-in-Ok c =
 
 pub returns-in-Err : goal.returns-in-Err
 returns-in-Err c =
-    unread IsMade c.args.log.now (λ names. check_of) c.of_damage.result (refused-log c.args.log.now c.in-Err.damage c.of_damage.result c.of_damage.ensures c.in-Err.ensures.refused)
+    unread IsMade c.args.log.now (λ names. check_of) c.of_damage.result (c.in-Err.damage, c.of_damage.ensures, c.in-Err.ensures.refused)
     (λ before now. own-log c.in-Err.damage c.of_damage.result before now c.of_damage.ensures)

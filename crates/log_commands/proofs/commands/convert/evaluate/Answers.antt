@@ -1,7 +1,4 @@
-use Rattle.log_commands.specs.Answering.{Answers}
-use Rattle.log_commands.specs.Commands.{IsByLog}
-use Rattle.log_commands.specs.NewLogs.{renewed}
-use Rattle.log_commands.specs.SaveCounts.{IsRenewed}
+use Rattle.log_commands.proofs.Common.{Answers, IsByLog, renewed, IsRenewed}
 use Rattle.log_commands.proofs.Answering.{passed-on, unread, read}
 use Rattle.log_commands.proofs.commands.convert.evaluate.Goals as goal
 

@@ -1,8 +1,4 @@
-use Rattle.std.proofs.Common.{inl}
-use Rattle.log_commands.specs.Answering.{Answers}
-use Rattle.log_commands.specs.NewLogs.{renewed}
-use Rattle.log_commands.specs.SaveCounts.{IsRenewed}
-use Rattle.std.proofs.Common.{◌≡◌, refl}
+use Rattle.log_commands.proofs.Common.{inl, ◌≡◌, refl, Answers, renewed, IsRenewed}
 use Rattle.log_commands.proofs.Answering.{passed-on}
 use Rattle.log_commands.proofs.Renewals.{renewed-told}
 use Rattle.log_commands.proofs.commands.convert.renew.Goals as goal

@@ -1,35 +1,27 @@
-use Rattle.std.proofs.Common.{ℕ, List, Bool, inr, sym, subst, arith}
-use Rattle.std.specs.Prelude.{Ok, Err}
-use Rattle.joint_replay.specs.Joining.{run_all}
-use Rattle.joint_replay.specs.Runs.{Advances}
-use Rattle.joint_replay.specs.Texts.{steps_text}
-use Rattle.log_commands.specs.Joined.{stop_of}
-use Rattle.log_commands.specs.JointEnds.{SendsSteps}
-use Rattle.log_commands.specs.Outside.{SentUntil}
-use Rattle.log_commands.specs.declared.refusal.Refusal.{Refusal}
+use Rattle.log_commands.proofs.Common.{ℕ, List, Bool, inr, sym, subst, arith, Ok, Err, run_all, Advances, steps_text, stop_of, SendsSteps, SentUntil, Refusal}
 use Rattle.log_commands.proofs.Answering.{passed-on}
 use Rattle.log_commands.proofs.Joins.{Walks, walks-none, walks-sent, walks-more, walks-stopped, walks-short, walks-ended}
 use Rattle.log_commands.proofs.commands.joint.send_run.Goals as goal
 
 pub steps-init : goal.steps-init
 steps-init g c =
-    let known = (g.O.SinkExt.stream c.args.out.now).text in
-    let faults = (g.O.SinkExt.stream c.args.out.now).faults in
+    let known = (g.O.Sink.stream c.args.out.now).text in
+    let faults = (g.O.Sink.stream c.args.out.now).faults in
     subst (λ (t : List ℕ). Walks c.args.joint.now c.args.joint.now t known known faults faults) (sym c.requires) (walks-none c.args.joint.now known faults)
 
 pub steps-preserved : goal.steps-preserved
 steps-preserved g c =
-    let old = g.O.SinkExt.stream c.args.out.now in
-    let here = g.O.SinkExt.stream c.steps.out in
-    let there = g.O.SinkExt.stream c.send_block.new.out in
+    let old = g.O.Sink.stream c.args.out.now in
+    let here = g.O.Sink.stream c.steps.out in
+    let there = g.O.Sink.stream c.send_block.new.out in
     walks-more c.runs_go_on.ensures c.args.joint.now c.steps.joint c.advance.new.self c.steps.text c.advance.new.out c.send_block.new.text old.text here.text there.text old.faults here.faults there.faults
     (subst (λ (b : Bool). Advances c.steps.joint (Ok b) c.advance.new.self c.steps.text c.advance.new.out) c.in-Ok-true.field-0-test c.in-Ok-true.ensures) c.steps.invariant c.in_ok-send_block-in-Ok-true.ensures.sent c.send_block.ensures.later
 
 pub returns-in_err-send_block-in-Ok-true : goal.returns-in_err-send_block-in-Ok-true
 returns-in_err-send_block-in-Ok-true g c =
-    let old = g.O.SinkExt.stream c.args.out.now in
-    let here = g.O.SinkExt.stream c.steps.out in
-    let there = g.O.SinkExt.stream c.send_block.new.out in
+    let old = g.O.Sink.stream c.args.out.now in
+    let here = g.O.Sink.stream c.steps.out in
+    let there = g.O.Sink.stream c.send_block.new.out in
     let x = c.in_err-send_block-in-Ok-true.field-0.0 in
     passed-on (SendsSteps c.args.joint.now c.advance.new.self old there) x c.from_residual.result c.from_residual.ensures.1
     (record {
@@ -43,14 +35,14 @@ returns-in_err-send_block-in-Ok-true g c =
 
 pub returns-in-Ok-false : goal.returns-in-Ok-false
 returns-in-Ok-false g c =
-    walks-sent c.runs_end.ensures c.args.joint.now c.steps.joint c.advance.new.self c.steps.text c.advance.new.out (g.O.SinkExt.stream c.args.out.now) (g.O.SinkExt.stream c.steps.out) (g.O.SinkExt.stream c.send.new.sink) c.send.result
+    walks-sent c.runs_end.ensures c.args.joint.now c.steps.joint c.advance.new.self c.steps.text c.advance.new.out (g.O.Sink.stream c.args.out.now) (g.O.Sink.stream c.steps.out) (g.O.Sink.stream c.send.new.sink) c.send.result
     (subst (λ (b : Bool). Advances c.steps.joint (Ok b) c.advance.new.self c.steps.text c.advance.new.out) c.in-Ok-false.field-0-test c.in-Ok-false.ensures) c.steps.invariant c.send.ensures
 
 pub returns-in_err-send-in-Err : goal.returns-in_err-send-in-Err
 returns-in_err-send-in-Err g c =
-    let old = g.O.SinkExt.stream c.args.out.now in
-    let here = g.O.SinkExt.stream c.steps.out in
-    let there = g.O.SinkExt.stream c.send-in-Err.new.sink in
+    let old = g.O.Sink.stream c.args.out.now in
+    let here = g.O.Sink.stream c.steps.out in
+    let there = g.O.Sink.stream c.send-in-Err.new.sink in
     let x = c.in_err-send-in-Err.field-0.0 in
     passed-on (SendsSteps c.args.joint.now c.advance.new.self old there) x c.from_residual-in_err-send-in-Err.result c.from_residual-in_err-send-in-Err.ensures.1
     (record {
@@ -63,9 +55,9 @@ returns-in_err-send-in-Err g c =
 
 pub returns-in-Err : goal.returns-in-Err
 returns-in-Err g c =
-    let old = g.O.SinkExt.stream c.args.out.now in
-    let here = g.O.SinkExt.stream c.steps.out in
-    let there = g.O.SinkExt.stream c.send-in-Err.new.sink in
+    let old = g.O.Sink.stream c.args.out.now in
+    let here = g.O.Sink.stream c.steps.out in
+    let there = g.O.Sink.stream c.send-in-Err.new.sink in
     let r = run_all c.args.joint.now in
     record {
       sends = record {

@@ -1,10 +1,9 @@
-use Rattle.std.proofs.Common.{length}
-use Rattle.joint_replay.specs.Memory.{known_from}
+use Rattle.log_commands.proofs.Common.{length, known_from}
 use Rattle.log_commands.proofs.Joins.{Lists}
 use Rattle.log_commands.proofs.commands.joint.send_words.Given as goal
 
 abbrev pub invariant-words : goal.invariant-words
-invariant-words g l = Lists l.joint.memory l.from l.text (g.O.SinkExt.stream l.fn.out).text (g.O.SinkExt.stream l.out).text (g.O.SinkExt.stream l.fn.out).faults (g.O.SinkExt.stream l.out).faults
+invariant-words g l = Lists l.joint.memory l.from l.text (g.O.Sink.stream l.fn.out).text (g.O.Sink.stream l.out).text (g.O.Sink.stream l.fn.out).faults (g.O.Sink.stream l.out).faults
 
 -- the words that are left
 abbrev pub decreases-words : goal.decreases-words

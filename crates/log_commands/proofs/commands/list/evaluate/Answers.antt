@@ -1,9 +1,4 @@
-use Rattle.std.proofs.Common.{refl}
-use Rattle.std.specs.Prelude.{Ok}
-use Rattle.log_commands.specs.Answering.{Answers}
-use Rattle.log_commands.specs.Commands.{IsByLog, list_of}
-use Rattle.log_commands.specs.SaveCounts.{IsMade}
-use Rattle.log_commands.specs.declared.answer.Answer.TheVariants.{Listed}
+use Rattle.log_commands.proofs.Common.{refl, Ok, Answers, IsByLog, list_of, IsMade, Listed}
 use Rattle.log_commands.proofs.Answering.{passed-on, unread, read}
 use Rattle.log_commands.proofs.commands.list.evaluate.Goals as goal
 

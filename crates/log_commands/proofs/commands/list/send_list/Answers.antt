@@ -1,8 +1,4 @@
-use Rattle.std.proofs.Common.{◌+◌, List, ℕ, drop, subst, ◌++◌, ◌∙◌, ap, sym, append_assoc, ◌<◌, ◌≤◌, arith}
-use Rattle.log_record.specs.declared.record.Record.{Record}
-use Rattle.bn_outside.specs.Streams.{AppendsPart}
-use Rattle.log_commands.specs.Texts.{record_text, list_text}
-use Rattle.log_commands.specs.Outside.{SendStops, Sent, Sends, Always}
+use Rattle.log_commands.proofs.Common.{◌+◌, List, ℕ, drop, subst, ◌++◌, ◌∙◌, ap, sym, append_assoc, ◌<◌, ◌≤◌, arith, Record, AppendsPart, record_text, list_text, SendStops, Sent, Sends, Always}
 use Rattle.log_commands.proofs.Answering.{passed-on}
 use Rattle.log_commands.proofs.Prints.{SoFar, so_far-gathered, so_far-stopped, so_far-last}
 use Rattle.log_commands.proofs.Counts.{list-more, list-done}
@@ -13,19 +9,19 @@ returns-in_err-gather_record g c =
     let rs = c.records-records.result.now in
     let k = c.loop-place.place in
     let x = c.get.result in
-    let old = (g.O.SinkExt.stream c.args.out.now).text in
-    let now = (g.O.SinkExt.stream c.loop-place.out).text in
-    let next = (g.O.SinkExt.stream c.gather_record.new.out).text in
-    let before = (g.O.SinkExt.stream c.args.out.now).faults in
-    let after = (g.O.SinkExt.stream c.loop-place.out).faults in
-    let last = (g.O.SinkExt.stream c.gather_record.new.out).faults in
+    let old = (g.O.Sink.stream c.args.out.now).text in
+    let now = (g.O.Sink.stream c.loop-place.out).text in
+    let next = (g.O.Sink.stream c.gather_record.new.out).text in
+    let before = (g.O.Sink.stream c.args.out.now).faults in
+    let after = (g.O.Sink.stream c.loop-place.out).faults in
+    let last = (g.O.Sink.stream c.gather_record.new.out).faults in
     let text = c.loop-place.text in
     let piece = record_text x (drop (k + 1) rs) in
     let rest = list_text (drop (k + 1) rs) in
     let so_far : SoFar (list_text rs) ((text ++ piece) ++ rest) old now before after =
     subst (λ (t : List ℕ). SoFar (list_text rs) t old now before after)
     (ap (λ (t : List ℕ). text ++ t) (list-more rs k x (subst (λ (n : ℕ). c.loop-place.place < n) c.len-place-end.ensures.value c.loop-place-test.true) c.get.ensures) ∙ sym (append_assoc text piece rest)) c.loop-place.invariant in
-    passed-on (Sends (list_text c.args.log.now.records) Always (g.O.SinkExt.stream c.args.out.now) (g.O.SinkExt.stream c.gather_record.new.out)) _ c.from_residual.result c.from_residual.ensures.1
+    passed-on (Sends (list_text c.args.log.now.records) Always (g.O.Sink.stream c.args.out.now) (g.O.Sink.stream c.gather_record.new.out)) _ c.from_residual.result c.from_residual.ensures.1
     (record {
       sent = subst (λ (rs : List Record). AppendsPart old next (list_text rs) × SendStops before last c.in_err-gather_record.field-0.0) c.records-records.ensures.value
           (so_far-stopped (list_text rs) (text ++ piece) rest old now next before after last c.in_err-gather_record.field-0.0 so_far c.in_err-gather_record.ensures.sent);
@@ -37,29 +33,29 @@ loop-place-preserved g c =
     let rs = c.records-records.result.now in
     let k = c.loop-place.place in
     let x = c.get.result in
-    let old = (g.O.SinkExt.stream c.args.out.now).text in
-    let now = (g.O.SinkExt.stream c.loop-place.out).text in
-    let before = (g.O.SinkExt.stream c.args.out.now).faults in
-    let after = (g.O.SinkExt.stream c.loop-place.out).faults in
+    let old = (g.O.Sink.stream c.args.out.now).text in
+    let now = (g.O.Sink.stream c.loop-place.out).text in
+    let before = (g.O.Sink.stream c.args.out.now).faults in
+    let after = (g.O.Sink.stream c.loop-place.out).faults in
     let text = c.loop-place.text in
     let piece = record_text x (drop (k + 1) rs) in
     let rest = list_text (drop (k + 1) rs) in
     let so_far : SoFar (list_text rs) ((text ++ piece) ++ rest) old now before after =
     subst (λ (t : List ℕ). SoFar (list_text rs) t old now before after)
     (ap (λ (t : List ℕ). text ++ t) (list-more rs k x (subst (λ (n : ℕ). c.loop-place.place < n) c.len-place-end.ensures.value c.loop-place-test.true) c.get.ensures) ∙ sym (append_assoc text piece rest)) c.loop-place.invariant in
-    so_far-gathered (list_text rs) (text ++ piece) c.gather_record.new.text rest old now (g.O.SinkExt.stream c.gather_record.new.out).text before after (g.O.SinkExt.stream c.gather_record.new.out).faults
+    so_far-gathered (list_text rs) (text ++ piece) c.gather_record.new.text rest old now (g.O.Sink.stream c.gather_record.new.out).text before after (g.O.Sink.stream c.gather_record.new.out).faults
     so_far c.in_ok-gather_record.ensures.sent c.gather_record.ensures.later
 
 pub returns : goal.returns
 returns g c = record {
   sent =
       let rs = c.records-records.result.now in
-      let old = (g.O.SinkExt.stream c.args.out.now).text in
-      let now = (g.O.SinkExt.stream c.loop-place.out).text in
-      let next = (g.O.SinkExt.stream c.send.new.sink).text in
-      let before = (g.O.SinkExt.stream c.args.out.now).faults in
-      let after = (g.O.SinkExt.stream c.loop-place.out).faults in
-      let last = (g.O.SinkExt.stream c.send.new.sink).faults in
+      let old = (g.O.Sink.stream c.args.out.now).text in
+      let now = (g.O.Sink.stream c.loop-place.out).text in
+      let next = (g.O.Sink.stream c.send.new.sink).text in
+      let before = (g.O.Sink.stream c.args.out.now).faults in
+      let after = (g.O.Sink.stream c.loop-place.out).faults in
+      let last = (g.O.Sink.stream c.send.new.sink).faults in
       subst (λ (rs : List Record). Sent old next before last (list_text rs) (λ x. Unit {0}) c.send.result) c.records-records.ensures.value
       (so_far-last (list_text rs) c.loop-place.text (list_text (drop c.loop-place.place rs)) old now next before after last c.send.result c.loop-place.invariant
       (list-done rs c.loop-place.place (subst (λ (n : ℕ). n ≤ c.loop-place.place) c.len-place-end.ensures.value c.loop-place-test.false)) c.send.ensures.sent);

@@ -1,8 +1,4 @@
-use Rattle.log_commands.specs.SaveCounts.{IsMade}
-use Rattle.log_commands.specs.RaceAnswers.{races_with}
-use Rattle.log_commands.specs.Answering.{Answers}
-use Rattle.log_commands.specs.Commands.{IsByLog}
-use Rattle.log_commands.specs.Pairs.{pair_of}
+use Rattle.log_commands.proofs.Common.{IsMade, races_with, Answers, IsByLog, pair_of}
 use Rattle.log_commands.proofs.Answering.{passed-on, unpaired-so, paired-so}
 use Rattle.log_commands.proofs.commands.races.evaluate.Goals as goal
 

@@ -1,6 +1,4 @@
-use Rattle.std.proofs.Common.{inl, inr, refl}
-use Rattle.joint_replay.specs.Joining.{run_all}
-use Rattle.log_commands.specs.Joined.{joined}
+use Rattle.log_commands.proofs.Common.{inl, inr, refl, run_all, joined}
 use Rattle.log_commands.proofs.Races.{races-listed, races-refused, races-halted, own-joint}
 use Rattle.log_commands.proofs.commands.races.races_of.Goals as goal
 

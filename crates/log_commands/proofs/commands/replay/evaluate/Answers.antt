@@ -1,9 +1,4 @@
-use Rattle.std.proofs.Common.{refl}
-use Rattle.log_commands.specs.Commands.{replay_with}
-use Rattle.log_commands.specs.Outside.{IsPrinted}
-use Rattle.log_commands.specs.Answering.{Answers}
-use Rattle.log_commands.specs.Commands.{IsByLog}
-use Rattle.log_commands.specs.Pairs.{pair_of}
+use Rattle.log_commands.proofs.Common.{refl, replay_with, IsByLog, IsPrinted, Answers, pair_of}
 use Rattle.log_commands.proofs.Answering.{passed-on, unpaired-so, paired-so}
 use Rattle.log_commands.proofs.commands.replay.evaluate.Goals as goal
 

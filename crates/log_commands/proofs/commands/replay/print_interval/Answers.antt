@@ -1,6 +1,4 @@
-use Rattle.std.proofs.Common.{arith}
-use Rattle.log_commands.specs.Effects.{PrintsTo, printing_on}
-use Rattle.log_commands.specs.Outside.{told_of_reading}
+use Rattle.log_commands.proofs.Common.{arith, PrintsTo, printing_on, told_of_reading}
 use Rattle.log_commands.proofs.Acts.{prints-so}
 use Rattle.log_commands.proofs.Answering.{passed-on}
 use Rattle.log_commands.proofs.Causes.{sends-absent}
@@ -11,10 +9,10 @@ use Rattle.log_commands.proofs.commands.replay.print_interval.Goals as goal
 
 pub returns-in_err-replayer : goal.returns-in_err-replayer
 returns-in_err-replayer g c =
-    let old = g.O.SinkExt.stream c.args.out.now in
+    let old = g.O.Sink.stream c.args.out.now in
     passed-on (PrintsTo (λ names. told_of_reading names c.args.reading.now) old old) _ c.from_residual.result c.from_residual.ensures.1
-    (λ names files had status err end closed.
-    prints-so names (told_of_reading names c.args.reading.now) status (printing_on files had old old err end)
-    (not-begun names c.args.reading.now _ status (printing_on files had old old err end) c.in_err-replayer.ensures.refused (appends-nothing old.text) (untouched files) closed.0)
+    (λ names store status err end closed.
+    prints-so names (told_of_reading names c.args.reading.now) status (printing_on store old old err end)
+    (not-begun names c.args.reading.now _ status (printing_on store old old err end) c.in_err-replayer.ensures.refused (appends-nothing old.text) (untouched store.files) closed.0)
     (record { out = omega arith; err = closed.1 })
     (sends-absent names _ _ _ status err.text end.text err.faults end.faults old.faults old.faults c.in_err-replayer.ensures.refused closed.0))

@@ -1,4 +1,4 @@
-use Rattle.std.proofs.Common.{inl, inr, refl}
+use Rattle.log_commands.proofs.Common.{inl, inr, refl}
 use Rattle.log_commands.proofs.Slices.{slice-shown, slice-stopped, slice-absent}
 use Rattle.log_commands.proofs.commands.slice.slice_of.Goals as goal
 
