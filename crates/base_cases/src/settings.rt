@@ -4,8 +4,8 @@ use bn_base::{BadSetting, EndMark, Fault, List, RawSettings, Settings};
 use std::alloc::{AllocError, Global};
 use std::io;
 
-// The settings but for one.
-fn with(mut raw: RawSettings, field: u64, value: u64) -> RawSettings {
+// The settings with another value for one of them. Scripts name it by a number of their own.
+fn with_setting(mut raw: RawSettings, field: u64, value: u64) -> RawSettings {
     match field {
         1 => raw.harts = value,
         2 => raw.interval = value,
@@ -26,7 +26,7 @@ fn with(mut raw: RawSettings, field: u64, value: u64) -> RawSettings {
 fn raw_of(words: &[&str]) -> RawSettings {
     let mut raw = RawSettings::default();
     for pair in words.get(1..).unwrap_or(&[]).chunks(2) {
-        raw = with(raw, decimal(pair, 0), decimal(pair, 1));
+        raw = with_setting(raw, decimal(pair, 0), decimal(pair, 1));
     }
     raw
 }

@@ -168,8 +168,8 @@ impl<'a> Joint<'a> {
         self.met[hart as usize] = place;
     }
 
-    // The place of the first Edge into a hart whose source isn't passed, if those before a place are. It is
-    // that place if the source there is of another hart than the one that moved.
+    // How many Edges into a hart from its first on have sources that are passed. `met` are known to be; the source of
+    // the next one wasn't before `moved` took its step, so it isn't now either if it is another hart's.
     fn first_unpassed(&self, hart: HartId, met: usize, moved: HartId) -> usize
         requires there { hart < length self.now.lanes }
         requires before { ArePassed self.now.lanes (take met (edges_into hart self.now.records)) }

@@ -27,7 +27,8 @@ fn tag_of(verb: &str) -> Option<u8> {
     }
 }
 
-// How wide the number at a place of a record is: a Header has registers after the fourth.
+// How many bytes a field of a record has: 1 is a Header, 5 an Edge and 6 an End. A Header's fields after its pc are
+// registers.
 fn width_of(tag: u8, place: usize) -> usize {
     match (tag, place) {
         (_, 0) => 1,

@@ -1,4 +1,4 @@
-//! Files that stand in place of others.
+//! Damaged copies of log files, as the lines of a script of cases ask for them.
 use crate::building::push_number;
 use crate::files::Files;
 use crate::words::{number, numbers, word};
@@ -60,7 +60,8 @@ fn change(alloc: Global, file: &mut Vec<u8>, verb: &str, words: &[&str]) -> anyh
     }
 }
 
-/// The file that a line makes in place of one.
+/// The copy of a file that a line's verb and words change. The file's name is the first word; `take` has a count
+/// before it.
 pub fn changed(
     alloc: Global,
     files: &Files,

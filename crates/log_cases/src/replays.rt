@@ -61,7 +61,7 @@ fn print_replay<R: Print>(rt: &R, alloc: Global, replayer: &mut Replayer) -> any
     print_end(rt, outcome, replayer.step())
 }
 
-// Prints why there is no replay.
+// Prints why a replay can't begin. The text is compared with the case's expected output.
 fn print_refusal<R: Print>(rt: &R, error: ReplayError) -> anyhow::Result<()> {
     Ok(println!(rt; "{error:?}")?)
 }

@@ -1,4 +1,4 @@
-//! The bytes of one record, in an array: recorders write it without memory.
+//! The bytes of one record, in an array of the longest record's size: recorders write it without memory of the heap.
 ghost use Rattle.std.specs.Prelude.{◌≡◌, ◌<◌, ◌≤◌, ◌+◌, ◌++◌, ◌∷◌, [], ◌↔◌, IsTrue, length, take};
 ghost use Rattle.le_numbers.specs.Numbers.{number_bytes};
 

@@ -30,6 +30,8 @@ fn put_registers(bytes: &mut Bytes, x: &Registers)
     put_words(bytes, &contents[1..]);
 }
 
+// Appends words, the least significant byte of each first. The limits are the longest head of a record, and the
+// registers but for x0.
 fn put_words(bytes: &mut Bytes, words: &[u32])
     requires length { length bytes.old ≤ 22 }
     requires count { length words.now ≤ 31 }

@@ -213,11 +213,11 @@ fn call<R: Print + Threads + Wait + Sync>(
     }
 }
 
-// A byte so many times.
+// One byte of input so many times.
 fn repeated(alloc: Global, byte: u8, count: usize) -> Result<Vec<u8>, AllocError> {
-    let mut keys = Vec::new(alloc);
-    keys.resize(count, byte)?;
-    Ok(keys)
+    let mut bytes = Vec::new(alloc);
+    bytes.resize(count, byte)?;
+    Ok(bytes)
 }
 
 // The bytes of a line; if it says how often, the first of them so many times.

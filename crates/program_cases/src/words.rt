@@ -25,7 +25,7 @@ pub fn number(word: Option<&&str>) -> anyhow::Result<usize> {
     }
 }
 
-/// Numbers from words.
+/// The numbers that a line's words say in decimal.
 pub fn numbers(alloc: Global, words: &[&str]) -> anyhow::Result<Vec<u64>> {
     let mut numbers = Vec::new(alloc);
     for word in words {

@@ -63,7 +63,7 @@ impl Gathered {
         }
     }
 
-    // Appends the races of a place with the points of a hart.
+    // Appends the races of the access at a place of the list, each with an access of this hart.
     fn push_with(&self, first: usize, hart: HartId, out: &mut Vec<Race>) -> Result<(), AllocError>
         requires { first < length (lists_of self.now.found) }
         ensures { OnOk result ((harts : ℕ) (run : List Accessing) → IsGathered harts run self.now → out.new.items ≡ out.old.items ++ races_with run first hart (meetings_of run first)) }
