@@ -73,7 +73,8 @@ def analysed(log_name: str, elf_name: str, names: str = "", row: str = "", rows:
         if log.unread and not rows and trace.last:
             more = source.end(MORE_ROWS, asked)
             if leads_into(History(trace, find_starts(log, trace, row)), log, more):
-                log, trace = more, read_trace(more, elf_name, entries)
+                del trace                       # it is large
+                log, trace = more, read_trace(more, elf_name, entries, most=MORE_ROWS if more.unread and not row else 0)
             else:
                 log = source.end(FIRST_ROWS, asked)
         return Analysis(source, log, elf, named, trace, row, output)

@@ -8,18 +8,20 @@ from typing import NamedTuple, Optional
 
 from .facts import Facts
 from .history import History
-from .loops import rows_of
+from .loops import operands_of, rows_of
 from .lost import cut_behind
 from .suspect import Extra, Suspect
 from .text import number
 
 EQUAL, RARE_WAY, CUT, ROUND = 10, 4, 8, 6   # what these signs are worth
 SAME_LINE = 1               # what a branch costs more that only decided of its own line, as the parts of a condition do
+USUAL, USUAL_ROWS = 2, 20    # what the usual way of a branch costs more, and how often it has to have come
 ENTRY = 12                  # what a branch of the code that sets up a hart costs more
 EXIT, INNER = 5, 4          # a loop's exit, and each call that it is deeper than the outermost one
 MOST = 40                   # branches that are looked at
 ORDERS = "blt", "bge"
-BEFORE = {"control": "before", "kept": "so this kept its value in", "awaited": "so this goes on waiting in"}
+BEFORE = {"control": "before", "kept": "so this kept its value in", "spared": "so a word beside what it compared kept its value in",
+          "awaited": "so this goes on waiting in"}
 
 
 class Compared(NamedTuple):
@@ -50,6 +52,8 @@ def branch_suspects(facts: Facts, history: History) -> list[Suspect]:
         if decided.how == "awaited":            # it left its loop, wherever that continues
             way = way._replace(is_back=False)
         judge_way(suspect, way)
+        if suspect.shown:
+            add_stored(facts, suspect)
         if way.all_times == 1 and not facts.trace.node_of(row) and not facts.trace.is_cut(row):
             suspect.sign(-ENTRY, "it ran once, before any call")
         if facts.line(decided.row) == line:
@@ -70,6 +74,7 @@ def exit_suspects(facts: Facts) -> list[Suspect]:
                 found[line] = Suspect("exit", item.row, item.row, INNER * (depths[item.row] - min(depths.values())))
                 found[line].sign(EXIT, f"it went the same way {number(item.times)} times")
                 judge_values(facts, found[line])
+                add_stored(facts, found[line])
     return list(found.values())
 
 
@@ -89,6 +94,15 @@ def judge_values(facts: Facts, suspect: Suspect) -> None:
         suspect.extra.append(Extra(cut.words + " in", cut.row))
 
 
+def add_stored(facts: Facts, suspect: Suspect) -> None:
+    """Tells who stored a word that a branch compared as it was loaded, if it was another line."""
+    for operand in operands_of(facts.trace, suspect.guilty):
+        if operand.store and operand.load == operand.row and not facts.trace.is_spill(operand.load, operand.store):
+            told = {facts.line(n) for n in [suspect.guilty] + [extra.row for extra in suspect.extra]}
+            if facts.line(operand.store) not in told:
+                suspect.extra.append(Extra("a value that it compared was stored in", operand.store))
+
+
 class Way(NamedTuple):
     """How often a branch went as it did in a row, how often it ran, and whether that way leads back."""
     times: int
@@ -101,6 +115,8 @@ def judge_way(suspect: Suspect, way: Way) -> None:
     if way.is_back:
         suspect.shown = bool(suspect.extra)
         suspect.sign(-ROUND, "a loop went round again")
+    elif way.all_times >= USUAL_ROWS and way.times * 10 >= way.all_times * 9:
+        suspect.sign(-USUAL, f"it went this way {number(way.times)} of {number(way.all_times)} times")
     if way.times and way.all_times >= 4 and way.times * 10 <= way.all_times:
         suspect.sign(RARE_WAY * math.log10(way.all_times / way.times),
                      f"it went this way {number(way.times)} of {number(way.all_times)} times")

@@ -4,21 +4,23 @@ A row depends on the nearest branch before it, in its function or in those that 
 function can end without coming to the row's place. The code is read from the ELF file as far as it can be reached."""
 from __future__ import annotations
 
-from typing import Callable, Mapping, Optional
+from typing import Callable, Iterable, Mapping, Optional
 
 from .elf import Elf
 from .instruction import BRANCH, JUMP, Instruction
-from .rows import Trace
+from .rows import LOADS, Trace
 
 MOST_PLACES = 4000          # so many places are looked at for a way round
 MOST_ROWS = 2000            # so many rows are looked at for a branch
+MOST_STEPS = 24             # rows of a value that are looked at for the load that it came from
+BESIDE = 32                 # how near the words of an object are
 
 
 class Control:
     """entered  {hart: the first row of the loop that it never left}: what decided of it stands before it"""
 
-    def __init__(self, trace: Trace, elf: Elf, entered: Mapping[int, int] = {}) -> None:
-        self.trace, self.elf, self.entered = trace, elf, entered
+    def __init__(self, trace: Trace, elf: Elf, entered: Optional[Mapping[int, int]] = None) -> None:
+        self.trace, self.elf, self.entered = trace, elf, entered or {}
         self.code: dict[int, Optional[Instruction]] = {ins.pc: ins for ins in trace.codes}
         self.ways: dict[tuple[int, int], bool] = {}
         self.call_of = self.matched()
@@ -102,6 +104,35 @@ class Control:
             return 0
         return self.passed(store, load, place or self.trace.code_of(store).pc, self.is_past)
 
+    def spared(self, load: int, store: int) -> int:
+        """The latest branch between a store and the load that got it which went past what stored the word before, and
+        compared a value of the same object. Or 0."""
+        trace = self.trace
+        if trace.hart[store] != trace.hart[load]:
+            return 0
+        return self.latest_past(store, load, trace.storing_places(store), trace.access(load).address)
+
+    def latest_past(self, store: int, end: int, places: Iterable[int], word: int = 0) -> int:
+        """The latest branch between two rows of a hart which went past one of some places, or 0. With `word` it has to
+        compare a value that was loaded beside it."""
+        trace, after = self.trace, end
+        for n in range(end - 1, max(store, end - MOST_ROWS), -1):
+            if trace.hart[n] == trace.hart[end]:
+                if trace.code_of(n).kind == BRANCH and (not word or self.is_beside(n, word)):
+                    went = trace.code_of(after).pc
+                    if any(self.is_past(n, went, place) for place in places):
+                        return n
+                after = n
+        return 0
+
+    def is_beside(self, branch: int, word: int) -> bool:
+        """Whether a branch compared a value from a place near a word."""
+        for row in (self.trace.d1[branch], self.trace.d2[branch]):
+            load = load_behind(self.trace, row)
+            if load and abs(self.trace.access(load).address - word) <= BESIDE:
+                return True
+        return False
+
     def left(self, store: int) -> int:
         """The latest branch of a store's hart from which it could have come to the store again, and can't since. Or 0."""
         return self.passed(store, self.trace.last[self.trace.hart[store]], self.trace.code_of(store).pc, self.is_left)
@@ -137,6 +168,21 @@ class Control:
         branch = self.trace.code_of(n)
         other = other_side(branch, went)
         return other is not None and other > branch.pc and not self.can_avoid(other, place) and self.can_avoid(went, place)
+
+
+def load_behind(trace: Trace, row: int) -> int:
+    """The nearest load that a row's value came from, or 0."""
+    todo, seen = [row], {0}
+    for n in todo:
+        if n in seen:
+            continue
+        seen.add(n)
+        if trace.flags[n] & LOADS:
+            return n
+        if len(seen) > MOST_STEPS:
+            break
+        todo += [trace.d1[n], trace.d2[n]]
+    return 0
 
 
 def other_side(branch: Instruction, went: int) -> Optional[int]:

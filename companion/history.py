@@ -22,6 +22,7 @@ CONTROL, OUTPUT_CONTROL, NEXT_CONTROL = 12, 8, 4    # the branch that decided of
 MOST_GIVERS = 8             # places that stored what a load loads, of which it is asked if a branch went past them
 MOST_CONTROL, MOST_KEPT, MOST_FILLED = 2000, 400, 4  # how often it is asked what decided of a row
 DEAREST_CONTROL, DEAREST_FILLED, KEPT_ROWS = 40, 6, 50
+SPARED, DEAREST_SPARED, MOST_SPARED = 4, 16, 100     # the branch that spared a word of the object whose value it compared
 AWAITED, NEAR_LOOP = 4, 3   # the branch by which another hart didn't store what a loop waits for
 WIDENS = "srai", "srli"     # the second of two shifts that widen a value
 STORES_ANOTHER = "amoswap", "sc."       # atomics whose stored word owes nothing to the loaded one
@@ -87,7 +88,7 @@ class History:
         self.before: list[int] = []
         self.decided: set[int] = set()
         self.branches: dict[int, Decided] = {}
-        self.asked = self.kept = self.filled = 0
+        self.asked = self.kept = self.filled = self.spared = 0
         self.address = OUTPUT_ADDRESS if is_output else ADDRESS
         self.hangs = hangs
         self.control, self.control_cost = control, control_cost or (OUTPUT_CONTROL if is_output else CONTROL)
@@ -117,7 +118,7 @@ class History:
     def step(self, row: int, price: int, source: int, how: str) -> None:
         if row and (row not in self.cost or price < self.cost[row]):
             self.cost[row], self.parent[row] = price, Step(source, how)
-            if how in ("decision", "control", "kept", "awaited") or source in self.decided:
+            if how in ("decision", "control", "kept", "spared", "awaited") or source in self.decided:
                 self.decided.add(row)
             else:
                 self.decided.discard(row)
@@ -191,13 +192,14 @@ class History:
     def loaded(self, n: int, price: int) -> bool:
         """A load, and the stores that it got, if there are any. One that stores back what it loads is passed: it changed
         nothing."""
-        found, rest = self.trace.writers(n)
+        first = self.first_copied(n)
+        found, rest = self.trace.writers(first)
         for writer in found:
             while self.trace.flags[writer] & KEEPS and self.trace.dm[writer]:
                 writer = self.trace.dm[writer]
             cost = price if self.trace.is_spill(n, writer) else price + 1
             self.step(writer, cost, n, "memory")
-            key = Pair(n, writer)
+            key = Pair(first, writer)
             self.far[key] = min(cost, self.far.get(key, cost))
             self.awaited(n, writer, price)
             if self.control and price <= DEAREST_CONTROL and n - writer >= KEPT_ROWS and cost > price and self.kept < MOST_KEPT:
@@ -205,6 +207,9 @@ class History:
                 for at in sorted({self.trace.pc[writer], *self.trace.givers(n)})[:MOST_GIVERS]:
                     branch = self.control.kept(n, writer, self.trace.codes[at].pc)
                     self.decide(branch, Decided(price + self.control_cost, n, "kept"))
+            if self.control and price <= DEAREST_SPARED and self.spared < MOST_SPARED and not self.trace.is_spill(n, writer):
+                self.spared += 1
+                self.decide(self.control.spared(first, writer), Decided(price + SPARED, n, "spared"))
         if rest:
             self.before.append(n)
             self.leave(n, price, NO_REGISTER)
@@ -213,6 +218,17 @@ class History:
             for row in self.trace.beside(n):    # why not here?
                 self.step(self.trace.d1[row], price + FILLED, n, "address")
         return bool(found)
+
+    def first_copied(self, load: int) -> int:
+        """The load behind a load whose word was copied by its own instruction before, again and again: the first copy
+        counts."""
+        trace = self.trace
+        while True:
+            found, rest = trace.writers(load)
+            source = trace.d2[found[0]] if len(found) == 1 and not rest and trace.mask(found[0]) == 15 else 0
+            if not source or trace.pc[source] != trace.pc[load] or not trace.flags[source] & LOADS:
+                return load
+            load = source
 
     def awaited(self, load: int, store: int, price: int) -> None:
         """What a hart waits for is stored by another one: the branch by which that one didn't store it again."""

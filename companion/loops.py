@@ -9,7 +9,7 @@ from collections import Counter
 from itertools import compress
 from typing import NamedTuple, Sequence
 
-from .control import other_side
+from .control import load_behind, other_side
 from .instruction import BRANCH
 from .rows import KEEPS, LOADS, STORES, Trace
 
@@ -17,7 +17,6 @@ LONGER = 3                  # how many rounds a loop has at least
 NO_CODE = -1
 MOST_CUTS = 12              # how many sets of places are tried
 OFTEN = 3                   # how often a place ran that then stopped
-MOST_STEPS = 24             # rows of a value that are looked at for the load that it came from
 LATEST, LATEST_ROWS = 6, 50000  # how many stores of each place are looked at for words that change, and how far back
 
 
@@ -131,21 +130,6 @@ def operands_of(trace: Trace, row: int) -> list[Operand]:
             load = load_behind(trace, source)
             found.append(Operand(register, source, load, store_behind(trace, load)))
     return found
-
-
-def load_behind(trace: Trace, row: int) -> int:
-    """The nearest load that a row's value came from, or 0."""
-    todo, seen = [row], {0}
-    for n in todo:
-        if n in seen:
-            continue
-        seen.add(n)
-        if trace.flags[n] & LOADS:
-            return n
-        if len(seen) > MOST_STEPS:
-            break
-        todo += [trace.d1[n], trace.d2[n]]
-    return 0
 
 
 def store_behind(trace: Trace, load: int) -> int:

@@ -189,7 +189,17 @@ def lost_alignment(facts: Facts, history: History) -> list[Suspect]:
         elif is_first_odd(trace, n, width):
             suspect = found[facts.line(n)] = Suspect("odd", n, n, min(ADDRESS, history.cost[n]))
             suspect.sign(FIRST_ODD, f"the word held a multiple of {width} until then")
+            add_passed(history, suspect)
     return list(found.values())[:MOST_ODD]
+
+
+def add_passed(history: History, suspect: Suspect) -> None:
+    """Tells of the branch after a store which went past a place that stores the word, if the store's value was used."""
+    users = [load for load, store in history.far if store == suspect.guilty]
+    places = history.trace.storing_places(suspect.guilty)
+    branch = history.control.latest_past(suspect.guilty, min(users), places) if history.control and users else 0
+    if branch:
+        suspect.extra.append(Extra("what stores there was passed by", branch))
 
 
 def is_first_odd(trace: Trace, n: int, width: int) -> bool:

@@ -4,10 +4,12 @@ Both rows of a suspect, a load and the store that it got, have a pointer; each p
 handed out (blocks.py). Whether it is the same block says what went wrong."""
 from __future__ import annotations
 
+from collections import Counter
+
 from .blocks import Block, Blocks
 from .facts import Facts
 from .history import History
-from .instruction import ALU
+from .instruction import ALU, SP
 from .lost import cut_behind, lost_bits, narrowings
 from .rows import LOADS, STORES
 from .suspect import Extra, Suspect
@@ -16,6 +18,7 @@ GIVEN_BACK, NEVER_WRITTEN, OVER_THE_END = 16, 14, 10
 CUT_BOUND = 8
 OWN = 6                     # an allocator's own store: if it loads it itself, it is less likely guilty
 TWICE, MOST_TWICE = 8, 3     # what such a suspect costs, and how many there may be: else a taker is none
+MOST_COPIES = 2             # lines that stored copies of a pointer
 SIZE_ROWS = 2000            # rows of a size's history
 
 
@@ -37,9 +40,11 @@ class MemoryUse:
         loaded = self.blocks.behind(trace.d1[item.load], address)
         if loaded is None:
             return []
-        back = [n for n in self.blocks.given_back(loaded, loaded.back, item.load) if n < item.store]
+        # What is free is the allocator's: it may load from there.
+        is_own = self.blocks.is_own(item.load)
+        back = [n for n in self.blocks.given_back(loaded, loaded.back, item.load) if n < item.store and not is_own]
         if back:
-            return self.used_after(item, back[-1], address)
+            return self.used_after(item, loaded, back, address)
         if self.blocks.is_over(loaded, address, item.load):
             return self.over_the_end(item, loaded, False)
         if item.store < loaded.call:
@@ -124,9 +129,10 @@ class MemoryUse:
         return self.suspect("unwritten", item, block.call, NEVER_WRITTEN,
                             "nothing wrote the word since the block was given out: it has old bytes")
 
-    def used_after(self, item: Suspect, back: int, address: int) -> list[Suspect]:
-        """A pointer that was kept over the call that gave its memory back."""
-        owner = self.blocks.behind(self.trace.d1[item.store], address)
+    def used_after(self, item: Suspect, block: Block, rows: list[int], address: int) -> list[Suspect]:
+        """A pointer that was kept over the call that gave its memory back: the first one after its block was given out. The
+        later ones gave back what others had got there since."""
+        owner, back = self.blocks.behind(self.trace.d1[item.store], address), rows[0]
         again = "given out again, and" if owner and owner.call > back else "and"
         found = self.suspect("back", item, back, GIVEN_BACK, f"the memory was given back, {again} still used")
         kept = self.kept_pointer(item.load, back)
@@ -135,7 +141,23 @@ class MemoryUse:
                 suspect.extra.append(Extra("the pointer is older: it comes from", kept))
             self.add_holder(suspect, back)
             self.add_user(suspect, item.load, back)
+            self.add_copy(suspect, block, back)
+            if rows[-1] != back:
+                suspect.extra.append(Extra("it was given back last in", rows[-1]))
         return found
+
+    def add_copy(self, suspect: Suspect, block: Block, back: int) -> None:
+        """Tells of the lines that stored a copy of the pointer least often: nobody may have counted it."""
+        trace = self.trace
+        times: Counter[int] = Counter()
+        latest: dict[int, int] = {}
+        for n in trace.stores_of_value(block.address, block.call, back):
+            times[trace.pc[n]] += 1
+            latest[trace.pc[n]] = n
+        told = {trace.pc[extra.row] for extra in suspect.extra}
+        rest = sorted((times[at], -n) for at, n in latest.items() if at not in told and not self.blocks.is_own(n)
+                      and trace.code_of(n).rs1 != SP)
+        suspect.extra += [Extra("a copy of the pointer was stored in", -n) for _, n in rest[:MOST_COPIES]]
 
     def add_user(self, suspect: Suspect, load: int, back: int) -> None:
         """Tells who stored the pointer that was used, at a place that nobody cleared when its memory was given back."""

@@ -17,7 +17,7 @@ from .errors import NO_INTERVAL, UNREADABLE, CompanionError
 from .log import END, FIRST_FAULT, HEAD_2, HEADER, SEAL, End, Log, check, runs_of
 
 VERSION_1, LARGEST_SMALL = 1, 1 << 20   # a file of version 1 that is larger is converted first
-FIRST_ROWS, MORE_ROWS = 1000000, 3000000        # are read at first, and if values come from before them
+FIRST_ROWS, MORE_ROWS = 1000000, 2600000        # are read at first, and if values come from before them
 MOST_ROWS = 10000000                            # are read without being asked for, if a row is asked of
 
 

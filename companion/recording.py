@@ -10,7 +10,7 @@ import tempfile
 from enum import IntEnum
 from typing import Mapping, NamedTuple, Sequence
 
-from . import program
+from . import program, streams
 from .errors import REFUSED, UNREADABLE, CompanionError
 from .options import decimal, parse
 
@@ -102,7 +102,8 @@ def scratch(output: str) -> tempfile.TemporaryDirectory[str]:
     """A folder beside an output, so that what is made there takes its place in one step."""
     folder = os.path.dirname(os.path.realpath(output))
     try:
-        return tempfile.TemporaryDirectory(prefix=".zelkuma-", dir=folder)
+        with streams.uninterrupted():       # once there is the object, it is removed however this ends
+            return tempfile.TemporaryDirectory(prefix=".zelkuma-", dir=folder)
     except OSError as error:
         raise CompanionError(f"{folder}: {error.strerror}", UNREADABLE)
 

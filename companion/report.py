@@ -184,5 +184,5 @@ def unread(facts: Analysis) -> list[str]:
     log = facts.log
     if not log.unread:
         return []
-    return [f"Only the last {counted(log.rows(), 'row')} were read: {number(log.unread)} bytes of records before them weren't "
+    return [f"Only the last {counted(facts.trace.rows, 'row')} were read: {number(log.unread)} bytes of records before them weren't "
             "looked at. --rows N reads the last N."]

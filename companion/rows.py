@@ -22,6 +22,7 @@ from .text import number
 # last row. KEEPS: it stores what it loads, as a lock's spinning does.
 OFFSET, LOADS, STORES, UNSTORED, CHANGED, FAULTS, KEEPS = 3, 4, 8, 16, 32, 64, 128
 STORE_BITS = 0xffffffff     # of a pair, those that tell its store
+MOST_WRITERS, WRITERS_CALLS = 20, 2     # stores to a word before one, and calls over each
 BESIDE = 64                 # how far from a word another is beside it
 READ_CALL, WRITE_CALL = b"0000003f", b"00000040"
 AT_ONCE = 1 << 12           # lines between two looks at the progress
@@ -118,10 +119,12 @@ class Trace:
     harts   {hart: what is known of it}, of those that have a row
     last    {hart: its last row}; final: {hart: its registers at the end}
     fault   or None; regs: the registers of its hart
-    rows    how many there are; seconds: how long it took to read them"""
+    rows    how many there are; seconds: how long it took to read them
+    passed  how many rows before them weren't kept"""
 
-    def __init__(self, log: Log, entries: AbstractSet[int] = frozenset(), output: int = -1) -> None:
-        """`entries` is where functions begin, and `output` the number of the write that is asked for."""
+    def __init__(self, log: Log, entries: AbstractSet[int] = frozenset(), output: int = -1, most: int = 0) -> None:
+        """`entries` is where functions begin, and `output` the number of the write that is asked for. With `most` not many
+        more rows than the last so many are kept."""
         self.log, self.output = log, output
         self.writes: list[WriteCall] = []
         self.written: dict[int, int] = {}
@@ -149,11 +152,15 @@ class Trace:
         for i in range(log.harts):
             self.harts[i] = Hart(i, first[i].registers, first[i].start > 0) if i in first else Hart(i, (0,) * 32, False)
         self.latest: Optional[Hart] = None      # whose row was read last
-        self.rows, self.seconds = 0, 0.0
+        self.rows, self.seconds, self.passed = 0, 0.0, 0
+        self.to_pass = max(0, log.rows() - most) if most else 0
 
     def read(self, lines: Iterable[bytes]) -> None:
-        began, progress, total = time.time(), streams.Progress(), number(self.log.rows())
+        began, progress, total = time.time(), streams.Progress(), number(self.log.rows() - self.to_pass)
         harts, left = {b"%d" % each: hart for each, hart in self.harts.items()}, iter(lines)
+        while self.passed < self.to_pass:
+            self.pass_rows(list(itertools.islice(left, min(AT_ONCE, self.to_pass - self.passed))), harts)
+            progress.tell(f"{number(self.passed)} rows are passed")
         while self.read_rows(list(itertools.islice(left, AT_ONCE)), harts):
             progress.tell(f"{number(len(self.pc) - 1)} of {total} rows are read")
         progress.clear()
@@ -164,6 +171,22 @@ class Trace:
             self.regs = self.final[self.fault.hart]
         self.writer_of, self.held = {}, {}
         self.seconds, self.rows = time.time() - began, len(self.pc) - 1
+
+    def pass_rows(self, lines: Sequence[bytes], harts: dict[bytes, Hart]) -> None:
+        """Reads rows that aren't kept: only what they put into registers."""
+        code = self.code
+        for line in lines:
+            parts = line[:-1].split(b" | ", 2)
+            words = parts[0].split(b" ", 2)
+            hart = harts.get(words[0])
+            if hart is not None:
+                self.passed += 1
+                hart.is_cut = True
+                ins = code.get(words[2]) or self.new_instruction(words[2])
+                if ins.rd and len(parts) > 1:
+                    hart.values[ins.rd] = parts[1]
+        if not lines:                           # the log has fewer than it says
+            self.passed = self.to_pass
 
     def read_rows(self, lines: Sequence[bytes], harts: dict[bytes, Hart]) -> bool:
         """The one loop over all rows: as short as it can be, since its speed is the reader's. It says whether more lines
@@ -379,6 +402,12 @@ class Trace:
                 return self.access_rows[at]
         return 0
 
+    def stores_of_value(self, value: int, after: int, before: int) -> list[int]:
+        """The rows between two others after whose stores a word held a value."""
+        low, high = (bisect.bisect_left(self.access_rows, n) for n in (after + 1, before))
+        rows = zip(self.access_rows[low:high], self.words[low:high])
+        return [n for n, word in rows if word == value and self.flags[n] & STORES]
+
     def givers(self, load: int) -> dict[int, int]:
         """The codes of the stores from which a load's instruction got its words, each with how often."""
         if not self.stores_of:
@@ -464,6 +493,15 @@ class Trace:
                     after = address, n
         return [n for address, n in (before, after) if n and abs(address - place) <= BESIDE]
 
+    def storing_places(self, store: int) -> set[int]:
+        """The places that stored a store's word up to it, and those of the innermost calls over them."""
+        found: set[int] = set()
+        for _ in range(MOST_WRITERS):
+            if store:
+                found.update([self.code_of(store).pc] + self.calls_at(store)[:WRITERS_CALLS])
+                store = self.dm[store]
+        return found
+
     def is_spill(self, load: int, store: int) -> bool:
         """Whether a load takes back the register that a store put aside on the stack."""
         taken, put = self.code_of(load), self.code_of(store)
@@ -502,9 +540,9 @@ def rows_of(log_name: str, elf_name: str) -> Iterator[Row]:
                 yield row
 
 
-def read_trace(log: Log, elf_name: str, entries: AbstractSet[int] = frozenset(), output: int = -1) -> Trace:
-    """All rows of a log."""
-    trace = Trace(log, entries, output)
+def read_trace(log: Log, elf_name: str, entries: AbstractSet[int] = frozenset(), output: int = -1, most: int = 0) -> Trace:
+    """The rows of a log: all, or with `most` about the last so many."""
+    trace = Trace(log, entries, output, most)
     with Output("joint", log.name, elf_name) as lines:
         trace.read(lines)
     return trace

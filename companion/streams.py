@@ -1,12 +1,13 @@
 """The three streams of a companion: whatever state they are in, a call ends with a line and a status."""
 from __future__ import annotations
 
+import contextlib
 import io
 import os
 import signal
 import sys
 import time
-from typing import Any
+from typing import Any, Iterator
 
 from .errors import UNWRITABLE, CompanionError
 
@@ -95,3 +96,13 @@ def on_interrupt(handler: Any) -> None:
     """Sets what Ctrl-C does, unless this process was started to ignore it."""
     if signal.getsignal(signal.SIGINT) is not signal.SIG_IGN:
         signal.signal(signal.SIGINT, handler)
+
+
+@contextlib.contextmanager
+def uninterrupted() -> Iterator[None]:
+    """Ctrl-C waits until the end of it."""
+    before = signal.pthread_sigmask(signal.SIG_BLOCK, {signal.SIGINT})
+    try:
+        yield
+    finally:
+        signal.pthread_sigmask(signal.SIG_SETMASK, before)

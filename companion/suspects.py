@@ -19,12 +19,15 @@ from .instruction import ALU, AMO, SP, STORE
 from .locks import circle, unlocked
 from .lost import lost_alignment, lost_bits, narrowings
 from .memory_use import MemoryUse
+from .rows import LOADS
 from .suspect import Extra, Suspect, rank
 from .text import counted, number
+from .unpaired import unpaired
 
 OTHER_HART, NARROW, RACE, OTHER_FUNCTION, RARITY = 8, 12, 6, 3, 5
 COMMON, COMMON_ROWS = 10, 8   # what a near store is worth less that a load always got, if it ran so often
 CLOSES, CLOSE = 8, 3        # the store that closed a circle, and how near to the loop its load is
+FOLLOWED_ROWS = 400         # the last rows of a loop, in which the pointers are that it follows
 CONSTANT = 2                # what a constant is worth less
 AGAIN, NOTHING_NEW = 6, 40  # what a suspect costs more whose line another tells, and if it tells no new line at all
 MOST_COMPARED = 40          # suspects whose lines are compared
@@ -54,6 +57,7 @@ class Ranking:
         found += memory.given_back_twice() + lost_bits(facts, history, narrowings(self.trace, history))
         found += lost_alignment(facts, history) + branch_suspects(facts, history) + exit_suspects(facts)
         found += unlocked(facts, history) + circle(facts) + constants(facts, history)
+        found += unpaired(facts, history.control) if history.control else []
         found = sorted(stores + found + recursion, key=rank)
         self.found = self.once(sorted(found + self.behind_places(found, memory), key=rank))
 
@@ -112,10 +116,13 @@ class Ranking:
         """A suspect for each two source lines of a history's loads and stores, with its signs."""
         trace, places, far = self.trace, self.places, history.far
         groups: dict[tuple[str, str, bool], Suspect] = {}
-        places.fetch({trace.code_of(n).pc for key in far for n in key} |
-                     {trace.code_of(trace.dm[store]).pc for _, store in far if trace.dm[store]})
         closing = self.closing_pair()
-        for (load, store), price in far.items():
+        pairs = dict(far)
+        if closing.store:
+            pairs[closing] = min(CLOSE, pairs.get(closing, CLOSE))
+        places.fetch({trace.code_of(n).pc for key in pairs for n in key} |
+                     {trace.code_of(trace.dm[store]).pc for _, store in pairs if trace.dm[store]})
+        for (load, store), price in pairs.items():
             key = (places.line(trace.code_of(load).pc), places.line(trace.code_of(store).pc),
                    trace.hart[store] != trace.hart[load])
             item = groups.get(key)
@@ -133,11 +140,27 @@ class Ranking:
 
     def closing_pair(self) -> Pair:
         """What a loop or a recursion follows is often a circle: the latest far store in it closed it. With its load."""
-        latest = Pair(0, 0)
+        latest = self.latest_followed()
         for (load, store), price in self.history.far.items():
             if (price <= CLOSE and (store, load) > (latest.store, latest.load) and self.history.is_far(load, store) and
                     self.history.root(load) in self.loop):
                 latest = Pair(load, store)
+        return latest
+
+    def latest_followed(self) -> Pair:
+        """The latest store of the pointers that a loop follows, and its load."""
+        trace, latest = self.trace, Pair(0, 0)
+        for hanging in self.facts.loops:
+            loads = [n for n in trace.last_rows(hanging.last, FOLLOWED_ROWS) if trace.flags[n] & LOADS and n >= hanging.first]
+            for n in loads:
+                pointer = trace.d1[n]
+                while pointer and trace.code_of(pointer).move:
+                    pointer = trace.d1[pointer]
+                if pointer and trace.pc[pointer] == trace.pc[n]:
+                    for load in (n, pointer):
+                        for store in trace.writers(load).rows:
+                            if store < hanging.first and store > latest.store:
+                                latest = Pair(load, store)
         return latest
 
     def judge(self, item: Suspect, history: History) -> None:

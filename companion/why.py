@@ -21,7 +21,7 @@ HELP = """Explains a crash: what happened, where, and which store, call or arith
 --names   the same program with names and lines, if ELF was stripped
 --row     asks of another row than the fault's
 --output  asks of a byte that the guest wrote, as `zelkuma output` numbers them
---rows    how many of the last rows are read; without it a million, and three if values near the fault come from before
+--rows    how many of the last rows are read; without it a million, and 2.6 million if values near the fault come from before
 --more    longer lists
 --html    saves the same text as a page, too
 --json    prints one JSON object in place of the text (docs/JSON.md)

@@ -49,7 +49,7 @@ class AnswersTest(case.Case):
         self.assertEqual([item["place"]["line"] for item in loop["exits"]], [92, 68, 61])
         self.assertIn(69, [item["place"]["line"] for item in loop["stopped"]])
         self.assertEqual((found["suspects"][0]["kind"], found["suspects"][0]["store"]), ("exit", None))
-        self.assertEqual([point["place"]["line"] for point in found["suspects"][0]["extra"]], [43])
+        self.assertEqual([point["place"]["line"] for point in found["suspects"][0]["extra"]], [43, 69])
 
     def test_race(self):
         log, elf = self.crash("race_settings")

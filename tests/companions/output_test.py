@@ -114,7 +114,7 @@ class ByteTest(case.Case):
         first = said[said.index("  1. "):said.index("  2. ")]
         self.assertIn("chose the way in price_of wrong_price.c:61", first)
         self.assertIn("000000fe was cut to 6 bits, and became 0000003e in price_of wrong_price.c:60", first)
-        self.assertIn("so this kept its value in add_line wrong_price.c:72", first)
+        self.assertIn("so a word beside what it compared kept its value in add_line wrong_price.c:72", first)
 
     def test_the_store_is_that_of_the_byte(self):
         """Of each byte of a text the store that is told put it there, and no later row before the write did."""

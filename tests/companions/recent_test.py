@@ -52,6 +52,14 @@ class RecentTest(case.Case):
             self.assertGreater(trace.row_of(0, 10000), 0)
             self.assertEqual(trace.row_of(0, 2000), 0)
 
+    def test_the_rows_before_those_that_are_kept_are_passed(self):
+        log, elf = self.record("wild_store", *SMALL), self.elf("wild_store")
+        with closing(LogFile(log)) as source:
+            whole = self.texts(source.whole(), elf)
+            trace = read_trace(source.whole(), elf, most=500)
+        self.assertEqual([trace.text(n) for n in range(1, trace.rows + 1)], whole[-501:])      # the fault's row isn't counted
+        self.assertEqual((trace.passed, trace.is_cut(1)), (len(whole) - 501, True))
+
     def test_version_1_is_converted(self):
         log = common.path("version1.log")
         common.output("record", "--format", "1", *SMALL, self.elf("wild_store"), log, common.path("version1.book"))

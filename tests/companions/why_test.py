@@ -63,6 +63,28 @@ class WhyTest(case.Case):
         self.assertEqual(len(found), 1)
         self.assertIn("hart 0 chose the way in work hang_barrier.c:71", found[0])
 
+    def test_what_was_taken_and_not_given_back(self):
+        found = [item for item in suspects(self.says("why", *self.crash("hang_permits"))) if "it was taken in" in item]
+        self.assertEqual(len(found), 1)
+        self.assertIn("hart 0 chose the way in long_job hang_permits.c:81", found[0])
+        self.assertIn("else it is given back in give_back hang_permits.c:53", found[0])
+
+    def test_the_store_that_closed_a_circle(self):
+        first = suspects(self.says("why", *self.crash("hang_recent")))[0]
+        self.assertIn("hart 0 stored it in put_second hang_recent.c:53", first)
+        self.assertIn("it may have closed a circle", first)
+
+    def test_the_first_call_that_gave_memory_back(self):
+        """Others had the memory since, and gave it back, too."""
+        first = suspects(self.says("why", *self.crash("freed_watcher")))[0]
+        self.assertIn("gave the memory back in end_watching freed_watcher.c:53", first)
+        self.assertIn("it was given back last in main freed_watcher.c:108", first)
+
+    def test_the_branch_that_spared_a_word(self):
+        found = suspects(self.says("why", *self.crash("jump_phase")))
+        self.assertIn("chose the way in go_on jump_phase.c:81", found[1])
+        self.assertIn("so a word beside what it compared kept its value in run jump_phase.c:87", found[1])
+
     def test_a_counter_is_one_step(self):
         """The way to what a long loop counted from is short, whatever its rounds."""
         log, elf = self.crash("libc_short_packet")
