@@ -127,7 +127,7 @@ pub(crate) fn push_half(text: &mut Text, x: &Registers, first: u8) -> Result<(),
     push_four(text, x, first + 12)
 }
 
-// The pc of a hart's next instruction; dashes if it stands at an ordering point, between retained intervals.
+// The pc of a hart's next instruction; dashes if it is an ordering point, of which only the count is known.
 fn push_pc(text: &mut Text, pc: Option<Addr>) -> Result<(), AllocError>
     ensures { OnOk result (text.new ≡ text.old ++ pc_text pc) }
 {
