@@ -43,7 +43,3 @@ ReadNote = ℕ → Option (List ℕ) → ℕ
 abbrev pub noted_after : ReadNote → ℕ → List (Option (List ℕ)) → ℕ
 noted_after note noted [] = noted
 noted_after note noted (had ∷ given) = noted_after note (note noted had) given
-
--- the same of a source that has noted something before
-abbrev pub Notes : Type 0
-Notes = List (Option (List ℕ)) → ℕ

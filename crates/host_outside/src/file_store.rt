@@ -32,6 +32,7 @@ pub struct FileStore<'a, R: Files> {
     misses: u64,
     longs: u64,
     faults: u64,
+    // How many saves there were, those that failed too.
     saves: u64,
 }
 
