@@ -42,7 +42,7 @@ pub use Rattle.log_commands.specs.FileCalls.{CallsTo, EndsWith, FileCall, IsOfLo
 pub use Rattle.log_commands.specs.Inputs.{Bytes, IsLoaded, Misses, OnlyLoads, bytes_of, file_bytes, limit_of, loaded, loaded_with, no_bytes, on_bytes, put, unless_long}
 pub use Rattle.log_commands.specs.Joined.{joined, joint_with, stop_of}
 unfoldable pub use Rattle.log_commands.specs.Joined.{ran_told}
-pub use Rattle.log_commands.specs.JointEnds.{SendsSteps, told_of_joint}
+pub use Rattle.log_commands.specs.JointEnds.{IsOutOfMemory, SendsJoint, SendsSteps, told_of_joint}
 pub use Rattle.log_commands.specs.Names.{FileNames, name_of, no_names}
 pub use Rattle.log_commands.specs.NewLogs.{IsBySalvage, renewed, salvage_refusal}
 pub use Rattle.log_commands.specs.Outside.{Always, CauseBy, FetchTells, Gathered, Gives, GivesOf, GivesTo, IsOwn, IsPrinted, KeptBoth, KeptFiles, KeptLog, KeptSaved, LogAlone, LogTells, MayChange, RefusalCause, Refuses, ResultCause, SameFiles, SaveBroke, SendStops, Sends, SendsBytes, SendsUntil, Sent, SentUntil, ToldRefusal, Unsaved, WithFiles, Wrote, saved_new, saved_of, told_of, told_of_new, told_of_reading, told_of_recording, unless, without}

@@ -1,7 +1,9 @@
 -- The steps and the known words of a joint replay, sent one after another, and what is told of them.
-use Rattle.log_commands.proofs.Common.{◌≡◌, ℕ, ◌≤◌, nat_lt, Bool, true, false, List, [], ◌∷◌, ◌++◌, Option, Some, None, ◌∙◌, ap, subst, sym, refl, arith, inl, inr, ◌⊎◌, append_assoc, Result, Ok, Err, option_map, Appends, AppendsPart, Stream, ReplayError, JointError, known_from, Joining, Ran, begun, ran, run_all, item_text, known_text, steps_text, memory_text, joint_text, one_step, Advanced, Advances, IsFirstTaken, RunsGoOn, RunsEnd, stop_of, ran_told, joined, told_of_joint, SendsSteps, Sends, SendsUntil, SentUntil, SendStops, Always, PrintsTo, joint_refusal, printed_until, JointReading, Refusal, OutOfMemory}
+use Rattle.log_commands.proofs.Common.{◌≡◌, ℕ, ◌≤◌, nat_lt, Bool, true, false, List, [], ◌∷◌, ◌++◌, Option, Some, None, ◌∙◌, ap, subst, sym, refl, arith, inl, inr, ◌⊎◌, append_assoc, Result, Ok, Err, option_map, Appends, AppendsPart, Stream, ReplayError, JointError, known_from, Joining, Ran, begun, ran, run_all, item_text, known_text, steps_text, memory_text, joint_text, one_step, Advanced, Advances, IsFirstTaken, RunsGoOn, RunsEnd, stop_of, ran_told, joined, told_of_joint, IsOutOfMemory, SendsSteps, IfErr, Sends, SendsUntil, SentUntil, SendStops, Always, PrintsTo, joint_refusal, printed_until, JointReading, Refusal, OutOfMemory, WriteFailed}
 use Rattle.joint_replay.specs.declared.error.JointError.TheVariants.{Replay, Stuck}
 use Rattle.joint_replay.specs.declared.error.JointError.TheVariants as joint
+use Rattle.hart_replay.specs.declared.error.ReplayError.TheVariants as replay
+use Rattle.joint_replay.specs.Runs.{IsStarved}
 use Rattle.log_commands.proofs.Prints.{SoFar, so_far-none, so_far-more, so_far-gathered, so_far-done, so_far-stopped, so_far-ends, part-longer, part-behind, stops-later, appends-both}
 use Rattle.log_commands.proofs.Acts.{until-prints, memory-prints}
 use Rattle.log_commands.proofs.Causes.{IsStop, joint-stop}
@@ -76,18 +78,26 @@ pub walks-done : RunsEnd → (whole now new : Joining) (waiting text : List ℕ)
 walks-done end whole now new waiting text old here there before after last a w h fell =
     ended end whole now new None old there before last waiting here after a.0 w (last-sent whole now waiting text old here there before after last a.1 w h fell)
 
+-- a write failed, so memory didn't run out
+pub not-memory : (r : Refusal) {P : Type 0} → r ≡ WriteFailed → r ≡ OutOfMemory → P
+not-memory r write memory = absurd (apart (sym write ∙ memory))
+  where
+    apart : WriteFailed ≡ OutOfMemory → ⊥
+    apart e = absurd cc
+
 -- it is done once what waits is sent
 pub walks-sent : RunsEnd → (whole now new : Joining) (waiting text : List ℕ) (old here there : Stream) (result : Result (Unit {0}) Refusal) → Advances now (Ok false) new waiting text → Walks whole now waiting old.text here.text old.faults here.faults
-    → Sends text Always here there result → SendsSteps whole new old there result
-walks-sent end whole now new waiting text old here there (Ok u) a w h =
+    → Sends text Always here there result → IfErr result (λ r. r ≡ WriteFailed) → SendsSteps whole new old there result
+walks-sent end whole now new waiting text old here there (Ok u) a w h write =
     let x = walks-done end whole now new waiting text old.text here.text there.text old.faults here.faults there.faults a w h.sent.0 h.later in
-    record { sends = record { sent = (x.0, ap (λ (o : Option JointError). option_map joint_refusal o) (sym x.1.0)); later = omega (arith, w.sent.later, h.later) }; now = x.1.1 }
-walks-sent end whole now new waiting text old here there (Err r) a w h = record {
+    record { sends = record { sent = (x.0, ap (λ (o : Option JointError). option_map joint_refusal o) (sym x.1.0)); later = omega (arith, w.sent.later, h.later) }; now = x.1.1; memory = tt }
+walks-sent end whole now new waiting text old here there (Err r) a w h write = record {
   sends = record {
     sent = inr (walks-short whole now waiting text old.text here.text there.text old.faults here.faults there.faults r a.1 w h.sent);
     later = omega (arith, w.sent.later, h.later);
   };
   now = tt;
+  memory = λ m. not-memory r write m;
 }
 
 refused-so : (r : Ran) (e : JointError) → Some e ≡ r.stopped → stop_of r ≡ Some (joint_refusal e)
@@ -109,6 +119,20 @@ walks-ended end whole now new waiting text old here there before after last (Stu
 walks-ended end whole now new waiting text old here there before after last e (same, inl f) w h fell =
     let x = ended end whole now new (Some e) old there before last waiting here after f w (last-sent whole now waiting text old here there before after last same w h fell) in
     inl (x.0, refused-so (run_all whole) e x.1.0)
+
+-- the step that was refused so found no memory
+pub walks-memory : RunsEnd → (whole now new : Joining) (waiting text : List ℕ) (old here : Option (List ℕ)) (before after : ℕ) (e : JointError) → Advances now (Err e) new waiting text → Walks whole now waiting old here before after
+    → joint_refusal e ≡ OutOfMemory → IsOutOfMemory (run_all whole) new
+walks-memory end whole now new waiting text old here before after (Replay r) a w m = absurd cc
+walks-memory end whole now new waiting text old here before after (Stuck ps) a w m = absurd cc
+walks-memory end whole now new waiting text old here before after joint.OutOfMemory (same, inl f) w m =
+    let at : (run_all now).stopped ≡ Some joint.OutOfMemory = ap (λ (r : Ran). r.stopped) (end now new (Some joint.OutOfMemory) f) in
+    inl (refused-so (run_all whole) joint.OutOfMemory (sym (w.stopped ∙ at)))
+walks-memory end whole now new waiting text old here before after joint.OutOfMemory (same, inr m) w is = inr (by m.2)
+  where
+    by : IsStarved now new → new.refused ≡ Some replay.OutOfMemory
+    by (inl h) = h.refused
+    by (inr h) = h.3.refused
 
 -- ---- known words
 
@@ -190,6 +214,11 @@ steps-words r new a b c (Err x) h last k =
       sent = inr (subst (λ (t : List ℕ). AppendsPart a.text c.text t) (sym (whole-text r (none-stopped r h.sent.1))) both, stops-later a.faults b.faults c.faults x h.later k.sent.1);
       later = omega (arith, h.later, k.later);
     }
+
+-- memory that ran out after the steps did so for the known words
+pub words-memory : (r : Ran) (new : Joining) (result : Result (Unit {0}) Refusal) → stop_of r ≡ None → IfErr result (λ x. x ≡ OutOfMemory → (stop_of r ≡ None) ⊎ IsOutOfMemory r new)
+words-memory r new (Ok u) all = tt
+words-memory r new (Err x) all = λ m. inl all
 
 -- ---- what is told
 

@@ -1,8 +1,9 @@
 //! Texts sent to an output, whole or in blocks, and how a command ends.
-ghost use Rattle.std.specs.Prelude.{◌≡◌};
+ghost use Rattle.std.specs.Prelude.{◌≡◌, IfErr};
 ghost use Rattle.log_commands.specs.Effects.{done_of, IsClosed};
 ghost use Rattle.log_commands.specs.Outside.{Sends, SendsBytes, Gathers, Refuses, Always};
 ghost use Rattle.log_commands.specs.Statuses.{code};
+ghost use Rattle.log_commands.specs.declared.refusal.Refusal.TheVariants.{WriteFailed};
 
 use crate::names::Names;
 use crate::refusal::Refusal;
@@ -26,7 +27,8 @@ pub fn send_bytes<K: Sink>(sink: &mut K, bytes: &[u8]) -> Result<(), Refusal>
 
 /// Sends a text.
 pub fn send<K: Sink>(sink: &mut K, text: &Text) -> Result<(), Refusal>
-    ensures { Sends text.now Always (K.stream sink.old) (K.stream sink.new) result }
+    ensures sends { Sends text.now Always (K.stream sink.old) (K.stream sink.new) result }
+    ensures write { IfErr result (λ refusal. refusal ≡ WriteFailed) }
 {
     send_bytes(sink, text.as_bytes())
 }
@@ -73,7 +75,8 @@ pub fn close<X: Sink>(
 
 /// Sends what waits, if it is a block or more.
 pub fn send_block<O: Sink>(text: &mut Text, out: &mut O) -> Result<(), Refusal>
-    ensures { Gathers text.old text.new (O.stream out.old) (O.stream out.new) result }
+    ensures gathers { Gathers text.old text.new (O.stream out.old) (O.stream out.new) result }
+    ensures write { IfErr result (λ refusal. refusal ≡ WriteFailed) }
 {
     if text.len() < BLOCK {
         return Ok(());

@@ -1,13 +1,12 @@
 //! The command `joint`: what all harts did in the intervals that a log keeps.
 ghost use Rattle.std.specs.Prelude.{◌≡◌, ◌++◌, []};
-ghost use Rattle.joint_replay.specs.Joining.{run_all};
-ghost use Rattle.joint_replay.specs.Texts.{known_text, memory_text, joint_text};
+ghost use Rattle.joint_replay.specs.Texts.{known_text, memory_text};
 ghost use Rattle.log_commands.specs.Answering.{Answers};
 ghost use Rattle.log_commands.specs.Commands.{IsByLog};
 ghost use Rattle.log_commands.specs.Effects.{PrintsTo};
-ghost use Rattle.log_commands.specs.Joined.{joint_with, stop_of};
-ghost use Rattle.log_commands.specs.JointEnds.{told_of_joint, SendsSteps};
-ghost use Rattle.log_commands.specs.Outside.{IsPrinted, Sends, SendsUntil, Gathers, Always};
+ghost use Rattle.log_commands.specs.Joined.{joint_with};
+ghost use Rattle.log_commands.specs.JointEnds.{told_of_joint, SendsSteps, SendsJoint};
+ghost use Rattle.log_commands.specs.Outside.{IsPrinted, Sends, Gathers, Always};
 ghost use Rattle.log_commands.specs.Pairs.{pair_of};
 
 use crate::answer::Answer;
@@ -90,7 +89,7 @@ fn send_words<O: Sink>(alloc: Global, joint: &Joint, out: &mut O) -> Result<(), 
 
 // Sends all that a joint replay prints: the lines of its steps, and then the known words.
 fn send_joint<O: Sink>(alloc: Global, joint: &mut Joint, out: &mut O) -> Result<(), Refusal>
-    ensures { let r = run_all joint.old in SendsUntil (joint_text r) (stop_of r) (O.stream out.old) (O.stream out.new) result }
+    ensures { SendsJoint joint.old joint.new (O.stream out.old) (O.stream out.new) result }
 {
     send_steps(alloc, joint, out)?;
     send_words(alloc, joint, out)

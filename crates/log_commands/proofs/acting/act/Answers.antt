@@ -38,4 +38,4 @@ returns-in-Agreed g c =
 pub returns-in-Shown : goal.returns-in-Shown
 returns-in-Shown g c =
     rw c.in-Shown.is (rw c.done-in-Shown.ensures (prints-act c.args.names.now (Shown c.in-Shown.text) g.S.Store.note (g.S.Store.stored c.args.store.now) (g.O.Sink.stream c.args.out.now) (g.O.Sink.stream c.send.new.sink) (g.X.Sink.stream c.args.err.now) c.send.result
-    refl (λ status. refl) (sent-prints _ _ _ c.send.result c.send.ensures)))
+    refl (λ status. refl) (sent-prints _ _ _ c.send.result c.send.ensures.sends)))

@@ -36,8 +36,8 @@ returns-in-Ok-None g c =
     let step : Stepped c.rows.replayer (Ok None) c.step.new.self = subst (λ (o : Option Row). Stepped c.rows.replayer (Ok o) c.step.new.self) c.in-Ok-None.field-0-is c.in-Ok-None.ensures in
     record {
       sent = stands-done left c.rows.replayer.left old.text there.text old.faults there.faults step.0
-          (stands-sent left c.rows.replayer.left c.rows.text old.text here.text there.text old.faults here.faults there.faults c.rows.invariant c.in_ok-send-in-Ok-None.ensures.sent.0 c.send.ensures.later);
-      later = omega (arith, c.rows.invariant.sent.later, c.send.ensures.later);
+          (stands-sent left c.rows.replayer.left c.rows.text old.text here.text there.text old.faults here.faults there.faults c.rows.invariant c.in_ok-send-in-Ok-None.ensures.sends.sent.0 c.send.ensures.sends.later);
+      later = omega (arith, c.rows.invariant.sent.later, c.send.ensures.sends.later);
     }
 
 pub returns-in_err-send-in-Ok-None : goal.returns-in_err-send-in-Ok-None
@@ -49,8 +49,8 @@ returns-in_err-send-in-Ok-None g c =
     let x = c.in_err-send-in-Ok-None.field-0.0 in
     passed-on (Sends (rows_text left.rows) (EndsAs left.outcome) old there) x c.from_residual-in_err-send-in-Ok-None.result c.from_residual-in_err-send-in-Ok-None.ensures.1
     (record {
-      sent = stands-short left c.rows.replayer.left c.rows.text old.text here.text there.text old.faults here.faults there.faults x c.rows.invariant c.in_err-send-in-Ok-None.ensures.sent;
-      later = omega (arith, c.rows.invariant.sent.later, c.send.ensures.later);
+      sent = stands-short left c.rows.replayer.left c.rows.text old.text here.text there.text old.faults here.faults there.faults x c.rows.invariant c.in_err-send-in-Ok-None.ensures.sends.sent;
+      later = omega (arith, c.rows.invariant.sent.later, c.send.ensures.sends.later);
     })
 
 pub returns-in-Err : goal.returns-in-Err
@@ -62,8 +62,8 @@ returns-in-Err g c =
     record {
       sent = subst (λ (r : Result ReplayEnd Refusal). Sent old.text there.text old.faults there.faults (rows_text left.rows) (λ ending. outcome_of ending ≡ left.outcome) r) (sym c.ending_of.ensures)
           (stands-refused left c.rows.replayer.left old.text there.text old.faults there.faults c.in-Err.error c.in-Err.ensures.0
-          (stands-sent left c.rows.replayer.left c.rows.text old.text here.text there.text old.faults here.faults there.faults c.rows.invariant c.in_ok-send-in-Err.ensures.sent.0 c.send-in-Err.ensures.later));
-      later = omega (arith, c.rows.invariant.sent.later, c.send-in-Err.ensures.later);
+          (stands-sent left c.rows.replayer.left c.rows.text old.text here.text there.text old.faults here.faults there.faults c.rows.invariant c.in_ok-send-in-Err.ensures.sends.sent.0 c.send-in-Err.ensures.sends.later));
+      later = omega (arith, c.rows.invariant.sent.later, c.send-in-Err.ensures.sends.later);
     }
 
 pub returns-in_err-send-in-Err : goal.returns-in_err-send-in-Err
@@ -75,8 +75,8 @@ returns-in_err-send-in-Err g c =
     let x = c.in_err-send-in-Err.field-0.0 in
     passed-on (Sends (rows_text left.rows) (EndsAs left.outcome) old there) x c.from_residual-in_err-send-in-Err.result c.from_residual-in_err-send-in-Err.ensures.1
     (record {
-      sent = stands-short left c.rows.replayer.left c.rows.text old.text here.text there.text old.faults here.faults there.faults x c.rows.invariant c.in_err-send-in-Err.ensures.sent;
-      later = omega (arith, c.rows.invariant.sent.later, c.send-in-Err.ensures.later);
+      sent = stands-short left c.rows.replayer.left c.rows.text old.text here.text there.text old.faults here.faults there.faults x c.rows.invariant c.in_err-send-in-Err.ensures.sends.sent;
+      later = omega (arith, c.rows.invariant.sent.later, c.send-in-Err.ensures.sends.later);
     })
 
 pub rows-init : goal.rows-init

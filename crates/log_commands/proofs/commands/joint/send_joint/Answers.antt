@@ -1,16 +1,22 @@
-use Rattle.log_commands.proofs.Common.{run_all, joint_text, stop_of, SendsUntil}
+use Rattle.log_commands.proofs.Common.{run_all, inr, SendsJoint}
 use Rattle.log_commands.proofs.Answering.{passed-on}
-use Rattle.log_commands.proofs.Joins.{steps-refused, steps-words}
+use Rattle.log_commands.proofs.Joins.{steps-refused, steps-words, words-memory}
 use Rattle.log_commands.proofs.commands.joint.send_joint.Goals as goal
 
 pub returns-in_err-send_steps : goal.returns-in_err-send_steps
 returns-in_err-send_steps g c =
-    let r = run_all c.args.joint.now in
     let old = g.O.Sink.stream c.args.out.now in
     let new = g.O.Sink.stream c.send_steps.new.out in
-    passed-on (SendsUntil (joint_text r) (stop_of r) old new) _ c.from_residual.result c.from_residual.ensures.1 (steps-refused r _ old new c.in_err-send_steps.ensures.sends)
+    let steps = c.in_err-send_steps.ensures in
+    passed-on (SendsJoint c.args.joint.now c.send_steps.new.joint old new) _ c.from_residual.result c.from_residual.ensures.1
+    (record { sends = steps-refused (run_all c.args.joint.now) _ old new steps.sends; memory = λ m. inr (steps.memory m) })
 
 pub returns : goal.returns
 returns g c =
-    steps-words (run_all c.args.joint.now) c.send_steps.new.joint (g.O.Sink.stream c.args.out.now) (g.O.Sink.stream c.send_steps.new.out) (g.O.Sink.stream c.send_words.new.out) c.send_words.result
-    c.in_ok-send_steps.ensures.sends c.in_ok-send_steps.ensures.now c.send_words.ensures
+    let r = run_all c.args.joint.now in
+    let steps = c.in_ok-send_steps.ensures in
+    record {
+      sends =
+          steps-words r c.send_steps.new.joint (g.O.Sink.stream c.args.out.now) (g.O.Sink.stream c.send_steps.new.out) (g.O.Sink.stream c.send_words.new.out) c.send_words.result steps.sends steps.now c.send_words.ensures;
+      memory = words-memory r c.send_steps.new.joint c.send_words.result steps.sends.sent.1;
+    }

@@ -1,6 +1,6 @@
-use Rattle.log_commands.proofs.Common.{ℕ, List, Bool, inr, sym, subst, arith, Ok, Err, run_all, Advances, steps_text, stop_of, SendsSteps, SentUntil, Refusal}
+use Rattle.log_commands.proofs.Common.{ℕ, List, Bool, inr, ◌∙◌, sym, subst, arith, Ok, Err, run_all, Advances, steps_text, stop_of, SendsSteps, SentUntil, Refusal}
 use Rattle.log_commands.proofs.Answering.{passed-on}
-use Rattle.log_commands.proofs.Joins.{Walks, walks-none, walks-sent, walks-more, walks-stopped, walks-short, walks-ended}
+use Rattle.log_commands.proofs.Joins.{Walks, walks-none, walks-sent, walks-more, walks-stopped, walks-short, walks-ended, walks-memory, not-memory}
 use Rattle.log_commands.proofs.commands.joint.send_run.Goals as goal
 
 pub steps-init : goal.steps-init
@@ -15,7 +15,7 @@ steps-preserved g c =
     let here = g.O.Sink.stream c.steps.out in
     let there = g.O.Sink.stream c.send_block.new.out in
     walks-more c.runs_go_on.ensures c.args.joint.now c.steps.joint c.advance.new.self c.steps.text c.advance.new.out c.send_block.new.text old.text here.text there.text old.faults here.faults there.faults
-    (subst (λ (b : Bool). Advances c.steps.joint (Ok b) c.advance.new.self c.steps.text c.advance.new.out) c.in-Ok-true.field-0-test c.in-Ok-true.ensures) c.steps.invariant c.in_ok-send_block-in-Ok-true.ensures.sent c.send_block.ensures.later
+    (subst (λ (b : Bool). Advances c.steps.joint (Ok b) c.advance.new.self c.steps.text c.advance.new.out) c.in-Ok-true.field-0-test c.in-Ok-true.ensures) c.steps.invariant c.in_ok-send_block-in-Ok-true.ensures.gathers.sent c.send_block.ensures.gathers.later
 
 pub returns-in_err-send_block-in-Ok-true : goal.returns-in_err-send_block-in-Ok-true
 returns-in_err-send_block-in-Ok-true g c =
@@ -27,16 +27,17 @@ returns-in_err-send_block-in-Ok-true g c =
     (record {
       sends = record {
         sent = inr (walks-stopped c.runs_go_on.ensures c.args.joint.now c.steps.joint c.advance.new.self c.steps.text c.advance.new.out old.text here.text there.text old.faults here.faults there.faults x
-            (subst (λ (b : Bool). Advances c.steps.joint (Ok b) c.advance.new.self c.steps.text c.advance.new.out) c.in-Ok-true.field-0-test c.in-Ok-true.ensures) c.steps.invariant c.in_err-send_block-in-Ok-true.ensures.sent);
-        later = omega (arith, c.steps.invariant.sent.later, c.send_block.ensures.later);
+            (subst (λ (b : Bool). Advances c.steps.joint (Ok b) c.advance.new.self c.steps.text c.advance.new.out) c.in-Ok-true.field-0-test c.in-Ok-true.ensures) c.steps.invariant c.in_err-send_block-in-Ok-true.ensures.gathers.sent);
+        later = omega (arith, c.steps.invariant.sent.later, c.send_block.ensures.gathers.later);
       };
       now = tt;
+      memory = λ m. not-memory x c.in_err-send_block-in-Ok-true.ensures.write m;
     })
 
 pub returns-in-Ok-false : goal.returns-in-Ok-false
 returns-in-Ok-false g c =
     walks-sent c.runs_end.ensures c.args.joint.now c.steps.joint c.advance.new.self c.steps.text c.advance.new.out (g.O.Sink.stream c.args.out.now) (g.O.Sink.stream c.steps.out) (g.O.Sink.stream c.send.new.sink) c.send.result
-    (subst (λ (b : Bool). Advances c.steps.joint (Ok b) c.advance.new.self c.steps.text c.advance.new.out) c.in-Ok-false.field-0-test c.in-Ok-false.ensures) c.steps.invariant c.send.ensures
+    (subst (λ (b : Bool). Advances c.steps.joint (Ok b) c.advance.new.self c.steps.text c.advance.new.out) c.in-Ok-false.field-0-test c.in-Ok-false.ensures) c.steps.invariant c.send.ensures.sends c.send.ensures.write
 
 pub returns-in_err-send-in-Err : goal.returns-in_err-send-in-Err
 returns-in_err-send-in-Err g c =
@@ -47,10 +48,11 @@ returns-in_err-send-in-Err g c =
     passed-on (SendsSteps c.args.joint.now c.advance.new.self old there) x c.from_residual-in_err-send-in-Err.result c.from_residual-in_err-send-in-Err.ensures.1
     (record {
       sends = record {
-        sent = inr (walks-short c.args.joint.now c.steps.joint c.steps.text c.advance.new.out old.text here.text there.text old.faults here.faults there.faults x c.in-Err.ensures.0 c.steps.invariant c.in_err-send-in-Err.ensures.sent);
-        later = omega (arith, c.steps.invariant.sent.later, c.send-in-Err.ensures.later);
+        sent = inr (walks-short c.args.joint.now c.steps.joint c.steps.text c.advance.new.out old.text here.text there.text old.faults here.faults there.faults x c.in-Err.ensures.0 c.steps.invariant c.in_err-send-in-Err.ensures.sends.sent);
+        later = omega (arith, c.steps.invariant.sent.later, c.send-in-Err.ensures.sends.later);
       };
       now = tt;
+      memory = λ m. not-memory x c.in_err-send-in-Err.ensures.write m;
     })
 
 pub returns-in-Err : goal.returns-in-Err
@@ -63,8 +65,9 @@ returns-in-Err g c =
       sends = record {
         sent = subst (λ (x : Refusal). SentUntil {A = Unit {0}} old.text there.text old.faults there.faults (steps_text r.walk.taken) (stop_of r) (Err x)) (sym c.of_joint.ensures)
             (walks-ended c.runs_end.ensures c.args.joint.now c.steps.joint c.advance.new.self c.steps.text c.advance.new.out old.text here.text there.text old.faults here.faults there.faults c.in-Err.error c.in-Err.ensures c.steps.invariant
-            c.in_ok-send-in-Err.ensures.sent.0 c.send-in-Err.ensures.later);
-        later = omega (arith, c.steps.invariant.sent.later, c.send-in-Err.ensures.later);
+            c.in_ok-send-in-Err.ensures.sends.sent.0 c.send-in-Err.ensures.sends.later);
+        later = omega (arith, c.steps.invariant.sent.later, c.send-in-Err.ensures.sends.later);
       };
       now = tt;
+      memory = λ m. walks-memory c.runs_end.ensures c.args.joint.now c.steps.joint c.advance.new.self c.steps.text c.advance.new.out old.text here.text old.faults here.faults c.in-Err.error c.in-Err.ensures c.steps.invariant (sym c.of_joint.ensures ∙ m);
     }

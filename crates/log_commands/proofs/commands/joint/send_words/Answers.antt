@@ -14,8 +14,8 @@ returns-in-None g c = record {
   sent =
       so_far-last (memory_text c.args.joint.now.memory) c.words.text (memory_text (known_from c.words.from c.args.joint.now.memory))
       (g.O.Sink.stream c.args.out.now).text (g.O.Sink.stream c.words.out).text (g.O.Sink.stream c.send.new.sink).text (g.O.Sink.stream c.args.out.now).faults (g.O.Sink.stream c.words.out).faults (g.O.Sink.stream c.send.new.sink).faults c.send.result
-      c.words.invariant (ap memory_text c.in-None.ensures) c.send.ensures.sent;
-  later = omega (arith, c.words.invariant.later, c.send.ensures.later);
+      c.words.invariant (ap memory_text c.in-None.ensures) c.send.ensures.sends.sent;
+  later = omega (arith, c.words.invariant.later, c.send.ensures.sends.later);
 }
 
 pub words-preserved : goal.words-preserved

@@ -58,6 +58,6 @@ returns g c = record {
       let last = (g.O.Sink.stream c.send.new.sink).faults in
       subst (λ (rs : List Record). Sent old next before last (list_text rs) (λ x. Unit {0}) c.send.result) c.records-records.ensures.value
       (so_far-last (list_text rs) c.loop-place.text (list_text (drop c.loop-place.place rs)) old now next before after last c.send.result c.loop-place.invariant
-      (list-done rs c.loop-place.place (subst (λ (n : ℕ). n ≤ c.loop-place.place) c.len-place-end.ensures.value c.loop-place-test.false)) c.send.ensures.sent);
-  later = omega (arith, c.loop-place.invariant.later, c.send.ensures.later);
+      (list-done rs c.loop-place.place (subst (λ (n : ℕ). n ≤ c.loop-place.place) c.len-place-end.ensures.value c.loop-place-test.false)) c.send.ensures.sends.sent);
+  later = omega (arith, c.loop-place.invariant.later, c.send.ensures.sends.later);
 }
