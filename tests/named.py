@@ -65,6 +65,27 @@ MUTANTS = [
         edit("race_log", "present_times"),
     ),
     (
+        "The table of epochs has no limit, so that it only grows.",
+        edit("race_log", "the_first_limit_is_none"),
+    ),
+    (
+        "Each walk through the epochs raises their limit, though few are used.",
+        edit("race_log", "each_walk_raises_the_limit"),
+    ),
+    ("An access lists all pages of the address space.", edit("race_log", "pages_are_listed_to_the_end")),
+    (
+        "All epochs but the first keep the marks of an earlier walk, so that none of them is freed.",
+        edit("race_log", "marks_stay_from_the_second_epoch_on"),
+    ),
+    (
+        "No epoch that comes after a used one is taken again.",
+        edit("race_log", "past_a_used_epoch_none_is_free"),
+    ),
+    (
+        "A set of pairs that leaves conflicts without an order has all Edges too.",
+        edit("race_laws", "every_set_of_pairs_has_the_edges"),
+    ),
+    (
         "The ring gives up Edges into an interval whose Header is given up.",
         edit("log_ring", "edges_are_given_up_first"),
     ),
@@ -75,6 +96,10 @@ MUTANTS = [
     ("A joint replay takes the harts in turn and ignores Edges.", edit("joint_replay", "an_edge_holds_nothing_back")),
     # The log.
     ("A full ring gives up half of its records.", edit("log_ring", "half_of_the_records_is_given_up")),
+    (
+        "What a guard counts of an interval is without its Header.",
+        edit("run_laws", "the_guard_counts_from_behind_the_header"),
+    ),
     ("A log with bytes appended is read.", edit("log_file", "appended_bytes_are_taken")),
     ("A log is read without a look at its digest.", edit("log_file", "the_digest_is_skipped")),
     (
@@ -124,6 +149,19 @@ MUTANTS = [
         edit("hart_worker", "no_start_is_compared_after_the_joins"),
     ),
     (
+        "It isn't seen that a hart failed in its thread.",
+        edit("whole_runs", "a_failed_hart_is_not_seen"),
+        edit("hart_worker", "a_failed_hart_is_not_seen"),
+    ),
+    (
+        "A hart that found no memory leaves no mark at the bus, if no list is kept.",
+        edit("whole_runs", "a_hart_that_found_no_memory_leaves_no_mark"),
+    ),
+    (
+        "A run is finished though a hart of it failed.",
+        edit("whole_runs", "a_run_is_finished_in_place_of_a_failed_hart"),
+    ),
+    (
         "The harts run one after another, or hold the lock of the bus while they wait at their gate.",
         function("thread_tests/src/threads.rt", "harts_meet_before_their_first_turns"),
         case("program_cases", "they meet before their first turns"),
@@ -169,9 +207,11 @@ MUTANTS = [
         edit("host_outside", "a_loaded_file_is_overwritten_after_its_refusal"),
     ),
     ("A load remembers no file.", edit("host_outside", "a_load_remembers_nothing")),
+    ("A save remembers no file that has bytes.", edit("host_outside", "a_saved_file_is_forgotten")),
     ("A file that is too long is told as missing.", edit("host_outside", "a_long_file_is_told_as_missing")),
     (
         "A reader is read again after it said that it ended.",
+        edit("host_outside", "an_ended_reader_is_read_again"),
         function("host_outside/src/tests.rt", "a_reader_that_has_ended_is_not_read_again"),
     ),
     (
@@ -244,6 +284,10 @@ MUTANTS = [
     (
         "A step that a joint replay refuses is told as out of memory by a race report (9).",
         edit("race_report", "a_refused_step_is_told_as_out_of_memory"),
+    ),
+    (
+        "A joint replay whose harts wait for each other is told as out of memory by a race report (9).",
+        edit("race_report", "a_stuck_replay_is_told_as_out_of_memory"),
     ),
     (
         "A slice that finds no memory for a row doesn't look for a later refusal (9).",
