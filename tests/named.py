@@ -195,6 +195,10 @@ MUTANTS = [
         edit("log_commands", "an_empty_file_is_saved_before_out_of_memory"),
     ),
     ("The list of turns is saved under the log's name.", edit("log_commands", "the_list_is_saved_under_the_logs_name")),
+    (
+        "A joint replay that is refused is told as out of memory.",
+        edit("log_commands", "a_refused_joint_replay_is_told_as_out_of_memory"),
+    ),
     ("A failed write is made again.", edit("bn_outside", "a_failed_write_is_made_again")),
     ("A failed read within a load is made again.", edit("bn_outside", "a_failed_read_is_made_again")),
     ("A load reads on past its limit.", edit("bn_outside", "bytes_past_the_limit_are_read_on")),
