@@ -1,17 +1,23 @@
 -- Lists of harts that are set one by one.
 use Rattle.std.proofs.Common.{◌≡◌, ℕ, zero, suc, ◌+◌, ◌<◌, ◌≤◌, Bool, true, false, not, ◌&&◌, ◌==◌, List, [], ◌∷◌, ◌++◌, length, Some, refl, sym, ◌∙◌, ap, subst, arith, inl, inr, length-set}
-use Rattle.std.specs.Prelude.{slice_get, slice_set, get_or, ◌≢◌}
+use Rattle.std.specs.Prelude.{slice_get, slice_set, get_or, ◌≢◌, if◌then◌else◌}
 use Rattle.std.proofs.lemmas.Bool.Decides.{eqb_tells}
 use Rattle.std.proofs.lemmas.List.{get_or-set_same, get_or-set_other, append_assoc, append-nil}
 use Rattle.std.proofs.lemmas.Option.{slice_get-get_or, get_or_from_slice_get}
 use Rattle.log_record.specs.declared.record.Record.{Record}
 use Rattle.log_record.specs.declared.record.Record.TheVariants.{End}
 use Rattle.bn_base.specs.declared.state.HartState.{HartState}
+use Rattle.race_log.specs.declared.shadow.Shadow.{Shadow}
 use Rattle.run_model.specs.declared.hart.Hart.{Hart}
+use Rattle.run_model.specs.declared.trace.Trace.{Trace}
 use Rattle.run_model.specs.declared.turn_end.TurnEnd.{TurnEnd}
 use Rattle.run_model.specs.declared.turn_end.TurnEnd.TheVariants.{GoesOn, NewInterval, HartOver, RunOver}
 use Rattle.run_model.specs.Turn.{other_after, harts_after, stopped_records, run_over_records, next_records, mark}
 use Rattle.run_model.specs.Represents.Harts.{AreHarts, others_after, stopped_at, stopped_below, stop_record, stop_records}
+use Rattle.run_model.specs.Represents.Logs.{taken}
+use Rattle.run_model.specs.Represents.EachCache.{steps_in}
+use Rattle.run_model.specs.Represents.Plain.{IsSwept, GivesUpKnown, is_walk_due, is_end, clears}
+use Rattle.run_model.specs.Represents.Accessed.{IsFinished}
 
 -- hart k of a list in which one was set
 pub set_one : (hs : List Hart) (n k : ℕ) (t y : Hart) (g : ℕ → Hart) → AreHarts hs g → n < length hs → k < length hs → slice_get (slice_set hs n t) k ≡ Some (elim (k == n) [ true ↦ t | false ↦ g k ])
@@ -153,6 +159,20 @@ ends_are n m own x h t s hs kept f rs en ex el =
     ∙ ap (λ (l : ℕ). (rs ++ next_records n own x.number s) ++ run_over_records n own l f) el
     ∙ ap (λ (y : Hart). (rs ++ next_records n own y.number s) ++ run_over_records n own (length hs) f) ex
     ∙ ap (λ (j : TurnEnd). (rs ++ next_records j own h.number s) ++ run_over_records j own (length hs) f) en
+
+-- what a turn leaves, by what the code does one after the other: to a race log that is the old one, by harts that are the new
+pub is_finished : (old new : Trace) (k : ℕ) (n m : TurnEnd) (s : Shadow) (hs : List Hart) → n ≡ m → s ≡ old.shadow → hs ≡ new.harts.items → length new.harts.items ≡ length old.harts.items → length new.caches ≡ length old.caches
+    → ((j : ℕ) → steps_in new.caches j ≡ (if j == k then steps_in old.caches j + clears n else steps_in old.caches j)) → IsSwept s new.shadow hs → GivesUpKnown (is_end n && is_walk_due s) s new.shadow hs
+    → taken new.log.ring ≤ taken old.log.ring + 18 → new.log.ring.size ≡ old.log.ring.size → IsFinished old new k m
+is_finished old new k n m s hs en es eh len count steps swept due took size = subst (λ (x : TurnEnd). IsFinished old new k x) en (record {
+  len = len;
+  count = count;
+  steps = steps;
+  shadow = subst (λ (xs : List Hart). IsSwept old.shadow new.shadow xs) eh (subst (λ (x : Shadow). IsSwept x new.shadow hs) es swept);
+  due = subst (λ (xs : List Hart). GivesUpKnown (is_end n && is_walk_due old.shadow) old.shadow new.shadow xs) eh (subst (λ (x : Shadow). GivesUpKnown (is_end n && is_walk_due x) x new.shadow hs) es due);
+  took = took;
+  size = size;
+})
 
 pub over_harts : (next : TurnEnd) (reason value : ℕ) (hs : List Hart) (own : ℕ) (f : ℕ → Hart) → next ≡ RunOver reason value → AreHarts hs (stopped_at own f) → AreHarts hs (others_after next own f)
 over_harts next reason value hs own f e are = subst (λ (n : TurnEnd). AreHarts hs (others_after n own f)) (sym e) are

@@ -38,7 +38,7 @@ use crate::harts::end_others;
 use crate::laws::each_turn_moves_on;
 use crate::log::Log;
 use crate::plain::Plain;
-use crate::race::record_access;
+use crate::race::{record_access, sweep_at_end};
 use crate::records::{append_load, append_next};
 use crate::span::Span;
 use crate::trace::Trace;
@@ -114,7 +114,7 @@ impl Trace {
         want: &Want,
         reply: Reply,
         load: Option<Warm>,
-    ) -> TurnEnd
+    )
         requires { CanFinish settings.now None self.old hart (ask_here (hart_in self.old.harts.items hart) want.now) reply }
         ensures harts { (f : ℕ → Hart) → AreHarts self.old.harts.items f →
             AreHarts self.new.harts.items (harts_by settings.now None self.old.harts.items hart (ask_here (hart_in self.old.harts.items hart) want.now) reply load self.new.log.bytes f) }
@@ -128,7 +128,7 @@ impl Trace {
         let next = take_turn_here(settings, own, &mut self.log, hart, want, reply, load);
         self.begin(hart, next);
         end_others(&mut self.harts, &mut self.log, hart, next);
-        next
+        sweep_at_end(&mut self.shadow, &self.harts, next);
     }
 
     // Takes in the word that a hart's instruction of this count loads: its Edges and its FirstLoad are
@@ -243,10 +243,8 @@ impl Plain {
             mode: Mode::Read,
         };
         let warm = self.trace.access_load(self.turns, hart, ic, words, word);
-        let next = self
-            .trace
+        self.trace
             .finish_here(&self.start.settings, hart, &want, reply, Some(warm));
-        self.trace.forget(next);
         self.turns += 1;
     }
 
@@ -338,10 +336,8 @@ impl Plain {
         let load = self
             .trace
             .access_store(self.turns, hart, ic, words, width == 4, word);
-        let next = self
-            .trace
+        self.trace
             .finish_here(&self.start.settings, hart, &want, reply, load);
-        self.trace.forget(next);
         self.turns += 1;
     }
 

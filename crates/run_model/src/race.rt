@@ -1,5 +1,5 @@
 //! The race log's part of a turn: which Edges it records, and which accesses it may forget.
-ghost use Rattle.std.specs.Prelude.{◌≡◌, ◌≤◌, ◌<◌, ◌+◌, ◌^◌, ◌++◌, ◌≢◌, ℕ, List, IsTrue, length};
+ghost use Rattle.std.specs.Prelude.{◌≡◌, ◌≤◌, ◌<◌, ◌+◌, ◌^◌, ◌++◌, ◌&&◌, ◌≢◌, ℕ, List, IsTrue, length};
 ghost use Rattle.log_record.specs.declared.record.Record.{Record};
 ghost use Rattle.bn_base.specs.declared.settings.TheConstants.{HARTS};
 ghost use Rattle.race_log.specs.Points.{Point};
@@ -7,13 +7,14 @@ ghost use Rattle.race_log.specs.Represents.{RepresentsAccesses, harts_of, lastin
 ghost use Rattle.run_model.specs.Turn.{point_of, points_after, edge_records};
 ghost use Rattle.run_model.specs.Represents.Logs.{taken, IsLog};
 ghost use Rattle.run_model.specs.Represents.Accessed.{CanNote, IsNoted};
-ghost use Rattle.run_model.specs.Represents.Plain.{everyone, IsRaceReady, IsSwept, GivesUpKnown, is_walk_due, count_after};
+ghost use Rattle.run_model.specs.Represents.Plain.{everyone, IsRaceReady, IsSwept, GivesUpKnown, is_walk_due, is_end, count_after};
 
 use crate::hart::Hart;
 use crate::live::live_set;
 use crate::log::Log;
 use crate::records::append_edges;
 use crate::span::Span;
+use crate::turn_end::TurnEnd;
 use bn_base::{HartId, Ic};
 use race_log::Shadow;
 
@@ -41,9 +42,9 @@ pub fn record_access(
     }
 }
 
-/// The race log gives up the accesses that all live harts know of, if the walk is due.
+// The race log gives up the accesses that all live harts know of, if the walk is due.
 #[inline(never)]
-pub fn sweep_known(shadow: &mut Shadow, harts: &[Hart])
+fn sweep_known(shadow: &mut Shadow, harts: &[Hart])
     requires few { length harts.now ≤ HARTS }
     requires harts { harts_of shadow.old ≡ length harts.now }
     ensures swept { IsSwept shadow.old shadow.new harts.now }
@@ -51,5 +52,22 @@ pub fn sweep_known(shadow: &mut Shadow, harts: &[Hart])
 {
     if shadow.is_sweep_due() {
         shadow.sweep(live_set(harts));
+    }
+}
+
+/// If an interval ended and the walk is due, the race log gives up the accesses that all live harts know of.
+// A hart that isn't live then can access nothing any more: so what is kept suffices for the live ones.
+#[inline(always)]
+pub fn sweep_at_end(shadow: &mut Shadow, harts: &[Hart], next: TurnEnd)
+    requires few { length harts.now ≤ HARTS }
+    requires harts { harts_of shadow.old ≡ length harts.now }
+    ensures swept { IsSwept shadow.old shadow.new harts.now }
+    ensures due { GivesUpKnown (is_end next && is_walk_due shadow.old) shadow.old shadow.new harts.now }
+{
+    match next {
+        TurnEnd::GoesOn => {}
+        TurnEnd::NewInterval { .. } | TurnEnd::HartOver { .. } | TurnEnd::RunOver { .. } => {
+            sweep_known(shadow, harts)
+        }
     }
 }

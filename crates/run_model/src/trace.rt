@@ -1,15 +1,14 @@
 //! What is traced of a run: its harts, their caches, the race log and the log. All records are appended here.
 //! `specs/Represents` says which runs a trace represents.
-ghost use Rattle.std.specs.Prelude.{◌≡◌, ◌≤◌, ◌<◌, ◌+◌, ◌-◌, ◌*◌, ◌^◌, ◌++◌, ◌==◌, ◌&&◌, ◌≢◌, ℕ, List, length, IsTrue, true, false, is_some, Option, OnOk, if◌then◌else◌};
+ghost use Rattle.std.specs.Prelude.{◌≡◌, ◌≤◌, ◌<◌, ◌+◌, ◌-◌, ◌*◌, ◌^◌, ◌++◌, ◌==◌, ◌≢◌, ℕ, List, length, IsTrue, true, false, is_some, Option, OnOk, if◌then◌else◌};
 ghost use Rattle.bn_base.specs.Programs.{Program};
 ghost use Rattle.bn_base.specs.declared.settings.RawSettings.{RawSettings};
 ghost use Rattle.rv_meaning.specs.Execute.{absorbed};
 ghost use Rattle.rv_meaning.specs.Orderly.{is_reply_to};
 ghost use Rattle.first_load_bits.specs.Events.{Event};
 ghost use Rattle.log_record.specs.declared.record.Record.{Record};
-ghost use Rattle.bn_base.specs.declared.settings.TheConstants.{HARTS};
 ghost use Rattle.race_log.specs.Points.{Point};
-ghost use Rattle.race_log.specs.Represents.{RepresentsAccesses, KnowsSame, harts_of, lasting_of, lasts, next_turn, next_count};
+ghost use Rattle.race_log.specs.Represents.{RepresentsAccesses, KnowsSame, lasting_of, lasts, next_turn, next_count};
 ghost use Rattle.run_model.specs.declared.hart.Hart.{Hart};
 ghost use Rattle.run_model.specs.declared.turn_end.TurnEnd.TheVariants.{GoesOn};
 ghost use Rattle.run_model.specs.declared.span.Span.{Span};
@@ -22,13 +21,13 @@ ghost use Rattle.run_model.specs.Represents.Accessed.{CanNote, IsNoted, CanFinis
 ghost use Rattle.run_model.specs.Represents.EachCache.{AreCaches, steps_in, where_loading, touched_word, touches};
 ghost use Rattle.run_model.specs.Counts.{is_loading};
 ghost use Rattle.run_model.specs.Represents.Parts.{AreAddresses};
-ghost use Rattle.run_model.specs.Represents.Plain.{IsTrace, everyone, IsRaceReady, IsSwept, GivesUpKnown, is_walk_due, is_end, count_after, clears};
+ghost use Rattle.run_model.specs.Represents.Plain.{IsTrace, everyone, IsRaceReady, count_after, clears};
 
 use crate::caches::Caches;
 use crate::hart::{Hart, skipped_after};
 use crate::harts::end_others;
 use crate::log::Log;
-use crate::race::{record_access, sweep_known};
+use crate::race::{record_access, sweep_at_end};
 use crate::records::{append_conditional, append_load, append_next};
 use crate::span::{Span, loading};
 use crate::turn_end::TurnEnd;
@@ -217,8 +216,8 @@ impl Trace {
     }
 
     /// The reply to a hart's ask gives its next state, and what comes next for it and for the others;
-    /// the Ends and the next Header are appended, and what comes next is answered. `load` is how the word of a
-    /// loading access was.
+    /// the Ends and the next Header are appended. At an interval's end the race log gives up the accesses that all live
+    /// harts know of, if the walk is due. `load` is how the word of a loading access was.
     pub fn finish(
         &mut self,
         settings: &Settings,
@@ -227,7 +226,7 @@ impl Trace {
         ask: &Ask,
         reply: Reply,
         load: Option<Warm>,
-    ) -> TurnEnd
+    )
         requires { CanFinish settings.now call self.old hart ask.now reply }
         ensures harts { (f : ℕ → Hart) → AreHarts self.old.harts.items f →
             AreHarts self.new.harts.items (harts_by settings.now call self.old.harts.items hart ask.now reply load self.new.log.bytes f) }
@@ -241,26 +240,6 @@ impl Trace {
         let next = take_turn(settings, own, &mut self.log, hart, call, ask, reply, load);
         self.begin(hart, next);
         end_others(&mut self.harts, &mut self.log, hart, next);
-        next
-    }
-
-    /// If an interval ended and the walk is due, the race log gives up the accesses that all live harts know of.
-    // A hart that isn't live then can access nothing any more: so what is kept suffices for the live ones.
-    #[inline(always)]
-    pub fn forget(&mut self, next: TurnEnd)
-        requires few { length self.old.harts.items ≤ HARTS }
-        requires shadow { harts_of self.old.shadow ≡ length self.old.harts.items }
-        ensures shadow { IsSwept self.old.shadow self.new.shadow self.old.harts.items }
-        ensures due { GivesUpKnown (is_end next && is_walk_due self.old.shadow) self.old.shadow self.new.shadow self.old.harts.items }
-        ensures harts { self.new.harts ≡ self.old.harts }
-        ensures caches { self.new.caches ≡ self.old.caches }
-        ensures log { self.new.log ≡ self.old.log }
-    {
-        match next {
-            TurnEnd::GoesOn => {}
-            TurnEnd::NewInterval { .. } | TurnEnd::HartOver { .. } | TurnEnd::RunOver { .. } => {
-                sweep_known(&mut self.shadow, &self.harts)
-            }
-        }
+        sweep_at_end(&mut self.shadow, &self.harts, next);
     }
 }

@@ -129,10 +129,8 @@ impl Plain {
             .machine
             .answer(&self.start.settings, &self.start.input, call, hart, ask);
         let load = self.trace.access(self.turns, hart, call, ask, reply, word);
-        let next = self
-            .trace
+        self.trace
             .finish(&self.start.settings, hart, call, ask, reply, load);
-        self.trace.forget(next);
         self.turns += 1;
         reply
     }

@@ -1,5 +1,5 @@
 -- An access in a hart's turn, and what comes next for the hart: what they need, and what they leave.
-use Rattle.std.specs.Prelude.{◌≡◌, ◌≢◌, ◌≤◌, ◌<◌, ◌+◌, ◌^◌, ◌-◌, ◌==◌, ◌++◌, ℕ, Bool, IsTrue, List, length, true, false, Option, Some, None, if◌then◌else◌}
+use Rattle.std.specs.Prelude.{◌≡◌, ◌≢◌, ◌≤◌, ◌<◌, ◌+◌, ◌^◌, ◌-◌, ◌==◌, ◌&&◌, ◌++◌, ℕ, Bool, IsTrue, List, length, true, false, Option, Some, None, if◌then◌else◌}
 use Rattle.bn_base.specs.declared.settings.RawSettings.{RawSettings}
 use Rattle.bn_base.specs.declared.settings.TheConstants.{HARTS}
 use Rattle.rv_meaning.specs.Orderly.{is_reply_to}
@@ -21,7 +21,7 @@ use Rattle.run_model.specs.Turn.{Run, serve_call, is_orderly, is_guarded, point_
 use Rattle.run_model.specs.Represents.Harts.{hart_in}
 use Rattle.run_model.specs.Represents.Logs.{taken, IsLog, is_marked_next}
 use Rattle.run_model.specs.Represents.EachCache.{AreCaches, steps_in}
-use Rattle.run_model.specs.Represents.Plain.{PlainParts, IsRun, IsRaceReady, IsSwept, everyone, count_after, clears}
+use Rattle.run_model.specs.Represents.Plain.{PlainParts, IsRun, IsRaceReady, IsSwept, GivesUpKnown, is_walk_due, is_end, everyone, count_after, clears}
 use Rattle.run_model.specs.Represents.Tracing.{next_by}
 use Rattle.run_model.specs.Represents.InPlace.{ask_here}
 
@@ -67,26 +67,29 @@ pub record IsAccessed (old new : Trace) (turn k at : ℕ) (words : Span) (load :
   pub took : taken new.log.ring ≤ taken old.log.ring + 17
   pub size : new.log.ring.size ≡ old.log.ring.size
 
--- hart k's ask can be finished with a reply of its kind. The counts of the hart and its cache are in range, the End
--- that comes next is one that a log can have, and the log has room for the records
+-- hart k's ask can be finished with a reply of its kind. The counts of the hart and its cache are in range, and the race
+-- log is that of these harts. The End that comes next is one that a log can have, and the log has room for the records
 pub record CanFinish (c : RawSettings) (call : Option Plan) (t : Trace) (k : ℕ) (ask : Ask) (reply : Reply) : Type 0 where
   pub hart : k < length t.harts.items
   pub few : length t.harts.items ≤ HARTS
   pub caches : k < length t.caches
   pub steps : steps_in t.caches k < 2 ^ 42
+  pub shadow : harts_of t.shadow ≡ length t.harts.items
   pub fits : IsTrue (is_reply_to ask.want reply)
   pub number : (hart_in t.harts.items k).number < 2 ^ 62
   pub skipped : (hart_in t.harts.items k).skipped < 2 ^ 32 - 1
   pub marked : IsTrue (is_marked_next (next_by c call t.harts.items k ask reply))
   pub room : taken t.log.ring + 18 < 2 ^ 56
 
--- from one to the other this came next for hart k: the bits of its cache were cleared if it begins an interval, at most
--- 18 records were appended, and the race log stayed
+-- from one to the other this came next for hart k: the bits of its cache were cleared if it begins an interval, and at
+-- most 18 records were appended. If an interval ended and a walk was due, the race log gave up what all harts know of
+-- that are live afterwards; else it stayed
 pub record IsFinished (old new : Trace) (k : ℕ) (next : TurnEnd) : Type 0 where
   pub len : length new.harts.items ≡ length old.harts.items
   pub count : length new.caches ≡ length old.caches
   pub steps : (j : ℕ) → steps_in new.caches j ≡ (if j == k then steps_in old.caches j + clears next else steps_in old.caches j)
-  pub shadow : new.shadow ≡ old.shadow
+  pub shadow : IsSwept old.shadow new.shadow new.harts.items
+  pub due : GivesUpKnown (is_end next && is_walk_due old.shadow) old.shadow new.shadow new.harts.items
   pub took : taken new.log.ring ≤ taken old.log.ring + 18
   pub size : new.log.ring.size ≡ old.log.ring.size
 

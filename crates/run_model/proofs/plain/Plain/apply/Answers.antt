@@ -1,21 +1,21 @@
-use Rattle.std.proofs.Common.{◌≡◌, ◌≤◌, ◌<◌, ◌==◌, ◌+◌, ◌-◌, ◌^◌, ℕ, Bool, List, length, sym, subst, ap, ◌∙◌, arith, IsTrue}
+use Rattle.std.proofs.Common.{◌≡◌, ◌<◌, ◌==◌, ◌+◌, ◌-◌, ◌^◌, ℕ, Bool, List, length, refl, sym, subst, ap, ◌∙◌, arith, IsTrue}
 use Rattle.std.specs.Prelude.{Vec, if◌then◌else◌}
 use Rattle.std.specs.Global.{Global}
 use Rattle.rv_meaning.specs.Execute.{absorbed}
 use Rattle.race_log.specs.declared.shadow.Shadow.{Shadow}
-use Rattle.race_log.specs.Represents.{RepresentsAccesses, harts_of, lasting_of, next_turn, next_count}
 use Rattle.run_model.specs.declared.hart.Hart.{Hart}
+use Rattle.run_model.specs.declared.trace.Trace.{Trace}
 use Rattle.run_model.specs.Machine.{answer}
 use Rattle.run_model.specs.Represents.Parts.{IsMachine}
 use Rattle.run_model.specs.Represents.Logs.{taken, is_marked_next}
 use Rattle.run_model.specs.Represents.EachCache.{steps_in, touched_word, touches}
 use Rattle.run_model.specs.Represents.Harts.{AreHarts, hart_in}
-use Rattle.run_model.specs.Turn.{guarded_run, serve_call, span_of, next_of, hart_after, harts_after, skipped_after, points_after, point_of}
-use Rattle.run_model.specs.Represents.Plain.{IsTrace, IsRaceReady, everyone, count_after, clears}
+use Rattle.run_model.specs.Turn.{guarded_run, serve_call, span_of, next_of, hart_after, harts_after, skipped_after}
+use Rattle.run_model.specs.Represents.Plain.{IsTrace, IsRaceReady, clears}
 use Rattle.run_model.proofs.Owns.{hart_of_run}
 use Rattle.run_model.proofs.PlainRuns.{traced, race_ready}
 use Rattle.run_model.proofs.Asked.{asked_fit, asked_counts, few_steps, few_steps_more, low_number, few_skipped, some_room, eqb_same, if_true}
-use Rattle.run_model.proofs.PlainFits.{fit_traced, swept_fit, swept_trace, next_marked, two_ifs}
+use Rattle.run_model.proofs.PlainFits.{fit_traced, swept_fit, next_marked, two_ifs}
 use Rattle.run_model.proofs.Meant.{meant, is_meant}
 use Rattle.run_model.proofs.OneTurn.{passes_of}
 use Rattle.run_model.proofs.plain.Plain.apply.Goals as goal
@@ -30,7 +30,7 @@ returns-clause-run c run is =
     let answering = guarded_run guarded run k ask.state in
     let t = c.guard.new.self in
     let before : IsTrace settings t answering = c.guard.ensures.run settings run is.trace in
-    let a = c.access-load in let f = c.finish-next in
+    let a = c.access-load in let f = c.finish in
     let g = hart_in t.harts.items k in
     let h = hart_in a.new.self.harts.items k in
     let q = asked_fit c.guarded_asks_fit.ensures p.start.settings p.start.image p.trace c.guard.new.self p.turns c.args.hart c.args.ask.now c.is_guarded-guarded.result p.fits c.requires.hart c.requires.live c.requires.orderly
@@ -47,14 +47,13 @@ returns-clause-run c run is =
     (record {
       harts = f.ensures.harts answering.harts are;
       caches = f.ensures.caches settings (span_of call ask.want reply) answering.events (a.ensures.caches settings answering.events before.caches);
-      shadow = subst (λ (s : Shadow). RepresentsAccesses (points_after (point_of k ask.state.ic p.turns (span_of call ask.want reply)) run.points) everyone s) (sym f.ensures.finished.shadow) (a.ensures.noted.stands run.points before.shadow);
+      shadow = f.ensures.finished.shadow.stands _ (a.ensures.noted.stands run.points before.shadow);
       log = f.ensures.holds answering.harts _ are (a.ensures.holds run.points answering.stream before.shadow before.log);
     })
     (sym before.bytes ∙ before.log.bytes) in
     record {
       machine = subst (λ (xs : List ℕ). IsMachine xs c.answer-reply.new.self (answer settings call run.machine k ask).machine) c.deref.ensures.value (c.answer-reply.ensures.answer.stands run.machine m);
-      trace = subst (λ (b : Bool). IsTrace settings c.forget.new.self (serve_call settings run k ask b call).run) (c.is_guarded-guarded.ensures.run run is)
-          (swept_trace settings f.new.self c.forget.new.self _ after c.forget.ensures.shadow c.forget.ensures.harts c.forget.ensures.caches c.forget.ensures.log);
+      trace = subst (λ (b : Bool). IsTrace settings f.new.self (serve_call settings run k ask b call).run) (c.is_guarded-guarded.ensures.run run is) after;
       turns = ap (λ (n : ℕ). n + 1) is.turns;
     }
 
@@ -62,15 +61,16 @@ pub invariant_of-self : goal.invariant_of-self
 invariant_of-self c =
     let p = c.args.self.now in
     let t = c.guard.new.self in
-    let a = c.access-load in let f = c.finish-next in
+    let a = c.access-load in let f = c.finish in
     let q = asked_fit c.guarded_asks_fit.ensures p.start.settings p.start.image p.trace c.guard.new.self p.turns c.args.hart c.args.ask.now c.is_guarded-guarded.result p.fits c.requires.hart c.requires.live c.requires.orderly
     c.is_guarded-guarded.ensures.uncut c.guard.ensures.anew c.guard.ensures.same in
     let m = meant p.start.input.items p.machine in
     let is = is_meant p.start.input.items p.machine in
     let stands : IsMachine c.deref.result.now p.machine m = subst (λ (xs : List ℕ). IsMachine xs p.machine m) (sym c.deref.ensures.value) is in
+    let middle : Trace = record f.new.self { shadow = a.new.self.shadow } in
     record {
       memory = c.answer-reply.ensures.size ∙ p.memory;
-      fits = swept_fit p.start.settings f.new.self c.forget.new.self (p.turns + 1) (fit_traced c.each_turn_moves_on.ensures p.start.settings p.start.image m t f.new.self p.turns c.args.hart c.args.ask.now c.args.call c.answer-reply.result a.result q
+      fits = swept_fit p.start.settings middle f.new.self (p.turns + 1) (fit_traced c.each_turn_moves_on.ensures p.start.settings p.start.image m t middle p.turns c.args.hart c.args.ask.now c.args.call c.answer-reply.result a.result q
           (c.requires.call m is) (c.answer-reply.ensures.answer.reply m stands)
           (record {
             harts = λ g are. subst (λ (v : Vec Hart Global). AreHarts v.items g → AreHarts f.new.self.harts.items (harts_after (next_of p.start.settings c.args.call (hart_in v.items c.args.hart) c.args.ask.now.want c.answer-reply.result (absorbed c.args.ask.now c.answer-reply.result).ic) c.args.hart (hart_after (next_of p.start.settings c.args.call (hart_in v.items c.args.hart) c.args.ask.now.want c.answer-reply.result (absorbed c.args.ask.now c.answer-reply.result).ic) (absorbed c.args.ask.now c.answer-reply.result) (skipped_after a.result (hart_in v.items c.args.hart).skipped) f.new.self.log.bytes (hart_in v.items c.args.hart)) g)) a.ensures.harts (f.ensures.harts g) are;
@@ -79,15 +79,15 @@ invariant_of-self c =
             steps = λ j. subst (λ (v : Vec Hart Global). steps_in f.new.self.caches j ≡ (if j == c.args.hart then steps_in t.caches j + touches (touched_word c.args.call (span_of c.args.call c.args.ask.now.want c.answer-reply.result)) + clears (next_of p.start.settings c.args.call (hart_in v.items c.args.hart) c.args.ask.now.want c.answer-reply.result (absorbed c.args.ask.now c.answer-reply.result).ic) else steps_in t.caches j)) a.ensures.harts
                 (two_ifs (j == c.args.hart) _ _ _ _ _ (f.ensures.finished.steps j) (a.ensures.steps j));
             loading = a.ensures.loading;
-            shadow = ap harts_of f.ensures.finished.shadow ∙ a.ensures.noted.harts;
-            lasting = ap lasting_of f.ensures.finished.shadow ∙ a.ensures.noted.lasting;
-            turn = subst (λ (x : Shadow). next_turn x ≤ p.turns + 1) (sym f.ensures.finished.shadow) a.ensures.noted.turn_is;
-            next = subst (λ (x : Shadow). next_count x c.args.hart ≤ count_after (span_of c.args.call c.args.ask.now.want c.answer-reply.result) c.args.ask.now.state.ic (next_count t.shadow c.args.hart)) (sym f.ensures.finished.shadow) a.ensures.noted.next;
-            others = λ j differ. ap (λ (x : Shadow). next_count x j) f.ensures.finished.shadow ∙ a.ensures.noted.others j differ;
+            shadow = a.ensures.noted.harts;
+            lasting = a.ensures.noted.lasting;
+            turn = a.ensures.noted.turn_is;
+            next = a.ensures.noted.next;
+            others = a.ensures.noted.others;
             took = omega (arith, a.ensures.took, f.ensures.finished.took);
             size = f.ensures.finished.size ∙ a.ensures.size;
           }))
-          c.forget.ensures.shadow c.forget.ensures.harts c.forget.ensures.caches c.forget.ensures.log;
+          f.ensures.finished.shadow refl refl refl;
     }
 
 -- ---- the guard
@@ -166,8 +166,8 @@ access-load-requires-clause-note c =
 
 -- ---- what comes next
 
-pub finish-next-requires : goal.finish-next-requires
-finish-next-requires c =
+pub finish-requires : goal.finish-requires
+finish-requires c =
     let p = c.args.self.now in
     let q = asked_fit c.guarded_asks_fit.ensures p.start.settings p.start.image p.trace c.guard.new.self p.turns c.args.hart c.args.ask.now c.is_guarded-guarded.result p.fits c.requires.hart c.requires.live c.requires.orderly
     c.is_guarded-guarded.ensures.uncut c.guard.ensures.anew c.guard.ensures.same in
@@ -181,6 +181,7 @@ finish-next-requires c =
       steps = let old = steps_in c.guard.new.self.caches c.args.hart in
           few_steps_more p.start.settings (hart_in c.guard.new.self.harts.items c.args.hart) old _ (touched_word c.args.call (span_of c.args.call c.args.ask.now.want c.answer-reply.result)) q.own.fit q.settings.limit_high q.own.steps
           (c.access-load.ensures.steps c.args.hart ∙ if_true (c.args.hart == c.args.hart) _ _ (eqb_same c.args.hart));
+      shadow = c.access-load.ensures.noted.harts ∙ q.shadow ∙ sym (ap (λ (v : Vec Hart Global). length v.items) c.access-load.ensures.harts ∙ q.harts);
       fits = c.answer-reply.ensures.fits;
       number = subst (λ (v : Vec Hart Global). (hart_in v.items c.args.hart).number < 2 ^ 62) (sym c.access-load.ensures.harts) (low_number p.start.settings (hart_in c.guard.new.self.harts.items c.args.hart) q.own.fit q.settings.limit_high);
       skipped = subst (λ (v : Vec Hart Global). (hart_in v.items c.args.hart).skipped < 2 ^ 32 - 1) (sym c.access-load.ensures.harts) (few_skipped p.start.settings (hart_in c.guard.new.self.harts.items c.args.hart) q.own.fit q.settings.interval_high);
@@ -188,20 +189,6 @@ finish-next-requires c =
           (next_marked c.each_turn_moves_on.ensures p.start.settings p.start.image m c.guard.new.self p.turns c.args.hart c.args.ask.now c.args.call c.answer-reply.result q (c.requires.call m is) (c.answer-reply.ensures.answer.reply m stands));
       room = some_room p.start.settings p.turns _ (taken c.access-load.new.self.log.ring) 18 q.few q.settings.limit_high q.left (omega (arith, q.log, c.access-load.ensures.took)) (omega arith);
     }
-
-pub forget-requires-clause-few : goal.forget-requires-clause-few
-forget-requires-clause-few c =
-    let p = c.args.self.now in
-    let q = asked_fit c.guarded_asks_fit.ensures p.start.settings p.start.image p.trace c.guard.new.self p.turns c.args.hart c.args.ask.now c.is_guarded-guarded.result p.fits c.requires.hart c.requires.live c.requires.orderly
-    c.is_guarded-guarded.ensures.uncut c.guard.ensures.anew c.guard.ensures.same in
-    omega (arith, q.few, q.harts, ap (λ (v : Vec Hart Global). length v.items) c.access-load.ensures.harts, c.finish-next.ensures.finished.len)
-
-pub forget-requires-clause-shadow : goal.forget-requires-clause-shadow
-forget-requires-clause-shadow c =
-    let p = c.args.self.now in
-    let q = asked_fit c.guarded_asks_fit.ensures p.start.settings p.start.image p.trace c.guard.new.self p.turns c.args.hart c.args.ask.now c.is_guarded-guarded.result p.fits c.requires.hart c.requires.live c.requires.orderly
-    c.is_guarded-guarded.ensures.uncut c.guard.ensures.anew c.guard.ensures.same in
-    ap harts_of c.finish-next.ensures.finished.shadow ∙ c.access-load.ensures.noted.harts ∙ q.shadow ∙ sym (c.finish-next.ensures.finished.len ∙ ap (λ (v : Vec Hart Global). length v.items) c.access-load.ensures.harts ∙ q.harts)
 
 -- ---- the machine's part
 

@@ -10,9 +10,9 @@ use Rattle.rv_meaning.specs.declared.asks.Reply.{Reply}
 use Rattle.rv_meaning.specs.declared.asks.Reply.TheVariants as replies
 use Rattle.log_record.specs.declared.record.Record.{Record}
 use Rattle.race_log.specs.declared.mode.Mode.TheVariants.{Read}
-use Rattle.race_log.specs.declared.shadow.Shadow.{Shadow}
-use Rattle.race_log.specs.Represents.{RepresentsAccesses, harts_of, lasting_of, next_turn, next_count}
+use Rattle.race_log.specs.Represents.{RepresentsAccesses, next_count}
 use Rattle.run_model.specs.declared.hart.Hart.{Hart}
+use Rattle.run_model.specs.declared.trace.Trace.{Trace}
 use Rattle.bn_base.specs.declared.state.HartState.{HartState}
 use Rattle.run_model.specs.declared.turn_end.TurnEnd.{TurnEnd}
 use Rattle.run_model.specs.declared.span.Span.{Span}
@@ -26,9 +26,9 @@ use Rattle.run_model.specs.Represents.Plain.{IsTrace, everyone, count_after, cle
 use Rattle.run_model.proofs.OneTurn.{passes_of}
 use Rattle.run_model.proofs.Owns.{hart_at, hart_of_run}
 use Rattle.run_model.proofs.PlainRuns.{traced}
-use Rattle.run_model.proofs.Asked.{as_it_is, IsAsked, few_steps, few_steps_more, asked_counts, low_number, few_skipped, some_room, eqb_same, if_true}
+use Rattle.run_model.proofs.Asked.{as_it_is, IsAsked, few_steps, few_steps_more, asked_counts, low_number, few_skipped, few_turns, some_room, eqb_same, if_true}
 use Rattle.run_model.proofs.PlainFits.{next_marked}
-use Rattle.run_model.proofs.PlainFits.{fit_traced, swept_fit, swept_trace, two_ifs}
+use Rattle.run_model.proofs.PlainFits.{fit_traced, swept_fit, two_ifs}
 use Rattle.run_model.proofs.Meant.{meant, is_meant}
 use Rattle.run_model.proofs.plain.Plain.apply_load.Goals as goal
 
@@ -43,7 +43,7 @@ returns-clause-run c run is =
     let word = c.word_before-word.result in
     let reply : Reply = replies.Word word in
     let words : Option Span = Some (span (aligned c.args.addr) 1 Read) in
-    let a = c.access_load-warm in let f = c.finish_here-next in
+    let a = c.access_load-warm in let f = c.finish_here in
     let x = c.index.result.now in
     let within : k < length t.harts.items = omega (arith, c.requires.hart, p.fits.harts) in
     let there : x ≡ h = hart_at t.harts.items k x within c.index.ensures in
@@ -67,14 +67,14 @@ returns-clause-run c run is =
     (record {
       harts = subst (λ (y : Hart). AreHarts f.new.self.harts.items (harts_after (next y) k (hart_after (next y) (state y) (skipped_after (Some a.result) y.skipped) f.new.self.log.bytes y) run.harts)) same (f.ensures.harts run.harts are);
       caches = subst (λ (y : Hart). AreCaches settings f.new.self.caches (events_after (next y) k None words run.events)) same (f.ensures.caches settings words run.events (a.ensures.accessed.caches settings run.events is.trace.caches));
-      shadow = subst (λ (s : Shadow). RepresentsAccesses (points_after (point_of k h.state.ic p.turns words) run.points) everyone s) (sym f.ensures.finished.shadow)
+      shadow = f.ensures.finished.shadow.stands _
           (subst (λ (n : ℕ). RepresentsAccesses (points_after (point_of k n p.turns words) run.points) everyone a.new.self.shadow) ic (a.ensures.accessed.noted.stands run.points is.trace.shadow));
       log = subst (λ (y : Hart). IsLog f.new.self.log (recs ++ next_records (next y) k y.number (state y) ++ run_over_records (next y) k (length a.new.self.harts.items) run.harts)) same (f.ensures.holds run.harts recs are held_all);
     })
     (sym is.trace.bytes ∙ is.trace.log.bytes) in
     record {
       machine = is.machine;
-      trace = swept_trace settings f.new.self c.forget.new.self _ after c.forget.ensures.shadow c.forget.ensures.harts c.forget.ensures.caches c.forget.ensures.log;
+      trace = after;
       turns = ap (λ (n : ℕ). n + 1) is.turns;
     }
 
@@ -89,7 +89,7 @@ invariant_of-self c =
     let word = c.word_before-word.result in
     let reply : Reply = replies.Word word in
     let words : Option Span = Some (span (aligned c.args.addr) 1 Read) in
-    let a = c.access_load-warm in let f = c.finish_here-next in
+    let a = c.access_load-warm in let f = c.finish_here in
     let x = c.index.result.now in
     let within : k < length t.harts.items = omega (arith, c.requires.hart, p.fits.harts) in
     let ic : x.state.ic ≡ h.state.ic = ap (λ (y : Hart). y.state.ic) (hart_at t.harts.items k x within c.index.ensures) in
@@ -97,9 +97,10 @@ invariant_of-self c =
     let m = meant p.start.input.items p.machine in
     let is = is_meant p.start.input.items p.machine in
     let value = c.word_before-word.ensures p.start.input.items m is in
+    let middle : Trace = record f.new.self { shadow = a.new.self.shadow } in
     record {
       memory = p.memory;
-      fits = swept_fit settings f.new.self c.forget.new.self (p.turns + 1) (fit_traced c.each_turn_moves_on.ensures settings p.start.image m t f.new.self p.turns k ask None reply (Some a.result) q
+      fits = swept_fit settings middle f.new.self (p.turns + 1) (fit_traced c.each_turn_moves_on.ensures settings p.start.image m t middle p.turns k ask None reply (Some a.result) q
           refl (ap (λ (w : ℕ). replies.Word w) value)
           (record {
             harts = λ g are. subst (λ (v : Vec Hart Global). AreHarts v.items g → AreHarts f.new.self.harts.items (harts_after (next_of settings None (hart_in v.items k) ask.want reply (absorbed (ask_here (hart_in v.items k) ask.want) reply).ic) k (hart_after (next_of settings None (hart_in v.items k) ask.want reply (absorbed (ask_here (hart_in v.items k) ask.want) reply).ic) (absorbed (ask_here (hart_in v.items k) ask.want) reply) (skipped_after (Some a.result) (hart_in v.items k).skipped) f.new.self.log.bytes (hart_in v.items k)) g)) a.ensures.accessed.harts (f.ensures.harts g) are;
@@ -108,19 +109,19 @@ invariant_of-self c =
             steps = λ j. subst (λ (v : Vec Hart Global). steps_in f.new.self.caches j ≡ (if j == k then steps_in t.caches j + 1 + clears (next_of settings None (hart_in v.items k) ask.want reply (absorbed (ask_here (hart_in v.items k) ask.want) reply).ic) else steps_in t.caches j)) a.ensures.accessed.harts
                 (two_ifs (j == k) _ _ _ _ _ (f.ensures.finished.steps j) (a.ensures.accessed.steps j));
             loading = λ e. refl;
-            shadow = ap harts_of f.ensures.finished.shadow ∙ a.ensures.accessed.noted.harts;
-            lasting = ap lasting_of f.ensures.finished.shadow ∙ a.ensures.accessed.noted.lasting;
-            turn = subst (λ (y : Shadow). next_turn y ≤ p.turns + 1) (sym f.ensures.finished.shadow) a.ensures.accessed.noted.turn_is;
-            next = subst (λ (n : ℕ). next_count f.new.self.shadow k ≤ count_after words n (next_count t.shadow k)) ic (subst (λ (y : Shadow). next_count y k ≤ count_after words x.state.ic (next_count t.shadow k)) (sym f.ensures.finished.shadow) a.ensures.accessed.noted.next);
-            others = λ j differ. ap (λ (y : Shadow). next_count y j) f.ensures.finished.shadow ∙ a.ensures.accessed.noted.others j differ;
+            shadow = a.ensures.accessed.noted.harts;
+            lasting = a.ensures.accessed.noted.lasting;
+            turn = a.ensures.accessed.noted.turn_is;
+            next = subst (λ (n : ℕ). next_count a.new.self.shadow k ≤ count_after words n (next_count t.shadow k)) ic a.ensures.accessed.noted.next;
+            others = a.ensures.accessed.noted.others;
             took = omega (arith, a.ensures.accessed.took, f.ensures.finished.took);
             size = f.ensures.finished.size ∙ a.ensures.accessed.size;
           }))
-          c.forget.ensures.shadow c.forget.ensures.harts c.forget.ensures.caches c.forget.ensures.log;
+          f.ensures.finished.shadow refl refl refl;
     }
 
-pub finish_here-next-requires : goal.finish_here-next-requires
-finish_here-next-requires c =
+pub finish_here-requires : goal.finish_here-requires
+finish_here-requires c =
     let p = c.args.self.now in
     let settings = p.start.settings in
     let k = c.args.hart in
@@ -141,6 +142,7 @@ finish_here-next-requires c =
       few = omega (arith, q.few, q.harts, ap (λ (v : Vec Hart Global). length v.items) same);
       caches = omega (arith, q.within, q.caches, a.ensures.accessed.count);
       steps = few_steps_more settings h (steps_in t.caches k) _ (touched_word None words) q.own.fit q.settings.limit_high q.own.steps (a.ensures.accessed.steps k ∙ if_true (k == k) _ _ (eqb_same k));
+      shadow = a.ensures.accessed.noted.harts ∙ q.shadow ∙ sym (ap (λ (v : Vec Hart Global). length v.items) same ∙ q.harts);
       fits = refl;
       number = subst (λ (v : Vec Hart Global). (hart_in v.items k).number < 2 ^ 62) (sym same) (low_number settings h q.own.fit q.settings.limit_high);
       skipped = subst (λ (v : Vec Hart Global). (hart_in v.items k).skipped < 2 ^ 32 - 1) (sym same) (few_skipped settings h q.own.fit q.settings.interval_high);
@@ -194,14 +196,5 @@ access_load-warm-requires c =
       room = some_room settings p.turns _ (taken t.log.ring) 17 q.few q.settings.limit_high q.left (omega (arith, q.log)) (omega arith);
     }
 
-pub forget-requires-clause-few : goal.forget-requires-clause-few
-forget-requires-clause-few c =
-    let p = c.args.self.now in
-    omega (arith, p.fits.few, p.fits.harts, ap (λ (v : Vec Hart Global). length v.items) c.access_load-warm.ensures.accessed.harts, c.finish_here-next.ensures.finished.len)
-
-pub forget-requires-clause-shadow : goal.forget-requires-clause-shadow
-forget-requires-clause-shadow c =
-    let p = c.args.self.now in
-    let a = c.access_load-warm.ensures.accessed in
-    let f = c.finish_here-next.ensures.finished in
-    ap harts_of f.shadow ∙ a.noted.harts ∙ p.fits.shadow ∙ sym (f.len ∙ ap (λ (v : Vec Hart Global). length v.items) a.harts ∙ p.fits.harts)
+pub overflow_add-self : goal.overflow_add-self
+overflow_add-self c = let p = c.args.self.now in omega (arith, few_turns p.start.settings p.turns _ p.fits.few p.fits.settings.limit_high p.fits.left)

@@ -1,4 +1,4 @@
-use Rattle.std.proofs.Common.{◌≡◌, ◌∙◌, ◌++◌, List, length, sym, subst, ap, length-set}
+use Rattle.std.proofs.Common.{◌≡◌, ◌∙◌, ◌++◌, List, length, sym, subst, ap, arith, length-set}
 use Rattle.std.specs.Prelude.{Vec}
 use Rattle.std.specs.Global.{Global}
 use Rattle.rv_meaning.specs.Execute.{absorbed}
@@ -8,10 +8,10 @@ use Rattle.run_model.specs.declared.log.Log.{Log}
 use Rattle.run_model.specs.declared.turn_end.TurnEnd.{TurnEnd}
 use Rattle.run_model.specs.Represents.EachCache.{AreCaches}
 use Rattle.run_model.specs.Represents.Harts.{AreHarts, hart_in}
-use Rattle.run_model.specs.Represents.Logs.{IsLog}
+use Rattle.run_model.specs.Represents.Logs.{taken, IsLog}
 use Rattle.run_model.specs.Turn.{events_after, harts_after, hart_after, skipped_after, next_of, next_records}
 use Rattle.run_model.proofs.Owns.{hart_at, next_at, own_after}
-use Rattle.run_model.proofs.Stopping.{with_own, own_set, others_then, ends_are}
+use Rattle.run_model.proofs.Stopping.{with_own, own_set, others_then, ends_are, is_finished}
 use Rattle.run_model.proofs.trace.Trace.finish.Goals as goal
 
 pub returns-clause-harts : goal.returns-clause-harts
@@ -60,3 +60,16 @@ returns-clause-caches c s span events are =
     let next = next_at c.args.settings.now c.args.call c.args.ask.now.want c.args.reply x h (absorbed c.args.ask.now c.args.reply).ic t.result there t.ensures.next in
     subst (λ (n : TurnEnd). AreCaches s c.begin.new.self.caches (events_after n c.args.hart c.args.call span events)) next
     (c.begin.ensures.caches s c.args.call span events are)
+
+pub returns-clause-finished : goal.returns-clause-finished
+returns-clause-finished c =
+    let hs = c.args.self.now.harts.items in
+    let x = c.index_mut-own.result.now in
+    let h = hart_in hs c.args.hart in
+    let t = c.take_turn-next in
+    let there = hart_at hs c.args.hart x c.requires.hart c.index_mut-own.ensures.value in
+    let next = next_at c.args.settings.now c.args.call c.args.ask.now.want c.args.reply x h (absorbed c.args.ask.now c.args.reply).ic t.result there t.ensures.next in
+    let log = c.begin.ensures.log in
+    is_finished c.args.self.now _ c.args.hart t.result _ _ _ next c.begin.ensures.shadow c.deref.ensures.value (c.end_others.ensures.len ∙ ap (λ (v : Vec Hart Global). length v.items) c.begin.ensures.harts ∙ length-set hs c.args.hart t.new.own)
+    c.begin.ensures.count c.begin.ensures.steps c.sweep_at_end.ensures.swept c.sweep_at_end.ensures.due
+    (omega (arith, t.ensures.took, ap (λ (l : Log). taken l.ring) log, c.end_others.ensures.took)) (c.end_others.ensures.size ∙ ap (λ (l : Log). l.ring.size) log ∙ t.ensures.size)
