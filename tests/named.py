@@ -196,6 +196,10 @@ MUTANTS = [
     ),
     ("The list of turns is saved under the log's name.", edit("log_commands", "the_list_is_saved_under_the_logs_name")),
     (
+        "A replay that is refused after its rows is told as out of memory.",
+        edit("log_commands", "a_refused_replay_is_told_as_out_of_memory"),
+    ),
+    (
         "A joint replay that is refused is told as out of memory.",
         edit("log_commands", "a_refused_joint_replay_is_told_as_out_of_memory"),
     ),

@@ -2,7 +2,7 @@
 pub use Rattle.std.proofs.Common.{Bool, Global, List, None, Option, Some, Vec, [], add-one, ap, append_assoc, arith, drop, drop-cons, false, get_or, inl, inr, length, nat_lt, refl, rules, subst, suc, sym, take, true, ℕ, ◌++◌, ◌+◌, ◌<◌, ◌==◌, ◌∙◌, ◌∷◌, ◌≡◌, ◌≢◌, ◌≤◌, ◌⊎◌}
 pub use Rattle.std.proofs.lemmas.Bool.{cases_lt}
 pub use Rattle.std.proofs.lemmas.Bool.Decides.{nat_tests}
-pub use Rattle.std.proofs.lemmas.List.{append-nil, drop_all, take-append-le, take_all}
+pub use Rattle.std.proofs.lemmas.List.{append-nil, drop_all, length-append, take-append-le, take_all}
 pub use Rattle.std.proofs.lemmas.Slice.Eq.{bytes_eq-Decides}
 pub use Rattle.std.specs.Io.KnownBytes.{Appends}
 pub use Rattle.std.specs.Prelude.{Err, IfErr, IfOk, IfSome, IsErrAnd, IsSomeAnd, Ok, OnErr, OnOk, Result, codes, is_some, not, option_map, vec_len}
@@ -48,7 +48,7 @@ pub use Rattle.log_commands.specs.NewLogs.{IsBySalvage, renewed, salvage_refusal
 pub use Rattle.log_commands.specs.Outside.{Always, CauseBy, FetchTells, Gathered, Gives, GivesOf, GivesTo, IsOwn, IsPrinted, KeptBoth, KeptFiles, KeptLog, KeptSaved, LogAlone, LogTells, MayChange, RefusalCause, Refuses, ResultCause, SameFiles, SaveBroke, SendStops, Sends, SendsBytes, SendsUntil, Sent, SentUntil, ToldRefusal, Unsaved, WithFiles, Wrote, saved_new, saved_of, told_of, told_of_new, told_of_reading, told_of_recording, unless, without}
 pub use Rattle.log_commands.specs.PairAnswers.{LoadsPair, by_reading}
 pub use Rattle.log_commands.specs.Pairs.{ByPair, LoadedPair, pair_loaded, pair_of, pair_roles, pair_same}
-pub use Rattle.log_commands.specs.Printed.{EndsAs, end_of_interval, ending_of, outcome_of, rest_text, text_from}
+pub use Rattle.log_commands.specs.Printed.{EndsAs, IsCutShort, LacksALine, SendsReplay, end_of_interval, ending_of, outcome_of, rest_text, text_from}
 pub use Rattle.log_commands.specs.RaceAnswers.{races_in, races_listed, races_unless, races_with}
 pub use Rattle.log_commands.specs.Refusals.{digest_text, joint_refusal, log_refusal, positions_text, replay_status, status_of}
 unfoldable pub use Rattle.log_commands.specs.Refusals.{elf_said, file_said, line_of, replay_said, said_of}

@@ -4,7 +4,7 @@ use Rattle.joint_replay.specs.declared.error.JointError.TheVariants.{Replay, Stu
 use Rattle.joint_replay.specs.declared.error.JointError.TheVariants as joint
 use Rattle.hart_replay.specs.declared.error.ReplayError.TheVariants as replay
 use Rattle.joint_replay.specs.Runs.{IsStarved}
-use Rattle.log_commands.proofs.Prints.{SoFar, so_far-none, so_far-more, so_far-gathered, so_far-done, so_far-stopped, so_far-ends, part-longer, part-behind, stops-later, appends-both}
+use Rattle.log_commands.proofs.Prints.{SoFar, so_far-none, so_far-more, so_far-gathered, so_far-done, so_far-stopped, so_far-ends, part-longer, part-behind, not-memory, stops-later, appends-both}
 use Rattle.log_commands.proofs.Acts.{until-prints, memory-prints}
 use Rattle.log_commands.proofs.Causes.{IsStop, joint-stop}
 
@@ -77,13 +77,6 @@ pub walks-done : RunsEnd → (whole now new : Joining) (waiting text : List ℕ)
     → Appends here there text → after ≤ last → Appends old there (text_of whole) × RanAs whole new None
 walks-done end whole now new waiting text old here there before after last a w h fell =
     ended end whole now new None old there before last waiting here after a.0 w (last-sent whole now waiting text old here there before after last a.1 w h fell)
-
--- a write failed, so memory didn't run out
-pub not-memory : (r : Refusal) {P : Type 0} → r ≡ WriteFailed → r ≡ OutOfMemory → P
-not-memory r write memory = absurd (apart (sym write ∙ memory))
-  where
-    apart : WriteFailed ≡ OutOfMemory → ⊥
-    apart e = absurd cc
 
 -- it is done once what waits is sent
 pub walks-sent : RunsEnd → (whole now new : Joining) (waiting text : List ℕ) (old here there : Stream) (result : Result (Unit {0}) Refusal) → Advances now (Ok false) new waiting text → Walks whole now waiting old.text here.text old.faults here.faults

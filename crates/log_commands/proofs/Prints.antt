@@ -1,5 +1,5 @@
 -- Texts that are sent one after another.
-use Rattle.log_commands.proofs.Common.{◌≡◌, ℕ, suc, ◌+◌, ◌≤◌, ◌<◌, List, [], ◌∷◌, ◌++◌, length, take, Option, Some, None, ◌∙◌, ap, subst, sym, refl, arith, inl, inr, ◌⊎◌, append_assoc, Result, Ok, Err, OnOk, OnErr, Appends, append-nil, take_all, take-append-le, cases_lt, Rose, AppendsPart, Sent, SendStops, Gathered, Wrote, Refusal, OutOfMemory, WriteFailed}
+use Rattle.log_commands.proofs.Common.{◌≡◌, ℕ, suc, ◌+◌, ◌≤◌, ◌<◌, List, [], ◌∷◌, ◌++◌, length, take, Option, Some, None, ◌∙◌, ap, subst, sym, refl, arith, inl, inr, ◌⊎◌, append_assoc, Result, Ok, Err, OnOk, OnErr, Appends, append-nil, length-append, take_all, take-append-le, cases_lt, Rose, AppendsPart, AppendsShort, Sent, SendStops, Gathered, Wrote, Refusal, OutOfMemory, WriteFailed}
 
 pub appends-nothing : (known : Option (List ℕ)) → Appends known known []
 appends-nothing None = tt
@@ -37,6 +37,28 @@ part-none known text = (0, appends-nothing known)
 
 pub part-whole : (old new : Option (List ℕ)) (text : List ℕ) → Appends old new text → AppendsPart old new text
 part-whole old new text h = (length text, subst (λ (t : List ℕ). Appends old new t) (sym (take_all (length text) text (omega arith))) h)
+
+-- a prefix of a text is short of a longer one
+pub part-short : (a b : Option (List ℕ)) (s t : List ℕ) → 0 < length t → AppendsPart a b s → AppendsShort a b (s ++ t)
+part-short a b s t some h = by (cases_lt (length s) h.0)
+  where
+    by : (length s < h.0) ⊎ (h.0 ≤ length s) → AppendsShort a b (s ++ t)
+    by (inl more) = (
+      length s,
+      omega (arith, some, length-append s t),
+      subst (λ (u : List ℕ). Appends a b u) (take_all h.0 s (omega (arith, more)) ∙ sym (take-append-le (length s) s t (omega arith) ∙ take_all (length s) s (omega arith))) h.1,
+    )
+    by (inr fewer) = (h.0, omega (arith, some, fewer, length-append s t), subst (λ (u : List ℕ). Appends a b u) (sym (take-append-le h.0 s t fewer)) h.1)
+
+pub short-longer : (a b : Option (List ℕ)) (s t : List ℕ) → AppendsShort a b s → AppendsShort a b (s ++ t)
+short-longer a b s t h = (h.0, omega (arith, h.1, length-append s t), subst (λ (u : List ℕ). Appends a b u) (sym (take-append-le h.0 s t (omega (arith, h.1)))) h.2)
+
+pub short-behind : (a b c : Option (List ℕ)) (s t : List ℕ) → Appends a b s → AppendsShort b c t → AppendsShort a c (s ++ t)
+short-behind a b c s t h k =
+    (length s + k.0, omega (arith, k.1, length-append s t), subst (λ (u : List ℕ). Appends a c u) (sym (take-behind s t k.0)) (appends-both a b c s (take k.0 t) h k.2))
+
+pub short-none : (known : Option (List ℕ)) (text : List ℕ) → 0 < length text → AppendsShort known known text
+short-none known text some = (0, some, appends-nothing known)
 
 -- counts that don't fall
 pub rose-later : (a b c : ℕ) → a ≤ b → Rose b c → Rose a c
@@ -100,6 +122,18 @@ pub so_far-stopped : (whole piece rest : List ℕ) (old now next : Option (List 
 so_far-stopped whole piece rest old now next before after last r s h =
     let more = part-longer now next piece rest h.0 in
     (subst (λ (t : List ℕ). AppendsPart old next t) (sym s.parts) (part-behind old now next s.sent (piece ++ rest) s.appended more), stops-later before after last r s.later h.1)
+
+-- or the last piece that was sent is short
+pub so_far-short : (whole piece rest : List ℕ) (old now next : Option (List ℕ)) (before after : ℕ) → SoFar whole (piece ++ rest) old now before after → AppendsShort now next piece → AppendsShort old next whole
+so_far-short whole piece rest old now next before after s h =
+    subst (λ (t : List ℕ). AppendsShort old next t) (sym s.parts) (short-behind old now next s.sent (piece ++ rest) s.appended (short-longer now next piece rest h))
+
+-- a write failed, so memory didn't run out
+pub not-memory : (r : Refusal) {P : Type 0} → r ≡ WriteFailed → r ≡ OutOfMemory → P
+not-memory r write memory = absurd (apart (sym write ∙ memory))
+  where
+    apart : WriteFailed ≡ OutOfMemory → ⊥
+    apart e = absurd cc
 
 -- what waits is the last piece
 pub so_far-last : {A : Type 0} (whole text rest : List ℕ) (old now next : Option (List ℕ)) (before after last : ℕ) (result : Result A Refusal)

@@ -1,10 +1,13 @@
 -- What a replay prints on out.
-use Rattle.std.specs.Prelude.{◌≡◌, List, [], ◌++◌, ℕ, Result, Ok, Err}
+use Rattle.std.specs.Prelude.{◌≡◌, ◌⊎◌, List, [], ◌++◌, ℕ, Result, Ok, Err, IfErr}
 use Rattle.bn_base.specs.declared.end_mark.EndMark.{EndMark}
 use Rattle.hart_replay.specs.Replay.{Outcome, Done, Refused, Replayed}
+use Rattle.hart_replay.specs.Coming.{Replaying, over}
 use Rattle.hart_replay.specs.declared.error.ReplayError.{ReplayError}
 use Rattle.hart_replay.specs.declared.error.ReplayError.TheVariants as replay
 use Rattle.rv_text.specs.Marks.{end_text}
+use Rattle.bn_outside.specs.Streams.{AppendsShort, Stream}
+use Rattle.log_commands.specs.Outside.{Sends}
 use Rattle.log_commands.specs.Texts.{begin_text, rows_text}
 use Rattle.log_commands.specs.declared.replay_lines.ReplayEnd.{ReplayEnd}
 use Rattle.log_commands.specs.declared.replay_lines.ReplayEnd.TheVariants as ending
@@ -37,3 +40,16 @@ rest_text hart interval mark r = rows_text r.rows ++ end_of_interval hart interv
 -- all that is printed of an interval that begins at this count and has this mark
 abbrev pub text_from : (hart interval ic : ℕ) → EndMark → Replayed → List ℕ
 text_from hart interval ic mark r = begin_text hart interval ic ++ rest_text hart interval mark r
+
+-- if memory ran out, a line of the text is missing
+abbrev pub LacksALine : List ℕ → (old new : Stream) → Refusal → Type 0
+LacksALine text old new refusal = refusal ≡ why.OutOfMemory → AppendsShort old.text new.text text
+
+-- or it ran out for the replay itself. So no other refusal of a replay is told as out of memory
+abbrev pub IsCutShort : List ℕ → (now : Replaying) → (old new : Stream) → Refusal → Type 0
+IsCutShort text now old new refusal = refusal ≡ why.OutOfMemory → (now.left ≡ over (Refused replay.OutOfMemory)) ⊎ AppendsShort old.text new.text text
+
+-- a text was sent, and the replay ends so; or a prefix of it was sent
+pub record SendsReplay (text : List ℕ) (outcome : Outcome) (now : Replaying) (old new : Stream) (result : Result ReplayEnd Refusal) : Type 0 where
+  pub sends : Sends text (EndsAs outcome) old new result
+  pub memory : IfErr result (IsCutShort text now old new)

@@ -1,8 +1,8 @@
 //! The lines of an interval that is replayed: one at its begin, one a row, one at its end.
-ghost use Rattle.std.specs.Prelude.{◌≡◌, ◌++◌, []};
+ghost use Rattle.std.specs.Prelude.{◌≡◌, ◌++◌, [], IfErr};
 ghost use Rattle.rv_text.specs.Rows.{row_text};
 ghost use Rattle.log_commands.specs.Texts.{rows_text, begin_text};
-ghost use Rattle.log_commands.specs.Printed.{EndsAs, outcome_of, ending_of, end_of_interval, rest_text, text_from};
+ghost use Rattle.log_commands.specs.Printed.{outcome_of, ending_of, end_of_interval, rest_text, text_from, LacksALine, SendsReplay};
 ghost use Rattle.log_commands.specs.Outside.{Sends, Gathers, Always};
 
 use crate::refusal::Refusal;
@@ -30,7 +30,8 @@ fn gather_row<O: Sink>(
     row: &Row,
     out: &mut O,
 ) -> Result<(), Refusal>
-    ensures { Gathers (text.old ++ row_text row.now) text.new (O.stream out.old) (O.stream out.new) result }
+    ensures gathers { Gathers (text.old ++ row_text row.now) text.new (O.stream out.old) (O.stream out.new) result }
+    ensures memory { IfErr result (LacksALine (text.old ++ row_text row.now) (O.stream out.old) (O.stream out.new)) }
 {
     match lines.write_row(row, text) {
         Ok(()) => send_block(text, out),
@@ -60,7 +61,7 @@ fn send_left<O: Sink>(
     out: &mut O,
 ) -> Result<ReplayEnd, Refusal>
     requires { text.old ≡ [] }
-    ensures { let r = replayer.old.left in Sends (rows_text r.rows) (EndsAs r.outcome) (O.stream out.old) (O.stream out.new) result }
+    ensures { let r = replayer.old.left in SendsReplay (rows_text r.rows) r.outcome replayer.new (O.stream out.old) (O.stream out.new) result }
 {
     'rows: loop {
         match replayer.step() {
@@ -83,7 +84,7 @@ fn send_rows<O: Sink>(
     replayer: &mut Replayer,
     out: &mut O,
 ) -> Result<ReplayEnd, Refusal>
-    ensures { let r = replayer.old.left in Sends (rows_text r.rows) (EndsAs r.outcome) (O.stream out.old) (O.stream out.new) result }
+    ensures { let r = replayer.old.left in SendsReplay (rows_text r.rows) r.outcome replayer.new (O.stream out.old) (O.stream out.new) result }
 {
     let mut text = Text::new(alloc);
     let mut lines = RowLines::new(alloc);
@@ -98,7 +99,8 @@ fn send_begin<O: Sink>(
     ic: u64,
     out: &mut O,
 ) -> Result<(), Refusal>
-    ensures { Sends (begin_text hart interval ic) Always (O.stream out.old) (O.stream out.new) result }
+    ensures sends { Sends (begin_text hart interval ic) Always (O.stream out.old) (O.stream out.new) result }
+    ensures memory { IfErr result (LacksALine (begin_text hart interval ic) (O.stream out.old) (O.stream out.new)) }
 {
     let mut text = Text::new(alloc);
     push_begin(&mut text, hart, interval, ic)?;
@@ -114,7 +116,8 @@ fn send_end<O: Sink>(
     ending: &ReplayEnd,
     out: &mut O,
 ) -> Result<(), Refusal>
-    ensures { Sends (end_of_interval hart interval mark.now (outcome_of ending.now)) Always (O.stream out.old) (O.stream out.new) result }
+    ensures sends { Sends (end_of_interval hart interval mark.now (outcome_of ending.now)) Always (O.stream out.old) (O.stream out.new) result }
+    ensures memory { IfErr result (LacksALine (end_of_interval hart interval mark.now (outcome_of ending.now)) (O.stream out.old) (O.stream out.new)) }
 {
     match ending {
         ReplayEnd::Done => {
@@ -135,7 +138,7 @@ fn send_rest<O: Sink>(
     replayer: &mut Replayer,
     out: &mut O,
 ) -> Result<ReplayEnd, Refusal>
-    ensures { let r = replayer.old.left in Sends (rest_text hart interval mark.now r) (EndsAs r.outcome) (O.stream out.old) (O.stream out.new) result }
+    ensures { let r = replayer.old.left in SendsReplay (rest_text hart interval mark.now r) r.outcome replayer.new (O.stream out.old) (O.stream out.new) result }
 {
     let ending = send_rows(alloc, replayer, out)?;
     send_end(alloc, hart, interval, mark, &ending, out)?;
@@ -151,7 +154,7 @@ pub fn send_interval<O: Sink>(
     replayer: &mut Replayer,
     out: &mut O,
 ) -> Result<ReplayEnd, Refusal>
-    ensures { let r = replayer.old.left in Sends (text_from hart interval replayer.old.state.ic mark.now r) (EndsAs r.outcome) (O.stream out.old) (O.stream out.new) result }
+    ensures { let r = replayer.old.left in SendsReplay (text_from hart interval replayer.old.state.ic mark.now r) r.outcome replayer.new (O.stream out.old) (O.stream out.new) result }
 {
     send_begin(alloc, hart, interval, replayer.state().ic, out)?;
     send_rest(alloc, hart, interval, mark, replayer, out)

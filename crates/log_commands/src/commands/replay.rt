@@ -6,6 +6,7 @@ ghost use Rattle.log_commands.specs.Logs.{IsBegun, IsAbsent};
 ghost use Rattle.log_commands.specs.declared.refusal.Refusal.TheVariants.{OutOfMemory};
 ghost use Rattle.log_commands.specs.Answering.{Answers};
 ghost use Rattle.log_commands.specs.Pairs.{pair_of};
+ghost use Rattle.log_commands.specs.Printed.{text_from, IsCutShort};
 ghost use Rattle.log_commands.specs.Effects.{PrintsTo};
 
 use crate::answer::{Answer, IntervalToReplay};
@@ -63,7 +64,8 @@ fn print_begun<O: Sink>(
     out: &mut O,
 ) -> Result<(), Refusal>
     requires { IsBegun reading.now replayer.old mark.now }
-    ensures { PrintsTo (λ names. told_of_reading names reading.now) (O.stream out.old) (O.stream out.new) result }
+    ensures prints { PrintsTo (λ names. told_of_reading names reading.now) (O.stream out.old) (O.stream out.new) result }
+    ensures memory { let r = replayer.old in IfErr result (IsCutShort (text_from reading.now.hart reading.now.interval r.state.ic mark.now r.left) replayer.new (O.stream out.old) (O.stream out.new)) }
 {
     let end = send_interval(alloc, reading.hart, reading.interval, mark, replayer, out)?;
     match end {

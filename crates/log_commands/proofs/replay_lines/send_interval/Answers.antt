@@ -1,6 +1,7 @@
-use Rattle.log_commands.proofs.Common.{◌≡◌, arith, Sends, EndsAs, outcome_of, rest_text, text_from, begin_text}
+use Rattle.log_commands.proofs.Common.{◌≡◌, arith, inr, SendsReplay, outcome_of, rest_text, text_from, begin_text}
 use Rattle.log_commands.proofs.Answering.{passed-on}
-use Rattle.log_commands.proofs.Prints.{sent-both, sent-stopped}
+use Rattle.log_commands.proofs.Prints.{sent-both, sent-stopped, short-longer}
+use Rattle.log_commands.proofs.Rows.{cut-result}
 use Rattle.log_commands.proofs.replay_lines.send_interval.Goals as goal
 
 pub returns-in_err-send_begin : goal.returns-in_err-send_begin
@@ -8,10 +9,15 @@ returns-in_err-send_begin g c =
     let r = c.args.replayer.now in
     let old = g.O.Sink.stream c.args.out.now in
     let mid = g.O.Sink.stream c.send_begin.new.out in
-    passed-on (Sends (text_from c.args.hart c.args.interval r.state.ic c.args.mark.now r.left) (EndsAs r.left.outcome) old mid) _ c.from_residual.result c.from_residual.ensures.1
+    let begin = begin_text c.args.hart c.args.interval r.state.ic in
+    let rest = rest_text c.args.hart c.args.interval c.args.mark.now r.left in
+    passed-on (SendsReplay (text_from c.args.hart c.args.interval r.state.ic c.args.mark.now r.left) r.left.outcome r old mid) _ c.from_residual.result c.from_residual.ensures.1
     (record {
-      sent = sent-stopped old.text mid.text old.faults mid.faults (begin_text c.args.hart c.args.interval r.state.ic) (rest_text c.args.hart c.args.interval c.args.mark.now r.left) _ (rw c.state.ensures at c.in_err-send_begin.ensures.sent);
-      later = c.send_begin.ensures.later;
+      sends = record {
+        sent = sent-stopped old.text mid.text old.faults mid.faults begin rest _ (rw c.state.ensures at c.in_err-send_begin.ensures.sends.sent);
+        later = c.send_begin.ensures.sends.later;
+      };
+      memory = λ m. inr (short-longer old.text mid.text begin rest (rw c.state.ensures at c.in_err-send_begin.ensures.memory m));
     })
 
 pub returns : goal.returns
@@ -20,8 +26,13 @@ returns g c =
     let old = g.O.Sink.stream c.args.out.now in
     let mid = g.O.Sink.stream c.send_begin.new.out in
     let new = g.O.Sink.stream c.send_rest.new.out in
+    let begin = begin_text c.args.hart c.args.interval r.state.ic in
+    let rest = rest_text c.args.hart c.args.interval c.args.mark.now r.left in
+    let first = (rw c.state.ensures at c.in_ok-send_begin.ensures.sends.sent.0) in
     record {
-      sent = sent-both {A = Unit {0}} old.text mid.text new.text old.faults mid.faults new.faults
-          (begin_text c.args.hart c.args.interval r.state.ic) (rest_text c.args.hart c.args.interval c.args.mark.now r.left) (λ ending. outcome_of ending ≡ r.left.outcome) tt c.send_rest.result (rw c.state.ensures at c.in_ok-send_begin.ensures.sent.0) c.send_begin.ensures.later c.send_rest.ensures.sent;
-      later = omega (arith, c.send_begin.ensures.later, c.send_rest.ensures.later);
+      sends = record {
+        sent = sent-both {A = Unit {0}} old.text mid.text new.text old.faults mid.faults new.faults begin rest (λ ending. outcome_of ending ≡ r.left.outcome) tt c.send_rest.result first c.send_begin.ensures.sends.later c.send_rest.ensures.sends.sent;
+        later = omega (arith, c.send_begin.ensures.sends.later, c.send_rest.ensures.sends.later);
+      };
+      memory = cut-result begin rest c.send_rest.new.replayer old mid new c.send_rest.result first c.send_rest.ensures.memory;
     }

@@ -1,7 +1,8 @@
-use Rattle.log_commands.proofs.Common.{◌≡◌, ℕ, List, Option, sym, subst, arith, Result, Ok, Row, Stepped, rows_text, outcome_of, EndsAs, Sent, Sends, ReplayEnd, Refusal}
+use Rattle.log_commands.proofs.Common.{IfErr, IsCutShort, Replaying, ◌≡◌, ℕ, ap, inr, List, Option, sym, subst, arith, Result, Ok, Row, Stepped, rows_text, outcome_of, SendsReplay, Sent, ReplayEnd, Refusal}
 use Rattle.std.specs.Prelude.{Some, None}
 use Rattle.log_commands.proofs.Answering.{passed-on}
-use Rattle.log_commands.proofs.Rows.{RowsSoFar, stands-none, stands-more, stands-stopped, stands-sent, stands-short, stands-done, stands-refused}
+use Rattle.log_commands.proofs.Rows.{RowsSoFar, stands-none, stands-more, stands-stopped, stands-sent, stands-short, stands-done, stands-refused, stands-lacking, ends-without}
+use Rattle.log_commands.proofs.Prints.{not-memory}
 use Rattle.log_commands.proofs.replay_lines.send_left.Goals as goal
 
 pub rows-preserved : goal.rows-preserved
@@ -11,7 +12,7 @@ rows-preserved g c =
     let there = g.O.Sink.stream c.gather_row.new.out in
     let step : Stepped c.rows.replayer (Ok (Some c.in-Ok-Some.row)) c.step.new.self = subst (λ (o : Option Row). Stepped c.rows.replayer (Ok o) c.step.new.self) c.in-Ok-Some.field-0-is c.in-Ok-Some.ensures in
     stands-more c.args.replayer.now.left c.rows.replayer.left c.step.new.self.left c.in-Ok-Some.row c.rows.text c.gather_row.new.text old.text here.text there.text old.faults here.faults there.faults
-    step.0 c.rows.invariant c.in_ok-gather_row-in-Ok-Some.ensures.sent c.gather_row.ensures.later
+    step.0 c.rows.invariant c.in_ok-gather_row-in-Ok-Some.ensures.gathers.sent c.gather_row.ensures.gathers.later
 
 pub returns-in_err-gather_row-in-Ok-Some : goal.returns-in_err-gather_row-in-Ok-Some
 returns-in_err-gather_row-in-Ok-Some g c =
@@ -21,10 +22,13 @@ returns-in_err-gather_row-in-Ok-Some g c =
     let there = g.O.Sink.stream c.gather_row.new.out in
     let x = c.in_err-gather_row-in-Ok-Some.field-0.0 in
     let step : Stepped c.rows.replayer (Ok (Some c.in-Ok-Some.row)) c.step.new.self = subst (λ (o : Option Row). Stepped c.rows.replayer (Ok o) c.step.new.self) c.in-Ok-Some.field-0-is c.in-Ok-Some.ensures in
-    passed-on (Sends (rows_text left.rows) (EndsAs left.outcome) old there) x c.from_residual.result c.from_residual.ensures.1
+    passed-on (SendsReplay (rows_text left.rows) left.outcome c.step.new.self old there) x c.from_residual.result c.from_residual.ensures.1
     (record {
-      sent = stands-stopped left c.rows.replayer.left c.step.new.self.left c.in-Ok-Some.row c.rows.text old.text here.text there.text old.faults here.faults there.faults x step.0 c.rows.invariant c.in_err-gather_row-in-Ok-Some.ensures.sent;
-      later = omega (arith, c.rows.invariant.sent.later, c.gather_row.ensures.later);
+      sends = record {
+        sent = stands-stopped left c.rows.replayer.left c.step.new.self.left c.in-Ok-Some.row c.rows.text old.text here.text there.text old.faults here.faults there.faults x step.0 c.rows.invariant c.in_err-gather_row-in-Ok-Some.ensures.gathers.sent;
+        later = omega (arith, c.rows.invariant.sent.later, c.gather_row.ensures.gathers.later);
+      };
+      memory = λ m. inr (stands-lacking left c.rows.replayer.left c.step.new.self.left c.in-Ok-Some.row c.rows.text old here there step.0 c.rows.invariant (c.in_err-gather_row-in-Ok-Some.ensures.memory m));
     })
 
 pub returns-in-Ok-None : goal.returns-in-Ok-None
@@ -35,9 +39,12 @@ returns-in-Ok-None g c =
     let there = g.O.Sink.stream c.send.new.sink in
     let step : Stepped c.rows.replayer (Ok None) c.step.new.self = subst (λ (o : Option Row). Stepped c.rows.replayer (Ok o) c.step.new.self) c.in-Ok-None.field-0-is c.in-Ok-None.ensures in
     record {
-      sent = stands-done left c.rows.replayer.left old.text there.text old.faults there.faults step.0
-          (stands-sent left c.rows.replayer.left c.rows.text old.text here.text there.text old.faults here.faults there.faults c.rows.invariant c.in_ok-send-in-Ok-None.ensures.sends.sent.0 c.send.ensures.sends.later);
-      later = omega (arith, c.rows.invariant.sent.later, c.send.ensures.sends.later);
+      sends = record {
+        sent = stands-done left c.rows.replayer.left old.text there.text old.faults there.faults step.0
+            (stands-sent left c.rows.replayer.left c.rows.text old.text here.text there.text old.faults here.faults there.faults c.rows.invariant c.in_ok-send-in-Ok-None.ensures.sends.sent.0 c.send.ensures.sends.later);
+        later = omega (arith, c.rows.invariant.sent.later, c.send.ensures.sends.later);
+      };
+      memory = tt;
     }
 
 pub returns-in_err-send-in-Ok-None : goal.returns-in_err-send-in-Ok-None
@@ -47,10 +54,13 @@ returns-in_err-send-in-Ok-None g c =
     let here = g.O.Sink.stream c.rows.out in
     let there = g.O.Sink.stream c.send.new.sink in
     let x = c.in_err-send-in-Ok-None.field-0.0 in
-    passed-on (Sends (rows_text left.rows) (EndsAs left.outcome) old there) x c.from_residual-in_err-send-in-Ok-None.result c.from_residual-in_err-send-in-Ok-None.ensures.1
+    passed-on (SendsReplay (rows_text left.rows) left.outcome c.step.new.self old there) x c.from_residual-in_err-send-in-Ok-None.result c.from_residual-in_err-send-in-Ok-None.ensures.1
     (record {
-      sent = stands-short left c.rows.replayer.left c.rows.text old.text here.text there.text old.faults here.faults there.faults x c.rows.invariant c.in_err-send-in-Ok-None.ensures.sends.sent;
-      later = omega (arith, c.rows.invariant.sent.later, c.send.ensures.sends.later);
+      sends = record {
+        sent = stands-short left c.rows.replayer.left c.rows.text old.text here.text there.text old.faults here.faults there.faults x c.rows.invariant c.in_err-send-in-Ok-None.ensures.sends.sent;
+        later = omega (arith, c.rows.invariant.sent.later, c.send.ensures.sends.later);
+      };
+      memory = λ m. not-memory x c.in_err-send-in-Ok-None.ensures.write m;
     })
 
 pub returns-in-Err : goal.returns-in-Err
@@ -60,10 +70,14 @@ returns-in-Err g c =
     let here = g.O.Sink.stream c.rows.out in
     let there = g.O.Sink.stream c.send-in-Err.new.sink in
     record {
-      sent = subst (λ (r : Result ReplayEnd Refusal). Sent old.text there.text old.faults there.faults (rows_text left.rows) (λ ending. outcome_of ending ≡ left.outcome) r) (sym c.ending_of.ensures)
-          (stands-refused left c.rows.replayer.left old.text there.text old.faults there.faults c.in-Err.error c.in-Err.ensures.0
-          (stands-sent left c.rows.replayer.left c.rows.text old.text here.text there.text old.faults here.faults there.faults c.rows.invariant c.in_ok-send-in-Err.ensures.sends.sent.0 c.send-in-Err.ensures.sends.later));
-      later = omega (arith, c.rows.invariant.sent.later, c.send-in-Err.ensures.sends.later);
+      sends = record {
+        sent = subst (λ (r : Result ReplayEnd Refusal). Sent old.text there.text old.faults there.faults (rows_text left.rows) (λ ending. outcome_of ending ≡ left.outcome) r) (sym c.ending_of.ensures)
+            (stands-refused left c.rows.replayer.left old.text there.text old.faults there.faults c.in-Err.error c.in-Err.ensures.0
+            (stands-sent left c.rows.replayer.left c.rows.text old.text here.text there.text old.faults here.faults there.faults c.rows.invariant c.in_ok-send-in-Err.ensures.sends.sent.0 c.send-in-Err.ensures.sends.later));
+        later = omega (arith, c.rows.invariant.sent.later, c.send-in-Err.ensures.sends.later);
+      };
+      memory = subst (λ (r : Result ReplayEnd Refusal). IfErr r (IsCutShort (rows_text left.rows) c.step.new.self old there)) (sym c.ending_of.ensures)
+          (ends-without (rows_text left.rows) old there c.step.new.self c.in-Err.error (ap (λ (r : Replaying). r.left) c.in-Err.ensures.1));
     }
 
 pub returns-in_err-send-in-Err : goal.returns-in_err-send-in-Err
@@ -73,10 +87,13 @@ returns-in_err-send-in-Err g c =
     let here = g.O.Sink.stream c.rows.out in
     let there = g.O.Sink.stream c.send-in-Err.new.sink in
     let x = c.in_err-send-in-Err.field-0.0 in
-    passed-on (Sends (rows_text left.rows) (EndsAs left.outcome) old there) x c.from_residual-in_err-send-in-Err.result c.from_residual-in_err-send-in-Err.ensures.1
+    passed-on (SendsReplay (rows_text left.rows) left.outcome c.step.new.self old there) x c.from_residual-in_err-send-in-Err.result c.from_residual-in_err-send-in-Err.ensures.1
     (record {
-      sent = stands-short left c.rows.replayer.left c.rows.text old.text here.text there.text old.faults here.faults there.faults x c.rows.invariant c.in_err-send-in-Err.ensures.sends.sent;
-      later = omega (arith, c.rows.invariant.sent.later, c.send-in-Err.ensures.sends.later);
+      sends = record {
+        sent = stands-short left c.rows.replayer.left c.rows.text old.text here.text there.text old.faults here.faults there.faults x c.rows.invariant c.in_err-send-in-Err.ensures.sends.sent;
+        later = omega (arith, c.rows.invariant.sent.later, c.send-in-Err.ensures.sends.later);
+      };
+      memory = λ m. not-memory x c.in_err-send-in-Err.ensures.write m;
     })
 
 pub rows-init : goal.rows-init

@@ -1,6 +1,7 @@
 use Rattle.log_commands.proofs.Common.{ℕ, List, Bool, inr, ◌∙◌, sym, subst, arith, Ok, Err, run_all, Advances, steps_text, stop_of, SendsSteps, SentUntil, Refusal}
 use Rattle.log_commands.proofs.Answering.{passed-on}
-use Rattle.log_commands.proofs.Joins.{Walks, walks-none, walks-sent, walks-more, walks-stopped, walks-short, walks-ended, walks-memory, not-memory}
+use Rattle.log_commands.proofs.Joins.{Walks, walks-none, walks-sent, walks-more, walks-stopped, walks-short, walks-ended, walks-memory}
+use Rattle.log_commands.proofs.Prints.{not-memory}
 use Rattle.log_commands.proofs.commands.joint.send_run.Goals as goal
 
 pub steps-init : goal.steps-init
