@@ -215,7 +215,7 @@ MUTANTS = [
         edit("host_outside", "a_loaded_file_is_overwritten_after_its_refusal"),
     ),
     ("A load remembers no file.", edit("host_outside", "a_load_remembers_nothing")),
-    ("A save remembers no file that has bytes.", edit("host_outside", "a_saved_file_is_forgotten")),
+    ("A save remembers no file.", edit("host_outside", "a_saved_file_is_forgotten")),
     ("A file that is too long is told as missing.", edit("host_outside", "a_long_file_is_told_as_missing")),
     (
         "A reader is read again after it said that it ended.",
