@@ -143,7 +143,7 @@ pub use Rattle.bugnet.specs.LineCalls.{AnswersDemo, CallsOnly, CallsSo, HasShape
 pub use Rattle.bugnet.specs.Recordings.{AreTaken, IsRun, book_if, end_by, instructions_of, is_fault, is_limit, marks_of, recorded}
 unfoldable pub use Rattle.bugnet.specs.Recordings.{told_run}
 pub use Rattle.bugnet.specs.Replies.{Does, RepliesTo, closed}
-pub use Rattle.bugnet.specs.Run.{ByWords, ChangesFew, Keeps, Obeys, StoppedEarly, TellsAnswer}
+pub use Rattle.bugnet.specs.Run.{ByWords, ChangesFew, IsCounted, Keeps, Obeys, StoppedEarly, TellsAnswer}
 pub use Rattle.bugnet.specs.Saves.{HasElf, HasList, HoldsBytes, IsWithin, Leaves, LeavesRun, SameButSaved, TellsEnd}
 pub use Rattle.bugnet.specs.Sessions.{AreRead, CanDebug, Commands, EndsBy, EndsWithQuit, IsDebug, IsSession, IsUnread, NoQuit, NoneEnds, Reading, ReadsAll, ReadsOnce, SessionOver, SessionReads, debug_with, input_in, is_begun, reading, session_line, session_status, stop_status, whole_input}
 unfoldable pub use Rattle.bugnet.specs.Sessions.{session_told}

@@ -482,12 +482,7 @@ session-does g laws limits show stay (DebugLine log elf) names status note i k i
     obeys = record {
       told = answers-so names log elf status i.before i.after i.notes k e d.told;
       words = d.words;
-      failed = d.failed;
-      missing = d.missing;
-      long = d.long;
-      write = d.write;
-      later = d.later;
-      counts = d.counts;
+      counted = d.counted;
     };
     still = λ p. d.same;
     saves = d.asks;

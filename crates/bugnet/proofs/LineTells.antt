@@ -1,5 +1,6 @@
 -- What a whole call of the program does, from what its parts do.
-use Rattle.bugnet.proofs.Common.{◌≡◌, ℕ, [], Option, subst, inl, inr, ◌⊎◌, Ok, Err, Appends, Files, WhereTold, Stored, Line, FileNames, Told, refused, names_by, IsAnswer, ToldRefusal, WithFiles, IsEarly, GivesBy, told_of, SameFiles, KeptFiles, MayChange, Call, IsFree, IsUnsaved, AreKept, Tells, SomeTold, Acts, StoppedEarly, TellsAnswer, Keeps, ChangesFew, ByWords, Obeys, Answer, Refusal, memory-or-store, refused-told, same-files, tells-few, tells-keeps, unsaved-free, with-files, from, NoneFell, rose-later, fell-later}
+use Rattle.bugnet.proofs.Common.{◌≡◌, ℕ, [], Option, subst, inl, inr, ◌⊎◌, Ok, Err, Appends, Files, WhereTold, Stored, Line, FileNames, Told, refused, names_by, IsAnswer, ToldRefusal, WithFiles, IsEarly, GivesBy, told_of, SameFiles, KeptFiles, MayChange, Call, IsFree, IsUnsaved, AreKept, Tells, SomeTold, Acts, StoppedEarly, TellsAnswer, Keeps, ChangesFew, ByWords, IsCounted, Obeys, Causes, Answer, Refusal, memory-or-store, refused-told, same-files, tells-few, tells-keeps, unsaved-free, with-files, from, NoneFell, rose-later, fell-later}
+use Rattle.log_commands.specs.Effects.{NoWriteFell}
 use Rattle.log_commands.specs.declared.names.Role.TheVariants as role
 
 -- ---- what a call that tells has done
@@ -75,10 +76,23 @@ pub acted : (line : Option Line) (status : ℕ) (old : Stored) (l : Call) (names
 acted line status old l names what counts a told words = record {
   told = told;
   words = words;
-  failed = λ e. rose-later old.counts.faults l.old.store.counts.faults l.new.store.counts.faults counts.faults (a.failed e);
-  missing = λ e. absurd (a.missing e);
-  long = λ e. absurd (a.long e);
-  write = a.write;
-  later = record { out = a.later.out; err = a.later.err };
-  counts = fell-later old.counts l.old.store.counts l.new.store.counts counts a.counts;
+  counted = record {
+    failed = λ e. rose-later old.counts.faults l.old.store.counts.faults l.new.store.counts.faults counts.faults (a.failed e);
+    missing = λ e. absurd (a.missing e);
+    long = λ e. absurd (a.long e);
+    write = a.write;
+    later = record { out = a.later.out; err = a.later.err };
+    counts = fell-later old.counts l.old.store.counts l.new.store.counts counts a.counts;
+  };
+}
+
+-- one that was refused, but by no write
+pub is_counted : (status : ℕ) (k : Call) → Causes k.old.store.counts k.new.store.counts status → NoWriteFell k → NoneFell k.old.store.counts k.new.store.counts → IsCounted status k
+is_counted status k causes later counts = record {
+  failed = causes.three;
+  missing = causes.four;
+  long = causes.five;
+  write = λ e. absurd (causes.write e);
+  later = later;
+  counts = counts;
 }

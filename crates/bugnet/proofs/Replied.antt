@@ -6,7 +6,7 @@ use Rattle.bugnet.proofs.Asks.{line-none, line-acts}
 use Rattle.bugnet.proofs.Leaves.{leaves-none}
 use Rattle.bugnet.proofs.Debugs.{debugs-early}
 use Rattle.bugnet.proofs.LineCalls.{words-calls, unread-calls, refusal-calls, answer-calls, demo-unread, demo-refused, demo-answers}
-use Rattle.bugnet.proofs.LineTells.{refusal-answers, answer-answers, acted}
+use Rattle.bugnet.proofs.LineTells.{refusal-answers, answer-answers, acted, is_counted}
 use Rattle.bugnet.specs.DebugSessions.{Debugs}
 
 -- a line that records nothing leaves no recording
@@ -26,12 +26,7 @@ line-refused line names note old new out err r named h = λ status end told.
         obeys = record {
           told = refusal-answers (Some line) names r status k named out-same h.same h.told told.0;
           words = subst (λ (n : FileNames). IsByWords (refusal_in line) n status k) named (refusal-words Answer (refusal_in line) old.counts new.counts names r status k h.cause out-same told.0);
-          failed = causes.three;
-          missing = causes.four;
-          long = causes.five;
-          write = λ e. absurd (causes.write e);
-          later = record { out = omega arith; err = told.1 };
-          counts = h.later;
+          counted = is_counted status k causes (record { out = omega arith; err = told.1 }) h.later;
         };
         still = λ p. h.same;
         saves = line-none (Some line) status old.saves new.saves (none-saved status apart causes.write) h.asks;
@@ -75,12 +70,7 @@ unanswered line note source gives input w status end causes told words saves cal
     obeys = record {
       told = told;
       words = words;
-      failed = causes.three;
-      missing = causes.four;
-      long = causes.five;
-      write = λ e. absurd (causes.write e);
-      later = record { out = omega arith; err = later };
-      counts = none-fell w.store.counts;
+      counted = is_counted status (between w (with_err w end)) causes (record { out = omega arith; err = later }) (none-fell w.store.counts);
     };
     still = λ p. refl;
     saves = saves;

@@ -33,14 +33,17 @@ abbrev pub ChangesFew : Option Line → (old new : Option Files) → Type 0
 ChangesFew line old new =
     WithFiles old (λ files. SomeTold (IsAnswer line files) (λ what. WhereTold old new (MayChange what.saved (names_by line).log (names_by line).book)) ⊎ WhereTold old new SameFiles)
 
--- What a command does: it tells what it has to answer. A refusal by the outside comes only if its count rose, and no count
--- falls
-pub record Obeys (line : Option Line) (status : ℕ) (k : Call) : Type 0 where
-  pub told : TellsAnswer line status k
-  pub words : ByWords line status k
+-- a refusal by the outside comes only if its count rose, and no count falls
+pub record IsCounted (status : ℕ) (k : Call) : Type 0 where
   pub failed : status ≡ code exit.StoreFailed → Rose k.old.store.counts.faults k.new.store.counts.faults
   pub missing : status ≡ code exit.Missing → Rose k.old.store.counts.misses k.new.store.counts.misses
   pub long : status ≡ code exit.TooLong → Rose k.old.store.counts.longs k.new.store.counts.longs
   pub write : status ≡ code exit.WriteFailed → WriteRose k
   pub later : NoWriteFell k
   pub counts : NoneFell k.old.store.counts k.new.store.counts
+
+-- what a command does: it tells what it has to answer
+pub record Obeys (line : Option Line) (status : ℕ) (k : Call) : Type 0 where
+  pub told : TellsAnswer line status k
+  pub words : ByWords line status k
+  pub counted : IsCounted status k

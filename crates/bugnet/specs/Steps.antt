@@ -1,10 +1,10 @@
 -- How the command `debug` goes: the end of a session, one with a log and its program, and one by their names.
 use Rattle.std.specs.Prelude.{◌≡◌, ◌≢◌, ◌≤◌, ◌⊎◌, ℕ, true, List, Option, None, Result}
-use Rattle.bn_outside.specs.Counts.{Rose, NoneFell}
+use Rattle.bn_outside.specs.Counts.{Rose}
 use Rattle.joint_replay.specs.Joining.{Joining}
 use Rattle.step_debugger.specs.Transcript.{transcript}
 use Rattle.step_debugger.specs.declared.error.DebugError.{DebugError}
-use Rattle.log_commands.specs.Effects.{Call, printing_on, SomeTold, Tells, StoppedBy, WriteRose, NoWriteFell, IsClosed, done_of, world, between}
+use Rattle.log_commands.specs.Effects.{Call, printing_on, SomeTold, Tells, StoppedBy, IsClosed, done_of, world, between}
 use Rattle.log_commands.specs.FileCalls.{Note, loads_of}
 use Rattle.bn_outside.specs.Files.{Stored}
 use Rattle.log_commands.specs.Names.{FileNames}
@@ -14,6 +14,7 @@ use Rattle.log_commands.specs.Pairs.{HasPair, pair_roles}
 use Rattle.log_commands.specs.declared.refusal.Refusal.{Refusal}
 use Rattle.bugnet.specs.DebugSessions.{SessionIs}
 use Rattle.bugnet.specs.LineCalls.{CallsSo}
+use Rattle.bugnet.specs.Run.{IsCounted}
 use Rattle.bugnet.specs.Sessions.{Commands, Reading, AreRead, IsUnread, SessionOver, input_in, stop_refusal, session_told, is_begun, IsSession, IsDebug}
 use Rattle.log_commands.specs.Statuses.{code}
 use Rattle.log_commands.specs.declared.status.Status.TheVariants as exit
@@ -58,12 +59,7 @@ pub record DebugsEnds {I : Type 0} (names : FileNames) (status : ℕ) (note : No
   pub asks : k.new.store.saves ≡ k.old.store.saves
   pub calls : CallsSo names (loads_of pair_roles) (loads_of pair_roles) None is_begun status note k
   pub words : status ≢ code exit.WordsRefused
-  pub failed : status ≡ code exit.StoreFailed → Rose k.old.store.counts.faults k.new.store.counts.faults
-  pub missing : status ≡ code exit.Missing → Rose k.old.store.counts.misses k.new.store.counts.misses
-  pub long : status ≡ code exit.TooLong → Rose k.old.store.counts.longs k.new.store.counts.longs
-  pub write : status ≡ code exit.WriteFailed → WriteRose k
-  pub later : NoWriteFell k
-  pub counts : NoneFell k.old.store.counts k.new.store.counts
+  pub counted : IsCounted status k
   pub read_later : i.before.faults ≤ i.after.faults
 
 abbrev pub DebugsTo : {I : Type 0} → FileNames → Note → Reading I → (old new : Stored) → (out printed : Stream) → Result (Unit {0}) Refusal → Type 0

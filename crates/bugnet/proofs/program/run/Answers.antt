@@ -41,28 +41,28 @@ pub returns-clause-unread : goal.returns-clause-unread
 returns-clause-unread g c = c.obey.ensures.unread
 
 pub returns-clause-failed : goal.returns-clause-failed
-returns-clause-failed g c = rw c.code.ensures c.obey.ensures.replies.obeys.failed
+returns-clause-failed g c = rw c.code.ensures c.obey.ensures.replies.obeys.counted.failed
 
 pub returns-clause-missing : goal.returns-clause-missing
-returns-clause-missing g c = rw c.code.ensures c.obey.ensures.replies.obeys.missing
+returns-clause-missing g c = rw c.code.ensures c.obey.ensures.replies.obeys.counted.missing
 
 pub returns-clause-long : goal.returns-clause-long
-returns-clause-long g c = rw c.code.ensures c.obey.ensures.replies.obeys.long
+returns-clause-long g c = rw c.code.ensures c.obey.ensures.replies.obeys.counted.long
 
 pub returns-clause-read : goal.returns-clause-read
 returns-clause-read g c = rw c.code.ensures c.obey.ensures.read
 
 pub returns-clause-write : goal.returns-clause-write
-returns-clause-write g c = rw c.code.ensures c.obey.ensures.replies.obeys.write
+returns-clause-write g c = rw c.code.ensures c.obey.ensures.replies.obeys.counted.write
 
 pub returns-clause-later : goal.returns-clause-later
-returns-clause-later g c = c.obey.ensures.replies.obeys.counts
+returns-clause-later g c = c.obey.ensures.replies.obeys.counted.counts
 
 pub returns-clause-out_later : goal.returns-clause-out_later
-returns-clause-out_later g c = c.obey.ensures.replies.obeys.later.out
+returns-clause-out_later g c = c.obey.ensures.replies.obeys.counted.later.out
 
 pub returns-clause-err_later : goal.returns-clause-err_later
-returns-clause-err_later g c = c.obey.ensures.replies.obeys.later.err
+returns-clause-err_later g c = c.obey.ensures.replies.obeys.counted.later.err
 
 pub returns-clause-read_later : goal.returns-clause-read_later
 returns-clause-read_later g c = c.obey.ensures.read_later

@@ -2,6 +2,7 @@ use Rattle.bugnet.proofs.Common.{refl, inl, inr, arith, world, between, pair_rol
 use Rattle.bugnet.proofs.BegunSessions.{pair-begun}
 use Rattle.bugnet.proofs.Debugs.{no_commands, none-read, named-refused, named-made, named-session, named-begins, refused-status, begun-not}
 use Rattle.bugnet.proofs.LineCalls.{unbegun-calls, begun-calls}
+use Rattle.bugnet.proofs.LineTells.{is_counted}
 use Rattle.bugnet.proofs.commands.debug.debug_files.Goals as goal
 
 pub returns-in_err-pair : goal.returns-in_err-pair
@@ -30,12 +31,7 @@ returns-in_err-pair g c =
       asks = h.only.asks;
       calls = unbegun-calls JointReading g.S.Store.note names pair_roles x status k h.calls (appends-nothing out.text) closed.0;
       words = s.words;
-      failed = s.causes.three;
-      missing = s.causes.four;
-      long = s.causes.five;
-      write = λ e. absurd (s.causes.write e);
-      later = record { out = omega arith; err = closed.1 };
-      counts = h.only.later;
+      counted = is_counted status k s.causes (record { out = omega arith; err = closed.1 }) h.only.later;
       read_later = omega arith;
     })
 
@@ -67,11 +63,13 @@ returns g c = λ status err end closed.
       asks = h.only.asks;
       calls = begun-calls g.S.Store.note names pair_roles status k h.calls begun;
       words = begun-not status 2 begun refl;
-      failed = λ e. absurd (begun-not status 3 begun refl e);
-      missing = λ e. absurd (begun-not status 4 begun refl e);
-      long = λ e. absurd (begun-not status 5 begun refl e);
-      write = s.write;
-      later = record { out = s.out_later; err = s.err_later };
-      counts = h.only.later;
+      counted = record {
+        failed = λ e. absurd (begun-not status 3 begun refl e);
+        missing = λ e. absurd (begun-not status 4 begun refl e);
+        long = λ e. absurd (begun-not status 5 begun refl e);
+        write = s.write;
+        later = record { out = s.out_later; err = s.err_later };
+        counts = h.only.later;
+      };
       read_later = s.read_later;
     }
