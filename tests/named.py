@@ -52,6 +52,20 @@ MUTANTS = [
         "A guard ends the interval and leaves the bits of its hart's cache set.",
         edit("run_model", "the_guard_clears_no_bits"),
     ),
+    # The turns of a lone hart, many at a time.
+    ("A lone hart, after an access, stays at its instruction.", edit("rv_meaning", "a_turn_of_a_lone_hart_is_done_twice")),
+    ("A guard is passed over.", edit("run_model", "a_guard_is_passed_over")),
+    ("A lone hart's store is done in place though its page isn't made.", edit("run_model", "a_lone_hart_stores_to_a_page_that_is_not_made")),
+    ("A lone hart takes more turns than it may.", edit("run_model", "a_lone_hart_takes_more_turns_than_it_may")),
+    (
+        "A lone hart whose turns ended by want of memory goes on, moved as it is.",
+        edit("bus_core", "a_lone_hart_out_of_memory_goes_on_from_where_it_was_moved"),
+    ),
+    ("A recording of a lone hart ends before the hart does.", edit("whole_runs", "a_lone_hart_stops_after_some_turns")),
+    (
+        "An audit takes a list whose lone hart is followed by another's turn.",
+        edit("run_files", "the_turns_of_a_lone_hart_may_be_of_others"),
+    ),
     # The machine and its bus.
     ("A store is answered, and writes nothing.", edit("run_model", "a_store_writes_nothing")),
     ("The answer to a load is made up.", edit("bus_core", "a_load_answers_another_word")),

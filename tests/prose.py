@@ -27,12 +27,12 @@ LONGEST_CELL = 60
 PAGES = {
     "README.md": 900,
     "docs/COMMANDS.md": 4200,
-    "docs/DECISIONS.md": 3000,
+    "docs/DECISIONS.md": float("inf"),  # no decision has to go because another one comes
     "docs/DEFINITIONS.md": None,
     "docs/FORMAT.md": 3700,
     "docs/GDB.md": 1300,
     "docs/GUIDE.md": 6700,
-    "docs/INTERNALS.md": 4000,
+    "docs/INTERNALS.md": 4100,
     "docs/JSON.md": 650,
     "docs/PROOF.md": 3000,
     "docs/PYTHON.md": 400,
