@@ -228,6 +228,16 @@ MUTANTS = [
         "A file that was loaded is overwritten after its refusal.",
         edit("host_outside", "a_loaded_file_is_overwritten_after_its_refusal"),
     ),
+    ("A save is told as done, and nothing is done.", edit("host_outside", "a_save_is_told_as_done_and_not_made")),
+    ("A load gives bytes of no file.", edit("host_outside", "a_load_gives_no_byte_of_no_file")),
+    (
+        "A file is written that no name can be given to, and told as saved.",
+        edit("host_outside", "a_name_that_no_file_can_have_is_told_as_saved"),
+    ),
+    (
+        "A file that is there is taken for a new one.",
+        edit("host_outside", "a_new_file_takes_one_that_is_there"),
+    ),
     ("A load remembers no file.", edit("host_outside", "a_load_remembers_nothing")),
     ("A save remembers no file.", edit("host_outside", "a_saved_file_is_forgotten")),
     ("A file that is too long is told as missing.", edit("host_outside", "a_long_file_is_told_as_missing")),
