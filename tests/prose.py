@@ -115,7 +115,7 @@ COMMENTS = {
     ".edit": r"(?P<mark>^#)(?P<line>[^\n]*)",
 }
 COMMENTS = {ending: re.compile(pattern, re.S | re.M) for ending, pattern in COMMENTS.items()}
-ALIKE = {".awk": ".sh", ".bash": ".sh", "zelkuma": ".sh", "run": ".sh", "crates.txt": ".edit"}
+ALIKE = {".bash": ".sh", "zelkuma": ".sh", "run": ".sh", "crates.txt": ".edit"}
 
 # Sources, and the faults that their comments have, each as line and words.
 LONG = "word " * 20

@@ -127,16 +127,26 @@ done
 what="what it says of itself"
 path=$PATH
 runs 0 "$tree/zelkuma" --version
-printf '%s\n' "program $(sha256sum <"$shipped" | cut -d ' ' -f 1) $shipped" "kit rattle-kit-13f logic 0" "kit rattle-kit-13b" >"$work/wanted"
+printf '%s\n' "zelkuma $(<"$top/VERSION")" "program $(sha256sum <"$shipped" | cut -d ' ' -f 1) $shipped" \
+    "kit rattle-kit-13f logic 0" "kit rattle-kit-13b" "commit unknown" >"$work/wanted"
 equals "$work/wanted" "$work/out"
 ZELKUMA_PROGRAM=other runs 0 "$tree/zelkuma" --version
 has out "^kit unknown"
 runs 0 "$zelkuma" --version
 has out "^program unknown"
 if type -P git >/dev/null; then
+    cp -r "$top/"{companion,.gitattributes} "$tree"
     (cd "$tree" && git init -q . && git add -A && git -c user.name=a -c user.email=a@b.c commit -qm a) >/dev/null 2>&1
     runs 0 "$tree/zelkuma" --version
     has out "^commit [0-9a-f]*$"
+    commit=$(git -C "$tree" rev-parse HEAD)
+    runs 0 "$tree/zelkuma" install "$work/prefix"
+    runs 0 "$work/prefix/bin/zelkuma" --version
+    has out "^commit $commit$"
+    mkdir "$work/exported"
+    git -C "$tree" archive HEAD | tar -C "$work/exported" -x
+    runs 0 "$work/exported/zelkuma" --version
+    has out "^commit $commit$"
     echo "$(<"$source") changed" >"$source"
     runs 0 "$tree/zelkuma" --version
     has out "^commit [0-9a-f]*, changed since$"

@@ -80,7 +80,8 @@ mkdir -p "$work/kit/"{rlibs,logic_built,toolchain,c,rattle/logic}
 touch "$work/kit/c/"lib{os,libc}_c.a "$work/kit/rattle/logic/antt-project.json"
 
 mkdir "$tree/tests" "$tree/release"
-cp -r "$top/zelkuma" "$top/tools" "$top/man" "$top/completion" "$tree"
+cp -r "$top/"{zelkuma,VERSION,tools,man,completion} "$tree"
+cp "$top/release/COMMIT" "$tree/release"
 cp "$top"/tests/{release,fresh_start}.sh "$tree/tests"
 cat >"$tree/crates.txt" <<'END'
 # a comment
