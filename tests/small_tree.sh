@@ -12,7 +12,7 @@ export RT_CALLS=$calls TMPDIR=$work/temporary
 
 # What the script may need of the system, and nothing else: so no other rt is found.
 mkdir -p "$work/system" "$work/kit/bin" "$TMPDIR" "$tree"
-for name in awk bash basename cat chmod cmp cp cut dirname env find flock grep install ln mkdir nproc od readlink rm \
+for name in awk bash basename cat chmod cmp cp cut date dirname env find flock grep install ln mkdir nproc od readlink rm \
     sed setsid sh sha256sum sleep sort stat tail touch tr wc xargs; do
     ln -s "$(type -P "$name")" "$work/system/$name"
 done
@@ -82,6 +82,7 @@ touch "$work/kit/c/"lib{os,libc}_c.a "$work/kit/rattle/logic/antt-project.json"
 mkdir "$tree/tests" "$tree/release"
 cp -r "$top/"{zelkuma,VERSION,tools,man,completion} "$tree"
 cp "$top/release/COMMIT" "$tree/release"
+printf '# Changes\n\n## Unreleased\n\nA change.\n' >"$tree/CHANGELOG.md"
 cp "$top"/tests/{release,fresh_start}.sh "$tree/tests"
 cat >"$tree/crates.txt" <<'END'
 # a comment
