@@ -25,6 +25,8 @@ LONGEST_CELL = 60
 # Each page and the words that it may have. None: the page is generated, and its text comes from comments in the
 # sources and has the words of the code, so of it only the links are judged here.
 PAGES = {
+    "CHANGELOG.md": 2000,
+    "CONTRIBUTING.md": 700,
     "README.md": 900,
     "docs/COMMANDS.md": 4200,
     "docs/DECISIONS.md": 3000,
@@ -32,7 +34,7 @@ PAGES = {
     "docs/FORMAT.md": 3700,
     "docs/GDB.md": 1300,
     "docs/GUIDE.md": 6700,
-    "docs/INTERNALS.md": 4000,
+    "docs/INTERNALS.md": 3500,
     "docs/JSON.md": 650,
     "docs/PROOF.md": 3000,
     "docs/PYTHON.md": 400,
