@@ -4,7 +4,6 @@
 #
 # tests/help.sh PROGRAM
 set -u
-. "$(dirname "$0")/fresh_start.sh"
 top=$(cd "$(dirname "$0")/.." && pwd)
 program=$(readlink -f -- "${1:?the words are PROGRAM}")
 work=$(mktemp -d)

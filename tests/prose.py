@@ -16,8 +16,6 @@ import os
 import re
 import sys
 
-import fresh_start
-
 TOP = os.path.dirname(os.path.dirname(os.path.realpath(__file__)))
 LONGEST_SENTENCE = 35
 LONGEST_CELL = 60

@@ -3,7 +3,6 @@
 # It fails if they differ, but for a kit that release/STAMP doesn't name: that may compile otherwise, and it is told.
 # It also fails if CHANGELOG.md doesn't begin with what is unreleased, or with this version.
 set -u
-. "$(dirname "$0")/fresh_start.sh"
 top=$(cd "$(dirname "$0")/.." && pwd)
 
 name=tests/release.sh cpu=

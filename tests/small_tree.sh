@@ -1,7 +1,6 @@
 # A small tree with the script zelkuma, and a toolchain that only seems to prove and build, for the tests of the script.
 # Read by these; each sets `what` to what it tries next.
 set -u
-. "$(dirname "$0")/fresh_start.sh"
 top=$(cd "$(dirname "$0")/.." && pwd)
 work=$(mktemp -d)
 trap 'rm -rf "$work"' EXIT
@@ -83,7 +82,7 @@ mkdir "$tree/tests" "$tree/release"
 cp -r "$top/"{zelkuma,VERSION,tools,man,completion} "$tree"
 cp "$top/release/COMMIT" "$tree/release"
 printf '# Changes\n\n## Unreleased\n\nA change.\n' >"$tree/CHANGELOG.md"
-cp "$top"/tests/{release,fresh_start}.sh "$tree/tests"
+cp "$top/tests/release.sh" "$tree/tests"
 cat >"$tree/crates.txt" <<'END'
 # a comment
 low: clap
