@@ -50,7 +50,7 @@ def parse(words: Sequence[str], known: Mapping[str, bool], names: int | range, f
 def decimal(text: str) -> str:
     """A number that ends in K, M or G, or begins with 0x, in decimal, as the script zelkuma hands it to `record`. Any other
     word stays as it is."""
-    found = re.fullmatch(r"0x([0-9a-fA-F]{1,16})|([0-9]{1,20})([KMG]?)", text)
+    found = re.fullmatch(r"0x0*([0-9a-fA-F]{1,16})|0*([0-9]{1,20})([KMG]?)", text)
     if not found:
         return text
     return str(int(found[1], 16) if found[1] else int(found[2]) * TIMES[found[3]])

@@ -23,6 +23,7 @@ from .races import AccessPair, Group, Races
 from .report import ALONE, DID, STORED, output_lines, unread
 from .suspect import Suspect
 from .text import as_text, number
+from .version import version
 from .view_chain import Way, chain_boxes
 from .view_data import Page, PageEdge
 from .view_rows import PageRows
@@ -64,7 +65,7 @@ def page_text(title: str, data: Mapping[str, Any]) -> str:
     Its policy lets a browser run this script alone, and ask for nothing: should markup ever get in, it does nothing."""
     script = "\n".join(part("view_page", name) for name in SCRIPTS)
     digest = base64.b64encode(hashlib.sha256(script.encode("utf-8")).digest()).decode("ascii")
-    pieces = {"TITLE": html.escape(title), "STYLE": part("view_page", "style.css"), "SCRIPT": script,
+    pieces = {"TITLE": html.escape(title), "VERSION": html.escape(version()), "STYLE": part("view_page", "style.css"), "SCRIPT": script,
               "POLICY": f"default-src 'none'; style-src 'unsafe-inline'; script-src 'sha256-{digest}'",
               "DATA": as_script_data(data)}
     return re.sub(f"@({'|'.join(pieces)})@", lambda found: pieces[found.group(1)], part("view.html"))

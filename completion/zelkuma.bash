@@ -1,5 +1,5 @@
 # Completes the words of zelkuma in bash: commands, options, and names of files if one is due. The commands
-# of debug come from its input, so none of them is completed. Made by tools/help/make.sh.
+# of debug come from its input, so none of them is completed. Made by tools/help/make.py.
 
 # a command, and what its words are
 _zelkuma_commands='

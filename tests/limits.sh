@@ -4,7 +4,6 @@
 # loaded or saved, through links, onto a full disk and into a closed folder. The long files take no room on the disk.
 # BOOK takes a gigabyte of memory for two seconds.
 set -u
-. "$(dirname "$0")/fresh_start.sh"
 top=$(cd "$(dirname "$0")/.." && pwd)
 program=$(readlink -f "$1")
 work=$(mktemp -d)

@@ -143,6 +143,7 @@ class WhyTest(case.Case):
         with open(path("hang.html")) as file:
             page = file.read()
         self.check("--html holds the same text, and nothing to load", "<h2>CALLS</h2>" in page and not re.search(r"src=|href=|https?:|<script", page))
+        self.check("--html tells the version", re.search(r'name="generator" content="Zelkuma [0-9.]+"', page))
 
 
 if __name__ == "__main__":

@@ -1,4 +1,4 @@
-# What the script zelkuma knows of commands, options and statuses. Made by tools/help/make.sh of its tables.
+# What the script zelkuma knows of commands, options and statuses. Made by tools/help/make.py of its tables.
 
 # What a command takes: its names, and of each option the value.
 declare -A takes=(
