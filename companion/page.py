@@ -4,6 +4,7 @@ from __future__ import annotations
 import html
 from typing import NamedTuple, Sequence
 
+from .saving import PAGE_MARK
 from .text import clean
 from .version import version
 
@@ -26,7 +27,7 @@ def page(title: str, parts: Sequence[Part]) -> str:
     """The report as a page."""
     text = ["\n".join(map(escaped, part.lines)) for part in parts]
     body = "".join(f"<h2>{escaped(part.heading)}</h2>\n<pre>{lines}</pre>\n" for part, lines in zip(parts, text))
-    return ("<!doctype html>\n<html lang=\"en\"><head><meta charset=\"utf-8\">"
+    return (f"<!doctype html>\n<html lang=\"en\"><head><meta charset=\"utf-8\">{PAGE_MARK}"
             "<meta http-equiv=\"Content-Security-Policy\" content=\"default-src 'none'; style-src 'unsafe-inline'\">"
             "<meta name=\"viewport\" content=\"width=device-width\">"
             f"<meta name=\"generator\" content=\"Zelkuma {escaped(version())}\">"

@@ -48,6 +48,7 @@ record --sets2 N
 record --ways2 N
 audit --input FILE
 why --names ELF
+why --source DIR
 why --row HART:IC
 why --output N:BYTE
 why --rows N
@@ -55,10 +56,12 @@ why --more
 why --html FILE
 why --json
 race --names ELF
+race --source DIR
 race --max N
 race --more
 race --json
 view --names ELF
+view --source DIR
 view --row HART:IC
 view --output N:BYTE
 view --rows N
