@@ -14,7 +14,7 @@ from .page import page
 from .report import report
 from .why_answer import why_answer
 
-HELP = """Explains a crash: what happened, where, and which store, call or arithmetic is behind it, likeliest first.
+HELP = """Explains a crash: what happened, where, and which store, call or branch is behind it, likeliest first.
 
     zelkuma why LOG ELF [--names ELF] [--row HART:IC] [--output N:BYTE] [--rows N] [--more] [--html FILE] [--json]
 
