@@ -15,7 +15,7 @@ from .saving import PAGE, target
 from .sources import source_folders
 from .why_answer import why_answer
 
-HELP = """Explains a crash: what happened, where, and which store, call or arithmetic is behind it, likeliest first.
+HELP = """Explains a crash: what happened, where, and which store, call or branch is behind it, likeliest first.
 
     zelkuma why LOG ELF [--names ELF] [--source DIR] [--row HART:IC] [--output N:BYTE] [--rows N] [--more] [--html FILE] [--json]
 
