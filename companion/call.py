@@ -24,6 +24,7 @@ WORDS = {
     "bucket": "sorts logs by the cause of their end",
     "output": "lists what the guest wrote",
     "seeds": "searches for turns by which a program crashes",
+    "shrink": "finds the shortest order of harts that still crashes",
     "again": "makes a recording again, with a larger log",
 }
 INTERRUPTED = 130           # what a shell says of a program that Ctrl-C ended

@@ -29,6 +29,7 @@ bucket LOG ELF
 output LOG ELF
 seeds FROM TO -- RECORD-WORDS
 again LOG ELF BOOK NEWLOG
+shrink LOG ELF BOOK NEWLOG NEWBOOK
 '
 # a command, an option of it, and what its value is
 _zelkuma_options='
@@ -79,6 +80,12 @@ seeds --json
 again --input FILE
 again --log-size N
 again --interval N
+shrink -j N
+shrink --seconds N
+shrink --output N:BYTE
+shrink --names ELF
+shrink --json
+shrink -- OPTION..
 '
 
 # Prints the lines of a table that begin with a word, without it.
