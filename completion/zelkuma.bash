@@ -29,6 +29,7 @@ bucket LOG ELF
 output LOG ELF
 seeds FROM TO -- RECORD-WORDS
 again LOG ELF BOOK NEWLOG
+history LOG ELF NAME
 '
 # a command, an option of it, and what its value is
 _zelkuma_options='
@@ -76,6 +77,11 @@ seeds --json
 again --input FILE
 again --log-size N
 again --interval N
+history --names ELF
+history --changes
+history --last N
+history --rows N
+history --json
 '
 
 # Prints the lines of a table that begin with a word, without it.
