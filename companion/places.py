@@ -201,6 +201,12 @@ class Places:
         """The same, or else the address."""
         return self.named(pc) or f"{pc:08x}"
 
+    def chain(self, pcs: Iterable[int], most: int) -> str:
+        """The places of a row and of the calls over it, innermost first: so many at most."""
+        frames = [frame for pc in pcs for frame in self.frames(pc) or [Frame(f"{pc:08x}", "", 0, "")]]
+        return "  <  ".join(f"{frame.function} {frame.file}:{frame.line}" if frame.line else frame.function
+                            for frame in frames[:most])
+
     def line(self, pc: int) -> str:
         """FILE:LINE, or else the address."""
         frame = self.innermost(pc)

@@ -30,6 +30,7 @@ output LOG ELF
 seeds FROM TO -- RECORD-WORDS
 again LOG ELF BOOK NEWLOG
 shrink LOG ELF BOOK NEWLOG NEWBOOK
+history LOG ELF NAME
 '
 # a command, an option of it, and what its value is
 _zelkuma_options='
@@ -86,6 +87,11 @@ shrink --output N:BYTE
 shrink --names ELF
 shrink --json
 shrink -- OPTION..
+history --names ELF
+history --changes
+history --last N
+history --rows N
+history --json
 '
 
 # Prints the lines of a table that begin with a word, without it.

@@ -45,7 +45,7 @@ runs 0 "$tree/tools/help/make.py"
 for place in page.txt:"frobs a log" page.txt:100001 page.txt:"no frob" zelkuma.1:"Frobs a log." zelkuma.1:100001 \
     zelkuma.1:"no frob IC" zelkuma.1:"Zelkuma 7.8.9" zelkuma.bash:"frob LOG TIMES" zelkuma.bash:"frob --twice N" \
     words.sh:'[frob.]="LOG TIMES"' words.sh:'[frob.twice]="N"' words.sh:'[frob.gently]="flag"' words.sh:'[TIMES]="2 to 5"' \
-    words.sh:'[20]="give \"\$(more)\", up to 1000000"' words.sh:"shrink nudge " each.txt:"  frobs a log" files.txt:companion/nudge.py \
+    words.sh:'[20]="give \"\$(more)\", up to 1000000"' words.sh:" nudge " each.txt:"  frobs a log" files.txt:companion/nudge.py \
     "COMMANDS.md:| \`frob LOG TIMES [--twice N] [--gently]\` | frobs a log |" "COMMANDS.md:| 100001 |" "COMMANDS.md:| 21 | \`no frob IC\` |"; do
     grep -rqF -- "${place#*:}" "$tree"/*/"${place%%:*}" "$tree"/*/*/"${place%%:*}" 2>/dev/null || fails "it isn't in $place"
 done
@@ -104,7 +104,7 @@ what="the words of the companions"
 : >"$work/err"
 if [ -d "$top/companion" ]; then
     while read -r form; do
-        grep -sqxF "FORM = \"$form\"" "$top/companion/${form%% *}.py" || fails "companion/${form%% *}.py has another FORM than '$form'"
+        grep -sqxF "FORM = \"$form\"" "$top"/companion/{,questions/}"${form%% *}.py" || fails "${form%% *}.py has another FORM than '$form'"
     done < <(read_table companions | awk -F '\t' '$2 == "entry" { print $3 }')
 else
     skips "the words of the companions, which aren't here"
