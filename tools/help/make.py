@@ -17,6 +17,7 @@ A text `-` says that there is none. A text of which one is made has lines `@FORM
 import pathlib
 import re
 import sys
+import textwrap
 from typing import Callable, Dict, Iterable, Iterator, List, NamedTuple, Tuple
 
 HERE = pathlib.Path(__file__).resolve().parent
@@ -78,8 +79,14 @@ def capital(text: str) -> str:
 
 def page_words(table: Table) -> Lines:
     for entry in table:
-        usage = f"zelkuma {entry.name}"
-        yield f"{usage:<50}{plain(entry.last('does'))}" if len(usage) < 50 else f"{usage}\n{'':50}{plain(entry.last('does'))}"
+        # (an option and its value stay together)
+        parts = re.findall(r"\[[^]]*\](?:\.\.\.)?|\S+", f"zelkuma {entry.name}")
+        lines = textwrap.wrap(" ".join(part.replace(" ", "\0") for part in parts), 110, subsequent_indent=" " * 8,
+                              break_long_words=False, break_on_hyphens=False)
+        *first, last = [line.replace("\0", " ") for line in lines]
+        yield from first
+        does = plain(entry.last("does"))
+        yield f"{last:<50}{does}" if len(last) < 50 and not first else f"{last}\n{'':50}{does}"
 
 
 def page_options(table: Table) -> Lines:
