@@ -32,7 +32,7 @@ PAGES = {
     "docs/GUIDE.md": 6700,
     "docs/INTERNALS.md": 3600,
     "docs/JSON.md": 950,
-    "docs/PROOF.md": 3000,
+    "docs/PROOF.md": 3050,
     "docs/PYTHON.md": 500,
     "docs/VIEW.md": 1300,
     "docs/WHY.md": 1750,
