@@ -6,6 +6,8 @@ import signal
 import subprocess
 from typing import Any, Sequence
 
+from .streams import on_interrupt, uninterrupted
+
 try:
     import ctypes
     prctl: Any = ctypes.CDLL(None).prctl
@@ -15,12 +17,16 @@ SET_DEATH_SIGNAL = 1        # PR_SET_PDEATHSIG of prctl(2)
 
 
 def start(words: Sequence[str], **streams: Any) -> subprocess.Popen[bytes]:
-    """A process that the system kills when this one ends, also if this one is killed."""
+    """A process that the system kills when this one ends, also if this one is killed. Signals wait until it is known here."""
     parent = os.getpid()
 
-    def end_with_parent() -> None:
-        prctl(SET_DEATH_SIGNAL, signal.SIGKILL)
+    def prepare() -> None:
+        on_interrupt(signal.SIG_DFL)            # this process's own handling isn't for the copy of it
+        signal.pthread_sigmask(signal.SIG_SETMASK, before)
+        if prctl:
+            prctl(SET_DEATH_SIGNAL, signal.SIGKILL)
         if os.getppid() != parent:              # it has ended by now
             os._exit(1)
 
-    return subprocess.Popen(words, preexec_fn=end_with_parent if prctl else None, **streams)
+    with uninterrupted() as before:
+        return subprocess.Popen(words, preexec_fn=prepare, **streams)

@@ -112,10 +112,10 @@ def interrupted(stop: KeyboardInterrupt) -> int:
 
 
 @contextlib.contextmanager
-def uninterrupted() -> Iterator[None]:
-    """Each of STOPS waits until the end of it."""
+def uninterrupted() -> Iterator[set[Any]]:
+    """Each of STOPS waits until the end of it. Gives the signals that waited before."""
     before = signal.pthread_sigmask(signal.SIG_BLOCK, STOPS)
     try:
-        yield
+        yield before
     finally:
         signal.pthread_sigmask(signal.SIG_SETMASK, before)
