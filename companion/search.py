@@ -5,23 +5,24 @@ from typing import Callable, Iterator
 
 from . import moves
 from .moves import Move
-from .recording import FAULT
 from .same_end import Recording, Waiting
-from .tries import Tries
+from .tries import ANY, Tries
+from .windows import Window, windows_of
 from .turns import Pieces, pieces_of, size_of, turns_of
 
 MORE_COUNTS = 10000         # a hart may do twice as many instructions as in the recording, and so many more
 LEAST_LIMIT = 2000          # to which the limit of a run that hangs is lowered
-ANY = 1 << 62, 0            # a size that no list has
 
 
 class Search:
-    """best   the shortest list so far; of a run that hangs only up to where all of its harts wait"""
+    """best    the shortest list so far; of a run that hangs only up to where all of its harts wait, until it is done
+    story   so many of its pieces matter: behind them harts wait for ever"""
 
     def __init__(self, tries: Tries, recorded: Recording) -> None:
         self.tries, self.best = tries, pieces_of(recorded.turns())
         self.limit = int(tries.options["--limit"])
-        self.first_pieces = len(self.best)
+        self.first_pieces = self.story = len(self.best)
+        self.windows: list[Window] = []
         tries.want(recorded)
 
     def run(self) -> None:
@@ -33,6 +34,8 @@ class Search:
         self.group()
         while self.drop() | self.follow(moves.moved) | self.follow(moves.shorter):
             pass
+        self.story = len(self.best)
+        self.windows = windows_of(self.tries, self.best)
         self.tries.options["--limit"] = str(self.limit)
         if self.tries.leaves_rest:
             self.tries.leaves_rest = False

@@ -25,12 +25,12 @@ from .recording import DONE, FAULT, LIMIT, RECORD_OPTIONS, options_of
 from .same_end import Ends, Recording, log_of
 from .saving import LOG, TURNS, Target, target
 from .search import Search
-from .switches import MOST_ROWS, Teller, rows_by_turn, switches_of
+from .switches import Teller, rows_by_piece, switches_of
 from .text import counted, number
 from .tries import Tries
 from .turns import Pieces, pieces_of, shown
 
-HELP = """zelkuma shrink LOG ELF BOOK NEWLOG NEWBOOK [-j N] [--seconds N] [--output N:BYTE] [--names ELF] [--json] [-- OPTION..]
+HELP = """zelkuma shrink LOG ELF BOOK NEWLOG NEWBOOK [--seconds N] [--output N:BYTE] [--names ELF] [--json] [-- WORD..]
 
 Finds the shortest order of harts that still ends as LOG does, and saves a recording of it as NEWLOG and NEWBOOK.
 
@@ -40,17 +40,16 @@ A run ends the same if the same fault comes at the same place with the same call
 and wait for the same words; or if all harts end with the same codes, some of them not 0. The order is printed as pieces,
 hartxturns, and then its switches: who stops where, who goes on where, and what that does to a word that was loaded.
 
-    -j N             so many recordings at a time; without it, as many as there are processors
     --seconds N      ends the search after so long; what it has by then is saved
     --output N:BYTE  a run ends the same if this byte of the output is the same, as `zelkuma output` numbers them
     --names ELF      the program with its names and lines, if ELF was stripped
     --json           prints one JSON object in place of the text (docs/JSON.md)
-    -- OPTION..      options of `record`: --input FILE is needed if LOG has one; others have to be those of LOG
+    -- WORD..        options of `record`: --input FILE is needed if LOG has one; others have to be those of LOG
 
-The answer is the same on each machine and for each N of -j. Ctrl-C and TERM end the search (130, 143): the shortest that
+The answer is the same on each machine. Ctrl-C and TERM end the search (130, 143): the shortest that
 was found is saved. BOOK has to be LOG's, as `audit` says. Companions show; the program proves."""
-FORM = "shrink LOG ELF BOOK NEWLOG NEWBOOK [-j N] [--seconds N] [--output N:BYTE] [--names ELF] [--json] [-- OPTION..]"
-OPTIONS = {"--jobs": True, "--seconds": True, "--output": True, "--names": True, "--json": False}
+FORM = "shrink LOG ELF BOOK NEWLOG NEWBOOK [--seconds N] [--output N:BYTE] [--names ELF] [--json] [-- WORD..]"
+OPTIONS = {"--seconds": True, "--output": True, "--names": True, "--json": False}
 TERMINATED = 128 + signal.SIGTERM
 MEMORY_FOLDER = "/dev/shm"  # files of tries needn't reach a disk
 LONGEST_SEARCH = 1 << 20    # seconds
@@ -86,22 +85,15 @@ class Asked:
     """What the words ask for."""
 
     def __init__(self, words: Sequence[str]) -> None:
-        own, rest = split(words)
-        (self.log, self.elf, self.book, new_log, new_book), given = parse(own, OPTIONS, 5, FORM)
-        self.options = recorded_options(self.log, rest)
+        at = list(words).index("--") if "--" in words else len(words)
+        (self.log, self.elf, self.book, new_log, new_book), given = parse(words[:at], OPTIONS, 5, FORM)
+        self.options = recorded_options(self.log, words[at + 1:])
         read = [self.log, self.elf, self.book, self.options.get("--input", "")]
         self.new_log, self.new_book = target(new_log, LOG, read), target(new_book, TURNS, [*read, new_log])
         self.names, self.is_json = given.get("--names", ""), "--json" in given
         self.byte = asked_byte(given["--output"]) if "--output" in given else None
         self.seconds = whole(given.get("--seconds", "0"), 0, LONGEST_SEARCH, "--seconds")
-        self.jobs = whole(given.get("--jobs", str(len(os.sched_getaffinity(0)))), 1, 1024, "-j")
-
-
-def split(words: Sequence[str]) -> tuple[list[str], list[str]]:
-    """The words before the first `--`, with -j as an option of its full name, and those behind it."""
-    at = list(words).index("--") if "--" in words else len(words)
-    own = ["--jobs" if word == "-j" else "--jobs=" + word[2:] if word[:2] == "-j" else word for word in words[:at]]
-    return own, list(words[at + 1:])
+        self.jobs = len(os.sched_getaffinity(0))
 
 
 def recorded_options(log: str, words: Sequence[str]) -> dict[str, str]:
@@ -176,14 +168,13 @@ def main(words: list[str]) -> int:
 
 
 def tell(asked: Asked, found: Search, made: Recording, named: Elf) -> None:
-    log, pieces = log_of(made.log), pieces_of(made.turns())
-    elf = found.tries.ends.elf
+    log, elf, pieces = log_of(made.log), found.tries.ends.elf, pieces_of(made.turns())
+    switches = switches_of(pieces, rows_by_piece(log, elf.name, pieces, found.story), found.windows)
     with closing(places_of(named)) as places:
         teller = Teller(named, places)
-        rows = rows_by_turn(log, elf, pieces)
         lines = [f"{number(found.first_pieces - 1)} switches to {number(len(pieces) - 1)}, by {number(found.tries.count)} tries",
                  shown(pieces)]
-        for place, switch in enumerate(switches_of(pieces, rows), 1):
+        for place, switch in enumerate(switches, 1):
             lines += teller.lines(place, switch)
-        lines.append("Then " + bucket_of(log, elf, named).line())
+        lines.append(f"then {bucket_of(log, elf, named).line()}")
     streams.put("\n".join(lines) + "\n")

@@ -77,12 +77,11 @@ seeds --json
 again --input FILE
 again --log-size N
 again --interval N
-shrink -j N
 shrink --seconds N
 shrink --output N:BYTE
 shrink --names ELF
 shrink --json
-shrink -- OPTION..
+shrink -- WORD..
 '
 
 # Prints the lines of a table that begin with a word, without it.
