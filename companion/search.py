@@ -32,8 +32,11 @@ class Search:
         else:
             self.tries.options["--limit"] = str(min(self.limit, 2 * self.tries.most_counts + MORE_COUNTS))
         self.group()
-        while self.drop() | self.follow(moves.moved) | self.follow(moves.shorter):
-            pass
+        while True:
+            if self.tries.leaves_rest:
+                self.lower_limit()              # a shorter list needs less
+            if not self.drop() | self.follow(moves.moved) | self.follow(moves.shorter):
+                break
         self.story = len(self.best)
         self.windows = windows_of(self.tries, self.best)
         self.tries.options["--limit"] = str(self.limit)
@@ -72,7 +75,7 @@ class Search:
 
     def lower_limit(self) -> None:
         """Harts that wait for ever wait under a lower limit as well, and a try is done sooner."""
-        limit = self.limit
+        limit = int(self.tries.options["--limit"])
         while limit > LEAST_LIMIT:
             self.tries.options["--limit"] = str(limit // 2)
             held = self.tries.first([self.best], ANY)
