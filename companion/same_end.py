@@ -1,5 +1,5 @@
 """Whether two recordings end the same: the same fault at the same place with the same callers, the same harts that wait for
-the same words, the same exit codes, or the same byte of the output.
+the same words, the same exit code, or the same byte of the output.
 
 Each is told in two parts: one that costs nothing, and one that takes the last rows."""
 from __future__ import annotations
@@ -13,7 +13,7 @@ from .control import load_behind
 from .elf import Elf
 from .errors import NO_INTERVAL, CompanionError
 from .instruction import STORE
-from .log import Log, is_fault
+from .log import End, Log, is_fault
 from .loops import Loop
 from .program import Output
 from .recording import FAULT, LIMIT
@@ -96,7 +96,7 @@ class Ends:
         self.elf, self.offset = elf, offset
 
     def rough(self, made: Recording) -> Hashable:
-        """The byte that is asked of; else the fault's name, the harts at their limit, or how each hart ended."""
+        """The byte that is asked of; else the fault's name, the harts at their limit, or the exit code."""
         if self.offset is not None:
             return made.status, byte_at(made.said, self.offset)
         ends = log_of(made.log).ends
@@ -104,7 +104,7 @@ class Ends:
             return made.status, tuple(sorted(end.reason for end in ends.values() if is_fault(end.reason)))
         if made.status == LIMIT:
             return made.status, tuple(sorted(hart for hart, end in ends.items() if end.reason == "limit"))
-        return made.status, tuple(sorted((hart, end.reason, end.value) for hart, end in ends.items()))
+        return made.status, exit_code(ends)
 
     def exact(self, made: Recording) -> Exact:
         if self.offset is not None or made.status not in (FAULT, LIMIT):
@@ -153,6 +153,12 @@ class Ends:
         if not pieces:
             raise CompanionError(f"the log holds no row of hart {hart} (see `list`)", NO_INTERVAL)
         return b"".join(reversed(pieces)), mine[-len(pieces)].start > 0
+
+
+def exit_code(ends: Mapping[int, End]) -> int:
+    """The code that a hart ended all of them with, else that of hart 0."""
+    group = [end.value for end in ends.values() if end.reason == "group"]
+    return group[0] if group else ends[0].value if 0 in ends else 0
 
 
 def log_of(name: str) -> Log:

@@ -22,7 +22,7 @@ from .naming import named_elf, places_of
 from .options import decimal, parse, whole
 from .output import Reader
 from .recording import DONE, FAULT, LIMIT, RECORD_OPTIONS, options_of
-from .same_end import Ends, Recording, log_of
+from .same_end import Ends, Recording, exit_code, log_of
 from .saving import LOG, TURNS, Target, target
 from .search import Search
 from .switches import Teller, rows_by_piece, switches_of
@@ -37,7 +37,7 @@ Finds the shortest order of harts that still ends as LOG does, and saves a recor
     zelkuma shrink LOG buffers.elf BOOK SHORT SHORT.book
 
 A run ends the same if the same fault comes at the same place with the same callers; if the same harts come to the limit,
-and wait for the same words; or if all harts end with the same codes, some of them not 0. The order is printed as pieces,
+and wait for the same words; or if the exit code is the same, and not 0. The order is printed as pieces,
 hartxturns, and then its switches: who stops where, who goes on where, and what that does to a word that was loaded.
 
     --seconds N      ends the search after so long; what it has by then is saved
@@ -118,12 +118,12 @@ def check(asked: Asked) -> int:
         raise CompanionError("LOG is given for BOOK: a lean recording keeps no BOOK, and can't be shrunk", REFUSED)
     source = [f"--input={asked.options['--input']}"] if "--input" in asked.options else []
     check_book(asked.log, asked.elf, asked.book, source)
-    ends = log_of(asked.log).ends.values()
-    if any(is_fault(end.reason) for end in ends):
+    ends = log_of(asked.log).ends
+    if any(is_fault(end.reason) for end in ends.values()):
         return FAULT
-    if any(end.reason == "limit" for end in ends):
+    if any(end.reason == "limit" for end in ends.values()):
         return LIMIT
-    if asked.byte is None and not any(end.value for end in ends):
+    if asked.byte is None and not exit_code(ends):
         raise CompanionError("the run of LOG ended well; --output N:BYTE asks for a byte of its output that is wrong", REFUSED)
     return DONE
 
