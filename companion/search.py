@@ -16,12 +16,14 @@ LEAST_LIMIT = 2000          # to which the limit of a run that hangs is lowered
 
 class Search:
     """best    the shortest list so far; of a run that hangs only up to where all of its harts wait, until it is done
-    story   so many of its pieces matter: behind them harts wait for ever"""
+    recorded_pieces, recorded_turns     of the recording
+    core    its pieces that matter: behind them harts wait for ever"""
 
     def __init__(self, tries: Tries, recorded: Recording) -> None:
         self.tries, self.best = tries, pieces_of(recorded.turns())
         self.limit = int(tries.options["--limit"])
-        self.first_pieces = self.story = len(self.best)
+        self.recorded_pieces, self.recorded_turns = size_of(self.best)
+        self.core = self.best
         self.windows: list[Window] = []
         tries.want(recorded)
 
@@ -37,7 +39,7 @@ class Search:
                 self.lower_limit()              # a shorter list needs less
             if not self.drop() | self.follow(moves.moved) | self.follow(moves.shorter):
                 break
-        self.story = len(self.best)
+        self.core = self.best
         self.windows = windows_of(self.tries, self.best)
         self.tries.options["--limit"] = str(self.limit)
         if self.tries.leaves_rest:

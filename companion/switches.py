@@ -2,8 +2,9 @@
 one that stopped had loaded."""
 from __future__ import annotations
 
-from typing import Iterator, NamedTuple, Optional, Sequence
+from typing import Any, Iterator, NamedTuple, Optional, Sequence
 
+from .answers import place_of
 from .elf import Elf
 from .log import Log
 from .places import Places
@@ -102,3 +103,13 @@ class Teller:
         if switch.before is None:
             return [f"     it has to come after {self.where(switch.after)}"]
         return [f"     it has to come between {self.where(switch.after)} and {self.where(switch.before)}"]
+
+    def answer(self, switch: Switch) -> dict[str, Any]:
+        """A switch for other programs."""
+        store, load = switch.clash or (None, None)
+        return {"hart": switch.hart, "other": switch.other, "stopped": self.point(switch.stopped), "next": self.point(switch.next),
+                "store": self.point(store), "load": self.point(load), "after": self.point(switch.after),
+                "before": self.point(switch.before)}
+
+    def point(self, row: Optional[Row]) -> Optional[dict[str, Any]]:
+        return {"hart": row.hart, "count": row.ic, "place": place_of(self.places, row.pc)} if row else None
