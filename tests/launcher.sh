@@ -52,7 +52,12 @@ runs 2 "$zelkuma" record --limit 1G --memory 1G ELF LOG BOOK
 has err "bugnet: setting memory 1073741824"
 runs 2 "$zelkuma" record --memory 1024M --limit 1073741824K ELF LOG BOOK
 has err "bugnet: setting memory 1073741824"
-for word in 2k 0x 0x10000000000000000 9999999999G 17179869184G 36028797018963968K 1T K 0x1K 1.5K ''; do
+while read -r word decimal; do
+    [[ $word != "#" ]] || continue
+    [ "$(. "$top/tools/launcher/words.sh" && to_decimal "$word" && is_number "$decimal" 0 18446744073709551615 && echo "$decimal" || echo -)" = "$decimal" ] ||
+        fails "$word isn't read as $decimal"
+done <"$top/tests/numbers.txt"
+for word in 2k 1T ''; do
     runs 2 "$zelkuma" record --limit "$word" ELF LOG BOOK
     says "bugnet: words refused" "zelkuma: --limit takes a number from 0 to 18446744073709551615, and not '$word'; 'zelkuma help' lists commands and options"
 done
