@@ -290,7 +290,7 @@ def target_fault(page, text, target):
 
 
 FILE = re.compile(
-    r"`((?:docs|tests|tools|bench|examples|crates|companion|packaging|man|completion)/[\w./-]*\.[a-z]+)`"
+    r"`((?:docs|tests|tools|bench|examples|crates|companion|packaging|debian)/[\w./-]*\.[a-z]+)`"
 )
 
 
