@@ -15,7 +15,7 @@ python=$(type -P python3) || skips "calls of companions: python3 isn't here"
 # Sources of which to lay: with a companion that tells how it was called, and with what isn't to be laid.
 sources=$work/sources
 mkdir -p "$sources/release" "$sources/companion/__pycache__"
-cp -r "$top/"{zelkuma,crates.txt,tools,man,completion,packaging,companion} "$sources"
+cp -r "$top/"{zelkuma,crates.txt,tools,packaging,companion} "$sources"
 cp "$top/VERSION" "$sources"
 cp "$top/release/"{STAMP,COMMIT} "$sources/release"
 cp "$program" "$sources/release/zelkuma-x86_64-linux"
@@ -71,8 +71,8 @@ runs 0 "$sources/zelkuma" install "$prefix"
 laid_under "$prefix" >"$work/wanted"
 equals "$work/wanted" "$work/out"
 works "$prefix/bin/zelkuma" "$prefix/lib/zelkuma/zelkuma"
-equals "$top/man/zelkuma.1" "$prefix/share/man/man1/zelkuma.1"
-equals "$top/completion/zelkuma.bash" "$prefix/share/bash-completion/completions/zelkuma"
+equals "$top/packaging/zelkuma.1" "$prefix/share/man/man1/zelkuma.1"
+equals "$top/packaging/zelkuma.bash" "$prefix/share/bash-completion/completions/zelkuma"
 { cat "$top/tools/files.txt" && echo zelkuma; } | LC_ALL=C sort >"$work/wanted"
 files_in "$prefix/lib/zelkuma" >"$work/files"
 equals "$work/wanted" "$work/files"
@@ -203,45 +203,46 @@ has out "zelkuma list LOG"
 [ ! -e "$work/called" ] || fails "the toolchain was called"
 
 what="a package"
-if ! type -P dpkg-deb >/dev/null; then
-    skips "the package: dpkg-deb isn't here"
+if ! type -P dh >/dev/null; then
+    skips "the package: debhelper isn't here"
     end
 fi
-export SOURCE_DATE_EPOCH=1700000000
-umask 077
-runs 0 "$sources/packaging/deb.sh" "$work/one.deb" "$program"
-umask 022
-sleep 1
-cp -r "$sources" "$work/elsewhere"
-runs 0 "$work/elsewhere/packaging/deb.sh" "$work/two.deb" "$program"
-equals "$work/one.deb" "$work/two.deb"
-runs 0 dpkg-deb --field "$work/one.deb" Package Version Architecture Depends Recommends
-for line in "Package: zelkuma" "Version: $(<"$top/VERSION")+20231114.2213" "Architecture: amd64" "Depends: libc6 (>= 2.34)" \
+# Builds the package of these sources, in a folder of their own: it lies beside them then.
+packs() { # FOLDER UMASK
+    mkdir -p "$work/$1"
+    cp -r "$sources" "$work/$1/sources"
+    cp -r "$top/"{README.md,CHANGELOG.md,docs,examples,debian} "$work/$1/sources"
+    (cd "$work/$1/sources" && umask "$2" && dpkg-buildpackage -us -uc -b >"$work/out" 2>"$work/err") || fails "it isn't built"
+}
+packs one 022
+packs other/place 077
+package=$work/one/zelkuma_$(<"$top/VERSION")_amd64.deb
+equals "$package" "$work/other/place/${package##*/}"
+runs 0 dpkg-deb --field "$package" Package Version Architecture Depends Recommends
+for line in "Package: zelkuma" "Version: $(<"$top/VERSION")" "Architecture: amd64" "Depends: libc6 (>= 2.34)" \
     "Recommends: python3 (>= 3.8), gdb-multiarch, binutils-riscv64-unknown-elf"; do
     has out "$line"
 done
-runs 0 dpkg-deb --contents "$work/one.deb"
-[ -z "$(grep -vE '^(d|-)rwxr-xr-x root/root |^-rw-r--r-- root/root ' "$work/out")" ] || fails "a mode or an owner is another"
+runs 0 dpkg-deb --contents "$package"
+! grep -vE '^(d|-)rwxr-xr-x root/root |^-rw-r--r-- root/root ' "$work/out" || fails "a mode or an owner is another"
+for name in docs/GUIDE.md examples/launch.json examples/heap.elf README.md CHANGELOG.md; do
+    has out "./usr/share/doc/zelkuma/$name"
+done
 root=$work/root
-runs 0 dpkg-deb -x "$work/one.deb" "$root"
+runs 0 dpkg-deb -x "$package" "$root"
 works "$root/usr/bin/zelkuma" "$root/usr/lib/zelkuma/zelkuma"
+equals "$program" "$root/usr/lib/zelkuma/zelkuma"
 gzip -dc "$root/usr/share/man/man1/zelkuma.1.gz" >"$work/page"
-equals "$top/man/zelkuma.1" "$work/page"
+equals "$top/packaging/zelkuma.1" "$work/page"
 if type -P man >/dev/null; then
     runs 0 man -M "$root/usr/share/man" -P cat zelkuma
     has out "record [OPTION..] ELF LOG BOOK"
 fi
 
-what="a package of the shipped program"
-runs 0 "$work/elsewhere/packaging/deb.sh" "$work/three.deb"
-runs 0 dpkg-deb -x "$work/three.deb" "$work/third"
-equals "$program" "$work/third/usr/lib/zelkuma/zelkuma"
-
 what="a package as Debian has them"
 if type -P lintian >/dev/null; then
-    runs 0 lintian --allow-root --fail-on error,warning "$work/one.deb"
-    gzip -dc "$root/usr/share/doc/zelkuma/changelog.gz" >"$work/page"
-    grep -qx "zelkuma ($(<"$top/VERSION")+20231114.2213) unstable; urgency=medium" "$work/page" || fails "the changelog has another version"
+    runs 0 lintian --allow-root --fail-on error,warning,info "$package"
+    [ ! -s "$work/out" ] || fails "lintian has something to say"
 else
     skips "the package by lintian, which isn't here"
 fi
@@ -251,7 +252,7 @@ if [ "$(id -u)" -eq 0 ]; then
     root=$work/installed
     mkdir -p "$root/var/lib/dpkg/info" "$root/var/lib/dpkg/updates"
     touch "$root/var/lib/dpkg/status"
-    runs 0 dpkg --root="$root" --log=/dev/null --force-depends --install "$work/one.deb"
+    runs 0 dpkg --root="$root" --log=/dev/null --force-depends --install "$package"
     works "$root/usr/bin/zelkuma" "$root/usr/lib/zelkuma/zelkuma"
     runs 0 dpkg --root="$root" --log=/dev/null --verify zelkuma
     [ ! -s "$work/out" ] || fails "a file isn't that of the package"
@@ -260,10 +261,4 @@ if [ "$(id -u)" -eq 0 ]; then
 else
     skips "dpkg --install: only root may"
 fi
-
-what="a package that can't be made"
-unset SOURCE_DATE_EPOCH
-runs 1 "$work/elsewhere/packaging/deb.sh" "$work/four.deb" "$program"
-has err "set SOURCE_DATE_EPOCH"
-runs 2 "$work/elsewhere/packaging/deb.sh"
 end

@@ -1,5 +1,5 @@
 # Installs zelkuma for its users, and takes it away again: the words install and uninstall of the script zelkuma, which
-# has set `top`, `program`, `installed` and `stop`. packaging/deb.sh lays what a package has.
+# has set `top`, `program`, `installed` and `stop`. debian/rules lays by it what a package has.
 #
 # In lib/zelkuma lie the program and the files of tools/files.txt, a fixed list, which is one of them. So an earlier
 # version's list says what is to go.
@@ -14,8 +14,8 @@ lay() ( # PREFIX PROGRAM
         install -D -m 644 -- "$top/$name" "$1/lib/zelkuma/$name" || exit
     done <"$top/tools/files.txt" &&
         commit_of_tree >"$1/lib/zelkuma/release/COMMIT" &&
-        install -D -m 644 -- "$top/man/zelkuma.1" "$1/${beside[1]}" &&
-        install -D -m 644 -- "$top/completion/zelkuma.bash" "$1/${beside[2]}" &&
+        install -D -m 644 -- "$top/packaging/zelkuma.1" "$1/${beside[1]}" &&
+        install -D -m 644 -- "$top/packaging/zelkuma.bash" "$1/${beside[2]}" &&
         install -D -m 755 -- "$2" "$1/lib/zelkuma/zelkuma" &&
         install -D -m 755 -- "$top/zelkuma" "$1/${beside[0]}"
 )
