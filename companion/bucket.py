@@ -30,9 +30,8 @@ UNKNOWN = "-"
 
 def digest_of(cause: Cause, elf: Elf) -> str:
     """Of what the recorded file and the log alone say: so it is the same on each machine, whatever tools and files with
-    names are there. Each function counts once, so that a recursion's depth isn't told."""
-    functions = dict.fromkeys(elf.function_name(at) or f"{at:08x}" for at in (cause.pc,) + cause.calls)
-    said = [cause.reason, UNKNOWN if cause.reason == "limit" else f"{cause.pc:08x}", *functions]
+    names are there."""
+    said = [cause.reason, UNKNOWN if cause.reason == "limit" else f"{cause.pc:08x}", *cause.functions(elf)]
     return hashlib.sha256("\n".join(said).encode("utf-8", "replace")).hexdigest()[:8]
 
 

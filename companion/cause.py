@@ -4,13 +4,14 @@ from __future__ import annotations
 import json
 import re
 from collections import deque
-from typing import NamedTuple
+from typing import Iterable, NamedTuple
 
 from .calls import CallTree
 from .chunks import JUMPS, chunks
+from .elf import Elf
 from .errors import NO_INTERVAL, CompanionError
 from .instruction import Instruction
-from .log import Log, is_fault
+from .log import End, Log, is_fault
 
 LOOP_ROWS, MOST_FRAMES = 300, 200
 EXITS = "exit", "group"
@@ -24,6 +25,11 @@ class Cause(NamedTuple):
     value: int
     pc: int
     calls: tuple[int, ...]
+
+    def functions(self, elf: Elf) -> tuple[str, ...]:
+        """Those that are under way, innermost first, by the file's own symbols. Each counts once, so that a recursion's depth
+        isn't told."""
+        return tuple(dict.fromkeys(elf.function_name(at) or f"{at:08x}" for at in (self.pc,) + self.calls))
 
     def text(self) -> str:
         return json.dumps(self)
@@ -113,11 +119,10 @@ def ended_hart(log: Log) -> int:
     return min(log.ends, key=rank)
 
 
-def cause_of(log: Log, elf_name: str) -> Cause:
-    hart = ended_hart(log)
-    end = log.ends[hart]
+def cause_along(texts: Iterable[bytes], hart: int, end: End) -> Cause:
+    """The cause of a hart's end, from chunks of its last rows."""
     calls = Calls(hart)
-    for text in chunks(log.name, elf_name):
+    for text in texts:
         calls.take(text)
     if end.reason in EXITS:
         return Cause(end.reason, end.value, 0, ())
@@ -129,3 +134,8 @@ def cause_of(log: Log, elf_name: str) -> Cause:
     else:                                       # after a jump to an address without code, the jump's place tells more
         node, pc = rows[-2 if end.reason == "FetchOutside" and len(rows) > 1 else -1]
     return Cause(end.reason, end.value, pc, tuple(calls.tree.calls(node, MOST_FRAMES).calls))
+
+
+def cause_of(log: Log, elf_name: str) -> Cause:
+    hart = ended_hart(log)
+    return cause_along(chunks(log.name, elf_name), hart, log.ends[hart])
