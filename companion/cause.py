@@ -41,8 +41,9 @@ class Cause(NamedTuple):
 
 
 class Piece(NamedTuple):
-    """Rows of all harts, and the hart's node before them; whether it returned just before."""
+    """Rows of all harts, how many are the hart's, and its node before them; whether it returned just before."""
     text: bytes
+    rows: int
     node: int
     returned: bool
 
@@ -59,10 +60,14 @@ class Calls:
         self.kept = 0                           # rows of the hart in `pieces`
 
     def take(self, text: bytes) -> None:
-        self.pieces.append(Piece(text, self.node, self.returned))
-        self.kept += text.count(self.row)
-        while self.kept - self.pieces[0].text.count(self.row) >= LOOP_ROWS:
-            self.kept -= self.pieces.popleft().text.count(self.row)
+        self.pieces.append(Piece(text, text.count(self.row), self.node, self.returned))
+        self.kept += self.pieces[-1].rows
+        while self.kept - self.pieces[0].rows >= LOOP_ROWS:
+            self.kept -= self.pieces.popleft().rows
+        self.follow(text)
+
+    def follow(self, text: bytes) -> None:
+        """Takes the jumps of some rows."""
         if self.returned:
             self.arrive(text, 0)
         for found in JUMPS.finditer(text):
@@ -91,18 +96,22 @@ class Calls:
 
     def last(self) -> list[tuple[int, int]]:
         """The node and the place of each of the last rows."""
-        found: list[tuple[int, int]] = []
+        text = b"".join(piece.text for piece in self.pieces)
+        begin = len(text)
+        for _ in range(min(self.kept, LOOP_ROWS)):
+            begin = text.rfind(self.row, 0, begin)
         if self.pieces:
-            _, self.node, self.returned = self.pieces[0]
-        for piece in self.pieces:
-            for row in self.rows.finditer(piece.text):
-                pc = int(row[1], 16)
-                if self.returned:
-                    self.node, self.returned = self.tree.returned(self.node, pc), False
-                found.append((self.node, pc))
-                if JUMPS.search(row[2]):
-                    self.jump(row[1] + b" " + row[2])
-        return found[-LOOP_ROWS:]
+            self.node, self.returned = self.pieces[0].node, self.pieces[0].returned
+            self.follow(text[:begin])
+        found: list[tuple[int, int]] = []
+        for row in self.rows.finditer(text, begin):
+            pc = int(row[1], 16)
+            if self.returned:
+                self.node, self.returned = self.tree.returned(self.node, pc), False
+            found.append((self.node, pc))
+            if JUMPS.search(row[2]):
+                self.jump(row[1] + b" " + row[2])
+        return found
 
 
 def ended_hart(log: Log) -> int:
