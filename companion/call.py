@@ -26,8 +26,9 @@ WORDS = {
     "seeds": "searches for turns by which a program crashes",
     "again": "makes a recording again, with a larger log",
     "history": "lists what stored to a variable",
+    "calls": "lists the calls of a function",
 }
-QUESTIONS = ("history",)    # whose modules are in a folder of their own
+QUESTIONS = ("history", "calls")    # whose modules are in a folder of their own
 INTERRUPTED = 130           # what a shell says of a program that Ctrl-C ended
 BROKEN = 1                  # a fault of the companion itself
 

@@ -30,6 +30,7 @@ output LOG ELF
 seeds FROM TO -- RECORD-WORDS
 again LOG ELF BOOK NEWLOG
 history LOG ELF NAME
+calls LOG ELF FUNCTION
 '
 # a command, an option of it, and what its value is
 _zelkuma_options='
@@ -82,6 +83,11 @@ history --changes
 history --last N
 history --rows N
 history --json
+calls --names ELF
+calls --where ARG==VALUE
+calls --last N
+calls --rows N
+calls --json
 '
 
 # Prints the lines of a table that begin with a word, without it.
