@@ -31,6 +31,7 @@ seeds FROM TO -- RECORD-WORDS
 again LOG ELF BOOK NEWLOG
 history LOG ELF NAME
 calls LOG ELF FUNCTION
+find LOG ELF VALUE
 '
 # a command, an option of it, and what its value is
 _zelkuma_options='
@@ -88,6 +89,9 @@ calls --where ARG==VALUE
 calls --last N
 calls --rows N
 calls --json
+find --names ELF
+find --rows N
+find --json
 '
 
 # Prints the lines of a table that begin with a word, without it.

@@ -1,6 +1,6 @@
 """Questions in time: each reads the text of `joint` in pieces, and looks at the rows that it asks of alone.
 
-    history, calls          the words: the stores to a variable, the calls of a function
+    history, calls, find    the words: the stores to a variable, the calls of a function, the places of a value
     functions, registers    what FUNCTION is; what a register held at a row
     window                  the latest text, and the search in it
     words                   the words of memory of a variable, and what rows tell of them
