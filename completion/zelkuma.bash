@@ -65,6 +65,10 @@ view --names ELF
 view --row HART:IC
 view --output N:BYTE
 view --rows N
+gdb --run
+gdb --names ELF
+gdb --at HART:IC
+gdb --rows N
 gdb --port N
 gdb --end
 gdb --trace

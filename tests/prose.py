@@ -30,7 +30,7 @@ PAGES = {
     "docs/DECISIONS.md": 3000,
     "docs/DEFINITIONS.md": None,
     "docs/FORMAT.md": 3700,
-    "docs/GDB.md": 1300,
+    "docs/GDB.md": 1500,
     "docs/GUIDE.md": 6700,
     "docs/INTERNALS.md": 4000,
     "docs/JSON.md": 950,

@@ -294,7 +294,8 @@ def report(found: Calls) -> list[str]:
         said += f"; the last {number(len(found.told))} are told (--last N)"
     values = Values(asked)
     lines = columns([call_line(call, asked, values) for call in found.told])
-    return [said] + lines + ["  " + line for line in asked.left_out()]
+    last = asked.ready(int(found.told[-1].hart), found.told[-1].count) if found.told else []
+    return [said] + lines + ["  " + line for line in last + asked.left_out()]
 
 
 def call_answer(call: Call, asked: Asked, values: Values) -> dict[str, Any]:

@@ -149,7 +149,8 @@ def report(found: History) -> list[str]:
     rows = [entry_line(entry, asked, variable.name) for entry in found.told]
     if all(row[1] == variable.name for row in rows):
         rows = [row[:1] + row[2:] for row in rows]
-    return [said] + before_line(found) + columns(rows) + ["  " + line for line in asked.left_out()]
+    last = asked.ready(found.told[-1].hart, found.told[-1].count) if found.told else []
+    return [said] + before_line(found) + columns(rows) + ["  " + line for line in last + asked.left_out()]
 
 
 def history_answer(found: History) -> dict[str, Any]:

@@ -11,6 +11,7 @@ from ..log import Log
 from ..naming import named_elf, places_of
 from ..options import whole
 from ..places import Places
+from ..ready import ready
 from ..recent import open_log
 from ..text import number
 
@@ -39,6 +40,9 @@ class Asked(NamedTuple):
         if function and address < function.address + max(1, function.size):
             return function.name + (f"+{address - function.address}" if address > function.address else "")
         return self.named.data_name(address)
+
+    def ready(self, hart: int, count: int) -> list[str]:
+        return ready(self.log, self.elf, self.named, hart, count)
 
     def left_out(self) -> list[str]:
         """What of the run isn't among the rows, as lines."""
