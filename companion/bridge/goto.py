@@ -8,7 +8,7 @@ from .session import MOST, Session
 
 
 def go_to_place(session: Session, place: At) -> None:
-    """Goes to where a hart stands before the instruction of a count. CompanionError if the session doesn't have it."""
+    """Goes to the place before the instruction of a count of a hart. CompanionError if the session doesn't have it."""
     intervals = session.intervals.get(place.hart)
     if not intervals:
         raise CompanionError(f"hart {place.hart} has no rows here; harts are {', '.join(map(str, sorted(session.intervals)))}",
