@@ -28,8 +28,9 @@ WORDS = {
     "history": "lists what stored to a variable",
     "calls": "lists the calls of a function",
     "find": "lists the places at which a value occurs",
+    "compare": "compares two logs of one program",
 }
-QUESTIONS = ("history", "calls", "find")    # whose modules are in a folder of their own
+QUESTIONS = ("history", "calls", "find", "compare")    # whose modules are in a folder of their own
 INTERRUPTED = 130           # what a shell says of a program that Ctrl-C ended
 BROKEN = 1                  # a fault of the companion itself
 

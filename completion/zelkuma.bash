@@ -32,6 +32,7 @@ again LOG ELF BOOK NEWLOG
 history LOG ELF NAME
 calls LOG ELF FUNCTION
 find LOG ELF VALUE
+compare GOOD BAD ELF
 '
 # a command, an option of it, and what its value is
 _zelkuma_options='
@@ -96,6 +97,9 @@ calls --json
 find --names ELF
 find --rows N
 find --json
+compare --names ELF
+compare --rows N
+compare --json
 '
 
 # Prints the lines of a table that begin with a word, without it.

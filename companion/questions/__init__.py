@@ -1,6 +1,7 @@
 """Questions in time: each reads the text of `joint` in pieces, and looks at the rows that it asks of alone.
 
     history, calls, find    the words: the stores to a variable, the calls of a function, the places of a value
+    compare, paths          the word that compares two logs, and the ways of their harts
     functions, registers    what FUNCTION is; what a register held at a row
     window                  the latest text, and the search in it
     words                   the words of memory of a variable, and what rows tell of them
