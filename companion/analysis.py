@@ -1,6 +1,8 @@
 """What follows from the facts of a crash: its history, its suspects, and the origins of values."""
 from __future__ import annotations
 
+from typing import Sequence
+
 from .calls import entries_of
 from .control import Control
 from .elf import Elf
@@ -26,8 +28,8 @@ class Analysis(Facts):
     origin                  what it took from before the rows"""
 
     def __init__(self, source: LogFile, log: Log, elf: Elf, named: Elf, trace: Trace, row: str = "",
-                 output: Byte | None = None) -> None:
-        super().__init__(log, elf, named, trace, row, output)
+                 output: Byte | None = None, folders: Sequence[str] = ()) -> None:
+        super().__init__(log, elf, named, trace, row, output, folders)
         self.file = source
         recursion = find_recursion(trace, self.start)
         loop = self.starts[0 if self.hangs else 1:] + [n for n in recursion.given if n != self.start]
@@ -57,8 +59,9 @@ def leads_into(history: History, log: Log, more: Log) -> bool:
 
 
 def analysed(log_name: str, elf_name: str, names: str = "", row: str = "", rows: int = 0,
-             output: Byte | None = None) -> Analysis:
-    """Reads the end of a log, its rows and the names, and analyses them. `names` is a file with names, if ELF has none.
+             output: Byte | None = None, folders: Sequence[str] = ()) -> Analysis:
+    """Reads the end of a log, its rows and the names, and analyses them. `names` is a file with names, if ELF has none;
+    `folders` are those of --source.
     `rows` says how many of the last rows are read; without it more if values near the fault come from before the first.
     For a byte of the output all are, since writes are numbered from the first."""
     source = open_log(log_name)
@@ -77,7 +80,7 @@ def analysed(log_name: str, elf_name: str, names: str = "", row: str = "", rows:
                 log, trace = more, read_trace(more, elf_name, entries, most=MORE_ROWS if more.unread and not row else 0)
             else:
                 log = source.end(FIRST_ROWS, asked)
-        return Analysis(source, log, elf, named, trace, row, output)
+        return Analysis(source, log, elf, named, trace, row, output, folders)
     except BaseException:
         source.close()
         raise

@@ -2,7 +2,7 @@
 from __future__ import annotations
 
 from dataclasses import dataclass
-from typing import NamedTuple
+from typing import NamedTuple, Sequence
 
 from . import program
 from .elf import Elf
@@ -54,10 +54,11 @@ class Facts:
     last     the last rows up to `start`
     notes    lines for the end of a report"""
 
-    def __init__(self, log: Log, elf: Elf, named: Elf, trace: Trace, row: str = "", output: Byte | None = None) -> None:
+    def __init__(self, log: Log, elf: Elf, named: Elf, trace: Trace, row: str = "", output: Byte | None = None,
+                 folders: Sequence[str] = ()) -> None:
         self.output = output
         self.log, self.elf, self.named, self.trace, self.asked = log, elf, named, trace, row
-        self.places = places_of(named)
+        self.places = places_of(named, folders)
         self.notes = self.first_notes()
         if not trace.last:
             raise CompanionError(f"the log holds no row: the records of a hart's last interval passed its --log-size "

@@ -7,10 +7,9 @@ from typing import Mapping, Optional, Sequence
 
 from . import streams
 from .answers import LONGEST, put_answer
-from .call import INTERRUPTED
 from .errors import REFUSED, CompanionError
 from .options import parse, whole
-from .recording import ENDS, FAULT, Kind, Plan, RecordWords, scratch
+from .recording import ENDS, FAULT, Kind, Plan, RecordWords
 from .text import number
 from .trials import Count, Ending, Search
 
@@ -30,7 +29,7 @@ RECORD-WORDS are those of `record` but for --seed. Of each number from FROM to T
 LOG and BOOK are those of the first run that ends with STATUS; if a number draws its turns, no lower one does.
 Its kind and number are printed, and the command that makes it again. A table tells how the runs up to it ended: status,
 count, the first of them, and of a fault the line of `bucket`. If none ends so, nothing is saved, and the status is 22.
-Ctrl-C ends the search: the table is printed, what was found is kept, and the status is 130.
+Ctrl-C (or TERM, HUP) ends the search: the table is printed, what was found is kept, and the status is 130 (143, 129).
 
     -j N             so many recordings at a time; without it, as many as there are processors
     --until STATUS   0 (done), 10 (a fault) or 11 (a hart came to the limit); without it 10
@@ -104,17 +103,19 @@ def find(search: Search, is_json: bool) -> None:
         search.run()
     finally:
         streams.on_interrupt(signal.SIG_IGN)
-        if search.found is not None:
-            search.found.save()
-        if not is_json:
-            tell(search)
+        try:
+            if search.found is not None:
+                search.found.save()
+        finally:
+            if not is_json:
+                tell(search)
     if is_json:
         tell_json(search)
 
 
 def status_of(search: Search, names: Sequence[str], first: int, last: int) -> int:
     if search.stopped:
-        return INTERRUPTED
+        return 128 + search.stopped
     if search.found is not None:
         return 0
     streams.say(f"none of {', '.join(names)} from {first} to {last} ends with status {search.until}")
@@ -134,7 +135,7 @@ def main(words: list[str]) -> int:
     kinds = kinds_of(options, record.is_lean)
     processors = 1 if kinds == [Kind.THREADS] else len(os.sched_getaffinity(0))
     jobs = whole(options["--jobs"], 1, 1024, "-j") if "--jobs" in options else processors
-    folders = [scratch(output) for output in record.outputs]
+    folders = [target.scratch() for target in record.targets]
     search = Search(record, range(first, last + 1), kinds, until, jobs, [folder.name for folder in folders])
     try:
         find(search, "--json" in options)

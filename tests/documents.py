@@ -19,8 +19,6 @@ import subprocess
 import sys
 import tempfile
 
-import fresh_start
-
 TOP = os.path.dirname(os.path.dirname(os.path.realpath(__file__)))
 END = "\x01"
 
