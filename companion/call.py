@@ -30,8 +30,9 @@ WORDS = {
     "calls": "lists the calls of a function",
     "find": "lists the places at which a value occurs",
     "compare": "compares two logs of one program",
+    "export": "saves what a recording did for other tools",
 }
-QUESTIONS = ("history", "calls", "find", "compare")    # whose modules are in a folder of their own
+QUESTIONS = ("history", "calls", "find", "compare", "export")    # whose modules are in a folder of their own
 BROKEN = 1                  # a fault of the companion itself
 
 

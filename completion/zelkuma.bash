@@ -34,6 +34,7 @@ history LOG ELF NAME
 calls LOG ELF FUNCTION
 find LOG ELF VALUE
 compare GOOD BAD ELF
+export LOG ELF --callgrind FILE | --lcov FILE | --perfetto FILE
 '
 # a command, an option of it, and what its value is
 _zelkuma_options='
@@ -109,6 +110,8 @@ find --json
 compare --names ELF
 compare --rows N
 compare --json
+export --names ELF
+export --rows N
 '
 
 # Prints the lines of a table that begin with a word, without it.
