@@ -28,8 +28,12 @@ WORDS = {
     "shrink": "finds the shortest order of harts that still crashes",
     "again": "makes a recording again, with a larger log",
     "history": "lists what stored to a variable",
+    "calls": "lists the calls of a function",
+    "find": "lists the places at which a value occurs",
+    "compare": "compares two logs of one program",
+    "export": "saves what a recording did for other tools",
 }
-QUESTIONS = ("history",)    # whose modules are in a folder of their own
+QUESTIONS = ("history", "calls", "find", "compare", "export")    # whose modules are in a folder of their own
 BROKEN = 1                  # a fault of the companion itself
 
 

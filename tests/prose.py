@@ -28,7 +28,7 @@ PAGES = {
     "docs/COMMANDS.md": 4900,
     "docs/DECISIONS.md": float("inf"),  # no decision has to go because another one comes
     "docs/FORMAT.md": 3700,
-    "docs/GDB.md": 1300,
+    "docs/GDB.md": 1500,
     "docs/GUIDE.md": 6700,
     "docs/INTERNALS.md": 3600,
     "docs/JSON.md": 950,
