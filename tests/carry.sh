@@ -133,13 +133,62 @@ done
 
 what="taking it away"
 runs 0 "$older/bin/zelkuma" uninstall "$older"
+laid_under "$older" | grep -v /lib/zelkuma >"$work/wanted"
+equals "$work/wanted" "$work/out"
+has err "zelkuma: uninstall: '$older'/lib/zelkuma stays: it has files that install didn't lay"
 [ "$(files_in "$older" | xargs)" = "bin/other lib/zelkuma/mine" ] || fails "it left $(files_in "$older" | xargs)"
 runs 3 "$sources/zelkuma" uninstall "$older"
 has err "there is no zelkuma under"
 runs 0 "$sources/zelkuma" uninstall "$work/no/where/"
+laid_under "$work/no/where" | sort >"$work/wanted"
+sort "$work/out" >"$work/files"
+equals "$work/wanted" "$work/files"
 [ -z "$(files_in "$work/no")" ] && [ ! -e "$work/no/where/lib/zelkuma" ] || fails "it left $(files_in "$work/no")"
 runs 3 "$sources/zelkuma" uninstall "$work/nothing"
 runs 2 "$sources/zelkuma" uninstall
+
+what="links, other files of these names, and what dpkg laid"
+kept=$work/kept
+mkdir -p "$kept" "$work/linked-to/companion" "$work/foreign/bin" "$work/link/bin" && touch "$work/linked-to/companion/why.py"
+for link in lib/zelkuma lib/zelkuma/companion lib/zelkuma/tools/files.txt; do
+    runs 0 "$sources/zelkuma" install "$kept"
+    mv "$kept/$link" "$work/moved-away"
+    ln -s "$work/linked-to/companion" "$kept/$link"
+    for word in install uninstall; do
+        files_in "$work/linked-to" >"$work/wanted"
+        files_in "$kept" >"$work/before"
+        runs 2 "$sources/zelkuma" $word "$kept"
+        has err "zelkuma: $word: '$kept/$link' is a link, which install didn't lay; remove it first"
+        files_in "$work/linked-to" >"$work/files"
+        equals "$work/wanted" "$work/files"
+        files_in "$kept" >"$work/after"
+        equals "$work/before" "$work/after"
+    done
+    rm "$kept/$link" && mv "$work/moved-away" "$kept/$link"
+done
+echo mine >"$work/foreign/bin/zelkuma" && ln -s "$sources/zelkuma" "$work/link/bin/zelkuma"
+for other in foreign link; do
+    cp -r "$kept/lib" "$work/$other"
+    for word in install uninstall; do
+        runs 2 "$sources/zelkuma" $word "$work/$other"
+        has err "zelkuma: $word: '$work/$other/bin/zelkuma' isn't zelkuma's script; remove it first"
+    done
+done
+[ "$(<"$work/foreign/bin/zelkuma")" = mine ] && [ -L "$work/link/bin/zelkuma" ] || fails "another file is gone"
+if type -P dpkg-query >/dev/null; then
+    mkdir -p "$work/dpkg/info" "$work/dpkg/updates"
+    printf '%s\n' "Package: zelkuma" "Status: install ok installed" "Architecture: all" "Version: 1" "Maintainer: none" \
+        "Description: none" "" >"$work/dpkg/status"
+    printf '/.\n%s\n' "$kept/bin/zelkuma" >"$work/dpkg/info/zelkuma.list"
+    for word in install uninstall; do
+        DPKG_ADMINDIR=$work/dpkg runs 2 "$sources/zelkuma" $word "$kept"
+        has err "zelkuma: $word: dpkg laid what is under '$kept': 'apt remove zelkuma' takes it away"
+    done
+    files_in "$kept" >"$work/files"
+    equals "$work/whole" "$work/files"
+else
+    skips "what dpkg laid: dpkg-query isn't here"
+fi
 
 what="every companion that is told"
 for word in ${python:+$(companions)}; do
