@@ -12,7 +12,7 @@ import struct
 import tempfile
 from typing import NamedTuple, Optional
 
-from . import program
+from . import program, streams
 from .errors import NO_INTERVAL, UNREADABLE, CompanionError
 from .log import END, FIRST_FAULT, HEAD_2, HEADER, SEAL, End, Log, check, runs_of
 
@@ -42,7 +42,8 @@ class LogFile:
         """The name of a file that is kept until the end."""
         if not self.folder:
             try:
-                self.folder = self.files.enter_context(tempfile.TemporaryDirectory(prefix="zelkuma-"))
+                with streams.uninterrupted():
+                    self.folder = self.files.enter_context(tempfile.TemporaryDirectory(prefix="zelkuma-"))
             except OSError as error:
                 raise CompanionError(f"no place for the end of {self.name}: {error.strerror or error}", UNREADABLE)
         return os.path.join(self.folder, name)

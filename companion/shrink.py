@@ -11,7 +11,6 @@ from . import streams
 from .again import check_book, settings_of
 from .answers import LONGEST, put_answer
 from .bucket import bucket_of
-from .call import INTERRUPTED
 from .calls import CallTree
 from .elf import Elf
 from .errors import NO_INTERVAL, REFUSED, CompanionError
@@ -46,17 +45,16 @@ hartxturns, and then its switches: who stops where, who goes on where, and what 
     --json           prints one JSON object in place of the text (docs/JSON.md)
     -- WORD..        options of `record`: --input FILE is needed if LOG has one; others have to be those of LOG
 
-The answer is the same on each machine. Ctrl-C and TERM end the search (130, 143): the shortest that
+The answer is the same on each machine. Ctrl-C, TERM and HUP end the search (130, 143, 129): the shortest that
 was found is saved. BOOK has to be LOG's, as `audit` says. Companions show; the program proves."""
 FORM = "shrink LOG ELF BOOK NEWLOG NEWBOOK [--seconds N] [--output N:BYTE] [--names ELF] [--json] [-- WORD..]"
 OPTIONS = {"--seconds": True, "--output": True, "--names": True, "--json": False}
-TERMINATED = 128 + signal.SIGTERM
 MEMORY_FOLDER = "/dev/shm"  # files of tries needn't reach a disk
 LONGEST_SEARCH = 1 << 20    # seconds
 
 
 class Signals:
-    """Ends a search on Ctrl-C, TERM and when its time is over.
+    """Ends a search on Ctrl-C, TERM, HUP and when its time is over.
 
     has_come  whether one of them did; status: to end with"""
 
@@ -64,12 +62,11 @@ class Signals:
         self.tries, self.seconds, self.status, self.has_come = tries, seconds, 0, False
 
     def come(self, which: int, _frame: object) -> None:
-        self.has_come, self.status = True, {signal.SIGINT: INTERRUPTED, signal.SIGTERM: TERMINATED}.get(signal.Signals(which), 0)
+        self.has_come, self.status = True, 128 + which if which in streams.STOPS else 0
         self.tries.stop()
 
     def __enter__(self) -> Signals:
         streams.on_interrupt(self.come)
-        signal.signal(signal.SIGTERM, self.come)
         signal.signal(signal.SIGALRM, self.come)
         signal.alarm(self.seconds)
         return self
@@ -78,7 +75,6 @@ class Signals:
         """From here on nothing ends the call before all is saved."""
         signal.alarm(0)
         streams.on_interrupt(signal.SIG_IGN)
-        signal.signal(signal.SIGTERM, signal.SIG_IGN)
 
 
 class Asked:

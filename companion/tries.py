@@ -3,7 +3,6 @@ however many are under way."""
 from __future__ import annotations
 
 import os
-import signal
 from contextlib import closing
 from typing import Generator, Hashable, Iterable, Iterator, Mapping, NamedTuple, Optional, Sequence
 
@@ -133,7 +132,7 @@ class Tries:
         process, status = os.wait()
         one = self.running.pop(process)
         one.status = one.child.end(status)
-        self.stopped |= one.status in (-signal.SIGINT, -signal.SIGTERM)
+        self.stopped |= -one.status in streams.STOPS
         ended[one.number] = one
 
     def judged(self, one: Try, most: tuple[int, int]) -> Optional[Pieces]:
