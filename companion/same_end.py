@@ -122,7 +122,6 @@ class Ends:
                       if end.reason == "limit" and (self.waiting is None or hart in self.waiting))
 
     def faulted(self, log: Log, hart: int) -> Faulted:
-    def faulted(self, log: Log, hart: int) -> Faulted:
         text, is_cut = self.last_text(log, hart, CALLS_ROWS)
         rows = b"\n" + b"".join(line for line in text.splitlines(True) if line[:1].isdigit()).rstrip(b"\n")
         cause = cause_along([rows], hart, log.ends[hart])

@@ -25,6 +25,7 @@ PAGES = {
     "CHANGELOG.md": 2000,
     "CONTRIBUTING.md": 700,
     "README.md": 1000,
+    "SECURITY.md": 450,
     "docs/COMMANDS.md": 4900,
     "docs/DECISIONS.md": float("inf"),  # no decision has to go because another one comes
     "docs/FORMAT.md": 3700,
