@@ -19,7 +19,7 @@ page=$work/out
 mkdir "$tree"
 cp "$top/crates.txt" "$tree"
 cd "$top" || exit 1
-cp -r --parents crates/*/specs crates/*/src/lib.rt "$tree"
+cp -r --parents crates/*/specs crates/*/src/{lib,main}.rt "$tree"
 
 # Makes the tree's page, and looks for a line of it.
 shows() { # LINE

@@ -143,10 +143,54 @@ runs 4 "$zelkuma" record no-file LOG BOOK
 says "bugnet: missing: no-file"
 
 what="turns that the environment names"
-for schedule in bursts sleeper: bursts:x sleeper:-1 bursts:18446744073709551616 list:LOG; do
+odd=(bursts sleeper: bursts:x sleeper:-1 bursts:18446744073709551616 list:LOG $'book:\xff' $'bursts:\xff')
+for schedule in "${odd[@]}"; do
     export ZELKUMA_SCHEDULE=$schedule
-    refuses 2 "ZELKUMA_SCHEDULE is bursts:NUMBER, sleeper:NUMBER or book:FILE, and not '$schedule'" record ELF LOG BOOK
+    for harts in 1 2; do
+        runs 2 "$program" record --harts $harts ELF LOG BOOK
+        says "bugnet: ZELKUMA_SCHEDULE refused"
+    done
+    [[ $schedule == book:* ]] ||
+        refuses 2 "ZELKUMA_SCHEDULE is bursts:NUMBER, sleeper:NUMBER or book:FILE, and not ${schedule@Q}" record ELF LOG BOOK
 done
+truncate -s 1073741825 long-BOOK
+for schedule in "${odd[@]}" book:no-file book:folder book:BOOK book:ELF book:long-BOOK; do
+    export ZELKUMA_SCHEDULE=$schedule
+    # words that are refused, or have a seed, and other commands, don't have it looked at
+    for started in "$program" "$zelkuma"; do
+        runs 2 "$started" record --ways 17 a b
+        has err "^bugnet: words refused"
+        runs 2 "$started" list
+        has err "^bugnet: words refused"
+        runs 11 "$started" record --seed 1 --harts 2 --limit 2000 ELF LOG BOOK
+        runs 0 "$started" list LOG
+        runs 0 "$started" demo 7
+    done
+    runs 2 "$program" record --ways 17 a b c
+    says "bugnet: setting ways 17"
+    runs 2 "$program" record --harts 2 ELF LOG LOG
+    says "bugnet: same name LOG"
+done
+for started in "$program" "$zelkuma"; do
+    # a list isn't needed for one hart, and is never overwritten
+    runs 11 env ZELKUMA_SCHEDULE=book:no-file "$started" record --limit 2000 ELF LOG BOOK
+    runs 4 env ZELKUMA_SCHEDULE=book:no-file "$started" record --harts 2 ELF LOG BOOK
+    says "bugnet: missing: no-file"
+    runs 3 env ZELKUMA_SCHEDULE=book:folder "$started" record --harts 2 ELF LOG BOOK
+    says "bugnet: store failed: folder"
+    runs 5 env ZELKUMA_SCHEDULE=book:long-BOOK "$started" record --harts 2 ELF LOG BOOK
+    says "bugnet: too long: long-BOOK"
+    runs 11 env ZELKUMA_SCHEDULE= "$started" record --harts 2 --limit 2000 ELF LOG BOOK
+done
+rm long-BOOK
+cp BOOK list
+runs 3 env ZELKUMA_SCHEDULE=book:list "$program" record --harts 2 --limit 2000 ELF LOG list
+says "bugnet: store failed: list"
+cmp -s list BOOK || fails "the list was overwritten"
+truncate -s 500000000 large
+runs 9 bash -c 'ulimit -v 200000; ZELKUMA_SCHEDULE=book:large exec "$0" record --harts 2 ELF LOG BOOK' "$program"
+says "bugnet: out of memory"
+rm large
 for schedule in bursts:0 bursts:+7 sleeper:18446744073709551615; do
     export ZELKUMA_SCHEDULE=$schedule
     runs 11 "$zelkuma" record --harts 2 --limit 2000 ELF drawn drawn-BOOK
@@ -157,8 +201,6 @@ for schedule in bursts:0 bursts:+7 sleeper:18446744073709551615; do
     cmp -s drawn LOG && cmp -s drawn-BOOK BOOK || fails "the list wasn't followed"
 done
 refuses 2 "LOG would destroy './drawn-BOOK', whose turns ZELKUMA_SCHEDULE names" record ELF ./drawn-BOOK BOOK
-runs 4 env ZELKUMA_SCHEDULE=book:no-file "$zelkuma" record ELF LOG BOOK
-says "bugnet: missing list of turns"
 unset ZELKUMA_SCHEDULE
 
 # Each line of words: the program refuses them just if the script knows why. A bare '@' represents an empty word.

@@ -63,7 +63,8 @@ def definitions_in(file):
 def crate_purpose(crate):
     """The first paragraph at the head of a crate's source."""
     lines = []
-    for line in (crate / "src" / "lib.rt").read_text(encoding="utf-8").splitlines():
+    root = next(path for path in (crate / "src" / "lib.rt", crate / "src" / "main.rt") if path.exists())
+    for line in root.read_text(encoding="utf-8").splitlines():
         text = re.sub(r"^//!? ?", "", line)
         if not line.startswith("//") or not text.strip():
             break

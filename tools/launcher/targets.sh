@@ -23,7 +23,7 @@ check_old_target() { # NAME FILE
     [ ! "$2" -ef "${names[0]}" ] || stop 2 "$1 would destroy ${wanted[0]}: ${2@Q} and ${names[0]@Q} are one file"
     [[ -z ${values[input]-} || ! $2 -ef ${values[input]} ]] ||
         stop 2 "$1 would destroy the input: ${2@Q} and ${values[input]@Q} are one file"
-    [[ ${ZELKUMA_SCHEDULE-} != book:* || ! $2 -ef ${ZELKUMA_SCHEDULE#book:} ]] ||
+    [[ -n ${values[seed]+given} || ${ZELKUMA_SCHEDULE-} != book:* || ! $2 -ef ${ZELKUMA_SCHEDULE#book:} ]] ||
         stop 2 "$1 would destroy ${2@Q}, whose turns ZELKUMA_SCHEDULE names"
     [[ $1 != BOOK || ! $2 -ef ${names[1]} ]] || stop 2 "BOOK would destroy LOG: ${2@Q} and ${names[1]@Q} are one file"
     read_head "$2"
@@ -43,9 +43,9 @@ check_target() { # NAME FILE
     ! is_long "$place" || stop 3 "$1 can't be saved: its name has more than 255 bytes"
 }
 
-# Stops if ZELKUMA_SCHEDULE names turns in no way that the program knows.
+# Stops if ZELKUMA_SCHEDULE names turns in no way that the program knows. With a seed it doesn't count.
 check_schedule() {
-    [[ ${words[0]} != record || ${ZELKUMA_SCHEDULE:-book:} == book:* ]] ||
+    [[ ${words[0]} != record || -n ${values[seed]+given} || ${ZELKUMA_SCHEDULE:-book:} == book:* ]] ||
         { [[ $ZELKUMA_SCHEDULE == @(bursts|sleeper):* ]] && is_number "${ZELKUMA_SCHEDULE#*:}" 0 18446744073709551615; } ||
         stop 2 "ZELKUMA_SCHEDULE is bursts:NUMBER, sleeper:NUMBER or book:FILE, and not ${ZELKUMA_SCHEDULE@Q}"
 }

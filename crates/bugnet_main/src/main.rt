@@ -8,36 +8,19 @@
 
 mod schedule;
 
-use crate::schedule::turns_of;
-use bn_outside::{LoadError, send_all};
-use bugnet::Status;
+use crate::schedule::{tell_out_of_memory, turns_of};
 use host_outside::{FileStore, ReaderSource, Writing, words_of};
 use std::process::ExitCode;
-
-// The status and the line of a list of turns that isn't loaded.
-fn refusal_of(error: LoadError) -> (Status, &'static [u8]) {
-    match error {
-        LoadError::Missing => (Status::Missing, b"bugnet: missing list of turns\n"),
-        LoadError::TooLong => (Status::TooLong, b"bugnet: too long list of turns\n"),
-        LoadError::Failed => (Status::StoreFailed, b"bugnet: store failed list of turns\n"),
-        LoadError::OutOfMemory => (Status::OutOfMemory, b"bugnet: out of memory\n"),
-    }
-}
 
 fn main(rt: HostRuntime) -> ExitCode {
     let mut err = Writing::new(rt.stderr());
     let Ok(words) = words_of(&rt) else {
-        let _ = send_all(&mut err, b"bugnet: out of memory\n");
-        return ExitCode::from(Status::OutOfMemory.code());
+        return ExitCode::from(tell_out_of_memory(&mut err).code());
     };
     let mut store = FileStore::new(&rt);
-    let turns = match turns_of(&rt, rt.alloc(), &words, &mut store) {
+    let turns = match turns_of(&rt, rt.alloc(), &words, &mut store, &mut err) {
         Ok(turns) => turns,
-        Err(error) => {
-            let (status, line) = refusal_of(error);
-            let _ = send_all(&mut err, line);
-            return ExitCode::from(status.code());
-        }
+        Err(status) => return ExitCode::from(status.code()),
     };
     let mut input = ReaderSource::new(rt.stdin());
     let mut out = Writing::new(rt.stdout());

@@ -1,12 +1,20 @@
 //! Which turns a recording without a seed takes, as the environment names them.
-use bn_base::HartId;
-use bn_outside::{Gate, LoadError, Manner, Schedule, Store};
+ghost use Rattle.std.specs.Prelude.{◌≡◌, IfOk, OnSome};
+ghost use Rattle.bugnet.specs.Command.Record.{is_clash};
+ghost use Rattle.command_words.specs.Words.{command_in, seen_recording};
+ghost use Rattle.bugnet_main.specs.Asked.{AskForTurns, TakesTurns, IsUnasked};
+
+use bn_base::{HartId, Settings};
+use bn_outside::{Gate, Manner, Schedule, Sink, Store, send_all};
+use bugnet::Status;
+use command_words::{Command, RecordOptions, WordsError, read_words};
+use log_commands::inputs::fetch;
+use log_commands::names::{Names, Role};
+use log_commands::refusal::Refusal;
+use log_commands::send::refuse;
 use std::alloc::Global;
 use std::env;
-use std::env::Env;
-
-// The longest list of turns that is loaded, in bytes; audit has the same limit.
-const LONGEST_BOOK: usize = 1_073_741_824;
+use std::env::{Env, VarError};
 
 /// Which turns a recording without a seed takes.
 #[derive(Drop)]
@@ -36,42 +44,172 @@ impl Gate for Turns {
     fn served(&self, _hart: HartId) {}
 }
 
-// Turns that a number draws in this manner. The script refuses text that is no number, so those of threads
-// are no schedule that a user asked for.
-fn drawn(manner: Manner, text: &str) -> Turns {
+/// Tells on err that memory ran out.
+pub fn tell_out_of_memory<X: Sink>(err: &mut X) -> Status
+    ensures { result ≡ Status.OutOfMemory }
+{
+    let _ = send_all(err, b"bugnet: out of memory\n");
+    Status::OutOfMemory
+}
+
+// What a text says of turns.
+#[derive(Clone, Copy)]
+enum Said<'a> {
+    Drawn { manner: Manner, number: u64 },
+    Book(&'a str),
+}
+
+// Turns that a number draws in this manner, if the text is a number.
+fn drawn<'a>(manner: Manner, text: &str) -> Option<Said<'a>> {
     match text.parse::<u64>() {
-        Ok(number) => Turns::Drawn { manner, number },
-        Err(_) => Turns::OfThreads,
+        Ok(number) => Some(Said::Drawn { manner, number }),
+        Err(_) => None,
     }
 }
 
-// The turns that a text names; those of threads if it names none.
-fn named<S: Store>(alloc: Global, store: &mut S, text: &str) -> Result<Turns, LoadError> {
+// What a text says of turns, if it is understood.
+fn said_by(text: &str) -> Option<Said<'_>> {
     if let Some(number) = text.strip_prefix("bursts:") {
-        return Ok(drawn(Manner::Bursts, number));
+        return drawn(Manner::Bursts, number);
     }
     if let Some(number) = text.strip_prefix("sleeper:") {
-        return Ok(drawn(Manner::Sleeper, number));
+        return drawn(Manner::Sleeper, number);
     }
     match text.strip_prefix("book:") {
-        Some(name) => Ok(Turns::Listed(store.load(alloc, name, LONGEST_BOOK)?)),
-        None => Ok(Turns::OfThreads),
+        Some(name) => Some(Said::Book(name)),
+        None => None,
     }
 }
 
-/// The turns that the environment names in ZELKUMA_SCHEDULE, if the words are those of a recording. The error is that of
-/// the load of a list.
-pub fn turns_of<R: Env + AllocGlobal, S: Store>(
+// Whether LOG and BOOK are one name, if both are saved.
+fn clashes(options: &RecordOptions) -> bool
+    ensures { result ≡ is_clash options.now.lean options.now.log.now options.now.book.now }
+{
+    if options.lean {
+        return false;
+    }
+    options.log == options.book
+}
+
+// How many harts a recording has, if it has no seed and isn't refused by its words.
+fn harts_of(options: &RecordOptions) -> Option<u8>
+    ensures { OnSome result (TakesTurns (seen_recording options.now)) }
+{
+    if options.seed.is_some() || clashes(options) {
+        return None;
+    }
+    match Settings::checked(&options.settings) {
+        Ok(settings) => Some(settings.harts()),
+        Err(_) => None,
+    }
+}
+
+// The same of words: none if they ask for anything else.
+fn harts_in(alloc: Global, words: &[String]) -> Result<Option<u8>, WordsError>
+    ensures { IfOk result (λ harts. OnSome harts (AskForTurns (command_in words.now))) }
+{
+    match read_words(alloc, words) {
+        Ok(Command::Record(options)) => Ok(harts_of(&options)),
+        Ok(_) => Ok(None),
+        Err(WordsError::Refused) => Ok(None),
+        Err(WordsError::OutOfMemory) => Err(WordsError::OutOfMemory),
+    }
+}
+
+// The turns of the list of this name.
+fn listed<S: Store, X: Sink>(
+    alloc: Global,
+    name: &str,
+    store: &mut S,
+    err: &mut X,
+) -> Result<Turns, Status>
+    ensures files { (S.stored store.new).files ≡ (S.stored store.old).files }
+    ensures saves { (S.stored store.new).saves ≡ (S.stored store.old).saves }
+{
+    let names = Names {
+        elf: "",
+        log: "",
+        book: name,
+        input: "",
+        origin: "",
+    };
+    match fetch(alloc, &names, Role::Book, store) {
+        Ok(list) => Ok(Turns::Listed(list)),
+        Err(refusal) => Err(refuse(alloc, &names, &refusal, err)),
+    }
+}
+
+// Tells on err that the variable isn't understood.
+fn tell_refused<X: Sink>(err: &mut X) -> Status {
+    let _ = send_all(err, b"bugnet: ZELKUMA_SCHEDULE refused\n");
+    Status::WordsRefused
+}
+
+// The turns that a text names, for so many harts. Those of one hart have one order alone, so it needs no list.
+fn named<S: Store, X: Sink>(
+    alloc: Global,
+    text: &str,
+    harts: u8,
+    store: &mut S,
+    err: &mut X,
+) -> Result<Turns, Status>
+    ensures files { (S.stored store.new).files ≡ (S.stored store.old).files }
+    ensures saves { (S.stored store.new).saves ≡ (S.stored store.old).saves }
+{
+    match said_by(text) {
+        Some(Said::Drawn { manner, number }) => Ok(Turns::Drawn { manner, number }),
+        Some(Said::Book(name)) => {
+            if harts == 1 {
+                return Ok(Turns::OfThreads);
+            }
+            listed(alloc, name, store, err)
+        }
+        None => Err(tell_refused(err)),
+    }
+}
+
+// The turns that the environment names for so many harts, or those of threads.
+fn turns_for<R: Env + AllocGlobal, S: Store, X: Sink>(
+    rt: &R,
+    alloc: Global,
+    harts: u8,
+    store: &mut S,
+    err: &mut X,
+) -> Result<Turns, Status>
+    ensures files { (S.stored store.new).files ≡ (S.stored store.old).files }
+    ensures saves { (S.stored store.new).saves ≡ (S.stored store.old).saves }
+{
+    match env::var(rt, "ZELKUMA_SCHEDULE") {
+        Ok(text) => {
+            if text.is_empty() {
+                return Ok(Turns::OfThreads);
+            }
+            named(alloc, text.as_str(), harts, store, err)
+        }
+        Err(VarError::NotPresent) => Ok(Turns::OfThreads),
+        Err(VarError::NotUnicode) => Err(tell_refused(err)),
+        Err(VarError::OutOfMemory) => Err(tell_out_of_memory(err)),
+    }
+}
+
+/// The turns that the environment names in ZELKUMA_SCHEDULE for a recording, or those of threads if it names none.
+///
+/// Only words that are accepted, and ask for a recording without a seed, have it looked at. What isn't understood, and a
+/// list that can't be loaded, is told on err, and gives the status.
+pub fn turns_of<R: Env + AllocGlobal, S: Store, X: Sink>(
     rt: &R,
     alloc: Global,
     words: &[String],
     store: &mut S,
-) -> Result<Turns, LoadError> {
-    if !words.get(1).is_some_and(|word| word.as_str() == "record") {
-        return Ok(Turns::OfThreads);
-    }
-    match env::var(rt, "ZELKUMA_SCHEDULE") {
-        Ok(text) => named(alloc, store, text.as_str()),
-        Err(_) => Ok(Turns::OfThreads),
+    err: &mut X,
+) -> Result<Turns, Status>
+    ensures unasked { (AskForTurns (command_in words.now) → ⊥) → (store.new ≡ store.old) × IsUnasked result }
+    ensures files { (S.stored store.new).files ≡ (S.stored store.old).files }
+    ensures saves { (S.stored store.new).saves ≡ (S.stored store.old).saves }
+{
+    match harts_in(alloc, words) {
+        Ok(Some(harts)) => turns_for(rt, alloc, harts, store, err),
+        Ok(None) => Ok(Turns::OfThreads),
+        Err(_) => Err(tell_out_of_memory(err)),
     }
 }
