@@ -34,7 +34,7 @@ records() { # WORD..
 
 what="the script as a text"
 lines=$(cat "$top/zelkuma" "$top"/tools/launcher/* | wc -l)
-[ "$lines" -le 430 ] || fails "it has $lines lines, and may have 430"
+[ "$lines" -le 431 ] || fails "it has $lines lines, and may have 431"
 if type -P shellcheck >/dev/null; then
     (cd "$top" && shellcheck -x zelkuma tools/launcher/*.sh) >"$work/out" 2>"$work/err" || fails "shellcheck has something to say"
 else
