@@ -9,7 +9,7 @@ cat >"$shipped" <<'END'
 #!/usr/bin/env bash
 PATH=$SYSTEM
 case $1 in
-list) cat "$2" && exit ;;
+list) printf "${INTERVALS-}" && exit ;;
 joint) cat && exit 12 ;;
 esac
 echo "began $$" >>"$RT_CALLS"
@@ -17,7 +17,7 @@ echo "began $$" >>"$RT_CALLS"
 [ -z "${UNTIL-}" ] || until [ -e "$UNTIL" ]; do sleep 0.05; done
 [ -z "${KILLED-}" ] || kill -s "$KILLED" $$
 [ -z "${WAITS-}" ] || sleep "$WAITS"
-[ "$1" != record ] || printf "${INTERVALS-}" >"$3"
+[ "$1" != record ] || printf BUGNETLG >"${@: -2:1}"
 printf '<%s>' "$@"
 echo
 echo "a line of err" >&2
@@ -129,6 +129,8 @@ at_terminal err_in_file bash -c '"$0" record ELF LOG BOOK 2>err_in_file' "$zelku
 at_terminal dumb env TERM=dumb "$zelkuma" record ELF LOG BOOK &
 at_terminal behind bash -c 'set -m; "$0" record ELF LOG BOOK & wait $!' "$zelkuma" &
 at_terminal file --touch-at " s, " seen_file env UNTIL=seen_file WAITS= bash -c '"$0" replay LOG ELF 0 0 >rows' "$zelkuma" &
+at_terminal crash env STATUS=10 WAITS= INTERVALS='0 0 0 9 LoadOutside 00000000\n' "$zelkuma" record ELF crash.log BOOK &
+at_terminal kept env STATUS=10 WAITS= INTERVALS='0 0 0 9 LoadOutside 00000000\n' "$zelkuma" record --format=2 ELF kept.log BOOK &
 at_terminal pipe bash -c 'set -o pipefail; "$0" replay LOG ELF 0 0 | cat' "$zelkuma" &
 wait
 SECONDS=0
@@ -147,6 +149,8 @@ shows behind '<record><ELF><LOG><BOOK>\\r'$'\n''a line of err\\r'$'\n''.*status 
 ! grep -q memory "$work/behind" || fails "it shows a line in the background"
 shows file "($line\\\\r)+$clear$answer_of_replay"
 [ "$(cat rows)" = "<replay><LOG><ELF><0><0>" ] || fails "the rows are others"
+shows crash '.*a line of err\\r'$'\n''zelkuma: note: LOG holds the crash; with --format 2 it always does\\r'$'\n''status 10'
+shows kept '.*a line of err\\r'$'\n''status 10'
 shows pipe '.*status 0'
 ! grep -q memory "$work/pipe" || fails "it shows a line beside a pipe"
 

@@ -62,7 +62,7 @@ laid_under() { printf '%s\n' "$1"/{bin/zelkuma,lib/zelkuma,share/man/man1/zelkum
 # The companions that are told.
 companions() (
     . "$top/tools/help/words.sh"
-    printf '%s\n' $companions
+    tr -s ' ' '\n' <<<"$companions" | grep .
 )
 
 what="a folder"

@@ -1,4 +1,4 @@
-# What zelkuma says of itself: its word --version. The script has set `top` and `program`; packaging/deb.sh sets `top`.
+# What zelkuma says of itself: its word --version. The script has set `top` and `program`.
 
 # The commit of this tree. Without git it is what the script was installed or exported with.
 commit_of_tree() {

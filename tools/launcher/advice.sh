@@ -36,13 +36,16 @@ advise_on_log() {
     esac
 }
 
-# Says if the log of a run that ended in a fault (10) or at the limit (11) is of no use.
+# Says if the log of a run that ended in a fault (10) or at the limit (11) is of no use, and at a terminal of any crash that
+# such a log would have been sure to keep in format 2.
 advise_on_recording() { # STATUS
     local lost="the interval of the fault" reason
     [ -f "${names[1]}" ] || return 0
     [ "$1" -eq 10 ] || lost="any interval"
     while read -r _ _ _ _ reason _; do
-        [[ $1 -eq 10 && $reason != [A-Z]* ]] || return 0
+        [[ $1 -eq 10 && $reason != [A-Z]* ]] && continue
+        [[ $1 -ne 10 || ! -t $err ]] || advise_that "note: LOG holds the crash; with --format 2 it always does"
+        return 0
     done < <("$program" list "${names[1]}")
     advise_that "note: LOG doesn't hold $lost; recorded with --format 2 it does"
 }
