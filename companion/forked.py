@@ -6,6 +6,8 @@ import os
 import signal
 from typing import Callable
 
+from . import streams
+from .children import tie
 from .errors import CompanionError
 
 FAILED = 1
@@ -15,16 +17,20 @@ class Forked:
     """Such a process. The text that its function gives goes into a file, as does the line of what it refuses."""
 
     def __init__(self, work: Callable[[], str], said: str, err: str) -> None:
-        self.pid = os.fork()
-        if not self.pid:
-            self.run(work, said, err)
+        parent = os.getpid()
+        with streams.uninterrupted() as before:
+            self.pid = os.fork()
+            if not self.pid:
+                streams.on_interrupt(signal.SIG_DFL)
+                signal.pthread_sigmask(signal.SIG_SETMASK, before)
+                tie(parent)
+                self.run(work, said, err)
 
     @staticmethod
     def run(work: Callable[[], str], said: str, err: str) -> None:
         """The new process. Nothing of the old one is done again in it, whatever happens."""
         status = FAILED
         try:
-            signal.signal(signal.SIGINT, signal.SIG_DFL)
             write(said, work())
             status = 0
         except CompanionError as error:

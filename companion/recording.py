@@ -8,10 +8,10 @@ import signal
 import subprocess
 import tempfile
 from enum import IntEnum
-from typing import Mapping, NamedTuple, Sequence
+from typing import Mapping, NamedTuple, Optional, Sequence
 
 from . import program
-from .children import start
+from .children import Guard, start
 from .errors import REFUSED, CompanionError
 from .files import check_regular
 from .options import decimal, parse
@@ -109,12 +109,13 @@ def environment(schedule: str) -> dict[str, str]:
 
 
 class Child:
-    """A process whose output and err go into files."""
+    """A process whose output and err go into files. Without a guard it ends with this one by itself."""
 
-    def __init__(self, words: Sequence[str], said: str, err: str, schedule: str = "") -> None:
+    def __init__(self, words: Sequence[str], said: str, err: str, schedule: str = "", guard: Optional[Guard] = None) -> None:
         self.said, self.err = said, err
         with open(said, "wb") as out, open(err, "wb") as errors:
-            self.process = start(words, stdin=subprocess.DEVNULL, stdout=out, stderr=errors, env=environment(schedule))
+            begin = guard.start if guard else start
+            self.process = begin(words, stdin=subprocess.DEVNULL, stdout=out, stderr=errors, env=environment(schedule))
 
     @property
     def pid(self) -> int:

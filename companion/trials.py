@@ -10,6 +10,7 @@ from typing import Iterator, NamedTuple, Optional, Sequence, Union
 from . import streams
 from .bucket import bucket_of
 from .cause import Cause, cause_of
+from .children import Guard
 from .elf import Elf
 from .errors import UNREADABLE, CompanionError
 from .forked import Forked
@@ -77,12 +78,12 @@ class Trial:
 
     status  that of the recording, once it is done"""
 
-    def __init__(self, words: RecordWords, plan: Plan, folders: Sequence[str]) -> None:
+    def __init__(self, words: RecordWords, plan: Plan, folders: Sequence[str], guard: Guard) -> None:
         self.plan, self.words, self.status = plan, words, -1
         name = str(plan).replace(" ", "-")
         self.outputs = [os.path.join(folder, f"{name}.{number}") for number, folder in enumerate(folders)]
         self.said, self.err = self.outputs[0] + ".said", self.outputs[0] + ".err"
-        self.child: Union[Child, Forked] = Child(words.command(plan, self.outputs), os.devnull, self.err, plan.schedule())
+        self.child: Union[Child, Forked] = Child(words.command(plan, self.outputs), os.devnull, self.err, plan.schedule(), guard)
 
     def look_for_cause(self) -> None:
         self.child = Forked(self.find_cause, self.said, self.err)
@@ -150,6 +151,7 @@ class Search:
         self.kept: dict[Ending, Trial] = {}
         self.stopped = 0
         self.endings, self.buckets = Endings(), Buckets(words.elf)
+        self.guard: Guard
         self.at = numbers.first
         self.progress, self.began = streams.Progress(), time.monotonic()
 
@@ -183,7 +185,7 @@ class Search:
             plan = next(plans, None)
             if plan is None:
                 return
-            self.watch(Trial(self.words, plan, self.folders))
+            self.watch(Trial(self.words, plan, self.folders, self.guard))
 
     def keep(self, trial: Trial) -> None:
         if self.found is not None:
@@ -242,6 +244,7 @@ class Search:
 
     def run(self) -> None:
         plans = self.plans()
+        self.guard = Guard()
         streams.on_interrupt(self.stop)
         try:
             self.start(plans)
@@ -250,6 +253,8 @@ class Search:
                 if process not in self.running:         # an addr2line that failed
                     continue
                 trial = self.running.pop(process)
+                if isinstance(trial.child, Child):
+                    self.guard.tell(process)
                 self.take(trial, trial.child.end(status))
                 self.start(plans)
                 self.count()
@@ -260,6 +265,7 @@ class Search:
                 trial.child.kill()
                 trial.child.wait()
             self.buckets.close()
+            self.guard.close()
             self.count_rest()
 
     def count(self) -> None:
