@@ -49,7 +49,7 @@ class RecordWords:
     """What the words of `record` name.
 
     names    ELF, LOG, BOOK as they were given
-    folder   where one LOG and BOOK of each ending is saved, if the words name none
+    folder   in which one LOG and BOOK of each ending is saved, if the words name none
     is_lean  whether no BOOK is saved"""
 
     def __init__(self, words: Sequence[str], folder: str = "") -> None:
