@@ -4,11 +4,10 @@ from __future__ import annotations
 import contextlib
 import os
 import signal
-import struct
 import subprocess
-from typing import Any, Sequence
+from typing import Any, Mapping, Sequence
 
-from .streams import STOPS, on_interrupt, uninterrupted
+from .streams import on_interrupt, uninterrupted
 
 try:
     import ctypes
@@ -39,45 +38,51 @@ def start(words: Sequence[str], **streams: Any) -> subprocess.Popen[bytes]:
         return subprocess.Popen(words, preexec_fn=prepare, **streams)
 
 
+class Process:
+    """A child by its number. `os.wait` is to tell how it ends."""
+
+    def __init__(self, pid: int) -> None:
+        self.pid = pid
+
+    def end(self, status: int) -> int:
+        """Takes the status that the system tells of the process."""
+        return os.WEXITSTATUS(status) if os.WIFEXITED(status) else -os.WTERMSIG(status)
+
+    def kill(self) -> None:
+        with contextlib.suppress(ProcessLookupError):
+            os.kill(self.pid, signal.SIGKILL)
+
+    def wait(self) -> None:
+        os.waitpid(self.pid, 0)
+
+
 class Guard:
-    """A process that ends others once this one has ended. To start one of those is cheaper than by `start`, since no python
-    runs in it first; so it is for many short ones. What a signal does here must break off no call."""
+    """A process that ends others once this one has ended: they are in its group. To start one of those is cheaper than by
+    `start`, since no python runs in it first; so it is for many short ones."""
 
     def __init__(self) -> None:
-        guarded, self.pipe = os.pipe()
+        watched, self.pipe = os.pipe()
         self.pid = os.fork()
         if not self.pid:
             try:
                 os.close(self.pipe)
-                signal.pthread_sigmask(signal.SIG_BLOCK, STOPS)         # it ends last
-                watch(guarded)
+                os.setpgid(0, 0)
+                os.read(watched, 1)             # nothing comes but the end
+                os.killpg(0, signal.SIGKILL)
             finally:
                 os._exit(0)
-        os.close(guarded)
+        os.close(watched)
+        with contextlib.suppress(OSError):      # it has done so itself
+            os.setpgid(self.pid, self.pid)
 
-    def start(self, words: Sequence[str], **streams: Any) -> subprocess.Popen[bytes]:
-        process = subprocess.Popen(words, **streams)
-        self.tell(process.pid)
-        return process
-
-    def tell(self, pid: int) -> None:
-        """A process has begun, or has ended."""
-        os.write(self.pipe, struct.pack("<q", pid))
+    def start(self, words: Sequence[str], said: str, err: str, environment: Mapping[str, str]) -> Process:
+        """A process whose output and err go into files."""
+        files = [(os.POSIX_SPAWN_OPEN, 0, os.devnull, os.O_RDONLY, 0)]
+        files += [(os.POSIX_SPAWN_OPEN, number, name, os.O_WRONLY | os.O_CREAT | os.O_TRUNC, 0o666)
+                  for number, name in ((1, said), (2, err))]
+        return Process(os.posix_spawn(words[0], list(words), environment, file_actions=files, setpgroup=self.pid,
+                                      setsigdef=[signal.SIGPIPE, signal.SIGXFSZ]))
 
     def close(self) -> None:
         os.close(self.pipe)
         os.waitpid(self.pid, 0)
-
-
-def watch(pipe: int) -> None:
-    """Ends the processes that are under way at the end of what is said. Each number comes once at the begin and once at the end
-    of one."""
-    running: set[int] = set()
-    while True:
-        said = os.read(pipe, struct.calcsize("<q"))
-        if not said:
-            break
-        running ^= {struct.unpack("<q", said)[0]}
-    for pid in running:
-        with contextlib.suppress(OSError):
-            os.kill(pid, signal.SIGKILL)

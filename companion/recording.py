@@ -8,10 +8,10 @@ import signal
 import subprocess
 import tempfile
 from enum import IntEnum
-from typing import Mapping, NamedTuple, Optional, Sequence
+from typing import Mapping, NamedTuple, Sequence
 
 from . import program
-from .children import Guard, start
+from .children import start
 from .errors import REFUSED, CompanionError
 from .files import check_regular
 from .options import decimal, parse
@@ -109,17 +109,12 @@ def environment(schedule: str) -> dict[str, str]:
 
 
 class Child:
-    """A process whose output and err go into files. Without a guard it ends with this one by itself."""
+    """A process whose output and err go into files."""
 
-    def __init__(self, words: Sequence[str], said: str, err: str, schedule: str = "", guard: Optional[Guard] = None) -> None:
+    def __init__(self, words: Sequence[str], said: str, err: str, schedule: str = "") -> None:
         self.said, self.err = said, err
         with open(said, "wb") as out, open(err, "wb") as errors:
-            begin = guard.start if guard else start
-            self.process = begin(words, stdin=subprocess.DEVNULL, stdout=out, stderr=errors, env=environment(schedule))
-
-    @property
-    def pid(self) -> int:
-        return self.process.pid
+            self.process = start(words, stdin=subprocess.DEVNULL, stdout=out, stderr=errors, env=environment(schedule))
 
     def end(self, status: int) -> int:
         """Takes the status that the system tells of the process."""
@@ -130,9 +125,6 @@ class Child:
         """Ends it, if it hasn't ended. Popen's own kill would take its status, which `os.wait` waits for."""
         with contextlib.suppress(ProcessLookupError):
             os.kill(self.process.pid, signal.SIGKILL)
-
-    def wait(self) -> None:
-        self.process.wait()
 
 
 def last_line(name: str) -> str:

@@ -5,19 +5,19 @@ import heapq
 import os
 import time
 from contextlib import closing
-from typing import Iterator, NamedTuple, Optional, Sequence, Union
+from typing import Iterator, NamedTuple, Optional, Sequence
 
 from . import streams
 from .bucket import bucket_of
 from .cause import Cause, cause_of
-from .children import Guard
+from .children import Guard, Process
 from .elf import Elf
 from .errors import UNREADABLE, CompanionError
 from .forked import Forked
 from .naming import places_of
 from .places import Places
 from .recent import FIRST_ROWS, LogFile
-from .recording import ENDS, FAULT, Child, Kind, Plan, RecordWords, last_line
+from .recording import ENDS, FAULT, Kind, Plan, RecordWords, environment, last_line
 
 NO_PLACE = "-"
 MOST_KEPT = 1000            # endings of which one recording each is kept
@@ -83,7 +83,7 @@ class Trial:
         name = str(plan).replace(" ", "-")
         self.outputs = [os.path.join(folder, f"{name}.{number}") for number, folder in enumerate(folders)]
         self.said, self.err = self.outputs[0] + ".said", self.outputs[0] + ".err"
-        self.child: Union[Child, Forked] = Child(words.command(plan, self.outputs), os.devnull, self.err, plan.schedule(), guard)
+        self.child: Process = guard.start(words.command(plan, self.outputs), os.devnull, self.err, environment(plan.schedule()))
 
     def look_for_cause(self) -> None:
         self.child = Forked(self.find_cause, self.said, self.err)
@@ -253,8 +253,6 @@ class Search:
                 if process not in self.running:         # an addr2line that failed
                     continue
                 trial = self.running.pop(process)
-                if isinstance(trial.child, Child):
-                    self.guard.tell(process)
                 self.take(trial, trial.child.end(status))
                 self.start(plans)
                 self.count()
