@@ -15,6 +15,7 @@ try:
 except (ImportError, OSError):                  # a python without it can't ask the system
     prctl = None
 SET_DEATH_SIGNAL = 1        # PR_SET_PDEATHSIG of prctl(2)
+leads_group = False
 
 
 def tie(parent: int, how: int = signal.SIGKILL) -> None:
@@ -25,8 +26,17 @@ def tie(parent: int, how: int = signal.SIGKILL) -> None:
         os._exit(1)
 
 
+def lead_group() -> None:
+    """This process leads a group, which its parent ends as a whole. What it starts needs no python of its own to end with it."""
+    global leads_group
+    os.setpgid(0, 0)
+    leads_group = True
+
+
 def start(words: Sequence[str], **streams: Any) -> subprocess.Popen[bytes]:
     """A process that the system kills when this one ends, also if this one is killed. Signals wait until it is known here."""
+    if leads_group:
+        return subprocess.Popen(words, **streams)
     parent = os.getpid()
 
     def prepare() -> None:

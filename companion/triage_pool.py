@@ -1,6 +1,7 @@
 """Processes side by side, each with one task at a time."""
 from __future__ import annotations
 
+import contextlib
 import os
 import signal
 import time
@@ -10,7 +11,7 @@ from multiprocessing.connection import Connection, wait
 from typing import Any, Generator, Iterable, NoReturn, Optional
 
 from . import streams
-from .children import tie
+from .children import lead_group, tie
 from .triage_work import Answer, Task, Work, limit_memory, unread
 
 PATIENCE = 60.0             # seconds by the clock until a process that says nothing is ended
@@ -30,13 +31,15 @@ class Worker:
             if not self.pid:
                 serve(theirs, parent, before)
         theirs.close()
+        with contextlib.suppress(OSError):      # it has done so itself
+            os.setpgid(self.pid, self.pid)
 
     def give(self, task: Task) -> None:
         self.task, self.until = task, time.monotonic() + PATIENCE
         self.ours.send(task)
 
     def end(self, how: int) -> None:
-        os.kill(self.pid, how)
+        os.killpg(self.pid, how)
         os.waitpid(self.pid, 0)
         self.ours.close()
 
@@ -49,6 +52,7 @@ def serve(pipe: Connection, parent: int, signals: set[Any]) -> NoReturn:
         signal.signal(signal.SIGTERM, streams.interrupt)
         signal.pthread_sigmask(signal.SIG_SETMASK, signals)
         tie(parent, signal.SIGTERM)
+        lead_group()
         limit_memory()
         while True:
             pipe.send(work.answer(pipe.recv()))
