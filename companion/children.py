@@ -1,10 +1,11 @@
 """Processes that end with the one that started them, however that ends."""
 from __future__ import annotations
 
+import contextlib
 import os
 import signal
 import subprocess
-from typing import Any, Sequence
+from typing import Any, Mapping, Sequence
 
 from .streams import on_interrupt, uninterrupted
 
@@ -14,19 +15,84 @@ try:
 except (ImportError, OSError):                  # a python without it can't ask the system
     prctl = None
 SET_DEATH_SIGNAL = 1        # PR_SET_PDEATHSIG of prctl(2)
+leads_group = False
+
+
+def tie(parent: int, how: int = signal.SIGKILL) -> None:
+    """In a new process: the system ends it by this signal when its parent ends."""
+    if prctl:
+        prctl(SET_DEATH_SIGNAL, how)
+    if os.getppid() != parent:                  # it has ended by now
+        os._exit(1)
+
+
+def lead_group() -> None:
+    """This process leads a group, which its parent ends as a whole. What it starts needs no python of its own to end with it."""
+    global leads_group
+    os.setpgid(0, 0)
+    leads_group = True
 
 
 def start(words: Sequence[str], **streams: Any) -> subprocess.Popen[bytes]:
     """A process that the system kills when this one ends, also if this one is killed. Signals wait until it is known here."""
+    if leads_group:
+        return subprocess.Popen(words, **streams)
     parent = os.getpid()
 
     def prepare() -> None:
         on_interrupt(signal.SIG_DFL)            # this process's own handling isn't for the copy of it
         signal.pthread_sigmask(signal.SIG_SETMASK, before)
-        if prctl:
-            prctl(SET_DEATH_SIGNAL, signal.SIGKILL)
-        if os.getppid() != parent:              # it has ended by now
-            os._exit(1)
+        tie(parent)
 
     with uninterrupted() as before:
         return subprocess.Popen(words, preexec_fn=prepare, **streams)
+
+
+class Process:
+    """A child by its number. `os.wait` is to tell how it ends."""
+
+    def __init__(self, pid: int) -> None:
+        self.pid = pid
+
+    def end(self, status: int) -> int:
+        """Takes the status that the system tells of the process."""
+        return os.WEXITSTATUS(status) if os.WIFEXITED(status) else -os.WTERMSIG(status)
+
+    def kill(self) -> None:
+        with contextlib.suppress(ProcessLookupError):
+            os.kill(self.pid, signal.SIGKILL)
+
+    def wait(self) -> None:
+        os.waitpid(self.pid, 0)
+
+
+class Guard:
+    """A process that ends others once this one has ended: they are in its group. To start one of those is cheaper than by
+    `start`, since no python runs in it first; so it is for many short ones."""
+
+    def __init__(self) -> None:
+        watched, self.pipe = os.pipe()
+        self.pid = os.fork()
+        if not self.pid:
+            try:
+                os.close(self.pipe)
+                os.setpgid(0, 0)
+                os.read(watched, 1)             # nothing comes but the end
+                os.killpg(0, signal.SIGKILL)
+            finally:
+                os._exit(0)
+        os.close(watched)
+        with contextlib.suppress(OSError):      # it has done so itself
+            os.setpgid(self.pid, self.pid)
+
+    def start(self, words: Sequence[str], said: str, err: str, environment: Mapping[str, str]) -> Process:
+        """A process whose output and err go into files."""
+        files = [(os.POSIX_SPAWN_OPEN, 0, os.devnull, os.O_RDONLY, 0)]
+        files += [(os.POSIX_SPAWN_OPEN, number, name, os.O_WRONLY | os.O_CREAT | os.O_TRUNC, 0o666)
+                  for number, name in ((1, said), (2, err))]
+        return Process(os.posix_spawn(words[0], list(words), environment, file_actions=files, setpgroup=self.pid,
+                                      setsigdef=[signal.SIGPIPE, signal.SIGXFSZ]))
+
+    def close(self) -> None:
+        os.close(self.pipe)
+        os.waitpid(self.pid, 0)

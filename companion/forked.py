@@ -1,30 +1,35 @@
 """A function of a companion that runs in a process of its own."""
 from __future__ import annotations
 
-import contextlib
 import os
 import signal
 from typing import Callable
 
+from . import streams
+from .children import Process, tie
 from .errors import CompanionError
 
 FAILED = 1
 
 
-class Forked:
+class Forked(Process):
     """Such a process. The text that its function gives goes into a file, as does the line of what it refuses."""
 
     def __init__(self, work: Callable[[], str], said: str, err: str) -> None:
-        self.pid = os.fork()
-        if not self.pid:
-            self.run(work, said, err)
+        parent = os.getpid()
+        with streams.uninterrupted() as before:
+            super().__init__(os.fork())
+            if not self.pid:
+                streams.on_interrupt(signal.SIG_DFL)
+                signal.pthread_sigmask(signal.SIG_SETMASK, before)
+                tie(parent)
+                self.run(work, said, err)
 
     @staticmethod
     def run(work: Callable[[], str], said: str, err: str) -> None:
         """The new process. Nothing of the old one is done again in it, whatever happens."""
         status = FAILED
         try:
-            signal.signal(signal.SIGINT, signal.SIG_DFL)
             write(said, work())
             status = 0
         except CompanionError as error:
@@ -32,17 +37,6 @@ class Forked:
             write(err, f"zelkuma: {error}")
         finally:
             os._exit(status)
-
-    def end(self, status: int) -> int:
-        """Takes the status that the system tells of the process."""
-        return os.WEXITSTATUS(status) if os.WIFEXITED(status) else -os.WTERMSIG(status)
-
-    def kill(self) -> None:
-        with contextlib.suppress(ProcessLookupError):
-            os.kill(self.pid, signal.SIGKILL)
-
-    def wait(self) -> None:
-        os.waitpid(self.pid, 0)
 
 
 def write(name: str, text: str) -> None:

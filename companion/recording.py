@@ -49,7 +49,7 @@ class RecordWords:
     """What the words of `record` name.
 
     names    ELF, LOG, BOOK as they were given
-    folder   where one LOG and BOOK of each ending is saved, if the words name none
+    folder   in which one LOG and BOOK of each ending is saved, if the words name none
     is_lean  whether no BOOK is saved"""
 
     def __init__(self, words: Sequence[str], folder: str = "") -> None:
@@ -116,10 +116,6 @@ class Child:
         with open(said, "wb") as out, open(err, "wb") as errors:
             self.process = start(words, stdin=subprocess.DEVNULL, stdout=out, stderr=errors, env=environment(schedule))
 
-    @property
-    def pid(self) -> int:
-        return self.process.pid
-
     def end(self, status: int) -> int:
         """Takes the status that the system tells of the process."""
         self.process.returncode = os.WEXITSTATUS(status) if os.WIFEXITED(status) else -os.WTERMSIG(status)
@@ -129,9 +125,6 @@ class Child:
         """Ends it, if it hasn't ended. Popen's own kill would take its status, which `os.wait` waits for."""
         with contextlib.suppress(ProcessLookupError):
             os.kill(self.process.pid, signal.SIGKILL)
-
-    def wait(self) -> None:
-        self.process.wait()
 
 
 def last_line(name: str) -> str:

@@ -1,14 +1,17 @@
 """Processes side by side, each with one task at a time."""
 from __future__ import annotations
 
+import contextlib
 import os
 import signal
 import time
 from collections import deque
 from multiprocessing import Pipe
 from multiprocessing.connection import Connection, wait
-from typing import Generator, Iterable, NoReturn, Optional
+from typing import Any, Generator, Iterable, NoReturn, Optional
 
+from . import streams
+from .children import lead_group, tie
 from .triage_work import Answer, Task, Work, limit_memory, unread
 
 PATIENCE = 60.0             # seconds by the clock until a process that says nothing is ended
@@ -22,27 +25,34 @@ class Worker:
         self.ours, theirs = Pipe()
         self.task: Optional[Task] = None
         self.until = 0.0
-        self.pid = os.fork()
-        if not self.pid:
-            serve(theirs)
+        parent = os.getpid()
+        with streams.uninterrupted() as before:
+            self.pid = os.fork()
+            if not self.pid:
+                serve(theirs, parent, before)
         theirs.close()
+        with contextlib.suppress(OSError):      # it has done so itself
+            os.setpgid(self.pid, self.pid)
 
     def give(self, task: Task) -> None:
         self.task, self.until = task, time.monotonic() + PATIENCE
         self.ours.send(task)
 
     def end(self, how: int) -> None:
-        os.kill(self.pid, how)
+        os.killpg(self.pid, how)
         os.waitpid(self.pid, 0)
         self.ours.close()
 
 
-def serve(pipe: Connection) -> NoReturn:
-    """The process of a worker. Ctrl-C and its end by the parent let it clean up."""
+def serve(pipe: Connection, parent: int, signals: set[Any]) -> NoReturn:
+    """The process of a worker. Whatever ends it by a signal lets it clean up, and so does its parent's end."""
     work = Work()
     try:
-        for number in (signal.SIGINT, signal.SIGTERM):
-            signal.signal(number, signal.default_int_handler)
+        streams.on_interrupt(streams.interrupt)
+        signal.signal(signal.SIGTERM, streams.interrupt)
+        signal.pthread_sigmask(signal.SIG_SETMASK, signals)
+        tie(parent, signal.SIGTERM)
+        lead_group()
         limit_memory()
         while True:
             pipe.send(work.answer(pipe.recv()))

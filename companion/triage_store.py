@@ -12,7 +12,7 @@ from .errors import MISSING, CompanionError
 from .saving import Kind, target
 
 MAGIC, LONGEST_HEAD, DIGEST = b"BUGNETLG", 136, 32
-DIGEST_AT = {1: 48, 2: 60}      # where a log's head has the digest of its program, by version
+DIGEST_AT = {1: 48, 2: 60}      # the place of its program's digest in a log's head, by version
 ELF_HEAD = struct.Struct("<6s10xHH")
 A_PROGRAM = b"\x7fELF\1\1", 2, 243              # of 32 bits, that can be run, for RISC-V
 CACHE_BEGINS = '{"zelkuma": "digests of ELF files"'
@@ -123,7 +123,7 @@ class Store:
         return ""
 
     def remember(self) -> None:
-        """Where no cache can be saved, each call reads the files again."""
+        """If no cache can be saved, each call reads the files again."""
         if self.is_new:
             text = CACHE_BEGINS + ', "files": ' + json.dumps(self.known) + "}\n"
             with contextlib.suppress(OSError, CompanionError):

@@ -5,18 +5,19 @@ import heapq
 import os
 import time
 from contextlib import closing
-from typing import Iterator, NamedTuple, Optional, Sequence, Union
+from typing import Iterator, NamedTuple, Optional, Sequence
 
 from . import streams
 from .bucket import bucket_of
 from .cause import Cause, cause_of
+from .children import Guard, Process
 from .elf import Elf
 from .errors import UNREADABLE, CompanionError
 from .forked import Forked
 from .naming import places_of
 from .places import Places
 from .recent import FIRST_ROWS, LogFile
-from .recording import ENDS, FAULT, Child, Kind, Plan, RecordWords, last_line
+from .recording import ENDS, FAULT, Kind, Plan, RecordWords, environment, last_line
 
 NO_PLACE = "-"
 MOST_KEPT = 1000            # endings of which one recording each is kept
@@ -77,12 +78,12 @@ class Trial:
 
     status  that of the recording, once it is done"""
 
-    def __init__(self, words: RecordWords, plan: Plan, folders: Sequence[str]) -> None:
+    def __init__(self, words: RecordWords, plan: Plan, folders: Sequence[str], guard: Guard) -> None:
         self.plan, self.words, self.status = plan, words, -1
         name = str(plan).replace(" ", "-")
         self.outputs = [os.path.join(folder, f"{name}.{number}") for number, folder in enumerate(folders)]
         self.said, self.err = self.outputs[0] + ".said", self.outputs[0] + ".err"
-        self.child: Union[Child, Forked] = Child(words.command(plan, self.outputs), os.devnull, self.err, plan.schedule())
+        self.child: Process = guard.start(words.command(plan, self.outputs), os.devnull, self.err, environment(plan.schedule()))
 
     def look_for_cause(self) -> None:
         self.child = Forked(self.find_cause, self.said, self.err)
@@ -150,6 +151,7 @@ class Search:
         self.kept: dict[Ending, Trial] = {}
         self.stopped = 0
         self.endings, self.buckets = Endings(), Buckets(words.elf)
+        self.guard: Guard
         self.at = numbers.first
         self.progress, self.began = streams.Progress(), time.monotonic()
 
@@ -183,7 +185,7 @@ class Search:
             plan = next(plans, None)
             if plan is None:
                 return
-            self.watch(Trial(self.words, plan, self.folders))
+            self.watch(Trial(self.words, plan, self.folders, self.guard))
 
     def keep(self, trial: Trial) -> None:
         if self.found is not None:
@@ -242,6 +244,7 @@ class Search:
 
     def run(self) -> None:
         plans = self.plans()
+        self.guard = Guard()
         streams.on_interrupt(self.stop)
         try:
             self.start(plans)
@@ -260,6 +263,7 @@ class Search:
                 trial.child.kill()
                 trial.child.wait()
             self.buckets.close()
+            self.guard.close()
             self.count_rest()
 
     def count(self) -> None:

@@ -26,6 +26,7 @@ race LOG ELF
 view LOG ELF
 gdb LOG ELF
 bucket LOG ELF
+triage DIR.. --elfs DIR
 output LOG ELF
 seeds FROM TO -- RECORD-WORDS
 again LOG ELF BOOK NEWLOG
@@ -80,11 +81,16 @@ gdb --end
 gdb --trace
 bucket --names ELF
 bucket --json
+triage --json FILE
+triage --junit FILE
+triage --html FILE
 output --names ELF
 output --json
 seeds -j N
 seeds --until STATUS
 seeds --only KIND,..
+seeds --all DIR
+seeds --part K/N
 seeds --json
 again --input FILE
 again --log-size N

@@ -124,7 +124,8 @@ def case_what_seeds_has_found_is_kept(recordings):
         calls.program('[ -n "${ZELKUMA_SCHEDULE-}" ] || exec sleep 600; printf BUGNETLG >"${@: -2:1}"; printf "\\0" >"${@: -1}"; exit 0')
         process = calls.start("seeds", "-j2", "--only", "seeds,sleepers", "--until", "0", "0", "9", "--", calls.elf, calls.new,
                               calls.new + "2")
-        awaits(lambda: any("sleeper-0.1" in names for _, _, names in os.walk(calls.folder)) and len(children(process.pid)) == 1)
+        awaits(lambda: any("sleeper-0.1" in names for _, _, names in os.walk(calls.folder))
+               and len(children(process.pid)) == 2)     # one is the guard
         process.send_signal(number)
         out, err = process.communicate(timeout=BOUND)
         assert process.returncode == status and out.startswith(b"sleeper 0: status 0\n") and err == b"", (out, err)
