@@ -191,7 +191,7 @@ class Ranking:
                 item.sign(OTHER_FUNCTION, f"over what {self.places.where(where)} stored")
         pair = frozenset(At(trace.hart[n], trace.count_of(n)) for n in (load, store))
         if pair in self.races:
-            item.sign(RACE, "a race: no atomic instruction and no fence orders them")
+            item.sign(RACE, "a race: no atomic instruction orders them")
         self.judge_distance(item)
 
     def is_copied(self, load: int, history: History) -> bool:
