@@ -110,9 +110,8 @@ class Facts:
         return Stack(said, max(0, above.more - 1), self.trace.is_cut(n))
 
     def is_own(self, n: int) -> bool:
-        """Whether the source of a row is here, or that of the call which it is in: so it is no library's inner row."""
-        calls = self.trace.tree.calls(self.trace.node_of(n), 1).calls
-        return any(map(self.places.source, [self.pc_of(n)] + calls))
+        """Whether the source of a row is here, or that of one of the innermost calls over it."""
+        return any(self.places.source(frame.address) for frame in self.stack(n, 3).frames[:4])
 
     def callers(self, n: int) -> list[StackFrame]:
         """The innermost calls over a row."""

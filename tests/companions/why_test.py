@@ -84,7 +84,7 @@ class WhyTest(case.Case):
         said = self.built("fenced", "--harts", "2")
         self.assertIn("hart 1 stored it in other_harts fenced.c:10", suspects(said)[0])
         self.assertNotIn("a race:", said)
-        self.assertRegex(said, r"\nRACES\n  (\d+) pairs, of which fences order \1; ")
+        self.assertRegex(said, r"\nRACES\n  (\d+) pairs?, of which fences order \1; ")
 
     def test_inlined_callers_of_values(self):
         self.assertIn("\n         inlined in main use_after_free.c:66\n", self.says("why", *self.crash("use_after_free")))
