@@ -6,24 +6,27 @@ from typing import Sequence
 from .calls import entries_of
 from .control import Control
 from .elf import Elf
-from .facts import Byte, Facts, asked_row, find_starts, race_pairs
+from .facts import Byte, Facts, asked_row, find_starts
+from .formatted import begin_at_argument
 from .history import NO_REGISTER, History
 from .log import Log
 from .naming import named_elf
 from .origins import origins
+from .races import Races
 from .recent import FIRST_ROWS, MORE_ROWS, Asked, LogFile, open_log
 from .recursion import find_recursion
 from .rows import Trace, read_trace
 from .suspects import Ranking
 
 ALL_ROWS = 1 << 42
+MOST_RACES = 2000           # so many are asked for
 
 
 class Analysis(Facts):
     """Facts, and what follows from them:
 
     history, suspects       and `shown`, those of them that the report tells
-    races                   the pairs that `races` lists
+    races, unordered        those that `races` lists, and the pairs of them that no fences order
     lines                   the history by source lines
     origin                  what it took from before the rows"""
 
@@ -31,14 +34,19 @@ class Analysis(Facts):
                  output: Byte | None = None, folders: Sequence[str] = ()) -> None:
         super().__init__(log, elf, named, trace, row, output, folders)
         self.file = source
+        if output:
+            begin_at_argument(self)
         recursion = find_recursion(trace, self.start)
         loop = self.starts[0 if self.hangs else 1:] + [n for n in recursion.given if n != self.start]
         entered = {one.hart: one.first for one in self.loops}
         self.history = History(trace, self.starts + loop, control=Control(trace, elf, entered),
                                is_output=output is not None, hangs=self.hangs)
-        self.races = race_pairs(log, elf)
+        self.races = Races(named, self.places)
+        if log.harts > 1:
+            self.races.read(log.name, elf.name, MOST_RACES)
+        self.unordered = self.races.unordered()
         self.lines = self.history.lines(self.places)
-        self.suspects = Ranking(self, self.history, self.races.pairs, recursion.suspects, loop).found
+        self.suspects = Ranking(self, self.history, self.unordered, recursion.suspects, loop).found
         self.shown = [item for item in self.suspects if item.shown] or [item for item in self.suspects if item.kind != "branch"]
         self.origin = origins(self, self.history)
 

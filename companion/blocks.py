@@ -176,24 +176,20 @@ class Blocks:
         return found
 
     def allocators(self, blocks: list[Block]) -> set[int]:
-        """The innermost functions that returned a block, and of each the function that got its address last before it was
-        given out again."""
+        """The innermost functions that returned a block and whose blocks somebody takes back, and of each the function that
+        got an address last before it was given out again. A function that only returns addresses may return its caller's."""
         latest: dict[int, Block] = {}
         last: Counter[tuple[int, int]] = Counter()
-        found = set()
         for block in blocks:                    # in the order of their returns: inner calls first
             before = latest.get(block.address)
             if before and before.call > block.call:
                 continue
-            found.add(block.giver)
             if before:
                 between = [call.function for call in self.arguments.get(block.address, ()) if before.back < call.row < block.call]
                 last.update((block.giver, function) for function in between[-1:])
             latest[block.address] = block
-        for giver in list(found):
-            votes = [(times, function) for (one, function), times in last.items() if one == giver]
-            found.update(function for _, function in sorted(votes)[-1:])
-        return found
+        return {function for giver, _ in last for function in
+                (giver, max((times, taker) for (one, taker), times in last.items() if one == giver)[1])}
 
     def is_own(self, n: int) -> bool:
         """Whether a row is an allocator's own."""

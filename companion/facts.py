@@ -4,7 +4,6 @@ from __future__ import annotations
 from dataclasses import dataclass
 from typing import NamedTuple, Sequence
 
-from . import program
 from .elf import Elf
 from .errors import NO_INTERVAL, REFUSED, CompanionError
 from .instruction import STORE
@@ -46,10 +45,10 @@ class Facts:
     """log, elf, trace
     named    the ELF with names (--names), else elf
     places   functions and lines
-    start    the row that is asked of: the fault's, the store of a byte of the output, or an exit of a loop
+    start    the row that is asked of: the fault's, what a byte of the output came from, or an exit of a loop
     starts   it, and others that the history begins with
     loops    of the harts that came to their limit; hangs: whether `starts` are of such a loop
-    output   the byte of the output that is asked of
+    output   the byte of the output that is asked of; stored: the row that stored it, or else wrote it
     faulted  whether `start` is the fault
     last     the last rows up to `start`
     notes    lines for the end of a report"""
@@ -66,11 +65,16 @@ class Facts:
         asks_of_end = not row and not output and not trace.fault
         self.loops = [Loop(trace, hart) for hart in limited(log, trace)] if asks_of_end else []
         exits = [item.row for loop in self.loops for item in loop.exits[:MOST_EXITS] if item.leads_out]
-        self.starts = [writer_of(trace, output)] if output else exits or find_starts(log, trace, row)
-        self.start = self.starts[0]
+        self.stored = writer_of(trace, output) if output else 0
+        self.starts = [self.stored] if output else exits or find_starts(log, trace, row)
         self.hangs = bool(self.loops)
+        self.begin_at(self.starts[0])
         self.faulted = trace.fault is not None and trace.fault.row == self.start
-        self.last = trace.last_rows(self.start, LAST_ROWS)
+
+    def begin_at(self, row: int) -> None:
+        """Lets the report be about a row."""
+        self.starts[0] = self.start = row
+        self.last = self.trace.last_rows(row, LAST_ROWS)
 
     def first_notes(self) -> list[str]:
         if not self.named.symbols:
@@ -104,6 +108,10 @@ class Facts:
                 place = f"{frame.file}:{frame.line}" if frame.line else ""
                 said.append(StackFrame(at, frame.function, place, depth < len(frames)))
         return Stack(said, max(0, above.more - 1), self.trace.is_cut(n))
+
+    def is_own(self, n: int) -> bool:
+        """Whether the source of a row is here, or that of one of the innermost calls over it."""
+        return any(self.places.source(frame.address) for frame in self.stack(n, 3).frames[:4])
 
     def callers(self, n: int) -> list[StackFrame]:
         """The innermost calls over a row."""
@@ -176,25 +184,3 @@ def find_row(trace: Trace, at: At) -> int:
         raise CompanionError(f"the log holds no row {at.hart}:{at.count}", NO_INTERVAL)
     return n
 
-
-MOST_RACES, TOO_MANY = 2000, 20
-
-
-class RacePairs(NamedTuple):
-    """The pairs that `races` lists, and what to say if they aren't listed."""
-    pairs: list[frozenset[At]]
-    note: str
-
-
-def race_pairs(log: Log, elf: Elf) -> RacePairs:
-    if log.harts < 2:
-        return RacePairs([], "")
-    said = program.output("races", log.name, elf.name, str(MOST_RACES), accept=(0, TOO_MANY))
-    if said.status == TOO_MANY:
-        return RacePairs([], f"more than {MOST_RACES} races: not listed")
-    found = []
-    for line in said.text.split("\n"):
-        if line.startswith("race "):
-            one, count, other, other_count = map(int, line.split(" ")[1:5])
-            found.append(frozenset((At(one, count), At(other, other_count))))
-    return RacePairs(found, "")

@@ -10,7 +10,7 @@ from typing import NamedTuple, Optional, Sequence
 from .control import Control
 from .instruction import AMO, BRANCH, CALL, JUMP
 from .places import Places
-from .rows import FAULTS, KEEPS, LOADS, STORES, Trace
+from .rows import FAULTS, LOADS, STORES, Trace
 
 MOST_ROWS = 200000          # the search is cut off there: it keeps two entries a row
 ADDRESS, OUTPUT_ADDRESS = 12, 6
@@ -27,6 +27,7 @@ AWAITED, NEAR_LOOP = 4, 3   # the branch by which another hart didn't store what
 WIDENS = "srai", "srli"     # the second of two shifts that widen a value
 STORES_ANOTHER = "amoswap", "sc."       # atomics whose stored word owes nothing to the loaded one
 FAR = 1000                  # a store so many rows before its load is far
+MOST_INLINED = 8            # functions that are inlined in one place
 NO_REGISTER = 0                         # memory
 START, LOOP = "start", "the loop"       # how the first rows are needed
 
@@ -190,13 +191,11 @@ class History:
         return n in self.parent and self.parent[n].how == "memory"
 
     def loaded(self, n: int, price: int) -> bool:
-        """A load, and the stores that it got, if there are any. One that stores back what it loads is passed: it changed
-        nothing."""
+        """A load, and the stores that it got, if there are any."""
         first = self.first_copied(n)
-        found, rest = self.trace.writers(first)
+        writers, rest = self.trace.writers(first)
+        found = [row for row in map(self.trace.changed_by, writers) if row]
         for writer in found:
-            while self.trace.flags[writer] & KEEPS and self.trace.dm[writer]:
-                writer = self.trace.dm[writer]
             cost = price if self.trace.is_spill(n, writer) else price + 1
             self.step(writer, cost, n, "memory")
             key = Pair(first, writer)
@@ -210,7 +209,7 @@ class History:
             if self.control and price <= DEAREST_SPARED and self.spared < MOST_SPARED and not self.trace.is_spill(n, writer):
                 self.spared += 1
                 self.decide(self.control.spared(first, writer), Decided(price + SPARED, n, "spared"))
-        if rest:
+        if rest or len(found) < len(writers):
             self.before.append(n)
             self.leave(n, price, NO_REGISTER)
         if not found and price <= DEAREST_FILLED and self.filled < MOST_FILLED and not self.trace.access(n).value:
@@ -250,6 +249,15 @@ class History:
         steps.append(Step(self.start, START))
         return steps[::-1]
 
+    def words(self) -> dict[int, int]:
+        """{address of a word: the least cost of a row that accessed it}"""
+        found: dict[int, int] = {}
+        for n, price in self.cost.items():
+            if self.trace.flags[n] & (LOADS | STORES):
+                word = self.trace.access(n).address & ~3
+                found[word] = min(price, found.get(word, price))
+        return found
+
     def root(self, row: int) -> int:
         """Which of the rows that the history begins with a row led to."""
         while row in self.parent and self.parent[row].how != LOOP:
@@ -264,7 +272,7 @@ class History:
         for n, price in self.cost.items():
             if n in self.decided:
                 continue
-            hart, place = key = trace.hart[n], places.where(trace.code_of(n).pc)
+            hart, place = key = trace.hart[n], places.chain([trace.code_of(n).pc], MOST_INLINED)
             item = groups.get(key, Line(hart, place, 0, n, price))
             groups[key] = Line(hart, place, item.rows + 1, max(item.latest, n), min(item.cost, price))
         return sorted(groups.values(), key=lambda item: (item.cost, -item.latest))

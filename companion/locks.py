@@ -10,7 +10,7 @@ from typing import Iterable, Mapping, NamedTuple
 from .facts import Facts
 from .history import History
 from .instruction import AMO
-from .rows import LOADS, STORES, Trace
+from .rows import STORES, Trace
 from .suspect import Extra, Suspect
 from .text import number
 
@@ -72,12 +72,7 @@ def unlocked(facts: Facts, history: History) -> list[Suspect]:
     trace = facts.trace
     if len(trace.last) < 2:
         return []
-    nearest: dict[int, int] = {}
-    for n, price in history.cost.items():
-        if trace.flags[n] & (LOADS | STORES):
-            word = trace.access(n).address & ~3
-            nearest[word] = min(price, nearest.get(word, price))
-    found = []
+    nearest, found = history.words(), []
     locks = {address for _, address, _ in setting(trace)}
     for word, held in accesses(trace, set(nearest) - locks).items():
         lock, times = max(Counter(lock for each in held for lock in each.locks).items(), key=lambda item: item[1],

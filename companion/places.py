@@ -26,6 +26,7 @@ MOST_FRAMES, LARGEST_ANSWER = 64, 4 << 20
 MOST_MEMORY = 640 << 20     # of a tool, whatever an ELF file says
 PLACE = re.compile(r"(.*):(\d+|\?)(?: \(.*\))?", re.S)
 LONGEST_LINE_NUMBER = 9     # digits
+CALLED_FROM = "  <  "       # stands between a place and the one that it was called from
 
 
 class Frame(NamedTuple):
@@ -205,8 +206,8 @@ class Places:
     def chain(self, pcs: Iterable[int], most: int) -> str:
         """The places of a row and of the calls over it, innermost first: so many at most."""
         frames = [frame for pc in pcs for frame in self.frames(pc) or [Frame(f"{pc:08x}", "", 0, "")]]
-        return "  <  ".join(f"{frame.function} {frame.file}:{frame.line}" if frame.line else frame.function
-                            for frame in frames[:most])
+        return CALLED_FROM.join(f"{frame.function} {frame.file}:{frame.line}" if frame.line else frame.function
+                                for frame in frames[:most])
 
     def line(self, pc: int) -> str:
         """FILE:LINE, or else the address."""

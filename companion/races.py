@@ -97,14 +97,14 @@ class Races:
         self.fence_known: dict[int, bool] = {}
         self.key_known: dict[int, str] = {}
         self.pairs = Columns(array("B"), array("Q"), array("B"), array("Q"), array("I"), array("B"))
-        self.total, self.over = 0, True
+        self.total, self.over = 0, False
         self.groups: list[Group] = []
 
     def read(self, log_name: str, elf_name: str, most: int) -> Races:
         """Asks for at most so many pairs, and first for fewer, since a longer list takes the program longer."""
         for step in [step for step in STEPS if step < most] + [most]:
-            if self.read_list(log_name, elf_name, step):
-                self.over = False
+            self.over = not self.read_list(log_name, elf_name, step)
+            if not self.over:
                 break
         self.groups = list(self.by_key.values())
         self.find_ordered()
@@ -140,6 +140,11 @@ class Races:
         for column, value in zip(self.pairs, (one.hart, one.count, other.hart, other.count, group.number, hands_over)):
             column.append(value)
         self.total += 1
+
+    def unordered(self) -> set[frozenset[At]]:
+        """The pairs that no fences order either."""
+        return {frozenset((At(hart, count), At(other, other_count)))
+                for hart, count, other, other_count, number, _ in zip(*self.pairs) if not self.groups[number].kind}
 
     def place_of(self, pc: int) -> str:
         if pc not in self.key_known:

@@ -1,7 +1,7 @@
 """The text of `why`."""
 from __future__ import annotations
 
-from .analysis import Analysis
+from .analysis import MOST_RACES, Analysis
 from .facts import Byte
 from .fault import fault_words
 from .hang import hang_lines
@@ -9,6 +9,7 @@ from .history import ADDRESS
 from .instruction import NAMES
 from .origins import advice
 from .page import Part
+from .places import CALLED_FROM
 from .ready import ready
 from .suspect import Suspect
 from .text import as_text, counted, number, short
@@ -19,8 +20,8 @@ SUSPECTS_HEAD = "SUSPECTS, likeliest first (a load and the store that it got; wh
 # What the guilty row of each kind did, and what its other two rows did.
 DID = {"store": "stored it in", "back": "gave the memory back in", "unwritten": "got the memory in", "twice": "gave the memory back in",
        "calls": "calls itself in", "branch": "chose the way in", "unlocked": "held no lock in", "order": "waits for a lock in",
-       "exit": "never left its loop by"}
-ALONE = "twice", "calls", "branch", "exit", "unlocked", "order"     # kinds that have no load
+       "exit": "never left its loop by", "failed": "stored nothing in", "unset": "loaded from its stack what it never stored in"}
+ALONE = "twice", "calls", "branch", "exit", "unlocked", "order", "failed", "unset"     # kinds that have no load
 STORED = {"back": "the new owner stored in", "unwritten": "the old bytes were stored in"}
 
 
@@ -71,13 +72,15 @@ def output_lines(facts: Analysis, byte: Byte) -> list[str]:
     trace, call = facts.trace, facts.trace.writes[byte.write]
     said = [f"Asked of byte {byte.place} of write {byte.write}, which took {counted(call.size, 'byte')} from {call.address:08x}",
             f"hart {trace.hart[call.row]} wrote it at count {number(trace.count_of(call.row))} in {facts.where(call.row)}"]
-    if facts.start == call.row:
+    if facts.stored == call.row:
         return said + ["No row stored the byte: below is the write."]
-    told = trace.store_of(facts.start)
+    told = trace.store_of(facts.stored)
     place = call.address + byte.place & 3
     value = bytes([told.value >> 8 * place & 255]) if told else b""
-    return said + [f"The byte is {repr(value)[1:]}: hart {trace.hart[facts.start]} stored it at count "
-                   f"{number(trace.count_of(facts.start))}."]
+    said.append(f"The byte is {repr(value)[1:]}: hart {trace.hart[facts.stored]} stored it at count {number(trace.count_of(facts.stored))}.")
+    if facts.start != facts.stored:
+        said.append("A library made it of what it was given: below is that.")
+    return said
 
 
 def call_lines(facts: Analysis) -> list[str]:
@@ -131,7 +134,7 @@ def did(facts: Analysis, n: int, words: str) -> str:
 def guilty_lines(facts: Analysis, n: int) -> list[str]:
     """The calls over a row, and the row."""
     callers = [f"{frame.function} {frame.place}" for frame in facts.callers(n)]
-    said = ["      called from " + "  <  ".join(callers)] if callers else []
+    said = ["      called from " + CALLED_FROM.join(callers)] if callers else []
     return said + ["      " + short(facts.trace.text(n))]
 
 
@@ -154,7 +157,9 @@ def value_part(facts: Analysis, most: int) -> Part:
     history, said = facts.history, []
     for line in facts.lines[:most]:
         latest = short(facts.trace.text(line.latest), TEXT_WIDTH)
-        said.append(f"{f'hart {line.hart}':<6} {short(line.place, 36):<36} {number(line.rows):>7} rows  latest {latest}")
+        place, *callers = line.place.split(CALLED_FROM)
+        said.append(f"{f'hart {line.hart}':<6} {short(place, 36):<36} {number(line.rows):>7} rows  latest {latest}")
+        said += ["       inlined in " + CALLED_FROM.join(callers)] if callers else []
     if len(facts.lines) > most:
         said.append(f"       .. {counted(len(facts.lines) - most, 'more place')} (--more) ..")
     rows, all_rows = number(len(history.cost) - len(history.decided)), number(facts.trace.rows)
@@ -169,9 +174,11 @@ def origin_lines(facts: Analysis, most: int) -> list[str]:
 
 
 def race_part(facts: Analysis) -> Part:
-    races = facts.races
-    said = f"{counted(len(races.pairs), 'pair')}; `zelkuma race` groups them" if races.pairs else "none"
-    return Part("RACES", [races.note or said])
+    races, left = facts.races, len(facts.unordered)
+    if races.over:
+        return Part("RACES", [f"more than {MOST_RACES} races: not listed"])
+    fenced = f", of which fences order {number(races.total - left)}" if left < races.total else ""
+    return Part("RACES", [f"{counted(races.total, 'pair')}{fenced}; `zelkuma race` groups them" if races.total else "none"])
 
 
 def last_lines(facts: Analysis) -> list[str]:

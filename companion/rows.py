@@ -19,7 +19,7 @@ from .program import Output
 from .text import number
 
 # A row's flags. OFFSET: the byte of its word. UNSTORED: no row stored what it loads. CHANGED: a `read` call did since the
-# last row. KEEPS: it stores what it loads, as a lock's spinning does.
+# last row. KEEPS: an atomic one that stores what the word holds, as a lock's spinning does.
 OFFSET, LOADS, STORES, UNSTORED, CHANGED, FAULTS, KEEPS = 3, 4, 8, 16, 32, 64, 128
 STORE_BITS = 0xffffffff     # of a pair, those that tell its store
 MOST_WRITERS, WRITERS_CALLS = 20, 2     # stores to a word before one, and calls over each
@@ -294,7 +294,7 @@ class Trace:
                 else:
                     writer = self.writer_of.get(word, 0)
                     self.accesses(n, word, told[15:])
-                flag |= STORES | (KEEPS if flag & LOADS and self.held[word] == told[15:] else 0)
+                flag |= STORES | (KEEPS if self.held.get(word) == told[15:] else 0)
                 self.writer_of[word], self.held[word] = n, told[15:]
         return writer, flag
 
@@ -492,6 +492,12 @@ class Trace:
                 elif place < address <= after[0]:
                     after = address, n
         return [n for address, n in (before, after) if n and abs(address - place) <= BESIDE]
+
+    def changed_by(self, store: int) -> int:
+        """The row that gave a word its value: a store that kept it is passed. 0 if that is before all rows."""
+        while self.flags[store] & KEEPS:
+            store = self.dm[store]
+        return store
 
     def storing_places(self, store: int) -> set[int]:
         """The places that stored a store's word up to it, and those of the innermost calls over them."""

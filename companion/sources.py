@@ -13,18 +13,21 @@ from .text import clean
 SUFFIXES = (".c", ".h", ".s", ".S", ".cc", ".cpp", ".cxx", ".hpp", ".hh", ".inc", ".rs", ".zig", ".adb", ".f90", ".go")
 LARGEST = 4 << 20
 SYSTEM = "/proc/", "/sys/"      # files there look like regular ones
+LATER = 60                      # seconds: a checkout writes files in any order
 
 
 class Sources:
     """Reads regular files whose own path, behind links, has a source's suffix and lies below one of the folders.
 
-    outside  the first file that would be read, but lies elsewhere"""
+    outside  the first file that would be read, but lies elsewhere
+    newer    the first one that was changed after the ELF file was built"""
 
     def __init__(self, elf: str, given: Sequence[str]) -> None:
         self.beside = [os.path.dirname(elf), *given]
         self.folders = [os.path.realpath(folder) for folder in (*self.beside, "")]
         self.texts: dict[str, list[str]] = {}
-        self.outside = ""
+        self.outside = self.newer = ""
+        self.built = changed(elf)
 
     def lines(self, path: str) -> list[str]:
         """The lines of a source, if it is there."""
@@ -39,15 +42,26 @@ class Sources:
             real = os.path.realpath(name)
             if real.endswith(SUFFIXES) and os.path.isfile(real) and not real.startswith(SYSTEM):
                 if any(is_below(real, folder) for folder in self.folders):
+                    self.newer = self.newer or (name if changed(real) > self.built + LATER else "")
                     return text_of(real).split("\n")
                 outside = outside or name
         self.outside = self.outside or outside
         return []
 
     def trouble(self) -> list[str]:
-        """What to say if a source lies elsewhere."""
-        return [f"No line of {clean(self.outside)} is shown: it is neither below the folder of the ELF file nor below this one. "
+        """What to say if a source lies elsewhere, or may be another than was built."""
+        said = [f"No line of {clean(self.outside)} is shown: it is neither below the folder of the ELF file nor below this one. "
                 "--source DIR allows another."] if self.outside else []
+        newer = f"{clean(self.newer)} is newer than the ELF file: its lines may be others than those that were built."
+        return said + ([newer] if self.newer else [])
+
+
+def changed(path: str) -> float:
+    """When a file was changed last; 0 if there is none."""
+    try:
+        return os.stat(path).st_mtime
+    except OSError:
+        return 0
 
 
 def is_below(path: str, folder: str) -> bool:

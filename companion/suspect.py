@@ -22,6 +22,8 @@ class Suspect:
      "exit"      one that would have ended a loop
      "unlocked"  an access without the lock that others hold
      "order"     a wait for a lock of a hart that waits for one of this hart's
+     "failed"    a store-conditional that failed unread
+     "unset"     a load of a word of the stack that its call never stored
      "calls"     a function that keeps calling itself
     load, store  its rows; they are the same row if it has only one
     guilty       the row that the suspect is about

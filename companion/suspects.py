@@ -10,7 +10,7 @@ they do on others."""
 from __future__ import annotations
 
 import math
-from typing import Sequence
+from typing import AbstractSet, Sequence
 
 from .branches import branch_suspects, exit_suspects
 from .facts import At, Facts
@@ -21,6 +21,7 @@ from .memory_use import MemoryUse
 from .rows import LOADS
 from .suspect import Extra, Suspect, rank
 from .text import counted, number
+from .unread import failed_stores, unset
 
 OTHER_HART, NARROW, RACE, OTHER_FUNCTION, RARITY = 8, 12, 6, 3, 5
 COMMON, COMMON_ROWS = 10, 8   # what a near store is worth less that a load always got, if it ran so often
@@ -31,6 +32,7 @@ MOST_COMPARED = 40          # suspects whose lines are compared
 FIRST_ONES, PLACE_ROWS = 3, 2000    # suspects whose stores' addresses are asked of, and rows of such a history
 MOST_FOR_PLACE = 6          # what the store's own signs are worth to these at most
 GUARD, BEHIND_PLACE = 2, 3  # what the branch before such a store costs, and what all costs more than the store
+FOREIGN = 40                # what a suspect costs more of which no source is here
 SYMPTOM = 8                 # a stack that has grown into data is a consequence of its depth
 NEAR_STORE = 6              # what a near store is worth less
 MOST_LOOKED_AT = 60         # pairs of loads and stores whose rows are read
@@ -40,11 +42,12 @@ SIZES = {1: "bytes", 2: "halves"}, {2: "half", 4: "word"}
 class Ranking:
     """found: the suspects, likeliest first."""
 
-    def __init__(self, facts: Facts, history: History, races: Sequence[frozenset[At]], recursion: list[Suspect],
+    def __init__(self, facts: Facts, history: History, races: AbstractSet[frozenset[At]], recursion: list[Suspect],
                  loop: Sequence[int]) -> None:
-        """`recursion` is suspects that are known, and `loop` the rows that a loop or a recursion follows."""
+        """`races` is pairs of accesses that nothing orders, `recursion` suspects that are known, and `loop` the rows that a
+        loop or a recursion follows."""
         self.facts, self.trace, self.places = facts, facts.trace, facts.places
-        self.history, self.races, self.is_recursive, self.loop = history, set(races), bool(recursion), set(loop)
+        self.history, self.races, self.is_recursive, self.loop = history, races, bool(recursion), set(loop)
         self.loads: dict[int, int] = {}         # a load's code: how many rows
         for pair, times in self.trace.pairs.items():
             self.loads[pair >> 32] = self.loads.get(pair >> 32, 0) + times
@@ -52,9 +55,19 @@ class Ranking:
         memory = MemoryUse(facts, history)
         found = [suspect for item in stores[:MOST_LOOKED_AT] for suspect in memory.judge(item)]
         found += memory.given_back_twice() + branch_suspects(facts, history) + exit_suspects(facts)
-        found += unlocked(facts, history) + circle(facts)
-        found = sorted(stores + found + recursion, key=rank)
+        found += unlocked(facts, history) + circle(facts) + failed_stores(facts, history) + unset(facts, history)
+        found = self.own_first(stores + found + recursion)
         self.found = self.once(sorted(found + self.behind_places(found, memory), key=rank))
+
+    def own_first(self, found: list[Suspect]) -> list[Suspect]:
+        """Those of which no source is here, as of a library's inner functions, come last."""
+        self.places.fetch({self.facts.pc_of(n) for item in found for n in (item.guilty, item.load)})
+        foreign = [item for item in found if not any(self.facts.is_own(n) for n in
+                                                     [item.guilty, item.load] + [extra.row for extra in item.extra])]
+        if len(foreign) < len(found):
+            for item in foreign:
+                item.sign(-FOREIGN, "no source of it is here")
+        return sorted(found, key=rank)
 
     def behind_places(self, found: list[Suspect], memory: MemoryUse) -> list[Suspect]:
         """Of a store in a place of something else it isn't the value that is wrong: what is behind its address, and the
@@ -152,7 +165,7 @@ class Ranking:
                     pointer = trace.d1[pointer]
                 if pointer and trace.pc[pointer] == trace.pc[n]:
                     for load in (n, pointer):
-                        for store in trace.writers(load).rows:
+                        for store in map(trace.changed_by, trace.writers(load).rows):
                             if store < hanging.first and store > latest.store:
                                 latest = Pair(load, store)
         return latest

@@ -40,7 +40,7 @@ def why_answer(facts: Analysis) -> dict[str, Any]:
                     "latest": trace.text(line.latest)} for line in facts.lines[:LONGEST]],
         "before": [{"words": origin.words, "place": origin.place, "loads": loads.times}
                    for origin, loads in facts.origin.items()],
-        "races": None if facts.races.note else len(facts.races.pairs),
+        "races": None if facts.races.over else facts.races.total,
         "rows": trace.rows, "unread_bytes": log.unread, "dropped_records": 0 if log.unread else log.dropped,
         "notes": facts.notes + facts.places.trouble()}
 

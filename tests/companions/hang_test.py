@@ -55,6 +55,15 @@ class HangTest(case.Case):
         self.assertIn("a5 is 00000001, from 000112f0, stored last in 0001018c (hart 1 at count 107)", said)
         self.assertIn("a5 is 00000001, from 000112f8, stored last in 0001025c (hart 0 at count 92)", said)
 
+    def test_a_spinners_own_exchange_is_no_store(self):
+        """A hart took the lock before the log's first row; since then the other one puts 1 in the place of 1."""
+        elf = self.crash("lock_left_held")[1]
+        log = common.record("held", elf, "--seed", "1", "--harts", "2", "--limit", "800000", "--log-size", "16384", "--interval", "2000")
+        said = self.says("why", log, elf)
+        self.assertIn("a5 is 00000001, from lock, which no row of the log stored\n", said)
+        self.assertNotIn("stored last in", said)
+        self.assertNotIn("stored it in acquire", said)
+
     def test_a_run_that_ends_has_none(self):
         log = self.record("counter", "--seed", "1", "--harts", "2")
         self.assertNotIn("HANG", self.says("why", log, self.elf("counter")))

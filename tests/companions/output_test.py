@@ -130,6 +130,13 @@ class ByteTest(case.Case):
             self.assertEqual(count, stores[-1])
             self.assertIn(f"The byte is {written[place]!r}: ", said)
 
+    def test_a_byte_that_a_library_formatted(self):
+        """printf took a number apart: what is asked of is the number, not the letter."""
+        said = self.says("why", *self.crash("libc_prices"), "--output", "18:18")
+        self.assertIn("  A library made it of what it was given: below is that.\n  In print_order libc_prices.c:81:  printf(", said)
+        self.assertRegex(said, r"\n  1\. .*\n(?:   .*\n)* +hart 0 loaded it in print_order libc_prices\.c:81 ")
+        self.assertNotIn("A library", self.says("why", *self.crash("wrong_price"), "--output", "6:27"))
+
     def test_a_byte_that_no_row_stored(self):
         elf = common.path("constant.elf")
         with open(elf, "wb") as file:

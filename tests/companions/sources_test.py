@@ -53,6 +53,13 @@ class SourcesTest(case.Case):
         self.write(self.source)
         self.assertEqual(self.shows(), (True, False))
 
+    def test_a_source_that_is_newer_than_the_elf_is_told(self):
+        self.write(self.source)
+        built = os.stat(self.elf).st_mtime
+        for later, is_told in ((0, False), (3600, True)):
+            os.utime(self.source, (built + later, built + later))
+            self.assertEqual(f"{NAME} is newer than the ELF file" in self.says_of("why"), is_told)
+
     def test_a_link_leads_no_further(self):
         inside = os.path.join(self.folder, "src")
         os.mkdir(inside)

@@ -2,11 +2,13 @@
 """`why` on the examples: what it says of the fault, its suspects, and of logs that gave up their front."""
 import os
 import re
+import shutil
+import subprocess
 import sys
 
 sys.path.insert(0, os.path.join(os.path.dirname(os.path.abspath(__file__)), "lib"))
 import case
-from common import companion, example, output, path, record
+from common import TOP, companion, example, output, path, record
 from companion.analysis import analysed         # common lets the package be found
 
 
@@ -57,6 +59,35 @@ class WhyTest(case.Case):
         self.assertIn("shrink libc_table_size.c:38", found[1])
         for item in found:
             self.assertFalse("gave the memory back in" in item and item.count("malloc") + item.count("__malloc_free") > 2, item)
+
+    def built(self, name, *options):
+        """What `why` says of one of lib/programs."""
+        self.needs_addr2line()
+        elf = path(name + ".elf")
+        source = os.path.join(os.path.dirname(os.path.abspath(__file__)), "lib", "programs", name + ".c")
+        if not shutil.which("riscv64-unknown-elf-gcc"):
+            self.skipTest("riscv64-unknown-elf-gcc isn't installed")
+        subprocess.run(["bash", "-c", ". examples/lib/with_names.sh && build_with_names \"$@\"", "-", elf, source], cwd=TOP, check=True)
+        return self.says("why", record(name, elf, "--seed", "3", *options), elf, "--more")
+
+    def test_a_word_of_the_stack_that_its_call_never_stored(self):
+        first = suspects(self.built("unset"))[0]
+        self.assertIn("loaded from its stack what it never stored in find unset.c:21", first)
+        self.assertIn("they were stored in fill unset.c:8", first)
+
+    def test_a_store_conditional_whose_answer_nobody_read(self):
+        first = suspects(self.built("conditional", "--harts", "2"))[0]
+        self.assertIn("stored nothing in add conditional.c:7", first)
+        self.assertRegex(first, r"a store-conditional failed here \d+ times, and nothing read its answer")
+
+    def test_a_fenced_pair_is_no_race(self):
+        said = self.built("fenced", "--harts", "2")
+        self.assertIn("hart 1 stored it in other_harts fenced.c:10", suspects(said)[0])
+        self.assertNotIn("a race:", said)
+        self.assertRegex(said, r"\nRACES\n  (\d+) pairs?, of which fences order \1; ")
+
+    def test_inlined_callers_of_values(self):
+        self.assertIn("\n         inlined in main use_after_free.c:66\n", self.says("why", *self.crash("use_after_free")))
 
     def test_the_branch_that_left_what_others_wait_for(self):
         found = [item for item in suspects(self.says("why", *self.crash("hang_barrier"), "--more")) if "goes on waiting in" in item]

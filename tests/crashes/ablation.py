@@ -1,0 +1,175 @@
+#!/usr/bin/env python3
+"""Leaves out one rule of `why` at a time: of how many programs is the guilty line still among the first three suspects?
+
+    ablation.py [WORD..]        all rules, or those whose names begin with one of these words
+
+Each line is a rule, the share of all programs and of each group without it, and which go out (-) or come in (+)."""
+import copy
+import importlib
+import multiprocessing
+import os
+import sys
+
+HERE = os.path.dirname(os.path.abspath(__file__))
+sys.path[:0] = [os.path.join(HERE, "..", ".."), os.path.join(HERE, "..", "companions")]
+from common import crashes, record                  # noqa: E402
+from companion import analysis, branches, facts, locks, memory_use, report, suspects       # noqa: E402
+from companion.history import History               # noqa: E402
+from companion.places import Places                 # noqa: E402
+from why_crashes import FIRST, rank_of              # noqa: E402
+
+AT_ONCE = 2
+ALL = "all rules"
+PURE = (facts, "Loop"), (locks, "setting"), (locks, "accesses"), (memory_use, "Blocks"), (branches, "Ways")
+SEARCHES = (analysis, "History"), (suspects, "History")
+FINDERS = (suspects, "unlocked"), (suspects, "circle"), (suspects, "failed_stores"), (suspects, "unset")
+
+
+def nothing(*_given):
+    return []
+
+
+def no_row(*_given):
+    return 0
+
+
+# Of each rule the words that the report says of it, if there are any, and the names of `companion` that leave it out, with
+# their values then. A program of which the words aren't said at all isn't tried again.
+RULES = {
+    ALL: ("", {}),
+    "another hart": ("another hart stored it", {"suspects.OTHER_HART": 0}),
+    "stored in parts": ("stored as", {"suspects.NARROW": 0}),
+    "a race": ("a race:", {"suspects.RACE": 0}),
+    "another function": ("over what", {"suspects.OTHER_FUNCTION": 0}),
+    "a rare pair": ("rare here", {"suspects.RARITY": 0}),
+    "a usual pair": ("so in all", {"suspects.COMMON": 0}),
+    "a near store": ("earlier", {"suspects.NEAR_STORE": 0}),
+    "closed a circle": ("closed a circle", {"suspects.CLOSES": 0}),
+    "the stack has grown": ("the stack has grown", {"suspects.SYMPTOM": 0}),
+    "a line told again": ("", {"suspects.AGAIN": 0, "suspects.NOTHING_NEW": 0}),
+    "behind a wrong place": ("in the wrong place", {"suspects.FIRST_ONES": 0}),
+    "source of one's own": ("no source of it", {"suspects.FOREIGN": 0}),
+    "given back": ("given back", {"memory_use.GIVEN_BACK": 0}),
+    "never written": ("nothing wrote the word", {"memory_use.NEVER_WRITTEN": 0}),
+    "over its end": ("over the end", {"memory_use.OVER_THE_END": 0}),
+    "a cut bound": ("a bound of its loop", {"memory_use.CUT_BOUND": 0}),
+    "an allocator's own": ("allocator's own", {"memory_use.OWN": 0}),
+    "holders of a pointer": ("the pointer that was given back", {"memory_use.MemoryUse.add_holder": nothing}),
+    "users of a pointer": ("the pointer that was used", {"memory_use.MemoryUse.add_user": nothing}),
+    "copies of a pointer": ("a copy of the pointer", {"memory_use.MemoryUse.add_copy": nothing}),
+    "an older pointer": ("the pointer is older", {"memory_use.MemoryUse.kept_pointer": no_row}),
+    "all of memory": ("", {"memory_use.MemoryUse.judge": nothing, "memory_use.MemoryUse.given_back_twice": nothing}),
+    "equal bounds": ("which are the same", {"branches.EQUAL": 0}),
+    "a rare way": ("it went this way", {"branches.RARE_WAY": 0}),
+    "a usual way": ("it went this way", {"branches.USUAL": 0}),
+    "compared lost bits": ("had lost bits", {"branches.cut_behind": nothing}),
+    "a loop went round": ("went round again", {"branches.ROUND": 0}),
+    "a part of its line": ("", {"branches.SAME_LINE": 0}),
+    "ran before any call": ("before any call", {"branches.ENTRY": 0}),
+    "who stored what it compared": ("a value that it compared was", {"branches.add_stored": nothing}),
+    "exits of loops": ("it went the same way", {"suspects.exit_suspects": nothing}),
+    "branches and exits": ("", {"suspects.branch_suspects": nothing, "suspects.exit_suspects": nothing}),
+    "an access without its lock": ("hold a lock", {"suspects.unlocked": nothing}),
+    "locks in a circle": ("each other's locks", {"suspects.circle": nothing}),
+    "a deep recursion": ("calls deep", {"recursion.DEEP": 1 << 32}),
+    "a failed store-conditional": ("a store-conditional failed", {"suspects.failed_stores": nothing}),
+    "never stored by its call": ("from before this call", {"suspects.unset": nothing}),
+    "what a library formatted": ("", {"analysis.begin_at_argument": nothing}),
+    "branches just before": ("", {"history.MOST_BRANCHES": 0}),
+    "what decided a row": ("before", {"history.MOST_CONTROL": 0}),
+    "what kept a value": ("so this kept its value", {"history.MOST_KEPT": 0}),
+    "what spared a word": ("so a word beside", {"history.MOST_SPARED": 0}),
+    "what others wait for": ("goes on waiting", {"history.NEAR_LOOP": -1}),
+    "words beside": ("", {"history.MOST_FILLED": 0}),
+    "the first copy": ("", {"history.History.first_copied": lambda _history, load: load}),
+}
+
+
+def key_of(value):
+    """What tells an argument from others: all else belongs to the one program."""
+    return tuple(value) if isinstance(value, list) else frozenset(value) if isinstance(value, set) else value if isinstance(value, int) else None
+
+
+def remember(module, name, given_out=lambda result: result):
+    """A function of a module gives its first result again for the same arguments."""
+    function, known = getattr(module, name), {}
+
+    def again(*given, **named):
+        key = tuple(map(key_of, given)), tuple((word, key_of(value)) for word, value in sorted(named.items()))
+        if key not in known:
+            known[key] = function(*given, **named)
+        return given_out(known[key])
+    setattr(module, name, again)
+    return function
+
+
+def set_all(changes):
+    """Sets names of `companion`, and gives what they were."""
+    before = {}
+    for name, value in changes.items():
+        first, *path, last = name.split(".")
+        holder = importlib.import_module("companion." + first)
+        for part in path:
+            holder = getattr(holder, part)
+        before[name] = getattr(holder, last)
+        setattr(holder, last, value)
+    return before
+
+
+def analysed(log, program):
+    return analysis.analysed(log, program.elf, output=facts.asked_byte(program.wrong) if program.wrong else None)
+
+
+def place(found, program):
+    """The guilty line's place among the suspects, or 0."""
+    lines = report.suspect_lines(found, report.MORE_SUSPECTS)
+    found.file.close()
+    return rank_of(program.guilty, "SUSPECTS\n" + "".join("  %s\n" % line for line in lines) + "END")
+
+
+def tried(given):
+    """A program's name and {rule: the guilty line's place}. What no rule changes is done once."""
+    name, rules = given
+    program = crashes()[name]
+    log = record(name, program.elf, *program.options)
+    for module, word in PURE:
+        remember(module, word)
+    for module, word in FINDERS:
+        remember(module, word, copy.deepcopy)
+    searches = [(module, word, remember(module, word), getattr(module, word)) for module, word in SEARCHES]
+    first = analysed(log, program)
+    said = "\n".join(word for item in first.suspects for word in item.why + [extra.words for extra in item.extra])
+    got = dict.fromkeys(rules, place(first, program))
+    analysis.read_trace = lambda *_given, **_named: first.trace
+    first.races.read = nothing
+    analysis.Races = lambda *_given: first.races
+    facts.places_of = lambda *_given: first.places
+    Places.close = History.lines = nothing
+    for rule, (words, changes) in ((rule, RULES[rule]) for rule in rules):
+        if changes and words in said:
+            before = set_all(changes)
+            is_searched = any(word.startswith("history") for word in changes)
+            for module, word, new, known in searches:
+                setattr(module, word, new if is_searched else known)
+            got[rule] = place(analysed(log, program), program)
+            set_all(before)
+    return name, got
+
+
+def main(words):
+    rules = [ALL] + [rule for rule in RULES if rule != ALL and (not words or rule.startswith(tuple(words)))]
+    programs = crashes()
+    with multiprocessing.Pool(AT_ONCE, maxtasksperchild=1) as pool:
+        found = dict(pool.imap_unordered(tried, [(name, rules) for name in programs], 1))
+    groups = list(dict.fromkeys(program.group for program in programs.values()))
+    print("| without | all | %s | |" % " | ".join(groups))
+    good = {rule: {name for name in found if 0 < found[name][rule] <= FIRST} for rule in rules}
+    for rule in rules:
+        shares = [sum(programs[name].group == group for name in good[rule]) for group in groups]
+        less, more = sorted(good[ALL] - good[rule]), sorted(good[rule] - good[ALL])
+        print("| %s | %d | %s | %s |" % (rule, len(good[rule]), " | ".join(map(str, shares)),
+                                         " ".join(["-" + name for name in less] + ["+" + name for name in more])))
+
+
+if __name__ == "__main__":
+    main(sys.argv[1:])
