@@ -6,14 +6,17 @@ import signal
 from typing import Mapping, Optional, Sequence
 
 from . import streams
+from .again import settings_of
 from .answers import LONGEST, put_answer
+from .elf import Elf
 from .errors import REFUSED, CompanionError
 from .options import parse, whole
-from .recording import ENDS, FAULT, Kind, Plan, RecordWords
+from .recording import DONE, ENDS, FAULT, Kind, Plan, RecordWords
+from .shrinking import Asked, Shrunk, shrink
 from .text import number
 from .trials import Count, Ending, Search
 
-HELP = """zelkuma seeds [-j N] [--until STATUS] [--only KIND,..] [--json] FROM TO -- RECORD-WORDS
+HELP = """zelkuma seeds [-j N] [--until STATUS] [--only KIND,..] [--shrink] [--json] FROM TO -- RECORD-WORDS
 
 Records a program by one order of turns after another, on all processors, until a run ends as wanted.
 
@@ -34,11 +37,12 @@ Ctrl-C (or TERM, HUP) ends the search: the table is printed, what was found is k
     -j N             so many recordings at a time; without it, as many as there are processors
     --until STATUS   0 (done), 10 (a fault) or 11 (a hart came to the limit); without it 10
     --only KIND,..   these kinds alone
+    --shrink         does what `zelkuma shrink` does with what was found: LOG and BOOK are those of the short run
     --json           prints one JSON object in place of the text (docs/JSON.md)
 
 One recording in threads is under way at a time. One that spins on a busy machine takes long: give a --limit.
 Numbers may end in K, M or G. Trials are saved beside LOG and BOOK, in folders that are taken away again."""
-FORM = "seeds [-j N] [--until STATUS] [--only KIND,..] [--json] FROM TO -- RECORD-WORDS"
+FORM = "seeds [-j N] [--until STATUS] [--only KIND,..] [--shrink] [--json] FROM TO -- RECORD-WORDS"
 KINDS = {"seeds": Kind.SEED, "bursts": Kind.BURSTS, "sleepers": Kind.SLEEPER, "threads": Kind.THREADS}
 HEAD = "status", "count", "first", "place"
 NOT_FOUND = 22
@@ -88,17 +92,27 @@ def fields_of(plan: Optional[Plan]) -> dict[str, object]:
     return {"kind": plan.kind.name.lower() if plan else None, "number": plan.number if plan else None}
 
 
-def tell_json(search: Search) -> None:
+def shrunk(words: RecordWords) -> Shrunk:
+    """Shrinks the recording that was saved, in its place."""
+    log, book = words.targets
+    source = {option: value for option, _, value in (word.partition("=") for word in words.options) if option == "--input"}
+    elf = Elf(words.elf)
+    return shrink(Asked(log.path, book.path, elf, {**settings_of(log.path), **source}, log, book, elf))
+
+
+def tell_json(search: Search, short: Optional[Shrunk]) -> None:
     plan, counts = search.found.plan if search.found else None, search.endings.counts
     endings = [{"status": ending.status, "place": ending.place, "count": count.count, **fields_of(count.first)}
                for ending, count in in_order(counts)]
     put_answer("seeds", **fields_of(plan), seed=plan.number if plan and plan.kind is Kind.SEED else None,
                command=search.words.shown(plan) if plan else None, status=search.until, **{"from": search.numbers.start},
-               to=search.numbers.stop - 1, tried=sum(count.count for count in counts.values()), endings=endings[:LONGEST])
+               to=search.numbers.stop - 1, tried=sum(count.count for count in counts.values()), endings=endings[:LONGEST],
+               shrunk=short.answer if short else None)
 
 
-def find(search: Search, is_json: bool) -> None:
+def find(search: Search, is_json: bool, shrinks: bool) -> None:
     """Searches, saves what was found, and tells how the runs ended: as text also those before a refusal."""
+    short = None
     try:
         search.run()
     finally:
@@ -109,8 +123,12 @@ def find(search: Search, is_json: bool) -> None:
         finally:
             if not is_json:
                 tell(search)
+    if shrinks and search.found is not None and not search.stopped:
+        short = shrunk(search.words)
     if is_json:
-        tell_json(search)
+        tell_json(search, short)
+    elif short:
+        streams.put("".join(line + "\n" for line in short.lines))
 
 
 def status_of(search: Search, names: Sequence[str], first: int, last: int) -> int:
@@ -124,7 +142,8 @@ def status_of(search: Search, names: Sequence[str], first: int, last: int) -> in
 
 def main(words: list[str]) -> int:
     own, rest = split(words)
-    (low, high), options = parse(own, {"--jobs": True, "--until": True, "--only": True, "--json": False}, 2, FORM)
+    (low, high), options = parse(own, {"--jobs": True, "--until": True, "--only": True, "--shrink": False, "--json": False}, 2,
+                                 FORM)
     first, last = whole(low, 0, LAST_NUMBER, "FROM"), whole(high, 0, LAST_NUMBER, "TO")
     if last < first:
         raise CompanionError(f"TO is {last}, which is below FROM", REFUSED)
@@ -132,13 +151,15 @@ def main(words: list[str]) -> int:
     if until not in ENDS:
         raise CompanionError(f"--until has to be one of {', '.join(map(str, ENDS))}", REFUSED)
     record = RecordWords(rest)
+    if "--shrink" in options and (record.is_lean or until == DONE):
+        raise CompanionError("--shrink needs a BOOK, so not --lean, and a run that doesn't end well, so not --until 0", REFUSED)
     kinds = kinds_of(options, record.is_lean)
     processors = 1 if kinds == [Kind.THREADS] else len(os.sched_getaffinity(0))
     jobs = whole(options["--jobs"], 1, 1024, "-j") if "--jobs" in options else processors
     folders = [target.scratch() for target in record.targets]
     search = Search(record, range(first, last + 1), kinds, until, jobs, [folder.name for folder in folders])
     try:
-        find(search, "--json" in options)
+        find(search, "--json" in options, "--shrink" in options)
     finally:
         for folder in folders:
             folder.cleanup()

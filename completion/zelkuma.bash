@@ -77,6 +77,7 @@ output --json
 seeds -j N
 seeds --until STATUS
 seeds --only KIND,..
+seeds --shrink
 seeds --json
 again --input FILE
 again --log-size N
