@@ -26,7 +26,7 @@ Finds the shortest order of harts that still ends as LOG does, and saves a recor
 
 A run ends the same if the same fault comes at the same place with the same callers; if the same harts come to the limit,
 and wait for the same words; or if the exit code is the same, and not 0. The order is printed as pieces,
-hartxturns, and then its switches: who stops where, who goes on where, and what that does to a word that was loaded.
+hartxturns, and then its switches: who stops where, who continues where, and what that does to a word that was loaded.
 
     --seconds N      ends the search after so long; what it has by then is saved
     --output N:BYTE  a run ends the same if this byte of the output is the same, as `zelkuma output` numbers them

@@ -47,7 +47,7 @@ class Side:
 
 
 def again_at(pieces: Pieces, at: int) -> int:
-    """The piece with which a piece's hart goes on, or -1."""
+    """The piece with which a piece's hart continues, or -1."""
     return next((i for i in range(at + 1, len(pieces)) if pieces[i].hart == pieces[at].hart), -1)
 
 

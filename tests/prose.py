@@ -29,11 +29,12 @@ PAGES = {
     "docs/DECISIONS.md": float("inf"),  # no decision has to go because another one comes
     "docs/FORMAT.md": 3700,
     "docs/GDB.md": 1300,
-    "docs/GUIDE.md": 6700,
+    "docs/GUIDE.md": 6900,
     "docs/INTERNALS.md": 3600,
     "docs/JSON.md": 950,
     "docs/PROOF.md": 3050,
     "docs/PYTHON.md": 500,
+    "docs/SHRINK.md": 700,
     "docs/VIEW.md": 1300,
     "docs/WHY.md": 1750,
 }
