@@ -7,7 +7,7 @@ import re
 from dataclasses import dataclass, field
 from typing import AbstractSet, Hashable, Mapping, Optional, Sequence, Union
 
-from .bucket import MOST_FRAMES, last_place
+from .cause import MOST_FRAMES, cause_along
 from .control import load_behind
 from .elf import Elf
 from .errors import NO_INTERVAL, CompanionError
@@ -24,7 +24,6 @@ LOOP_ROWS = 1500, 10000     # in so many of them its loop is looked for
 LONGEST_ROW = 160           # bytes
 MOST_INTERVALS = 16         # of a hart are replayed
 MOST_SPILLS = 8             # so often is a value followed through the stack
-CALLS = b" jal", b" ra=", b" t0="       # what a row has that tells of a call or of where it returns to
 
 
 @dataclass(frozen=True)
@@ -124,13 +123,9 @@ class Ends:
 
     def faulted(self, log: Log, hart: int) -> Faulted:
         text, is_cut = self.last_text(log, hart, CALLS_ROWS)
-        lines = [line for line in text.splitlines(True) if line[:1].isdigit()]
-        trace, reason = Trace(log), log.ends[hart].reason
-        trace.read([line for line in lines[:-2] if any(mark in line for mark in CALLS)] + lines[-2:])
-        n = last_place(trace, hart, reason)
-        pcs = [trace.code_of(n).pc] + trace.tree.calls(trace.node_of(n), MOST_FRAMES).calls
-        functions = dict.fromkeys(self.elf.function_name(at) or f"{at:08x}" for at in pcs)
-        return Faulted(reason, pcs[0], tuple(functions), is_cut)
+        rows = b"\n" + b"".join(line for line in text.splitlines(True) if line[:1].isdigit()).rstrip(b"\n")
+        cause = cause_along([rows], hart, log.ends[hart])
+        return Faulted(cause.reason, cause.pc, cause.functions(self.elf), is_cut)
 
     def waits(self, log: Log, hart: int) -> tuple[tuple[int, ...], int]:
         """The words for which a hart waits, and how many of its last turns are in its loop."""

@@ -12,6 +12,7 @@ from . import streams
 from .answers import LONGEST
 from .bucket import bucket_of
 from .calls import CallTree
+from .cause import cause_of
 from .elf import Elf
 from .errors import NO_INTERVAL, CompanionError
 from .facts import Byte
@@ -130,7 +131,7 @@ class Told:
         self.pieces, self.turns = pieces_of(made.turns()), found.recorded_turns
         rows = rows_by_piece(log, elf.name, self.pieces, len(found.core))
         self.switches = switches_of(self.pieces, rows, found.windows)
-        self.bucket = bucket_of(log, elf, teller.elf)
+        self.bucket = bucket_of(cause_of(log, elf.name), elf, teller.places)
         self.waiting = tuple(found.tries.exact.words) if isinstance(found.tries.exact, Waiting) else ()
 
     def order(self) -> str:
