@@ -28,6 +28,7 @@ from .text import counted, number
 from .tries import Tries
 from .turns import pieces_of, shown, size_of
 
+MOST_TOLD = 40              # switches
 MEMORY_FOLDER = "/dev/shm"  # files of tries needn't reach a disk
 
 
@@ -68,7 +69,7 @@ def shrink(asked: Asked) -> Shrunk:
         with closing(places_of(asked.named)) as places:
             told = Told(found, made, Teller(asked.named, places))
             said = Shrunk(told.lines(), told.answer(), signals.status)
-    if signals.has_come:
+    if found.tries.is_ended():
         streams.say("the search was ended before it was done: the list may be longer than it need be")
     return said
 
@@ -76,13 +77,13 @@ def shrink(asked: Asked) -> Shrunk:
 class Signals:
     """Ends a search on Ctrl-C, TERM, HUP and when its time is over.
 
-    has_come  whether one of them did; status: to end with"""
+    status  to end with"""
 
     def __init__(self, tries: Tries, seconds: int) -> None:
-        self.tries, self.seconds, self.status, self.has_come = tries, seconds, 0, False
+        self.tries, self.seconds, self.status = tries, seconds, 0
 
     def come(self, which: int, _frame: object) -> None:
-        self.has_come, self.status = True, 128 + which if which in streams.STOPS else 0
+        self.status = 128 + which if which in streams.STOPS else 0
         self.tries.stop()
 
     def __enter__(self) -> Signals:
@@ -129,7 +130,7 @@ class Told:
         self.found, self.teller, elf = found, teller, found.tries.ends.elf
         log = log_of(made.log)
         self.pieces, self.turns = pieces_of(made.turns()), found.recorded_turns
-        rows = rows_by_piece(log, elf.name, self.pieces, len(found.core))
+        rows = rows_by_piece(log, elf.name, self.pieces, min(len(found.core), MOST_TOLD + 1))
         self.switches = switches_of(self.pieces, rows, found.windows)
         self.bucket = bucket_of(cause_of(log, elf.name), elf, teller.places)
         self.waiting = tuple(found.tries.exact.words) if isinstance(found.tries.exact, Waiting) else ()
@@ -145,6 +146,8 @@ class Told:
                 f"order: {self.order()}"]
         for place, switch in enumerate(self.switches, 1):
             said += self.teller.lines(place, switch)
+        more = len(found.core) - 1 - len(self.switches)
+        said += [f"  .. {counted(more, 'more switch')} .."] if more > 0 else []
         if self.waiting:
             harts = ", ".join(map(str, self.waiting))
             said.append(f"from then on {'harts' if len(self.waiting) > 1 else 'hart'} {harts} wait{'s' * (len(self.waiting) == 1)}")
@@ -154,5 +157,5 @@ class Told:
         return {"order": self.order(), "pieces": [list(piece) for piece in self.pieces[:LONGEST]],
                 "recorded_pieces": self.found.recorded_pieces, "recorded_turns": self.found.recorded_turns,
                 "turns": size_of(self.pieces)[1], "recordings": self.found.tries.count, "waiting": list(self.waiting),
-                "is_done": not self.found.tries.stopped, "end": self.bucket.line(),
+                "is_done": not self.found.tries.is_ended(), "end": self.bucket.line(),
                 "switches": [self.teller.answer(switch) for switch in self.switches[:LONGEST]]}
