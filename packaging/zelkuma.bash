@@ -157,13 +157,13 @@ _zelkuma() {
     for word in "${COMP_WORDS[@]:1:COMP_CWORD-1}"; do
         [[ $word == = ]] || words+=("$word")
         # what stands here is recorded
-        [[ ${words[0]-} != seeds || $word != -- ]] || words=(record)
+        [[ ${words[0]-} != @(seeds|shrink) || $word != -- ]] || words=(record)
     done
     if [[ ${#words[@]} -eq 0 ]]; then
         choice=$(_zelkuma_firsts "$_zelkuma_commands")
     elif [[ $current == -* ]]; then
         choice=$(_zelkuma_firsts "$(_zelkuma_rows "$_zelkuma_options" "${words[0]}")")
-    elif [[ $(_zelkuma_next "${words[@]}") =~ ^(ELF|LOG|BOOK|NEW|NEWLOG|FILE|PREFIX)$ ]]; then
+    elif [[ $(_zelkuma_next "${words[@]}") =~ ^(ELF|LOG|BOOK|NEW|NEWLOG|NEWBOOK|FILE|PREFIX)$ ]]; then
         return # which leaves it to the names of files
     fi
     compopt +o default
