@@ -88,8 +88,8 @@ Exact = Union[Faulted, Waiting, Over]
 class Ends:
     """Tells how recordings of a program end.
 
-    offset  of the byte of the output that is asked of, or None
-    waiting the harts at their limit that are looked at, or None for all: under a lower limit more may come to it"""
+    offset   of the byte of the output that is asked of, or None.
+    waiting  the harts at their limit that are looked at, or None for all. Under a lower limit more may come to it."""
 
     def __init__(self, elf: Elf, offset: Optional[int] = None) -> None:
         self.elf, self.offset = elf, offset

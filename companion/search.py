@@ -47,7 +47,7 @@ class Search:
             self.end_waiting()
 
     def follow(self, near: Callable[[Pieces, int], Iterator[Move]]) -> bool:
-        """Takes each move that holds, and goes on from its place. Whether there was one."""
+        """Takes each move that holds, and continues from its place. Whether there was one."""
         begin, has_moved = 0, False
         while True:
             places: list[int] = []

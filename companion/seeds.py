@@ -6,14 +6,17 @@ import signal
 from typing import Mapping, Optional, Sequence
 
 from . import streams
+from .again import settings_of
 from .answers import LONGEST, put_answer
+from .elf import Elf
 from .errors import REFUSED, CompanionError
 from .options import parse, whole
 from .recording import ENDS, FAULT, LIMIT, Kind, Plan, RecordWords
+from .shrinking import Asked, Shrunk, shrink
 from .text import number
 from .trials import MOST_KEPT, Count, Ending, Numbers, Search
 
-HELP = """zelkuma seeds [-j N] [--until STATUS] [--only KIND,..] [--all DIR] [--part K/N] [--json] FROM TO -- RECORD-WORDS
+HELP = """zelkuma seeds [-j N] [--until STATUS] [--only KIND,..] [--all DIR] [--part K/N] [--shrink] [--json] FROM TO -- RECORD-WORDS
 
 Records a program by one order of turns after another, on all processors, until a run ends as wanted.
 
@@ -38,6 +41,7 @@ Ctrl-C (or TERM, HUP) ends the search: the table is printed, what was found is k
     --all DIR        makes all runs, and saves LOG and BOOK of the first with each ending in DIR, as KIND-NUMBER.log and .book;
                      an ending is a line of the table. RECORD-WORDS end with ELF then
     --part K/N       every Nth number alone, from the Kth on: the parts 1/N to N/N together are all numbers
+    --shrink         does what `zelkuma shrink` does with what was found: LOG and BOOK are those of the short run
     --json           prints one JSON object in place of the text (docs/JSON.md)
 
 One recording in threads is under way at a time. One that spins on a busy machine takes long: give a --limit.
@@ -47,8 +51,8 @@ Over machines, each of which has a part; `triage` joins what they found:
 
     parallel --sshloginfile MACHINES zelkuma seeds --all found/{} --part {}/8 1 1000 -- program.elf ::: 1 2 3 4 5 6 7 8
     zelkuma triage found --elfs ."""
-FORM = "seeds [-j N] [--until STATUS] [--only KIND,..] [--all DIR] [--part K/N] [--json] FROM TO -- RECORD-WORDS"
-OPTIONS = {"--jobs": True, "--until": True, "--only": True, "--all": True, "--part": True, "--json": False}
+FORM = "seeds [-j N] [--until STATUS] [--only KIND,..] [--all DIR] [--part K/N] [--shrink] [--json] FROM TO -- RECORD-WORDS"
+OPTIONS = {"--jobs": True, "--until": True, "--only": True, "--all": True, "--part": True, "--shrink": False, "--json": False}
 KINDS = {"seeds": Kind.SEED, "bursts": Kind.BURSTS, "sleepers": Kind.SLEEPER, "threads": Kind.THREADS}
 HEAD = "status", "count", "first", "place"
 NOT_FOUND = 22
@@ -100,7 +104,15 @@ def fields_of(plan: Optional[Plan]) -> dict[str, object]:
     return {"kind": plan.kind.name.lower() if plan else None, "number": plan.number if plan else None}
 
 
-def tell_json(search: Search) -> None:
+def shrunk(words: RecordWords, plan: Plan) -> Shrunk:
+    """Shrinks the recording that was saved, in its place."""
+    log, book = words.targets(plan)
+    source = {option: value for option, _, value in (word.partition("=") for word in words.options) if option == "--input"}
+    elf = Elf(words.elf)
+    return shrink(Asked(log.path, book.path, elf, {**settings_of(log.path), **source}, log, book, elf))
+
+
+def tell_json(search: Search, short: Optional[Shrunk]) -> None:
     plan, counts, numbers = search.found.plan if search.found else None, search.endings.counts, search.numbers
     endings = [{"status": ending.status, "place": ending.place, "count": count.count, **fields_of(count.first),
                 "files": list(filter(os.path.exists, search.words.outputs_of(count.first))) if ending in search.kept else []}
@@ -108,11 +120,13 @@ def tell_json(search: Search) -> None:
     put_answer("seeds", **fields_of(plan), seed=plan.number if plan and plan.kind is Kind.SEED else None,
                command=search.words.shown(plan) if plan else None, status=search.until,
                **{"from": numbers.first}, to=numbers.last, part=numbers.part, parts=numbers.parts,
-               tried=sum(count.count for count in counts.values()), endings=endings[:LONGEST])
+               tried=sum(count.count for count in counts.values()), endings=endings[:LONGEST],
+               shrunk=short.answer if short else None)
 
 
-def find(search: Search, is_json: bool) -> None:
+def find(search: Search, is_json: bool, shrinks: bool) -> None:
     """Searches, saves what was found, and tells how the runs ended: as text also those before a refusal."""
+    short = None
     try:
         search.run()
     finally:
@@ -123,8 +137,12 @@ def find(search: Search, is_json: bool) -> None:
         finally:
             if not is_json:
                 tell(search)
+    if shrinks and search.found is not None and not search.stopped:
+        short = shrunk(search.words, search.found.plan)
     if is_json:
-        tell_json(search)
+        tell_json(search, short)
+    elif short:
+        streams.put("".join(line + "\n" for line in short.lines))
 
 
 def status_of(search: Search, names: Sequence[str]) -> int:
@@ -169,6 +187,9 @@ def main(words: list[str]) -> int:
     (low, high), options = parse(own, OPTIONS, 2, FORM)
     numbers, until = numbers_of(low, high, options.get("--part", "1/1")), until_of(options)
     record = RecordWords(rest, options.get("--all", ""))
+    if "--shrink" in options and (record.is_lean or until not in (FAULT, LIMIT)):
+        raise CompanionError("--shrink needs a BOOK, so not --lean, and one run with a fault or a hang: not --all or --until 0",
+                             REFUSED)
     kinds = kinds_of(options, record.is_lean, until)
     processors = 1 if kinds == [Kind.THREADS] else len(os.sched_getaffinity(0))
     jobs = whole(options["--jobs"], 1, 1024, "-j") if "--jobs" in options else processors
@@ -177,7 +198,7 @@ def main(words: list[str]) -> int:
     folders = record.scratch()
     search = Search(record, numbers, kinds, until, jobs, [folder.name for folder in folders])
     try:
-        find(search, "--json" in options)
+        find(search, "--json" in options, "--shrink" in options)
     finally:
         for folder in folders:
             folder.cleanup()

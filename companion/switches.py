@@ -1,4 +1,4 @@
-"""The switches between harts in a list of turns: who stops where, who goes on where, and what it does to a word that the
+"""The switches between harts in a list of turns: who stops where, who continues where, and what it does to a word that the
 one that stopped had loaded."""
 from __future__ import annotations
 
@@ -24,10 +24,10 @@ class Clash(NamedTuple):
 
 
 class Switch(NamedTuple):
-    """hart     that stops, and the other that goes on
+    """hart     that stops, and the other that continues
     stopped  the row with which the last turn of the hart ended that stops
     next     the row with which the first turn of the other ends
-    clash    what the others do to a word that the hart had loaded, until it goes on
+    clash    what the others do to a word that the hart had loaded, until it continues
     after, before   the rows of the hart between which the switch has to come"""
     hart: int
     other: int
@@ -100,7 +100,7 @@ class Teller:
 
     def lines(self, number: int, switch: Switch) -> list[str]:
         said = [f"{number:>3}. hart {switch.hart} stops after {self.with_source(switch.stopped)}",
-                f"     hart {switch.other} goes on at {self.with_source(switch.next)}"]
+                f"     hart {switch.other} continues at {self.with_source(switch.next)}"]
         if switch.clash:
             store, load = switch.clash
             said.append(f"     hart {store.hart} stores to {self.word(store)} in {self.where(store)}, "

@@ -13,6 +13,7 @@ from .same_end import Ends, Exact, Over, Recording, Waiting, log_of
 from .turns import Pieces, pieces_of, size_of, turns_of
 
 ANY = 1 << 62, 0            # a size that no list has
+MOST_TRIES = 20000
 AHEAD = 4                   # so many tries for each that is under way may wait for those before them
 
 
@@ -75,6 +76,10 @@ class Tries:
         for one in self.running.values():
             one.child.kill()
 
+    def is_ended(self) -> bool:
+        """Whether the search is to end: it was stopped, or has made all recordings that it may make."""
+        return self.stopped or self.count >= MOST_TRIES
+
     def want(self, made: Recording) -> None:
         """From here on a try is wanted that ends as this recording."""
         self.rough, self.exact = self.ends.rough(made), self.ends.exact(made)
@@ -105,7 +110,7 @@ class Tries:
         """Of each candidate its turns, or None."""
         left, ended, at = iter(candidates), dict[int, Try](), self.started
         try:
-            while not self.stopped:
+            while not self.is_ended():
                 self.start(left, at + self.jobs * AHEAD)
                 while at in ended and not self.stopped:
                     pieces = self.judged(ended[at], most)

@@ -23,7 +23,7 @@ def turns_of(pieces: Sequence[Piece]) -> bytes:
 
 
 def joined(pieces: Sequence[Piece]) -> Pieces:
-    """The same turns, with one piece where a hart goes on."""
+    """The same turns, with one piece if a hart continues."""
     found: list[Piece] = []
     for piece in pieces:
         if found and found[-1].hart == piece.hart:

@@ -10,6 +10,7 @@ from .tries import Tries
 from .turn_ends import turn_lines
 from .turns import Piece, Pieces, joined
 
+MOST_PIECES = 41
 MOST_LATER = 1 << 12        # turns by which a switch is moved later at most
 SLACK = 64                  # turns that the last hart may need more for its fault
 
@@ -47,7 +48,7 @@ class Side:
 
 
 def again_at(pieces: Pieces, at: int) -> int:
-    """The piece with which a piece's hart goes on, or -1."""
+    """The piece with which a piece's hart continues, or -1."""
     return next((i for i in range(at + 1, len(pieces)) if pieces[i].hart == pieces[at].hart), -1)
 
 
@@ -69,7 +70,9 @@ def sides_of(pieces: Pieces) -> Iterator[Side]:
 
 
 def windows_of(tries: Tries, pieces: Pieces) -> list[Window]:
-    """A window for each switch. Both ends of a side are tried; between them it is taken to be alike."""
+    """A window for each switch, if they aren't many. Both ends of a side are tried; between them it is taken to be alike."""
+    if len(pieces) > MOST_PIECES:
+        return []
     sides = list(sides_of(pieces))
     tries.ends_within = isinstance(tries.exact, Faulted)
     slack = SLACK if tries.ends_within else 0

@@ -91,6 +91,10 @@ seeds --until STATUS
 seeds --only KIND,..
 seeds --all DIR
 seeds --part K/N
+<<<<<<< HEAD
+=======
+seeds --shrink
+>>>>>>> 59b16db8faf9472c367d5b89a62861732e0d3ab9
 seeds --json
 again --input FILE
 again --log-size N
@@ -160,13 +164,13 @@ _zelkuma() {
     for word in "${COMP_WORDS[@]:1:COMP_CWORD-1}"; do
         [[ $word == = ]] || words+=("$word")
         # what stands here is recorded
-        [[ ${words[0]-} != seeds || $word != -- ]] || words=(record)
+        [[ ${words[0]-} != @(seeds|shrink) || $word != -- ]] || words=(record)
     done
     if [[ ${#words[@]} -eq 0 ]]; then
         choice=$(_zelkuma_firsts "$_zelkuma_commands")
     elif [[ $current == -* ]]; then
         choice=$(_zelkuma_firsts "$(_zelkuma_rows "$_zelkuma_options" "${words[0]}")")
-    elif [[ $(_zelkuma_next "${words[@]}") =~ ^(ELF|LOG|BOOK|NEW|NEWLOG|FILE|PREFIX)$ ]]; then
+    elif [[ $(_zelkuma_next "${words[@]}") =~ ^(ELF|LOG|BOOK|NEW|NEWLOG|NEWBOOK|FILE|PREFIX)$ ]]; then
         return # which leaves it to the names of files
     fi
     compopt +o default

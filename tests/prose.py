@@ -35,6 +35,7 @@ PAGES = {
     "docs/JSON.md": 950,
     "docs/PROOF.md": 3050,
     "docs/PYTHON.md": 500,
+    "docs/SHRINK.md": 700,
     "docs/VIEW.md": 1300,
     "docs/WHY.md": 1750,
 }

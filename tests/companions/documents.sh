@@ -6,4 +6,4 @@ if ! command -v riscv64-unknown-elf-addr2line riscv64-linux-gnu-addr2line llvm-a
     echo "skipped documents.sh: the pages show lines, and there is no addr2line"
     exit 0
 fi
-"$top/tests/documents.py" "${ZELKUMA_PROGRAM:-$top/crates/bugnet_main/out/bugnet_main}" "$top"/docs/{GUIDE,WHY,VIEW,GDB,PYTHON}.md
+"$top/tests/documents.py" "${ZELKUMA_PROGRAM:-$top/crates/bugnet_main/out/bugnet_main}" "$top"/docs/{GUIDE,WHY,SHRINK,VIEW,GDB,PYTHON}.md

@@ -93,7 +93,7 @@ class ShrinkTest(case.Case):
         self.assertTrue(said.endswith("\nend: " + self.says("bucket", *self.filters()[:2])))
 
     def test_each_switch_is_needed(self):
-        """With one switch less no order of the same pieces crashes: so no shorter list stood beside the one that was found."""
+        """With one piece less it doesn't crash in fewer pieces."""
         _, _, book = self.shrunk(self.filters(), "needed")
         pieces = pieces_of(content(book))
         for left_out in range(len(pieces)):
@@ -154,6 +154,16 @@ class ShrinkTest(case.Case):
             self.assertIn("the search was ended before it was done", err)
             self.assertEqual(common.output("audit", log, recording[1], book), b"agree\n")
             self.assertEqual(self.says("bucket", log, recording[1]), self.says("bucket", *recording[:2]))
+
+    def test_what_seeds_find(self):
+        log, book, elf = common.path("seeds.log"), common.path("seeds.book"), self.elf("hand_over")
+        words = "--only", "seeds", "1", "40", "--", "--format", "2", "--harts", "2", elf, log, book
+        said = self.says("seeds", "--shrink", *words)
+        self.assertTrue(said.startswith("seed 3: status 10\n"), said)
+        self.assertRegex(said, r"\norder: 0x2 1x3\n(.*\n)+end: LoadOutside ")
+        self.assertEqual(pieces_of(content(book)), [(0, 2), (1, 3)])
+        self.assertEqual(common.output("audit", log, elf, book), b"agree\n")
+        self.refuses(2, "seeds", "--shrink", "--until", "0", *words)
 
     def test_refusals(self):
         log, elf, book = self.filters()
