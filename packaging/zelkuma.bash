@@ -91,10 +91,7 @@ seeds --until STATUS
 seeds --only KIND,..
 seeds --all DIR
 seeds --part K/N
-<<<<<<< HEAD
-=======
 seeds --shrink
->>>>>>> 59b16db8faf9472c367d5b89a62861732e0d3ab9
 seeds --json
 again --input FILE
 again --log-size N
