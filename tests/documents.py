@@ -79,6 +79,7 @@ def printed_by(commands, program, room):
     shutil.copytree(f"{TOP}/examples", f"{room}/top/examples")
     shutil.copytree(f"{TOP}/tests/crashes", f"{room}/top/tests/crashes")
     shutil.copytree(f"{TOP}/companion", f"{room}/top/companion")
+    shutil.copytree(f"{TOP}/python", f"{room}/top/python")
     os.makedirs(f"{room}/top/release")
     os.symlink(program, f"{room}/top/release/zelkuma-x86_64-linux")     # where scripts of the package look for it
     shutil.copy(f"{TOP}/LICENSE", f"{room}/top")
