@@ -22,6 +22,7 @@ WORDS = {
     "view": "draws a log as one page",
     "gdb": "lets gdb attach to a log",
     "bucket": "sorts logs by the cause of their end",
+    "triage": "sorts the logs of folders into one table",
     "output": "lists what the guest wrote",
     "seeds": "searches for turns by which a program crashes",
     "shrink": "finds the shortest order of harts that still crashes",

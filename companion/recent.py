@@ -14,7 +14,7 @@ from typing import NamedTuple, Optional
 
 from . import program, streams
 from .errors import NO_INTERVAL, UNREADABLE, CompanionError
-from .log import END, FIRST_FAULT, HEAD_2, HEADER, SEAL, End, Log, check, runs_of
+from .log import END, FIRST_FAULT, HEAD_2, HEADER, SEAL, End, Log, changed, check, runs_of
 
 VERSION_1, LARGEST_SMALL = 1, 1 << 20   # a file of version 1 that is larger is converted first
 FIRST_ROWS, MORE_ROWS = 1000000, 2600000        # are read at first, and if values come from before them
@@ -54,17 +54,25 @@ class LogFile:
 
     def end(self, rows: int, asked: Optional[Asked] = None) -> Log:
         """The shortest end that holds so many rows and what else is needed, or the whole log if it is no longer."""
+        try:
+            return self.end_of_file(rows, asked)
+        except (ValueError, IndexError, KeyError, struct.error):
+            raise changed(self.name)
+
+    def end_of_file(self, rows: int, asked: Optional[Asked]) -> Log:
         with open(self.source, "rb") as file, mmap.mmap(file.fileno(), 0, access=mmap.ACCESS_READ) as data:
             version, = struct.unpack_from("<I", data, 8)
             if version == VERSION_1 and len(data) > LARGEST_SMALL:
                 program.output("convert", self.name, self.path("converted"))
                 self.source = self.path("converted")
-                return self.end(rows, asked)
+                return self.end_of_file(rows, asked)
             start = HEAD_2 if version == VERSION_1 else self.start_of(data, rows, asked)
             if start > HEAD_2:
                 with open(self.path("blocks"), "wb") as blocks:
                     blocks.write(data[:HEAD_2])
                     blocks.write(data[start:])
+        if start < HEAD_2:                      # no block ends so
+            raise changed(self.name)
         if start == HEAD_2:
             return self.whole()
         program.output("salvage", self.path("blocks"), self.path("log"))
