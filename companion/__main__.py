@@ -1,4 +1,5 @@
 """Calls a companion: python3 companion WORD .., or python3 -m companion WORD .."""
+import importlib
 import os
 import signal
 import sys
@@ -17,7 +18,7 @@ if __name__ == "__main__":
     if not __package__:                         # a folder was called: its modules are found from the one around it
         sys.path[0] = os.path.dirname(os.path.dirname(os.path.abspath(__file__)))
     try:
-        from companion.call import main
+        call = importlib.import_module((__package__ or "companion") + ".call")
     except OSError as error:                    # no file can be opened
         sys.exit(f"zelkuma: {error}")
-    main(sys.argv[1:])
+    call.main(sys.argv[1:])

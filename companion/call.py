@@ -93,3 +93,8 @@ def main(words: list[str]) -> None:
         status = streams.interrupted(stop)
     streams.give_up()
     sys.exit(status)
+
+
+def console() -> None:
+    """The command zelkuma-companion of the package."""
+    main(sys.argv[1:])

@@ -2,6 +2,7 @@
 from __future__ import annotations
 
 import os
+import shutil
 import subprocess
 from types import TracebackType
 from typing import Iterator, NamedTuple, Sequence
@@ -16,15 +17,23 @@ LONGEST_REFUSAL = 1 << 16
 
 
 def path() -> str:
-    """The program: $ZELKUMA_PROGRAM, which the launcher sets, else the one built in this repository."""
+    """The program: $ZELKUMA_PROGRAM, which the launcher sets, else the one built in this repository, else an installed one."""
     named = os.environ.get("ZELKUMA_PROGRAM")
     top = os.path.dirname(os.path.dirname(os.path.abspath(__file__)))
-    for found in [named] if named else [os.path.join(top, "crates", "bugnet_main", "out", "bugnet_main"),
-                                        os.path.join(top, "release", "zelkuma-x86_64-linux")]:
+    found_here = [os.path.join(top, "crates", "bugnet_main", "out", "bugnet_main"), os.path.join(top, "release", "zelkuma-x86_64-linux")]
+    if not os.path.exists(os.path.join(top, "crates.txt")):     # no sources: lib/zelkuma, or a folder of Python's packages
+        found_here += [os.path.join(top, "zelkuma") if os.path.basename(top) == "zelkuma" else "", installed()]
+    for found in [named] if named else found_here:
         if os.access(found, os.X_OK) and os.path.isfile(found):
             return found
     what = f"{named} is no program" if named else "the program isn't built"
     raise CompanionError(f"{what}; `zelkuma build` builds it", NOT_BUILT)
+
+
+def installed() -> str:
+    """The program of the launcher that is found as the command zelkuma, or nothing."""
+    launcher = shutil.which("zelkuma")
+    return os.path.join(os.path.dirname(os.path.dirname(os.path.realpath(launcher))), "lib", "zelkuma", "zelkuma") if launcher else ""
 
 
 class Output:

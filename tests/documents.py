@@ -74,7 +74,7 @@ def prompts_in(name, text):
 
 def lay_checkout(top, program):
     """A checkout without its crates, and with this program as the shipped one."""
-    for name in ("companion", "docs", "examples", "packaging", "tests/crashes", "tools"):
+    for name in ("companion", "docs", "examples", "packaging", "python", "tests/crashes", "tools"):
         shutil.copytree(f"{TOP}/{name}", f"{top}/{name}", ignore=shutil.ignore_patterns("__pycache__"))
     for name in ("LICENSE", "README.md", "VERSION", "crates.txt", "zelkuma"):
         shutil.copy(f"{TOP}/{name}", top)

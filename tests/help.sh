@@ -14,7 +14,7 @@ made=(tools/help/{page.txt,each.txt,words.sh} tools/files.txt packaging/zelkuma.
 # A tree with the help's source, the document whose tables are made, and the files that are listed.
 tree=$work/tree
 mkdir -p "$tree/docs"
-cp -r "$top/tools" "$top/companion" "$tree"
+cp -r "$top/tools" "$top/companion" "$top/python" "$tree"
 cp "$top/docs/COMMANDS.md" "$tree/docs"
 cp "$top/VERSION" "$tree"
 type -P python3 >/dev/null || end_skipped "python3 isn't here"

@@ -81,3 +81,27 @@ def number_text(leaf: Leaf, number: int, width: int) -> str:
     if width == 8 and "char" in leaf.type["name"] and 32 <= plain < 127:
         return f"{number} {chr(plain)!r}"
     return f"{number} ({plain:08x})" if abs(number) >= TOLD_IN_HEX else str(number)
+
+
+def python_value(of: Type, data: bytes) -> Any:
+    """The value of a type as one of Python: a number, bytes of letters, a list or a dict."""
+    data = data[:of["size"]]
+    if of["kind"] == "array":
+        part = of["of"]
+        if part["size"] == 1 and "char" in part["name"]:
+            return data
+        return [python_value(part, data[at:]) for at in range(0, of["count"] * part["size"], part["size"] or 1)]
+    if of["kind"] == "fields":
+        return {field["name"]: field_value(field, data[field["at"]:]) for field in of["fields"]}
+    if of["kind"] == "float" and len(data) in FLOATS:
+        return struct.unpack(FLOATS[len(data)], data)[0]
+    number = int.from_bytes(data, "little", signed=bool(of.get("signed")))
+    return number if of["kind"] != "words" else data
+
+
+def field_value(field: Dict[str, Any], data: bytes) -> Any:
+    if "bits" not in field:
+        return python_value(field["type"], data)
+    number = int.from_bytes(data[:8], "little") >> field["bit"] & (1 << field["bits"]) - 1
+    is_negative = field["type"].get("signed") and number >> field["bits"] - 1
+    return number - (1 << field["bits"]) if is_negative else number

@@ -1,0 +1,49 @@
+#!/usr/bin/env python3
+"""Measures the questions in processor seconds, those of the program and of gdb among them, and in memory.
+
+    bench/questions.py [ROUNDS..]
+
+Each number of rounds is a recording of bench/questions.c; 9000 are a million rows, and 727000 are 80 million. It needs
+riscv64-unknown-elf-gcc."""
+import os
+import resource
+import subprocess
+import sys
+import tempfile
+
+TOP = os.path.dirname(os.path.dirname(os.path.abspath(__file__)))
+FLAGS = ("-march=rv32ima -mabi=ilp32 -mstrict-align -O2 -g -ffreestanding -nostdlib -static -fno-tree-loop-distribute-patterns "
+         "-I examples/lib -T examples/lib/program.ld -Wl,--build-id=none examples/lib/start.S examples/lib/machine.c "
+         "bench/questions.c").split()
+QUESTIONS = (("history", "total"), ("history", "device"), ("calls", "find"), ("find", "00000123"))
+
+
+def measured(words):
+    """Processor seconds and megabytes of a call in a process of its own."""
+    child = os.fork()
+    if not child:
+        with open(os.devnull, "w") as null:
+            subprocess.run(words, stdin=subprocess.DEVNULL, stdout=null, stderr=null, check=True)
+        used = resource.getrusage(resource.RUSAGE_CHILDREN)
+        print(f"{used.ru_utime + used.ru_stime:.2f} s, {used.ru_maxrss / 1024:.0f} MB", flush=True)
+        os._exit(0)
+    os.waitpid(child, 0)
+
+
+def main(rounds):
+    os.chdir(TOP)
+    with tempfile.TemporaryDirectory() as folder:
+        for number in rounds:
+            elf, log = f"{folder}/program.elf", f"{folder}/log"
+            subprocess.run(["riscv64-unknown-elf-gcc", f"-DROUNDS={number}", "-o", elf, *FLAGS], check=True)
+            subprocess.run(["./zelkuma", "record", "--format", "2", "--seed", "1", "--log-size", "256M", elf, log, f"{folder}/book"],
+                           check=False)
+            for word, name in QUESTIONS:
+                print(f"{number} rounds, {word} {name}: ", end="", flush=True)
+                measured(["./zelkuma", word, log, elf, name])
+            print(f"{number} rounds, gdb --run up to its prompt: ", end="", flush=True)
+            measured(["./zelkuma", "gdb", "--run", log, elf])
+
+
+if __name__ == "__main__":
+    main(sys.argv[1:] or ["9000", "727000"])

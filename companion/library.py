@@ -1,0 +1,164 @@
+"""A recording for scripts of one's own: rows, the fault, states at any place, histories and calls. docs/PYTHON.md shows it."""
+from __future__ import annotations
+
+import contextlib
+from contextlib import closing
+from dataclasses import dataclass
+from typing import Any, Iterator, List, NamedTuple, Optional
+
+from .bridge.fills import Fills
+from .bridge.goto import go_to_place
+from .bridge.memory import Memory
+from .bridge.session import Session, begin_session
+from .errors import NO_INTERVAL, CompanionError
+from .facts import At
+from .instruction import NAMES
+from .log import is_fault
+from .questions.calls import Values, calls_of
+from .questions.functions import function_of
+from .questions.history import history_of, value_of
+from .questions.reading import Asked, asked_of
+from .questions.types import python_value
+from .questions.variables import variable_of
+from .rows import Row, rows_of
+
+EVERY = 1 << 40
+
+
+@dataclass(frozen=True)
+class Fault:
+    """The fault that a hart ended with: the count of its instruction, its name and its value, as `list` has them."""
+    hart: int
+    count: int
+    name: str
+    value: int
+
+
+class Stored(NamedTuple):
+    """A store to a variable: hart and count, the part of the variable, its value before and after as text, the place and the
+    calls over it, innermost first."""
+    hart: int
+    at: int
+    part: str
+    old: str
+    new: str
+    place: str
+
+
+class Called(NamedTuple):
+    """A call: hart and count, its arguments as text, its result, how long it ran, and from where. The result is None if there
+    is none, `rows` if it didn't return."""
+    hart: int
+    at: int
+    arguments: dict[str, str]
+    result: Optional[str]
+    rows: Optional[int]
+    source: str
+
+
+class State:
+    """What a hart is about to do at a count, and what is known then."""
+
+    def __init__(self, recording: Recording, hart: int, place: int) -> None:
+        self.recording, self.hart, self.place = recording, hart, place
+
+    def session(self) -> Session:
+        """The session, at this place."""
+        session = self.recording.session()
+        session.go_to(self.place)
+        return session
+
+    @property
+    def registers(self) -> dict[str, int]:
+        """{name: value}, and the pc."""
+        values = self.session().registers(self.hart)
+        if values is None:
+            raise CompanionError(f"hart {self.hart} has no state there", NO_INTERVAL)
+        return dict(zip([*NAMES, "pc"], values))
+
+    def word(self, address: int) -> Optional[int]:
+        """The word at an address, or None if nothing tells it."""
+        found = self.read(address & ~3, 4)
+        return None if found is None else int.from_bytes(found, "little")
+
+    def read(self, address: int, size: int) -> Optional[bytes]:
+        """Bytes of memory, or None if not all are known."""
+        self.session()
+        found = self.recording.memory().read(address, size)
+        return found if len(found) == size else None
+
+    def variable(self, name: str) -> Any:
+        """A C variable or a part of it: a number, bytes of letters, a list or a dict; None if it isn't known."""
+        variable = variable_of(self.recording.asked.named, name)
+        found = self.read(variable.address, variable.size)
+        return None if found is None else python_value(variable.type, found)
+
+
+class Recording:
+    """A log and the program that it is of. Use it by `with`, or call `close`. `names` is the same program with names, if ELF was
+    stripped; with `rows` only about so many of the last rows are read."""
+
+    def __init__(self, log: str, elf: str, names: str = "", rows: int = EVERY) -> None:
+        self.files, self.given = (log, elf), {"--rows": str(rows), **({"--names": names} if names else {})}
+        self.opened = contextlib.ExitStack()
+        self._asked: Optional[Asked] = None
+        self._session: Optional[Session] = None
+        self._memory: Optional[Memory] = None
+
+    def __enter__(self) -> Recording:
+        return self
+
+    def __exit__(self, *_: object) -> None:
+        self.close()
+
+    def close(self) -> None:
+        self.opened.close()
+        self._asked = self._session = self._memory = None
+
+    @property
+    def asked(self) -> Asked:
+        """The log, checked, and the names."""
+        if self._asked is None:
+            self._asked = self.opened.enter_context(asked_of(*self.files, self.given))
+        return self._asked
+
+    @property
+    def fault(self) -> Optional[Fault]:
+        ends = self.asked.log.ends
+        return next((Fault(hart, end.count, end.reason, end.value) for hart, end in sorted(ends.items()) if is_fault(end.reason)), None)
+
+    def rows(self) -> Iterator[Row]:
+        """Each row, in the order of `joint`. None is kept."""
+        return rows_of(self.asked.log.name, self.asked.elf.name)
+
+    def session(self) -> Session:
+        if self._session is None:
+            self._session = self.opened.enter_context(closing(begin_session(self.asked.log, self.asked.elf.name)))
+        return self._session
+
+    def memory(self) -> Memory:
+        if self._memory is None:
+            session, log = self.session(), self.asked.log
+            self._memory = Memory(log, self.asked.elf, session, Fills(session.steps, log))
+        return self._memory
+
+    def at(self, hart: int, count: int) -> State:
+        """The state before a hart's instruction of a count. It takes some 90 bytes for each row on the way."""
+        session = self.session()
+        go_to_place(session, At(hart, count))
+        return State(self, hart, session.at)
+
+    def history(self, name: str, last: int = 100) -> List[Stored]:
+        """The last stores to a variable."""
+        asked = self.asked
+        found = history_of(asked, variable_of(asked.named, name), last)
+        return [Stored(entry.hart, entry.count, entry.part.path, value_of(entry, entry.before, asked),
+                       value_of(entry, entry.after, asked), asked.places.chain(entry.pcs, 4)) for entry in found.told]
+
+    def calls(self, function: str, last: int = 100) -> List[Called]:
+        """The last calls of a function."""
+        asked = self.asked
+        found, values = calls_of(asked, function_of(asked.named, function), last), Values(asked)
+        return [Called(int(call.hart), call.count, values.arguments(call),
+                       values.text(call.begin.result, call.result) if call.begin.result and call.rows is not None else None,
+                       call.rows, asked.places.where(call.source)) for call in found.told]
