@@ -11,8 +11,9 @@ from .naming import named_elf
 from .origins import origins
 from .recent import FIRST_ROWS, MORE_ROWS, Asked, LogFile, open_log
 from .recursion import find_recursion
-from .rows import Trace, read_trace
+from .rows import read_trace
 from .suspects import Ranking
+from .trace import Trace
 
 ALL_ROWS = 1 << 42
 
@@ -69,7 +70,7 @@ def analysed(log_name: str, elf_name: str, names: str = "", row: str = "", rows:
         entries = entries_of(named)
         rows = ALL_ROWS if output else rows
         log = source.end(rows or FIRST_ROWS, asked)
-        trace = read_trace(log, elf_name, entries, output.write if output else -1)
+        trace = read_trace(log, elf_name, entries)
         if log.unread and not rows and trace.last:
             more = source.end(MORE_ROWS, asked)
             if leads_into(History(trace, find_starts(log, trace, row)), log, more):

@@ -11,7 +11,7 @@ from typing import NamedTuple, Optional
 
 from .elf import WRITABLE, Elf
 from .instruction import JUMP, RA
-from .rows import LOADS, STORES, Trace
+from .trace import LOADS, STORES, Trace
 
 LOWEST, NEAR, LARGEST = 4096, 1024, 1 << 16
 MOST_JUMPS = 500000         # so many of the latest calls and returns are looked at, which bounds the memory

@@ -13,7 +13,8 @@ from .log import Log, is_fault
 from .naming import named_elf, places_of
 from .options import parse
 from .recent import FIRST_ROWS, open_log
-from .rows import Trace, read_trace
+from .rows import read_trace
+from .trace import Trace
 
 HELP = """One line that is the same for logs that ended for the same cause, for sorting many logs.
 

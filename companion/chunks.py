@@ -56,6 +56,13 @@ def last_rows(log: Log, elf_name: str, most: int) -> dict[int, bytes]:
     return {hart: b"".join(rows_between(log, elf_name, hart, end - most, end)) for hart, end in behind.items()}
 
 
+def parted(text: bytes, rows: int) -> tuple[bytes, bytes]:
+    """The first so many rows of a chunk, and the rest."""
+    ends = [found.start() for found in re.finditer(b"\n", text)] + [len(text)]
+    at = ends[min(rows, len(ends) - 1)]
+    return text[:at], text[at:]
+
+
 def count_of(text: bytes) -> int:
     """The hart's count at the first row."""
     return int(text.split(b" ", 2)[1])

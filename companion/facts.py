@@ -13,8 +13,8 @@ from .loops import Loop
 from .options import whole
 from .naming import NO_TOOL, places_of
 from .places import Frame
-from .rows import LOADS, Trace
 from .text import clean
+from .trace import LOADS, Trace
 
 LAST_ROWS = 12
 LOOP_ROWS, MOST_LOADS = 300, 12         # what a hart did last, if it didn't fault
@@ -142,7 +142,7 @@ def writer_of(trace: Trace, byte: Byte) -> int:
         raise CompanionError(f"the log holds no byte {byte.place} of a write {byte.write}: `zelkuma output` lists them",
                              NO_INTERVAL)
     place = trace.writes[byte.write].address + byte.place
-    writer = trace.written[place & ~3]
+    writer = trace.writer_before(place & ~3, trace.writes[byte.write].row)
     while writer and trace.code_of(writer).kind == STORE and not trace.mask(writer) >> (place & 3) & 1:
         writer = trace.dm[writer]
     return writer or trace.writes[byte.write].row

@@ -10,7 +10,7 @@ from typing import NamedTuple, Optional, Sequence
 from .control import Control
 from .instruction import AMO, BRANCH, CALL, JUMP
 from .places import Places
-from .rows import FAULTS, KEEPS, LOADS, STORES, Trace
+from .trace import FAULTS, KEEPS, LOADS, STORES, Trace
 
 MOST_ROWS = 200000          # the search is cut off there: it keeps two entries a row
 ADDRESS, OUTPUT_ADDRESS = 12, 6

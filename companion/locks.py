@@ -10,9 +10,9 @@ from typing import Iterable, Mapping, NamedTuple
 from .facts import Facts
 from .history import History
 from .instruction import AMO
-from .rows import LOADS, STORES, Trace
 from .suspect import Extra, Suspect
 from .text import number
+from .trace import LOADS, STORES, Trace
 
 LEAST, RARE = 3, 3          # how often a guarded word is accessed with its lock at least, and how much rarer without
 UNLOCKED = 12

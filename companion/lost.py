@@ -6,9 +6,9 @@ from typing import Mapping, NamedTuple, Optional, Sequence
 from .facts import Facts
 from .history import ADDRESS, History
 from .instruction import ALU, STORE, Instruction
-from .rows import LOADS, OFFSET, STORES, Trace
 from .suspect import Extra, Suspect
 from .text import as_text, number
+from .trace import LOADS, OFFSET, STORES, Trace
 
 MOST = 300                  # rows that are looked at, nearest to the fault first
 BECAME_ZERO, WAS_CUT, MASKED, BELOW_ZERO = 12, 10, 2, 14

@@ -15,8 +15,9 @@ from .naming import named_elf, places_of
 from .options import parse, whole
 from .races import FENCED, ORDERED, TOO_MANY, Access, AccessPair, Group, Races
 from .recent import FIRST_ROWS, LogFile, open_log
-from .rows import Trace, read_trace
+from .rows import read_trace
 from .text import counted, number
+from .trace import Trace
 
 HELP = """Groups the races of a log by the two places and the word, the likeliest cause of its fault first. Words of one object
 with the same places, as an array's, are told together.

@@ -19,9 +19,9 @@ from .instruction import ALU, AMO, SP, STORE
 from .locks import circle, unlocked
 from .lost import lost_alignment, lost_bits, narrowings
 from .memory_use import MemoryUse
-from .rows import LOADS
 from .suspect import Extra, Suspect, rank
 from .text import counted, number
+from .trace import LOADS
 from .unpaired import unpaired
 
 OTHER_HART, NARROW, RACE, OTHER_FUNCTION, RARITY = 8, 12, 6, 3, 5

@@ -8,9 +8,9 @@ from typing import NamedTuple
 
 from .control import Control
 from .facts import Facts
-from .rows import STORES, Trace
 from .suspect import Extra, Suspect
 from .text import number
+from .trace import STORES, Trace
 
 LEAST, SELDOM = 3, 3        # how often a hart gave back at least, and how much rarer it didn't
 UNPAIRED, COST = 10, 4
