@@ -9,8 +9,8 @@ from . import streams
 from .answers import LONGEST, place_of, put_answer
 from .elf import Elf, Symbol
 from .errors import CompanionError
-from .facts import At
 from .history import History
+from .log import At
 from .naming import named_elf, places_of
 from .options import parse, whole
 from .races import FENCED, ORDERED, TOO_MANY, Access, AccessPair, Group, Races

@@ -10,7 +10,7 @@ from typing import NamedTuple, Optional, Sequence
 
 from . import fences
 from .elf import Elf
-from .facts import At
+from .log import At
 from .places import Places
 from .program import Output
 

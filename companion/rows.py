@@ -9,12 +9,12 @@ from array import array
 from binascii import unhexlify
 from itertools import compress, repeat
 from operator import ne
-from typing import AbstractSet, Dict, Iterable, Iterator, NamedTuple, Optional, Sequence
+from typing import AbstractSet, Callable, Dict, Iterable, Iterator, NamedTuple, Optional, Sequence
 
 from . import streams
 from .chunks import chunks, parted
 from .instruction import A0, A1, A7, AMO, CALL, JUMP, LOAD, STORE, Instruction
-from .log import Log
+from .log import At, Log
 from .text import number
 from .trace import (CHANGED, FAULTS, KEEPS, LOADS, OFFSET, STORES, UNSTORED, Access, Fault, Hart, ReadCall, Tail, Trace,
                     WriteCall)
@@ -83,9 +83,10 @@ class Codes(Dict[bytes, int]):
 
     def of(self, lines: Sequence[bytes], turns: Sequence[Turn]) -> list[int]:
         found: list[int] = []
+        get: Callable[[bytes, int], int] = self.get
         for _, begin, end, _, letters in turns:
             keys = [line[letters:letters + KEY] for line in lines[begin:end]]
-            numbered = list(map(self.get, keys, repeat(NEW)))
+            numbered = list(map(get, keys, repeat(NEW)))
             if NEW in numbered:
                 for key, line in zip(keys, lines[begin:end]):
                     if key not in self:
@@ -354,12 +355,15 @@ def rows_of(log_name: str, elf_name: str) -> Iterator[Row]:
                 yield row
 
 
-def read_trace(log: Log, elf_name: str, entries: AbstractSet[int] = frozenset(), most: int = 0) -> Trace:
-    """The rows of a log: all, or with `most` about the last so many."""
-    trace = Trace(log, entries)
-    reader, progress, began = Reader(trace), streams.Progress(), time.monotonic()
-    trace.passed = max(0, log.rows() - most) if most else 0
-    left, total = trace.passed, number(log.rows() - trace.passed)
+def read_trace(log: Log, elf_name: str, entries: AbstractSet[int] = frozenset(), most: int = 0,
+               asked: Optional[At] = None) -> Trace:
+    """The rows of a log: all, or with `most` about the last so many; of a row that is asked of, the last up to it."""
+    trace, began = Trace(log, entries), time.monotonic()
+    rows, end = log.rows(), b""
+    if asked and most and rows > most:
+        rows, end = rows_before(log, elf_name, asked), head_of(asked)
+    trace.passed = left = max(0, rows - most) if most else 0
+    reader, progress, total = Reader(trace), streams.Progress(), number(rows - left)
     for text in chunks(log.name, elf_name):
         if left:
             passed, text = parted(text, left)
@@ -368,9 +372,31 @@ def read_trace(log: Log, elf_name: str, entries: AbstractSet[int] = frozenset(),
             if not left:
                 reader.settle()
             progress.tell(f"{number(trace.passed - left)} rows are passed")
+        last = text.find(end) if end else -1
         if text:
-            reader.read(text)
+            reader.read(text if last < 0 else parted(text, text.count(b"\n", 0, last) + 1)[0])
             progress.tell(f"{number(len(trace.pc) - 1)} of {total} rows are read")
+        if last >= 0:
+            break
     progress.clear()
     trace.finish(time.monotonic() - began)
     return trace
+
+
+def rows_before(log: Log, elf_name: str, asked: At) -> int:
+    """How many rows come before one."""
+    rows, progress = 0, streams.Progress()
+    for text in chunks(log.name, elf_name):
+        at = text.find(head_of(asked))
+        if at >= 0:
+            rows += text.count(b"\n", 0, at)
+            break
+        rows += text.count(b"\n")
+        progress.tell(f"{number(rows)} rows are passed")
+    progress.clear()
+    return rows
+
+
+def head_of(at: At) -> bytes:
+    """What a row begins with."""
+    return b"\n%d %d " % (at.hart, at.count)

@@ -13,10 +13,11 @@ import math
 from typing import Sequence
 
 from .branches import branch_suspects, exit_suspects
-from .facts import At, Facts
+from .facts import Facts
 from .history import ADDRESS, History, Pair
 from .instruction import ALU, AMO, SP, STORE
 from .locks import circle, unlocked
+from .log import At
 from .lost import lost_alignment, lost_bits, narrowings
 from .memory_use import MemoryUse
 from .suspect import Extra, Suspect, rank
