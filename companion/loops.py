@@ -11,7 +11,7 @@ from typing import NamedTuple, Sequence
 
 from .control import load_behind, other_side
 from .instruction import BRANCH
-from .trace import KEEPS, LOADS, STORES, Trace
+from .trace import LOADS, STORES, Trace
 
 LONGER = 3                  # how many rounds a loop has at least
 NO_CODE = -1
@@ -134,7 +134,4 @@ def operands_of(trace: Trace, row: int) -> list[Operand]:
 
 def store_behind(trace: Trace, load: int) -> int:
     """The store that a load got, or 0. One that stored what it loaded is passed."""
-    writer = next(iter(trace.writers(load).rows), 0) if load else 0
-    while trace.flags[writer] & KEEPS and trace.dm[writer]:
-        writer = trace.dm[writer]
-    return writer
+    return trace.changed_by(next(iter(trace.writers(load).rows), 0)) if load else 0

@@ -18,6 +18,7 @@ from .log import Log
 OFFSET, LOADS, STORES, UNSTORED, CHANGED, FAULTS, KEEPS = 3, 4, 8, 16, 32, 64, 128
 STORE_BITS = 0xffffffff     # of a pair, those that tell its store
 MOST_WRITERS, WRITERS_CALLS = 20, 2     # stores to a word before one, and calls over each
+LANES_KEPT = 16             # of so many stores to a word one's lanes are kept
 BESIDE = 64                 # how far from a word another is beside it
 LOADING = bytes(flags & LOADS for flags in range(256))
 
@@ -114,6 +115,8 @@ class Trace:
         self.pairs: dict[int, int] = {}
         self.reads: list[ReadCall] = []
         self.began: dict[int, int] = {}         # {row of a loop's counter: what wrote the value that it began with}
+        self.kept: dict[int, int] = {}          # {a store that kept its word: the latest one before that changed it}
+        self.lanes: dict[int, tuple[int, ...]] = {}     # {a store: of each byte of its word the latest store up to it}
         self.fault: Optional[Fault] = None
         self.regs: list[int] = []
         self.tree = CallTree(entries)
@@ -256,6 +259,18 @@ class Trace:
         self.began.update((row, source) for row in passed)
         return source
 
+    def changed_by(self, store: int) -> int:
+        """The store itself, or if it stored what it loaded the one before that didn't: it changed nothing."""
+        passed = []
+        while self.flags[store] & KEEPS and self.dm[store]:
+            if store in self.kept:
+                store = self.kept[store]
+                break
+            passed.append(store)
+            store = self.dm[store]
+        self.kept.update((row, store) for row in passed)
+        return store
+
     def last_rows(self, n: int, most: int) -> list[int]:
         """The latest rows of a row's hart up to it, in their order."""
         hart = self.hart[n]
@@ -270,16 +285,31 @@ class Trace:
         """Which bytes of its word a row accesses."""
         return ((1 << self.code_of(n).width) - 1) << (self.flags[n] & OFFSET) & 15
 
+    def stored_bytes(self, n: int) -> int:
+        """Which bytes of its word a row stored."""
+        return self.mask(n) if self.code_of(n).kind == STORE else 15
+
     def writers(self, n: int) -> Stores:
-        need, writer = self.mask(n), self.dm[n]
-        found: list[int] = []
-        while need and writer:
-            here = self.mask(writer) if self.code_of(writer).kind == STORE else 15
-            if here & need:
-                found.append(writer)
-                need &= ~here
-            writer = self.dm[writer]
-        return Stores(found, need)
+        need, latest = self.mask(n), self.dm[n]
+        if latest and not need & ~self.stored_bytes(latest):
+            return Stores([latest], 0)
+        lanes = [row for lane, row in enumerate(self.lanes_of(latest)) if need >> lane & 1]
+        rest = sum(1 << lane for lane, row in enumerate(self.lanes_of(latest)) if need >> lane & 1 and not row)
+        return Stores(sorted({row for row in lanes if row}, reverse=True), rest)
+
+    def lanes_of(self, store: int) -> tuple[int, ...]:
+        """Of each byte of a word the latest row up to a store that stored it, or 0. Of a long way back some are kept."""
+        passed: list[int] = []
+        while store and store not in self.lanes and (not passed or self.stored_bytes(passed[-1]) != 15):
+            passed.append(store)
+            store = self.dm[store]
+        found = self.lanes.get(store, (0, 0, 0, 0))
+        for at, row in enumerate(reversed(passed), 1):
+            mask = self.stored_bytes(row)
+            found = tuple(row if mask >> lane & 1 else before for lane, before in enumerate(found))
+            if at % LANES_KEPT == 0 or at == len(passed):
+                self.lanes[row] = found
+        return found
 
     def beside(self, load: int) -> list[int]:
         """The stores by which the same instruction got other words, of the nearest word on each side of a load's."""
@@ -298,7 +328,7 @@ class Trace:
         found: set[int] = set()
         for _ in range(MOST_WRITERS):
             if store:
-                found.update([self.code_of(store).pc] + self.calls_at(store)[:WRITERS_CALLS])
+                found.update([self.code_of(store).pc] + self.tree.calls(self.node_of(store), WRITERS_CALLS).calls)
                 store = self.dm[store]
         return found
 
