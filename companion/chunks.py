@@ -4,7 +4,7 @@ A chunk holds whole rows and nothing else. Each begins with a newline, and nothi
 from __future__ import annotations
 
 import re
-from typing import Iterator, Pattern
+from typing import Iterable, Iterator, Pattern
 
 from .log import Log, is_fault
 from .program import Output
@@ -82,6 +82,12 @@ def touching(first: int, end: int, *kinds: bytes) -> Pattern[bytes]:
     """What rows have that access a word with a byte from an address up to another, by loads, stores or both."""
     words = hexadecimal(first & ~3, (end - 1) | 3)
     return re.compile(rb"\| (?:%s) %s=" % (b"|".join(kinds or (LOAD, STORE)), words))
+
+
+def touching_any(ranges: Iterable[tuple[int, int]]) -> Pattern[bytes]:
+    """The same of several ranges."""
+    words = [hexadecimal(first & ~3, (end - 1) | 3) for first, end in ranges]
+    return re.compile(rb"\| (?:load|store) (?:%s)=" % b"|".join(words) if words else rb"(?!)")
 
 
 def at(first: int, end: int) -> Pattern[bytes]:
