@@ -8,7 +8,8 @@ from typing import Mapping, Sequence
 from . import program, streams
 from .errors import BAD_LOG, UNREADABLE, CompanionError
 from .options import parse, whole
-from .recording import ENDS, Child, check_output, last_line, scratch
+from .recording import ENDS, Child, last_line
+from .saving import LOG, TURNS, Target, target
 from .text import counted, number
 
 HELP = """zelkuma again LOG ELF BOOK NEWLOG [--input FILE] [--log-size N] [--interval N]
@@ -93,14 +94,14 @@ def ends_of(log: str) -> dict[str, str]:
     return {hart: end for hart, _, _, end in lines}
 
 
-def tell_turns(book: str, new_book: str, output: str) -> None:
+def tell_turns(book: str, new_book: str, new_list: Target) -> None:
     """Says whether both lists are the same, and saves the new one if not."""
     at = first_difference(book, new_book)
     if at < 0:
         streams.put(f"turns: the {counted(os.path.getsize(book), 'turn')} of BOOK\n")
         return
-    os.replace(new_book, output)
-    streams.put(f"turns: not those of BOOK from turn {number(at)} on; they are saved as {output}\n")
+    new_list.take(new_book)
+    streams.put(f"turns: not those of BOOK from turn {number(at)} on; they are saved as {new_list.path}\n")
 
 
 def tell_ends(log: str, new_log: str) -> int:
@@ -119,14 +120,13 @@ def main(words: list[str]) -> int:
     (log, elf, book, output), given = parse(words, {"--input": True, "--log-size": True, "--interval": True}, 4, FORM)
     numbers = {name: str(whole(given[name], 1, LARGEST, name)) for name in ("--log-size", "--interval") if name in given}
     source = {"--input": given["--input"]} if "--input" in given else {}
-    output, new_list = os.path.realpath(output), os.path.realpath(output + ".book")
-    for name in (output, new_list):
-        check_output(name, [log, elf, book, *source.values()])
+    read = log, elf, book, *source.values()
+    new_log, new_list = target(output, LOG, read), target(output + ".book", TURNS, [*read, output])
     check_book(log, elf, book, [f"--input={name}" for name in source.values()])
     options = {**settings_of(log), **source, **numbers}
-    with scratch(output) as folder:
+    with new_log.scratch() as folder:
         made, new_book, summary = record(options, elf, book, folder)
-        os.replace(made, output)
+        new_log.take(made)
         streams.put(summary + "\n")
         tell_turns(book, new_book, new_list)
-    return tell_ends(log, output)
+    return tell_ends(log, new_log.path)

@@ -1,6 +1,8 @@
 """What follows from the facts of a crash: its history, its suspects, and the origins of values."""
 from __future__ import annotations
 
+from typing import Sequence
+
 from .calls import entries_of
 from .control import Control
 from .elf import Elf
@@ -25,8 +27,8 @@ class Analysis(Facts):
     origin                  what it took from before the rows"""
 
     def __init__(self, source: LogFile, log: Log, elf: Elf, named: Elf, trace: Trace, row: str = "",
-                 output: Written | None = None) -> None:
-        super().__init__(log, elf, named, trace, row, output)
+                 output: Written | None = None, folders: Sequence[str] = ()) -> None:
+        super().__init__(log, elf, named, trace, row, output, folders)
         self.file = source
         recursion = find_recursion(trace, self.start)
         loop = self.starts[0 if self.hangs else 1:] + [n for n in recursion.given if n != self.start]
@@ -56,10 +58,10 @@ def leads_into(history: History, log: Log, more: Log) -> bool:
 
 
 def analysed(log_name: str, elf_name: str, names: str = "", row: str = "", rows: int = 0,
-             output: Byte | None = None) -> Analysis:
-    """Reads the end of a log, its rows and the names, and analyses them. `names` is a file with names, if ELF has none.
-    `rows` says how many of the last rows are read, or of those before what is asked of; without it more if values near
-    the start come from before the first."""
+             output: Byte | None = None, folders: Sequence[str] = ()) -> Analysis:
+    """Reads the end of a log, its rows and the names, and analyses them. `names` is a file with names, if ELF has none;
+    `folders` are those of --source. `rows` says how many of the last rows are read, or of those before what is asked of;
+    without it more if values near the start come from before the first."""
     source = open_log(log_name)
     try:
         elf = Elf(elf_name)
@@ -75,7 +77,7 @@ def analysed(log_name: str, elf_name: str, names: str = "", row: str = "", rows:
                 log, trace = more, read_trace(more, elf_name, entries, MORE_ROWS, asked)
             else:
                 log = source.end(most, asked)
-        return Analysis(source, log, elf, named, trace, row, byte)
+        return Analysis(source, log, elf, named, trace, row, byte, folders)
     except BaseException:
         source.close()
         raise

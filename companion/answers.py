@@ -8,13 +8,14 @@ from typing import Any
 
 from . import streams
 from .places import Places
+from .version import version
 
 VERSION = 1
 LONGEST = 200               # entries of a list at most
 
 
 def put_answer(word: str, **fields: Any) -> None:
-    streams.put(json.dumps({"answer": word, "version": VERSION, **fields}) + "\n")
+    streams.put(json.dumps({"answer": word, "version": VERSION, "zelkuma": version(), **fields}) + "\n")
 
 
 def place_of(places: Places, pc: int) -> dict[str, Any]:

@@ -24,8 +24,11 @@ WORDS = {
     "bucket": "sorts logs by the cause of their end",
     "output": "lists what the guest wrote",
     "seeds": "searches for turns by which a program crashes",
+    "shrink": "finds the shortest order of harts that still crashes",
     "again": "makes a recording again, with a larger log",
+    "history": "lists what stored to a variable",
 }
+QUESTIONS = ("history",)    # whose modules are in a folder of their own
 INTERRUPTED = 130           # what a shell says of a program that Ctrl-C ended
 BROKEN = 1                  # a fault of the companion itself
 
@@ -40,7 +43,7 @@ def run(words: list[str]) -> int:
         return 0 if words else REFUSED
     if words[0] not in WORDS:
         raise CompanionError(f"no companion is called {words[0]!r}: {', '.join(WORDS)}", REFUSED)
-    module = importlib.import_module("." + words[0], __package__)
+    module = importlib.import_module(("." if words[0] not in QUESTIONS else ".questions.") + words[0], __package__)
     if words[1:] in (["-h"], ["--help"]):
         streams.put(module.HELP + "\n")
         return 0

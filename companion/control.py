@@ -4,7 +4,7 @@ A row depends on the nearest branch before it, in its function or in those that 
 function can end without coming to the row's place. The code is read from the ELF file as far as it can be reached."""
 from __future__ import annotations
 
-from typing import Callable, Iterable, Mapping, Optional
+from typing import Callable, Mapping, Optional
 
 from .elf import Elf
 from .instruction import BRANCH, JUMP, Instruction
@@ -107,18 +107,13 @@ class Control:
     def spared(self, load: int, store: int) -> int:
         """The latest branch between a store and the load that got it which went past what stored the word before, and
         compared a value of the same object. Or 0."""
-        trace = self.trace
+        trace, after = self.trace, load
         if trace.hart[store] != trace.hart[load]:
             return 0
-        return self.latest_past(store, load, trace.storing_places(store), trace.access(load).address)
-
-    def latest_past(self, store: int, end: int, places: Iterable[int], word: int = 0) -> int:
-        """The latest branch between two rows of a hart which went past one of some places, or 0. With `word` it has to
-        compare a value that was loaded beside it."""
-        trace, after = self.trace, end
-        for n in range(end - 1, max(store, end - MOST_ROWS), -1):
-            if trace.hart[n] == trace.hart[end]:
-                if trace.code_of(n).kind == BRANCH and (not word or self.is_beside(n, word)):
+        places, word = trace.storing_places(store), trace.access(load).address
+        for n in range(load - 1, max(store, load - MOST_ROWS), -1):
+            if trace.hart[n] == trace.hart[load]:
+                if trace.code_of(n).kind == BRANCH and self.is_beside(n, word):
                     went = trace.code_of(after).pc
                     if any(self.is_past(n, went, place) for place in places):
                         return n

@@ -1,7 +1,7 @@
 """All that is known of a crash: the rows, the names, and which rows a report begins with."""
 from __future__ import annotations
 
-from typing import NamedTuple
+from typing import NamedTuple, Sequence
 
 from . import program
 from .elf import Elf
@@ -61,10 +61,11 @@ class Facts:
     last     the last rows up to `start`
     notes    lines for the end of a report"""
 
-    def __init__(self, log: Log, elf: Elf, named: Elf, trace: Trace, row: str = "", output: Written | None = None) -> None:
+    def __init__(self, log: Log, elf: Elf, named: Elf, trace: Trace, row: str = "", output: Written | None = None,
+                 folders: Sequence[str] = ()) -> None:
         self.output = output
         self.log, self.elf, self.named, self.trace, self.asked = log, elf, named, trace, row
-        self.places = places_of(named)
+        self.places = places_of(named, folders)
         self.notes = self.first_notes()
         if not trace.last:
             raise CompanionError(f"the log holds no row: the records of a hart's last interval passed its --log-size "

@@ -11,7 +11,7 @@ from typing import NamedTuple, Sequence
 
 from .control import load_behind, other_side
 from .instruction import BRANCH
-from .trace import LOADS, STORES, Trace
+from .trace import STORES, Trace
 
 LONGER = 3                  # how many rounds a loop has at least
 NO_CODE = -1

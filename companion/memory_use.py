@@ -10,7 +10,7 @@ from .blocks import Block, Blocks
 from .facts import Facts
 from .history import History
 from .instruction import ALU, SP
-from .lost import cut_behind, lost_bits, narrowings
+from .lost import cut_behind
 from .suspect import Extra, Suspect
 from .trace import LOADS, STORES
 
@@ -19,7 +19,6 @@ CUT_BOUND = 8
 OWN = 6                     # an allocator's own store: if it loads it itself, it is less likely guilty
 TWICE, MOST_TWICE = 8, 3     # what such a suspect costs, and how many there may be: else a taker is none
 MOST_COPIES = 2             # lines that stored copies of a pointer
-SIZE_ROWS = 2000            # rows of a size's history
 
 
 class MemoryUse:
@@ -46,15 +45,16 @@ class MemoryUse:
         if back:
             return self.used_after(item, loaded, back, address)
         if self.blocks.is_over(loaded, address, item.load):
-            return self.over_the_end(item, loaded, False)
+            self.over_the_end(item, loaded, False)
+            return []
         if item.store < loaded.call:
             return self.unwritten(item, loaded)
         stored = self.blocks.behind(trace.d1[item.store], address)
         if stored is None:
             return []
         if self.blocks.is_over(stored, address, item.store):
-            return self.over_the_end(item, stored, True)
-        if stored.giver == loaded.giver and stored.address == loaded.address and stored.call > loaded.call:
+            self.over_the_end(item, stored, True)
+        elif stored.giver == loaded.giver and stored.address == loaded.address and stored.call > loaded.call:
             return self.given_back(item, loaded, stored)
         return []
 
@@ -78,25 +78,14 @@ class MemoryUse:
             found.append(suspect)
         return found if len(found) <= MOST_TWICE else []
 
-    def over_the_end(self, item: Suspect, block: Block, is_stored_there: bool) -> list[Suspect]:
-        """An access outside of its block. Its size is suspect, so what the giver was asked for has a history of its own."""
+    def over_the_end(self, item: Suspect, block: Block, is_stored_there: bool) -> None:
+        """The signs of an access outside of its block."""
         if self.is_new("over", item.guilty, block.call):
             what = "the store wrote" if is_stored_there else "the load reads"
             item.sign(OVER_THE_END, f"{what} over the end of its block, into another")
             item.extra.append(Extra("that block was given out in", block.call))
             item.misplaced = is_stored_there and not self.blocks.is_own(item.store)
             self.judge_bound(item)
-        size = self.trace.jump_writer[self.trace.jump_at(block.call)]
-        if not size or not self.is_new("size", size):
-            return []
-        history = History(self.trace, [size], SIZE_ROWS)
-        found = lost_bits(self.facts, history, narrowings(self.trace, history))
-        for suspect in found:
-            suspect.why.append("it is behind the size of a block that was too small")
-            suspect.cost += item.cost
-            suspect.score += item.cost - OVER_THE_END
-            suspect.extra.append(Extra("the block was given out in", block.call))
-        return found
 
     def judge_bound(self, item: Suspect) -> None:
         """What bounds the loop that wrote over the end may have lost bits."""

@@ -1,6 +1,8 @@
 """The names of a program: a file of the same program that has them, and the tool that tells its lines."""
 from __future__ import annotations
 
+from typing import Sequence
+
 from . import streams
 from .elf import Elf
 from .errors import OTHER_PROGRAM, CompanionError
@@ -21,9 +23,10 @@ def named_elf(elf: Elf, name: str) -> Elf:
     return named
 
 
-def places_of(named: Elf) -> Places:
-    """The places of a program. If there are names and no tool for lines, that is said at once."""
-    found = Places(named)
+def places_of(named: Elf, folders: Sequence[str] = ()) -> Places:
+    """The places of a program, and its sources in these folders. If there are names and no tool for lines, that is said at
+    once."""
+    found = Places(named, folders=folders)
     if named.symbols and not found.tool:
         streams.say(NO_TOOL)
     return found

@@ -6,6 +6,7 @@ from typing import Mapping, NamedTuple, NoReturn, Sequence
 
 from .errors import REFUSED, CompanionError
 
+REPEATED, AND = "--source", "\0"       # this option can be given several times: its values, and what stands between them
 TIMES = {"": 1, "K": 1 << 10, "M": 1 << 20, "G": 1 << 30}
 
 
@@ -32,7 +33,7 @@ def parse(words: Sequence[str], known: Mapping[str, bool], names: int | range, f
             found, left = found + left, []
         elif not word.startswith("--"):
             found.append(word)
-        elif option not in known or option in given:
+        elif option not in known or (option in given and option != REPEATED):
             refuse(f"option {option} is {'given twice' if option in given else 'unknown'}")
         elif not known[option]:
             if equals:
@@ -41,7 +42,8 @@ def parse(words: Sequence[str], known: Mapping[str, bool], names: int | range, f
         else:
             if not equals and not left:
                 refuse(f"option {option} needs a value")
-            given[option] = value if equals else left.pop(0)
+            value = value if equals else left.pop(0)
+            given[option] = given[option] + AND + value if option in given else value
     if len(found) not in (names if isinstance(names, range) else (names,)):
         refuse(f"{len(found)} names are given")
     return Words(found, given)
@@ -50,7 +52,7 @@ def parse(words: Sequence[str], known: Mapping[str, bool], names: int | range, f
 def decimal(text: str) -> str:
     """A number that ends in K, M or G, or begins with 0x, in decimal, as the script zelkuma hands it to `record`. Any other
     word stays as it is."""
-    found = re.fullmatch(r"0x([0-9a-fA-F]{1,16})|([0-9]{1,20})([KMG]?)", text)
+    found = re.fullmatch(r"0x0*([0-9a-fA-F]{1,16})|0*([0-9]{1,20})([KMG]?)", text)
     if not found:
         return text
     return str(int(found[1], 16) if found[1] else int(found[2]) * TIMES[found[3]])

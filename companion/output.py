@@ -186,6 +186,16 @@ def texts_of(log: Log, elf_name: str, most: int) -> Iterator[bytes]:
     progress.clear()
 
 
+def numbered(log: Log) -> dict[SystemCall, int]:
+    """The writes of a log, and their numbers."""
+    return {call: at for at, call in enumerate(call for call in log.system_calls() if call.kind == WRITE_CALL)}
+
+
+def writes_of(log: Log, elf: Elf, tree: CallTree, numbers: dict[SystemCall, int], most: int) -> Iterator[Write]:
+    """The writes among about so many of the last rows of a log. `numbers` are those of the whole log's."""
+    return Reader(log, elf, tree, numbers).writes(texts_of(log, elf.name, most))
+
+
 def said_of(places: Places, tree: CallTree, write: Write) -> str:
     stream = STREAMS.get(write.stream, f"stream {write.stream}")
     return (f"{write.number:>3}. {counted(len(write.data), 'byte')} to {stream}, in {place_of(places, tree, write)}\n"
@@ -199,11 +209,10 @@ def main(words: list[str]) -> int:
         elf = Elf(elf_name)
         named = named_elf(elf, given.get("--names", ""))
         all_rows, log, tree = source.whole(), source.end(most), CallTree(entries_of(named))
-        numbers = {call: at for at, call in enumerate(call for call in all_rows.system_calls() if call.kind == WRITE_CALL)}
-        reader, listed = Reader(log, elf, tree, numbers), []
+        numbers, listed = numbered(all_rows), []
         count = size = unknown = 0
         with closing(places_of(named)) as places:
-            for write in reader.writes(texts_of(log, elf_name, most)):
+            for write in writes_of(log, elf, tree, numbers, most):
                 if "--json" in given:
                     listed.append(write_answer(places, write))
                 else:

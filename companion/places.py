@@ -13,6 +13,7 @@ import time
 from typing import Iterable, NamedTuple, Optional, Sequence
 
 from .elf import Elf
+from .sources import Sources
 from .text import clean
 
 PACKAGE = "binutils-riscv64-unknown-elf"        # of Debian, with the first of these
@@ -24,9 +25,6 @@ MOST_FRAMES, LARGEST_ANSWER = 64, 4 << 20
 MOST_MEMORY = 640 << 20     # of a tool, whatever an ELF file says
 PLACE = re.compile(r"(.*):(\d+|\?)(?: \(.*\))?", re.S)
 LONGEST_LINE_NUMBER = 9     # digits
-LARGEST_SOURCE = 4 << 20
-# A hostile ELF can name any file as its source: only what looks like one is opened.
-SOURCES = (".c", ".h", ".s", ".S", ".cc", ".cpp", ".cxx", ".hpp", ".hh", ".inc", ".rs", ".zig", ".adb", ".f90", ".go")
 
 
 class Frame(NamedTuple):
@@ -150,10 +148,10 @@ def echoed(line: str) -> Optional[int]:
 class Places:
     """Frames of addresses, each asked for once."""
 
-    def __init__(self, elf: Elf, tools: Iterable[str] = TOOLS) -> None:
-        self.elf = elf
+    def __init__(self, elf: Elf, tools: Iterable[str] = TOOLS, folders: Sequence[str] = ()) -> None:
+        """`folders` are those of sources, beside the ELF file's and the current one."""
+        self.elf, self.sources = elf, Sources(elf.name, folders)
         self.kept: dict[int, list[Frame]] = {}
-        self.texts: dict[str, list[str]] = {}
         self.addr2line = Tool(elf, tools)
 
     @property
@@ -162,9 +160,10 @@ class Places:
         return self.addr2line.name
 
     def trouble(self) -> list[str]:
-        """What to say if the tool has failed."""
+        """What to say if the tool has failed, or a source isn't read."""
         failed = self.addr2line.failed
-        return [f"{failed}; places of which it said nothing have the names of symbols"] if failed else []
+        told = [f"{failed}; places of which it said nothing have the names of symbols"] if failed else []
+        return told + self.sources.trouble()
 
     def close(self) -> None:
         self.addr2line.close()
@@ -202,6 +201,12 @@ class Places:
         """The same, or else the address."""
         return self.named(pc) or f"{pc:08x}"
 
+    def chain(self, pcs: Iterable[int], most: int) -> str:
+        """The places of a row and of the calls over it, innermost first: so many at most."""
+        frames = [frame for pc in pcs for frame in self.frames(pc) or [Frame(f"{pc:08x}", "", 0, "")]]
+        return "  <  ".join(f"{frame.function} {frame.file}:{frame.line}" if frame.line else frame.function
+                            for frame in frames[:most])
+
     def line(self, pc: int) -> str:
         """FILE:LINE, or else the address."""
         frame = self.innermost(pc)
@@ -214,16 +219,5 @@ class Places:
     def source(self, pc: int) -> str:
         """The text of the line, if the source is there."""
         frame = self.innermost(pc)
-        lines = self.source_lines(frame.path) if frame.line else []
+        lines = self.sources.lines(frame.path) if frame.line else []
         return clean(lines[frame.line - 1].strip()) if frame.line <= len(lines) and lines else ""
-
-    def source_lines(self, path: str) -> list[str]:
-        if path not in self.texts:
-            self.texts[path] = []
-            # The path is of the machine that built the program; its sources may lie beside the ELF.
-            for name in (path, os.path.join(os.path.dirname(self.elf.name), os.path.basename(path))):
-                if name.endswith(SOURCES) and os.path.isfile(name):
-                    with open(name, "rb") as file:
-                        self.texts[path] = file.read(LARGEST_SOURCE).decode("utf-8", "replace").split("\n")
-                    break
-        return self.texts[path]

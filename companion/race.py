@@ -16,15 +16,17 @@ from .options import parse, whole
 from .races import FENCED, ORDERED, TOO_MANY, Access, AccessPair, Group, Races
 from .recent import FIRST_ROWS, LogFile, open_log
 from .rows import read_trace
+from .sources import source_folders
 from .text import counted, number
 from .trace import Trace
 
 HELP = """Groups the races of a log by the two places and the word, the likeliest cause of its fault first. Words of one object
 with the same places, as an array's, are told together.
 
-    zelkuma race LOG ELF [--names ELF] [--max N] [--more] [--json]
+    zelkuma race LOG ELF [--names ELF] [--source DIR] [--max N] [--more] [--json]
 
 --names   the program with its names and lines, if ELF was stripped
+--source  shows sources below this folder too, not only below ELF's and the current one; may be given several times
 --max     how many pairs are asked for at most, 1 to 1000000 (200000 without it)
 --more    tells all groups; without it the first twelve
 --json    prints one JSON object in place of the text (docs/JSON.md)
@@ -33,7 +35,8 @@ First come groups on the chain of values behind the fault, then those in the fun
 behind them groups that fences order if they are meant so, and last the fenced accesses themselves: loads and stores
 beside a `fence`, as GCC writes acquire and release. That order and the grouping are this command's own judgement.
 The exact list is that of `zelkuma races`: pairs of accesses that no atomic instruction orders."""
-FORM = "race LOG ELF [--names ELF] [--max N] [--more] [--json]"
+FORM = "race LOG ELF [--names ELF] [--source DIR] [--max N] [--more] [--json]"
+OPTIONS = {"--names": True, "--source": True, "--max": True, "--more": False, "--json": False}
 FAR = 1 << 20                                # what a row costs that isn't on the chain
 MOST, GROUPS_TOLD, BRIEF_TOLD = 200000, 12, 6
 KINDS = ("", ORDERED, FENCED)                # in the order in which groups are told
@@ -157,7 +160,7 @@ def report(races: Races, judged: Judged, more: bool) -> list[str]:
             told = families[kind] if more else families[kind][:BRIEF_TOLD]
             lines.append(f"{HEADS[kind]} ({counted(sum(map(pairs_of, families[kind])), 'pair')})")
             lines += [brief_line(races, family) for family in told] + left_out(families[kind], told)
-    return lines
+    return lines + races.places.trouble()
 
 
 def left_out(families: list[list[Group]], told: list[list[Group]]) -> list[str]:
@@ -191,13 +194,13 @@ def access_answer(races: Races, access: Access) -> dict[str, Any]:
 
 
 def main(words: list[str]) -> int:
-    (log_name, elf_name), given = parse(words, {"--names": True, "--max": True, "--more": False, "--json": False}, 2, FORM)
-    most = whole(given.get("--max", str(MOST)), 1, 1000000, "--max")
+    (log_name, elf_name), given = parse(words, OPTIONS, 2, FORM)
+    most, folders = whole(given.get("--max", str(MOST)), 1, 1000000, "--max"), source_folders(given)
     with contextlib.ExitStack() as opened:
         source = opened.enter_context(closing(open_log(log_name)))
         elf = Elf(elf_name)
         named = named_elf(elf, given.get("--names", ""))
-        races = Races(named, opened.enter_context(closing(places_of(named)))).read(log_name, elf_name, most)
+        races = Races(named, opened.enter_context(closing(places_of(named, folders)))).read(log_name, elf_name, most)
         if races.over:
             raise CompanionError(f"races: more than {most} pairs; --max takes up to 1000000", TOO_MANY)
         judged = judge(source, elf_name, races)

@@ -6,13 +6,13 @@ import os
 import shlex
 import signal
 import subprocess
-import tempfile
 from enum import IntEnum
 from typing import Mapping, NamedTuple, Sequence
 
-from . import program, streams
-from .errors import REFUSED, UNREADABLE, CompanionError
+from . import program
+from .errors import REFUSED, CompanionError
 from .options import decimal, parse
+from .saving import LOG, TURNS, target
 
 RECORD_FORM = "[OPTION..] ELF LOG BOOK, as for record, but for --seed"
 NUMBERS = "--format --harts --interval --limit --log-size --memory --sets --ways --line --sets2 --ways2".split()
@@ -45,7 +45,7 @@ class RecordWords:
     """What the words of `record` name.
 
     names    ELF, LOG, BOOK as they were given
-    outputs  where LOG and BOOK are in the end
+    targets  LOG and BOOK
     is_lean  whether no BOOK is saved"""
 
     def __init__(self, words: Sequence[str]) -> None:
@@ -55,13 +55,10 @@ class RecordWords:
             raise CompanionError("the seeds are FROM to TO, so --seed can't be given", REFUSED)
         if len(self.names) == 2 and not self.is_lean:
             raise CompanionError("the words of record have no BOOK", REFUSED)
-        self.elf, *self.outputs = self.names
+        self.elf, log, *books = self.names
         self.options = options_of(options)
-        self.outputs = [os.path.realpath(name) for name in self.outputs]
-        if not self.is_lean and self.outputs[0] == self.outputs[1]:
-            raise CompanionError(f"LOG and BOOK are one file: {self.names[1]}", REFUSED)
-        for output in self.outputs:
-            check_output(output, [self.elf] + [options[name] for name in ("--input",) if name in options])
+        read = self.elf, options.get("--input", "")
+        self.targets = [target(log, LOG, read)] + [target(book, TURNS, [*read, log]) for book in books]
 
     def command(self, plan: Plan, outputs: Sequence[str]) -> list[str]:
         return [program.path(), "record", *self.options, *plan.options(), "--", self.elf, *outputs]
@@ -83,29 +80,10 @@ def options_of(options: Mapping[str, str]) -> list[str]:
             for name, value in options.items()]
 
 
-def check_output(output: str, inputs: Sequence[str]) -> None:
-    """An output takes another file's place in the end: it has to be no input, and no device."""
-    if os.path.exists(output) and not os.path.isfile(output):
-        raise CompanionError(f"{output} is no file that can be replaced", UNREADABLE)
-    for name in inputs:
-        if os.path.exists(output) and os.path.exists(name) and os.path.samefile(output, name):
-            raise CompanionError(f"{output} is read and would be replaced", REFUSED)
-
-
 def environment(schedule: str) -> dict[str, str]:
     """That of a recording with these turns. Without them its harts run in threads, whatever is set for this process."""
     found = {name: value for name, value in os.environ.items() if name != SCHEDULE}
     return dict(found, **{SCHEDULE: schedule}) if schedule else found
-
-
-def scratch(output: str) -> tempfile.TemporaryDirectory[str]:
-    """A folder beside an output, so that what is made there takes its place in one step."""
-    folder = os.path.dirname(os.path.realpath(output))
-    try:
-        with streams.uninterrupted():       # once there is the object, it is removed however this ends
-            return tempfile.TemporaryDirectory(prefix=".zelkuma-", dir=folder)
-    except OSError as error:
-        raise CompanionError(f"{folder}: {error.strerror}", UNREADABLE)
 
 
 class Child:

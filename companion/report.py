@@ -14,12 +14,12 @@ from .text import as_text, counted, number, short
 
 SUSPECTS, MORE_SUSPECTS, LINES, MORE_LINES, ORIGINS, MORE_ORIGINS = 5, 12, 10, 40, 6, 20
 ROW_WIDTH, TEXT_WIDTH, MOST_CALLS = 84, 78, 9
-SUSPECTS_HEAD = ("SUSPECTS, likeliest first (a load and the store that it got; what a call did to the memory; "
-                 "arithmetic that lost bits; a branch)")
+SUSPECTS_HEAD = "SUSPECTS, likeliest first (a load and the store that it got; what a call did to the memory; a branch)"
 # What the guilty row of each kind did, and what its other two rows did.
 DID = {"store": "stored it in", "back": "gave the memory back in", "unwritten": "got the memory in", "twice": "gave the memory back in",
-       "lost": "lost bits in", "odd": "lost the alignment in", "calls": "calls itself in", "branch": "chose the way in", "unlocked": "held no lock in", "order": "waits for a lock in", "constant": "chose the value in", "exit": "never left its loop by"}
-ALONE = "twice", "lost", "odd", "calls", "branch", "exit", "unlocked", "order", "constant"     # kinds that have no load
+       "calls": "calls itself in", "branch": "chose the way in", "unlocked": "held no lock in", "order": "waits for a lock in",
+       "exit": "never left its loop by"}
+ALONE = "twice", "calls", "branch", "exit", "unlocked", "order"     # kinds that have no load
 STORED = {"back": "the new owner stored in", "unwritten": "the old bytes were stored in"}
 
 

@@ -12,7 +12,7 @@ from operator import ne
 from typing import AbstractSet, Callable, Dict, Iterable, Iterator, NamedTuple, Optional, Sequence
 
 from . import streams
-from .chunks import chunks, parted
+from .chunks import OTHER_LINES, chunks, parted
 from .instruction import A0, A1, A7, AMO, CALL, JUMP, LOAD, STORE, Instruction
 from .log import At, Log
 from .text import number
@@ -172,12 +172,13 @@ class Reader:
         found = []
         for begin, end in zip(places, places[1:]):
             hart = self.harts[harts[begin]]
-            if hart.count < 0:
-                hart.count = int(lines[begin].split(b" ", 2)[1])
             while begin < end:
-                letters = len(b"%d %d " % (hart.number, hart.count))
+                head = b"%d %d " % (hart.number, hart.count)
                 size = min(end - begin, 10 ** len(str(hart.count)) - hart.count)
-                found.append(Turn(hart, begin, begin + size, hart.count, letters))
+                if not lines[begin + size - 1].startswith(b"%d %d " % (hart.number, hart.count + size - 1)):
+                    hart.count, size = int(lines[begin].split(b" ", 2)[1]), 1       # rows before it are left out
+                    head = b"%d %d " % (hart.number, hart.count)
+                found.append(Turn(hart, begin, begin + size, hart.count, len(head)))
                 begin, hart.count = begin + size, hart.count + size
         return found
 
@@ -380,6 +381,16 @@ def read_trace(log: Log, elf_name: str, entries: AbstractSet[int] = frozenset(),
             break
     progress.clear()
     trace.finish(time.monotonic() - began)
+    return trace
+
+
+def trace_of(log: Log, text: bytes) -> Trace:
+    """The rows that a text of `joint` or `replay` has. Some may be left out."""
+    trace = Trace(log)
+    rows = OTHER_LINES.sub(b"", b"\n" + text.rstrip(b"\n"))
+    if rows.strip(b"\n"):
+        Reader(trace).read(rows)
+    trace.finish(0.0)
     return trace
 
 

@@ -10,7 +10,7 @@ from .answers import LONGEST, put_answer
 from .call import INTERRUPTED
 from .errors import REFUSED, CompanionError
 from .options import parse, whole
-from .recording import ENDS, FAULT, Kind, Plan, RecordWords, scratch
+from .recording import ENDS, FAULT, Kind, Plan, RecordWords
 from .text import number
 from .trials import Count, Ending, Search
 
@@ -104,10 +104,12 @@ def find(search: Search, is_json: bool) -> None:
         search.run()
     finally:
         streams.on_interrupt(signal.SIG_IGN)
-        if search.found is not None:
-            search.found.save()
-        if not is_json:
-            tell(search)
+        try:
+            if search.found is not None:
+                search.found.save()
+        finally:
+            if not is_json:
+                tell(search)
     if is_json:
         tell_json(search)
 
@@ -134,7 +136,7 @@ def main(words: list[str]) -> int:
     kinds = kinds_of(options, record.is_lean)
     processors = 1 if kinds == [Kind.THREADS] else len(os.sched_getaffinity(0))
     jobs = whole(options["--jobs"], 1, 1024, "-j") if "--jobs" in options else processors
-    folders = [scratch(output) for output in record.outputs]
+    folders = [target.scratch() for target in record.targets]
     search = Search(record, range(first, last + 1), kinds, until, jobs, [folder.name for folder in folders])
     try:
         find(search, "--json" in options)

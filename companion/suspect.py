@@ -18,13 +18,10 @@ class Suspect:
      "back"      memory that was used after it was given back
      "twice"     memory that was given back twice
      "unwritten" memory that was used before it was written
-     "lost"      arithmetic that lost bits
-     "odd"       arithmetic that lost an address's alignment
      "branch"    a branch that chose the way
      "exit"      one that would have ended a loop
      "unlocked"  an access without the lock that others hold
      "order"     a wait for a lock of a hart that waits for one of this hart's
-     "constant"  a constant that nothing changed
      "calls"     a function that keeps calling itself
     load, store  its rows; they are the same row if it has only one
     guilty       the row that the suspect is about

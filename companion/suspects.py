@@ -1,9 +1,9 @@
 """What may be guilty of a crash, likeliest first.
 
-A suspect is a load and the store that it got; memory that was used after it was given back, or before it was written; or
-a row that lost bits. It may also be a branch that chose the way, an access without the lock that others hold, a constant,
-or a function that keeps calling itself. Its score is the cost at which the history of the fault reached it, less what its signs are worth;
-the lowest score is the likeliest.
+A suspect is a load and the store that it got, or memory that was used after it was given back or before it was written.
+It may also be a branch that chose the way, an access without the lock that others hold, or a function that keeps calling
+itself. Its score is the cost at which the history of the fault reached it, less what its signs are worth; the lowest
+score is the likeliest.
 
 The signs, and what each is worth, were set by looking at few programs: tests/crashes/README.md says which, and how well
 they do on others."""
@@ -15,21 +15,18 @@ from typing import Sequence
 from .branches import branch_suspects, exit_suspects
 from .facts import Facts
 from .history import ADDRESS, History, Pair
-from .instruction import ALU, AMO, SP, STORE
+from .instruction import AMO, SP, STORE
 from .locks import circle, unlocked
 from .log import At
-from .lost import lost_alignment, lost_bits, narrowings
 from .memory_use import MemoryUse
 from .suspect import Extra, Suspect, rank
 from .text import counted, number
 from .trace import LOADS
-from .unpaired import unpaired
 
 OTHER_HART, NARROW, RACE, OTHER_FUNCTION, RARITY = 8, 12, 6, 3, 5
 COMMON, COMMON_ROWS = 10, 8   # what a near store is worth less that a load always got, if it ran so often
 CLOSES, CLOSE = 8, 3        # the store that closed a circle, and how near to the loop its load is
 FOLLOWED_ROWS = 400         # the last rows of a loop, in which the pointers are that it follows
-CONSTANT = 2                # what a constant is worth less
 AGAIN, NOTHING_NEW = 6, 40  # what a suspect costs more whose line another tells, and if it tells no new line at all
 MOST_COMPARED = 40          # suspects whose lines are compared
 FIRST_ONES, PLACE_ROWS = 3, 2000    # suspects whose stores' addresses are asked of, and rows of such a history
@@ -55,10 +52,8 @@ class Ranking:
         stores = sorted(self.stores(history), key=rank)
         memory = MemoryUse(facts, history)
         found = [suspect for item in stores[:MOST_LOOKED_AT] for suspect in memory.judge(item)]
-        found += memory.given_back_twice() + lost_bits(facts, history, narrowings(self.trace, history))
-        found += lost_alignment(facts, history) + branch_suspects(facts, history) + exit_suspects(facts)
-        found += unlocked(facts, history) + circle(facts) + constants(facts, history)
-        found += unpaired(facts, history.control) if history.control else []
+        found += memory.given_back_twice() + branch_suspects(facts, history) + exit_suspects(facts)
+        found += unlocked(facts, history) + circle(facts)
         found = sorted(stores + found + recursion, key=rank)
         self.found = self.once(sorted(found + self.behind_places(found, memory), key=rank))
 
@@ -70,8 +65,7 @@ class Ranking:
             row = self.trace.d1[item.store] if item.misplaced else 0
             if row:
                 history = History(self.trace, [row], PLACE_ROWS, self.history.control, control_cost=GUARD)
-                others = lost_bits(self.facts, history, narrowings(self.trace, history)) + branch_suspects(self.facts, history)
-                for suspect in [one for one in others + self.stores(history)
+                for suspect in [one for one in branch_suspects(self.facts, history) + self.stores(history)
                                 if not memory.blocks.is_own(one.guilty) and not memory.blocks.is_own(one.load)]:
                     suspect.cost += item.cost
                     suspect.score += max(item.score, -MOST_FOR_PLACE) + BEHIND_PLACE
@@ -222,20 +216,3 @@ class Ranking:
             return
         item.shown = item.cost < ADDRESS
         item.sign(-NEAR_STORE, f"{counted(distance, 'row')} earlier")
-
-
-def constants(facts: Facts, history: History) -> list[Suspect]:
-    """Constants that nothing changed: what a function returned, or what a loop didn't replace."""
-    trace = facts.trace
-    found: dict[str, Suspect] = {}
-    for n, price in history.cost.items():
-        ins = trace.code_of(n)
-        if ins.kind != ALU or ins.name != "addi" or ins.rs1 or price >= ADDRESS or n in history.decided or n not in history.parent:
-            continue
-        user = trace.code_of(history.parent[n].row)
-        if user.move or history.parent[n].row == facts.start:
-            suspect = Suspect("constant", n, n, price)
-            suspect.sign(-CONSTANT, f"{trace.result_of(n) or 0:08x} is a constant, which nothing changed")
-            if facts.line(n) not in found or rank(suspect) < rank(found[facts.line(n)]):
-                found[facts.line(n)] = suspect
-    return list(found.values())

@@ -79,9 +79,9 @@ class Trial:
                 os.remove(name)
 
     def save(self) -> None:
-        for name, output in zip(self.outputs, self.words.outputs):
+        for name, target in zip(self.outputs, self.words.targets):
             if os.path.exists(name):
-                os.replace(name, output)
+                target.take(name)
 
 
 class Search:

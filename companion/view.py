@@ -21,25 +21,28 @@ from .origins import advice
 from .race import Judged, family_word, pairs_of
 from .races import AccessPair, Group, Races
 from .report import ALONE, DID, STORED, output_lines, unread
+from .sources import source_folders
 from .suspect import Suspect
 from .text import as_text, number
+from .version import version
 from .view_chain import Way, chain_boxes
 from .view_data import Page, PageEdge
 from .view_rows import PageRows
 
 HELP = """Draws a log as one page, to look at in a browser: harts, intervals, Edges, races, the fault, and the chain behind it.
 
-    zelkuma view LOG ELF [--names ELF] [--row HART:IC] [--output N:BYTE] [--rows N] > page.html
+    zelkuma view LOG ELF [--names ELF] [--source DIR] [--row HART:IC] [--output N:BYTE] [--rows N] > page.html
 
 --names   the program with its names and lines, if ELF was stripped
+--source  shows sources below this folder too, not only below ELF's and the current one; may be given several times
 --row     asks for the chain behind another row than the fault's
 --output  asks for the chain behind a byte that the guest wrote, as `zelkuma output` numbers them
 --rows    how many of the last rows are read, as for why
 
 The page is one file that needs no network and no other file. It holds names and lines of source of the program.
 Companions show; the program proves: rows, intervals, Edges and races are the program's, suspects are a judgement."""
-FORM = "view LOG ELF [--names ELF] [--row HART:IC] [--output N:BYTE] [--rows N]"
-OPTIONS = {"--names": True, "--row": True, "--output": True, "--rows": True}
+FORM = "view LOG ELF [--names ELF] [--source DIR] [--row HART:IC] [--output N:BYTE] [--rows N]"
+OPTIONS = {"--names": True, "--source": True, "--row": True, "--output": True, "--rows": True}
 SCRIPTS = ("model.js", "timeline.js", "arrows.js", "rows.js", "panels.js", "chain.js", "controls.js")
 RACES_ASKED, RACE_GROUPS, ARCS = 20000, 40, 12
 SUSPECTS, ORIGINS = 3, 6
@@ -64,7 +67,7 @@ def page_text(title: str, data: Mapping[str, Any]) -> str:
     Its policy lets a browser run this script alone, and ask for nothing: should markup ever get in, it does nothing."""
     script = "\n".join(part("view_page", name) for name in SCRIPTS)
     digest = base64.b64encode(hashlib.sha256(script.encode("utf-8")).digest()).decode("ascii")
-    pieces = {"TITLE": html.escape(title), "STYLE": part("view_page", "style.css"), "SCRIPT": script,
+    pieces = {"TITLE": html.escape(title), "VERSION": html.escape(version()), "STYLE": part("view_page", "style.css"), "SCRIPT": script,
               "POLICY": f"default-src 'none'; style-src 'unsafe-inline'; script-src 'sha256-{digest}'",
               "DATA": as_script_data(data)}
     return re.sub(f"@({'|'.join(pieces)})@", lambda found: pieces[found.group(1)], part("view.html"))
@@ -233,7 +236,8 @@ def main(words: list[str]) -> int:
     (log_name, elf_name), given = parse(words, OPTIONS, 2, FORM)
     rows = whole(given["--rows"], 1, 1 << 41, "--rows") if "--rows" in given else 0
     byte = asked_byte(given["--output"]) if "--output" in given else None
-    with closing(analysed(log_name, elf_name, given.get("--names", ""), given.get("--row", ""), rows, byte)) as crash:
+    with closing(analysed(log_name, elf_name, given.get("--names", ""), given.get("--row", ""), rows, byte,
+                          source_folders(given))) as crash:
         view = View(crash)
         # The page says that it is UTF-8, whatever the terminal's encoding is.
         streams.put_bytes(page_text(view.title(), view.data()).encode("utf-8", "backslashreplace"))

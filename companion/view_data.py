@@ -104,7 +104,7 @@ class Page:
     def around(self, place: int) -> Around:
         """The line of source at a place, the one before and the one behind, if the source is there."""
         frame = self.places.innermost(self.place_pcs[place])
-        lines = self.places.source_lines(frame.path) if frame.line else []
+        lines = self.places.sources.lines(frame.path) if frame.line else []
         first = max(1, frame.line - 1)
         some = lines[first - 1:frame.line + 1] if frame.line <= len(lines) else []
         return Around(first, [clean(text.expandtabs(4).rstrip())[:SOURCE_LENGTH] for text in some])

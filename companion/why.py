@@ -7,18 +7,20 @@ from contextlib import closing
 from . import streams
 from .analysis import analysed
 from .answers import put_answer
-from .errors import UNWRITABLE, CompanionError
 from .facts import asked_byte
 from .options import parse, whole
 from .page import page
 from .report import report
+from .saving import PAGE, target
+from .sources import source_folders
 from .why_answer import why_answer
 
-HELP = """Explains a crash: what happened, where, and which store, call or arithmetic is behind it, likeliest first.
+HELP = """Explains a crash: what happened, where, and which store, call or branch is behind it, likeliest first.
 
-    zelkuma why LOG ELF [--names ELF] [--row HART:IC] [--output N:BYTE] [--rows N] [--more] [--html FILE] [--json]
+    zelkuma why LOG ELF [--names ELF] [--source DIR] [--row HART:IC] [--output N:BYTE] [--rows N] [--more] [--html FILE] [--json]
 
 --names   the same program with names and lines, if ELF was stripped
+--source  shows sources below this folder too, not only below ELF's and the current one; may be given several times
 --row     asks of another row than the fault's
 --output  asks of a byte that the guest wrote, as `zelkuma output` numbers them
 --rows    how many of the last rows are read; without it a million, and 2.6 million if values near the fault come from before
@@ -28,29 +30,23 @@ HELP = """Explains a crash: what happened, where, and which store, call or arith
 
 It reads the rows of `joint`, keeps some 30 bytes of each, and shows what they say; the ranking is its own judgement.
 Companions show; the program proves."""
-FORM = "why LOG ELF [--names ELF] [--row HART:IC] [--output N:BYTE] [--rows N] [--more] [--html FILE] [--json]"
-OPTIONS = {"--names": True, "--row": True, "--output": True, "--rows": True, "--more": False, "--html": True, "--json": False}
-
-
-def save(name: str, text: str) -> None:
-    with open(name, "wb") as file:
-        try:
-            file.write(text.encode("utf-8", "backslashreplace"))
-            file.flush()
-        except OSError as error:
-            raise CompanionError(f"{name} takes no more: {error.strerror}", UNWRITABLE)
+FORM = "why LOG ELF [--names ELF] [--source DIR] [--row HART:IC] [--output N:BYTE] [--rows N] [--more] [--html FILE] [--json]"
+OPTIONS = {"--names": True, "--source": True, "--row": True, "--output": True, "--rows": True, "--more": False, "--html": True,
+           "--json": False}
 
 
 def main(words: list[str]) -> int:
     (log, elf), given = parse(words, OPTIONS, 2, FORM)
     rows = whole(given["--rows"], 1, 1 << 41, "--rows") if "--rows" in given else 0
     byte = asked_byte(given["--output"]) if "--output" in given else None
-    with closing(analysed(log, elf, given.get("--names", ""), given.get("--row", ""), rows, byte)) as analysis:
+    names = given.get("--names", "")
+    saved = target(given["--html"], PAGE, [log, elf, names]) if "--html" in given else None
+    with closing(analysed(log, elf, names, given.get("--row", ""), rows, byte, source_folders(given))) as analysis:
         parts = report(analysis, "--more" in given)
         if "--json" in given:
             put_answer("why", **why_answer(analysis))
-    if "--html" in given:
-        save(given["--html"], page(f"Why {os.path.basename(elf)} ended", parts))
+    if saved:
+        saved.save(page(f"Why {os.path.basename(elf)} ended", parts).encode("utf-8", "backslashreplace"))
     if "--json" in given:
         return 0
     lines = []

@@ -1,5 +1,5 @@
 # Completes the words of zelkuma in bash: commands, options, and names of files if one is due. The commands
-# of debug come from its input, so none of them is completed. Made by tools/help/make.sh.
+# of debug come from its input, so none of them is completed. Made by tools/help/make.py.
 
 # a command, and what its words are
 _zelkuma_commands='
@@ -29,6 +29,8 @@ bucket LOG ELF
 output LOG ELF
 seeds FROM TO -- RECORD-WORDS
 again LOG ELF BOOK NEWLOG
+shrink LOG ELF BOOK NEWLOG NEWBOOK
+history LOG ELF NAME
 '
 # a command, an option of it, and what its value is
 _zelkuma_options='
@@ -48,6 +50,7 @@ record --sets2 N
 record --ways2 N
 audit --input FILE
 why --names ELF
+why --source DIR
 why --row HART:IC
 why --output N:BYTE
 why --rows N
@@ -55,10 +58,12 @@ why --more
 why --html FILE
 why --json
 race --names ELF
+race --source DIR
 race --max N
 race --more
 race --json
 view --names ELF
+view --source DIR
 view --row HART:IC
 view --output N:BYTE
 view --rows N
@@ -76,6 +81,17 @@ seeds --json
 again --input FILE
 again --log-size N
 again --interval N
+shrink -j N
+shrink --seconds N
+shrink --output N:BYTE
+shrink --names ELF
+shrink --json
+shrink -- OPTION..
+history --names ELF
+history --changes
+history --last N
+history --rows N
+history --json
 '
 
 # Prints the lines of a table that begin with a word, without it.

@@ -43,16 +43,14 @@ DESCRIPTION
 
 # What the package was made from, as Debian's changelogs say it.
 tell_change() { # VERSION
-    local commit
-    [ -e "$top/.git" ] && commit=$(git -C "$top" rev-parse HEAD) || commit=unknown
     printf 'zelkuma (%s) unstable; urgency=medium\n\n  * Made from commit %s.\n\n -- %s  %s\n' \
-        "$1" "$commit" "$maintainer" "$(LC_ALL=C date -u -R -d "@$SOURCE_DATE_EPOCH")"
+        "$1" "$(commit_of_tree)" "$maintainer" "$(LC_ALL=C date -u -R -d "@$SOURCE_DATE_EPOCH")"
 }
 
 # Lays the package's files under a folder, with what dpkg wants to know of them.
 fill() { # FOLDER PROGRAM
     local version doc=$1/usr/share/doc/zelkuma
-    version=0.$(date -u -d "@$SOURCE_DATE_EPOCH" +%Y%m%d.%H%M)
+    version=$(<"$top/VERSION")+$(date -u -d "@$SOURCE_DATE_EPOCH" +%Y%m%d.%H%M)
     lay "$1/usr" "$2" || stop 1 "not all could be laid for the package"
     install -D -m 644 "$top/packaging/copyright" "$doc/copyright"
     install -D -m 644 "$top/packaging/lintian-overrides" "$1/usr/share/lintian/overrides/zelkuma"

@@ -106,7 +106,7 @@ fi
 
 # Runs words at a terminal, in the background; what it showed is in the file NAME.
 at_terminal() { # NAME WORD..
-    "$top/tests/terminal.py" "${@:2}" >"$work/$1" 2>&1 </dev/null
+    bash "$top/tests/fresh_start.sh" "$top/tests/terminal.py" "${@:2}" >"$work/$1" 2>&1
     echo "status $?" >>"$work/$1"
 }
 shows() { # NAME PATTERN

@@ -4,7 +4,6 @@
 #
 # tests/carry.sh PROGRAM
 set -u
-. "$(dirname "$0")/fresh_start.sh"
 top=$(cd "$(dirname "$0")/.." && pwd)
 program=$(readlink -f -- "${1:?the words are PROGRAM}")
 work=$(mktemp -d)
@@ -17,7 +16,8 @@ python=$(type -P python3) || skips "calls of companions: python3 isn't here"
 sources=$work/sources
 mkdir -p "$sources/release" "$sources/companion/__pycache__"
 cp -r "$top/"{zelkuma,crates.txt,tools,man,completion,packaging,companion} "$sources"
-cp "$top/release/STAMP" "$sources/release"
+cp "$top/VERSION" "$sources"
+cp "$top/release/"{STAMP,COMMIT} "$sources/release"
 cp "$program" "$sources/release/zelkuma-x86_64-linux"
 echo 'import os, sys; print(os.environ["ZELKUMA_PROGRAM"], *sys.argv[1:]); sys.exit(5)' >"$sources/companion/__main__.py"
 touch "$sources/companion/__pycache__/stale.pyc" "$sources/companion/stray.py" "$sources/tools/launcher/"{stray.sh,.run.sh.swp}
@@ -60,10 +60,10 @@ files_in() { (cd "$1" && find . ! -type d -printf '%P\n' | LC_ALL=C sort); }
 laid_under() { printf '%s\n' "$1"/{bin/zelkuma,lib/zelkuma,share/man/man1/zelkuma.1,share/bash-completion/completions/zelkuma}; }
 
 # The companions that are told.
-companions() {
-    awk -f "$top/tools/help/read.awk" "$top/tools/help/companions.txt" |
-        awk -F '\t' '$2 == "entry" { sub(/ .*/, "", $3); print $3 }'
-}
+companions() (
+    . "$top/tools/help/words.sh"
+    printf '%s\n' $companions
+)
 
 what="a folder"
 prefix="$work/a & prefix"
@@ -80,7 +80,9 @@ equals "$work/wanted" "$work/files"
     fails "other files than these two can be run"
 [ -z "$(find "$prefix" -type f ! -perm 755 ! -perm 644)" ] || fails "a file has another mode"
 runs 0 "$prefix/bin/zelkuma" --version
+has out "zelkuma $(<"$top/VERSION")"
 has out "program $(sha256sum <"$program" | cut -d ' ' -f 1) $prefix/lib/zelkuma/zelkuma"
+has out "commit unknown"
 
 what="folders that install makes, and those that it doesn't"
 runs 3 "$sources/zelkuma" install "$work/no/where"
@@ -214,7 +216,7 @@ cp -r "$sources" "$work/elsewhere"
 runs 0 "$work/elsewhere/packaging/deb.sh" "$work/two.deb" "$program"
 equals "$work/one.deb" "$work/two.deb"
 runs 0 dpkg-deb --field "$work/one.deb" Package Version Architecture Depends Recommends
-for line in "Package: zelkuma" "Version: 0.20231114.2213" "Architecture: amd64" "Depends: libc6 (>= 2.34)" \
+for line in "Package: zelkuma" "Version: $(<"$top/VERSION")+20231114.2213" "Architecture: amd64" "Depends: libc6 (>= 2.34)" \
     "Recommends: python3 (>= 3.8), gdb-multiarch, binutils-riscv64-unknown-elf"; do
     has out "$line"
 done
@@ -239,7 +241,7 @@ what="a package as Debian has them"
 if type -P lintian >/dev/null; then
     runs 0 lintian --allow-root --fail-on error,warning "$work/one.deb"
     gzip -dc "$root/usr/share/doc/zelkuma/changelog.gz" >"$work/page"
-    grep -qx "zelkuma (0.20231114.2213) unstable; urgency=medium" "$work/page" || fails "the changelog has another version"
+    grep -qx "zelkuma ($(<"$top/VERSION")+20231114.2213) unstable; urgency=medium" "$work/page" || fails "the changelog has another version"
 else
     skips "the package by lintian, which isn't here"
 fi

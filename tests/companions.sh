@@ -3,7 +3,6 @@
 # by themselves. A case is a file of tests/companions; without one all are run, as many side by side as there are
 # processors. Each says what it skips, and why. The last line is 'N passed, N failed, N skipped'.
 set -u
-. "$(dirname "$0")/fresh_start.sh"
 top=$(cd "$(dirname "$0")/.." && pwd)
 program=${1:-$(cd "$top" && python3 -B -c 'from companion import program; print(program.path())' 2>/dev/null)}
 [ -x "$program" ] || { echo "companions: there is no program ${program:-in this repository}" >&2; exit 1; }

@@ -2,7 +2,6 @@
 # Tries the completion of zelkuma's words in a bash at a terminal, which script(1) makes: TAB is pressed, and
 # what the shell then runs is compared. It takes a second.
 set -u
-. "$(dirname "$0")/fresh_start.sh"
 top=$(cd "$(dirname "$0")/.." && pwd)
 work=$(mktemp -d)
 trap 'rm -rf "$work"' EXIT

@@ -4,7 +4,6 @@
 #
 # tests/definitions.sh
 set -u
-. "$(dirname "$0")/fresh_start.sh"
 top=$(cd "$(dirname "$0")/.." && pwd)
 export LC_ALL=C.UTF-8
 work=$(mktemp -d)

@@ -9,7 +9,7 @@ and is refused.
 
 All examples of a document run in one bash, one after another, with another folder for /tmp/. Their folder has examples/,
 tests/crashes/, companion/, LICENSE and ./zelkuma, which runs PROGRAM as an installed one does. A line '...' represents
-any lines. A block after a line '<!-- not run -->' isn't run, nor one after '<!-- needs NAME -->' if there is no command
+any lines. A block after a line '<!-- not run -->' isn't run, nor one after '<!-- needs NAME.. -->' if there is no command
 or file NAME, which is said. With --write the document gets what was printed, if it differs.
 """
 import os
@@ -18,8 +18,6 @@ import shutil
 import subprocess
 import sys
 import tempfile
-
-import fresh_start
 
 TOP = os.path.dirname(os.path.dirname(os.path.realpath(__file__)))
 END = "\x01"
@@ -38,10 +36,11 @@ class Step:
 def is_run(before, name):
     """Whether the block that comes after this text is run. Says what it needs, if that isn't there."""
     before = before.rstrip()
-    needs = re.search(r"<!-- needs (\S+) -->$", before)
-    if needs and not shutil.which(needs[1]) and not os.path.exists(needs[1]):
-        print(f"skipped: the example at line {before.count(chr(10)) + 2} of {name}: there is no {needs[1]}")
-        return False
+    needs = re.search(r"<!-- needs ([^>]+) -->$", before)
+    for need in needs[1].split() if needs else ():
+        if not shutil.which(need) and not os.path.exists(need):
+            print(f"skipped: the example at line {before.count(chr(10)) + 2} of {name}: there is no {need}")
+            return False
     return not before.endswith("<!-- not run -->")
 
 

@@ -4,7 +4,6 @@
 #
 # tests/help.sh PROGRAM
 set -u
-. "$(dirname "$0")/fresh_start.sh"
 top=$(cd "$(dirname "$0")/.." && pwd)
 program=$(readlink -f -- "${1:?the words are PROGRAM}")
 work=$(mktemp -d)
@@ -17,27 +16,36 @@ tree=$work/tree
 mkdir -p "$tree/docs"
 cp -r "$top/tools" "$top/companion" "$tree"
 cp "$top/docs/COMMANDS.md" "$tree/docs"
+cp "$top/VERSION" "$tree"
+type -P python3 >/dev/null || end_skipped "python3 isn't here"
 
-# Prints a table as the makers read it: entry, key and text, with tabs between.
-read_table() { awk -f "$top/tools/help/read.awk" "$top/tools/help/$1.txt"; }
+# Prints a table as it is read: entry, key and text, with tabs between, and before those of an entry one of the key `entry`.
+read_table() { # TABLE
+    PYTHONPATH=$top/tools/help python3 -B -c '
+import sys, make
+for entry in make.read(sys.argv[1]):
+    for key, text in [("entry", entry.name), *entry.texts]:
+        print(entry.name, key, text, sep="\t")' "$1"
+}
 
 what="what is made, and what stands in the repository"
-runs 0 "$tree/tools/help/make.sh"
+runs 0 "$tree/tools/help/make.py"
 for name in "${made[@]}"; do
     equals "$top/$name" "$tree/$name"
 done
 
-what="a change of the tables"
+what="a change of the tables, and of the version"
+echo 7.8.9 >"$tree/VERSION"
 printf 'frob LOG TIMES [--twice N] [--gently]\n  does frobs a log\n  range TIMES 2 to 5\n' >>"$tree/tools/help/commands.txt"
 printf 'nudge LOG\n  does nudges a log\n' >>"$tree/tools/help/companions.txt"
 touch "$tree/companion/nudge.py"
 sed -i 's/^  default 100000$/  default 100001/' "$tree/tools/help/options.txt"
 sed -i 's/^21 .*/21 no frob/; s/no row IC/no frob IC/; s/give a greater MAX,/give "$(more)",/' "$tree/tools/help/statuses.txt"
-runs 0 "$tree/tools/help/make.sh"
+runs 0 "$tree/tools/help/make.py"
 for place in page.txt:"frobs a log" page.txt:100001 page.txt:"no frob" zelkuma.1:"Frobs a log." zelkuma.1:100001 \
-    zelkuma.1:"no frob IC" zelkuma.bash:"frob LOG TIMES" zelkuma.bash:"frob --twice N" \
+    zelkuma.1:"no frob IC" zelkuma.1:"Zelkuma 7.8.9" zelkuma.bash:"frob LOG TIMES" zelkuma.bash:"frob --twice N" \
     words.sh:'[frob.]="LOG TIMES"' words.sh:'[frob.twice]="N"' words.sh:'[frob.gently]="flag"' words.sh:'[TIMES]="2 to 5"' \
-    words.sh:'[20]="give \"\$(more)\", up to 1000000"' words.sh:"again nudge " each.txt:"  frobs a log" files.txt:companion/nudge.py \
+    words.sh:'[20]="give \"\$(more)\", up to 1000000"' words.sh:" nudge " each.txt:"  frobs a log" files.txt:companion/nudge.py \
     "COMMANDS.md:| \`frob LOG TIMES [--twice N] [--gently]\` | frobs a log |" "COMMANDS.md:| 100001 |" "COMMANDS.md:| 21 | \`no frob IC\` |"; do
     grep -rqF -- "${place#*:}" "$tree"/*/"${place%%:*}" "$tree"/*/*/"${place%%:*}" 2>/dev/null || fails "it isn't in $place"
 done
@@ -45,7 +53,7 @@ done
 what="a table of the document that has no end"
 sed -i '0,/^<!-- end of the table -->$/{/^<!-- end/d}; /^<!-- end of the table -->$/,$d' "$tree/docs/COMMANDS.md"
 cp "$tree/docs/COMMANDS.md" "$work/before"
-runs 1 "$tree/tools/help/make.sh"
+runs 1 "$tree/tools/help/make.py"
 has err "a table has no end"
 equals "$work/before" "$tree/docs/COMMANDS.md"
 
@@ -96,7 +104,7 @@ what="the words of the companions"
 : >"$work/err"
 if [ -d "$top/companion" ]; then
     while read -r form; do
-        grep -sqxF "FORM = \"$form\"" "$top/companion/${form%% *}.py" || fails "companion/${form%% *}.py has another FORM than '$form'"
+        grep -sqxF "FORM = \"$form\"" "$top"/companion/{,questions/}"${form%% *}.py" || fails "${form%% *}.py has another FORM than '$form'"
     done < <(read_table companions | awk -F '\t' '$2 == "entry" { print $3 }')
 else
     skips "the words of the companions, which aren't here"

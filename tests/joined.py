@@ -11,8 +11,6 @@ import os
 import re
 import sys
 
-import fresh_start
-
 TOP = os.path.dirname(os.path.dirname(os.path.realpath(__file__)))
 
 

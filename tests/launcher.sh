@@ -34,7 +34,7 @@ records() { # WORD..
 
 what="the script as a text"
 lines=$(cat "$top/zelkuma" "$top"/tools/launcher/* | wc -l)
-[ "$lines" -le 420 ] || fails "it has $lines lines, and may have 420"
+[ "$lines" -le 430 ] || fails "it has $lines lines, and may have 430"
 if type -P shellcheck >/dev/null; then
     (cd "$top" && shellcheck -x zelkuma tools/launcher/*.sh) >"$work/out" 2>"$work/err" || fails "shellcheck has something to say"
 else
@@ -52,7 +52,12 @@ runs 2 "$zelkuma" record --limit 1G --memory 1G ELF LOG BOOK
 has err "bugnet: setting memory 1073741824"
 runs 2 "$zelkuma" record --memory 1024M --limit 1073741824K ELF LOG BOOK
 has err "bugnet: setting memory 1073741824"
-for word in 2k 0x 0x10000000000000000 9999999999G 17179869184G 36028797018963968K 1T K 0x1K 1.5K ''; do
+while read -r word decimal; do
+    [[ $word != "#" ]] || continue
+    [ "$(. "$top/tools/launcher/words.sh" && to_decimal "$word" && is_number "$decimal" 0 18446744073709551615 && echo "$decimal" || echo -)" = "$decimal" ] ||
+        fails "$word isn't read as $decimal"
+done <"$top/tests/numbers.txt"
+for word in 2k 1T ''; do
     runs 2 "$zelkuma" record --limit "$word" ELF LOG BOOK
     says "bugnet: words refused" "zelkuma: --limit takes a number from 0 to 18446744073709551615, and not '$word'; 'zelkuma help' lists commands and options"
 done
@@ -99,6 +104,16 @@ refuses 2 "BOOK would destroy the input: 'input' and './input' are one file" rec
 refuses 2 "LOG would destroy 'other', which is an ELF file; the order is ELF LOG BOOK" record ELF other BOOK
 refuses 2 "LOG would destroy 'ELF', which is an ELF file; the order is ELF LOG BOOK" record LOG ELF BOOK
 
+printf 'my notes\n' >notes && runs 11 "$zelkuma" record --seed 1 --limit 2000 ELF L B
+refuses 2 "LOG would destroy 'notes', which is no older LOG; remove it first, or give another name" record ELF notes BOOK
+refuses 2 "BOOK would destroy 'notes', which is no older BOOK; remove it first, or give another name" record ELF LOG notes
+refuses 2 "LOG would destroy 'B', which is no older LOG; remove it first, or give another name" record ELF B L
+for word in convert salvage; do
+    refuses 2 "NEW would destroy 'ELF', which is an ELF file; the order is LOG NEW" "$word" L ELF
+    refuses 2 "NEW would destroy 'notes', which is no older NEW; remove it first, or give another name" "$word" L notes
+    refuses 2 "NEW would destroy LOG: './L' and 'L' are one file" "$word" L ./L
+    refuses 3 "NEW can't be saved as 'no/L': there is no folder 'no/'" "$word" L no/L
+done
 refuses 2 "BOOK would destroy LOG: './new' and 'new' are one file" record ELF new ./new
 refuses 2 "BOOK would destroy LOG: 'LOG' and 'folder/../LOG' are one file" record ELF folder/../LOG LOG
 ln -s new to-new && ln -s to-new to-to-new && ln -s "$PWD/LOG" to-LOG && ln -s no/where to-nowhere && ln -s loop loop
@@ -112,6 +127,10 @@ refuses 3 "BOOK can't be saved: the link 'loop' leads nowhere" record ELF LOG lo
 what="what is not refused"
 records ELF LOG BOOK
 records ELF LOG BOOK
+: >L2 && : >B2
+records ELF L2 B2
+runs 0 "$zelkuma" convert LOG L2
+runs 0 "$zelkuma" salvage L2 LOG
 records --lean ELF LOG no/BOOK
 records --lean ELF LOG ELF
 records ELF /dev/null ./BOOK

@@ -4,7 +4,6 @@
 # loaded or saved, through links, onto a full disk and into a closed folder. The long files take no room on the disk.
 # BOOK takes a gigabyte of memory for two seconds.
 set -u
-. "$(dirname "$0")/fresh_start.sh"
 top=$(cd "$(dirname "$0")/.." && pwd)
 program=$(readlink -f "$1")
 work=$(mktemp -d)
@@ -90,12 +89,12 @@ is_so "a link stays" test -L link
 is_so "its file is the log, with its mode" test "$(stat -c %a kept)" = 640 -a "$(sha256sum <kept)" = "$(sha256sum <plain)"
 is_so "the other name of a file leads to the same one" test "$(stat -c %i linked)" = "$(stat -c %i HARDER)"
 
-# A link that has the name of the file beside isn't followed, and nothing is left there.
-echo victim >victim && ln -s victim .zelkuma-save-0
-answers 11 "" "${few[@]}" ELF kept BOOK
-is_so "no other file is written to" test "$(cat victim)" = victim
-is_so "no file is left beside" test "$(find . -name '.zelkuma-save-*' | wc -l)" = 1
-rm .zelkuma-save-0
+# Nobody can take the names of all files beside, and nothing is left there.
+mkdir crowd && for number in {0..999}; do : >"crowd/.zelkuma-save-$number"; done
+for _ in 1 2; do
+    answers 11 "" "${few[@]}" ELF crowd/LOG BOOK
+done
+is_so "no file is left beside" test "$(find crowd -type f | wc -l)" = 1001
 
 # A pipe that a link of /proc leads to isn't replaced.
 piped=$("$program" "${few[@]}" ELF /dev/fd/3 BOOK 3>&1 >/dev/null 2>&1 | sha256sum)
@@ -109,11 +108,24 @@ in_full='mount -t tmpfs -o size=64k full full && cp plain full/LOG && head -c 40
     cmp plain full/LOG && [ "$(ls -A full | wc -l)" = 2 ] && [ "$(cat err)" = "bugnet: store failed: full/LOG" ]'
 in_place='mount -t tmpfs other other && echo old >other/file && mount --bind other/file mounted &&
     { "$0" record --seed 1 --harts 2 --limit 2000 ELF mounted BOOK 2>err || true; } && cmp plain other/file'
+# On the same device a file that is mounted alone shows only when it is to be replaced. In a folder that is mounted to be
+# read alone one may be written to.
+same_device='echo old >source && touch target && mount --bind source target &&
+    { "$0" record --seed 1 --harts 2 --limit 2000 ELF target BOOK 2>err || true; } && cmp plain source && [ -z "$(find . -maxdepth 1 -name ".zelkuma-save-*")" ]'
+read_only='mount -t tmpfs other other && touch other/LOG && echo old >apart && mount --bind apart other/LOG && mount -o remount,ro other &&
+    { "$0" record --seed 1 --harts 2 --limit 2000 ELF other/LOG BOOK 2>err || true; } && cmp plain apart'
+# The file beside may be read by its owner alone, until it is whole. Without /proc the program meets the limit of the system,
+# which ends it in the middle of the save.
+beside='mount -t tmpfs other other && cp ELF plain other && cd other && chmod 644 plain && mount -t tmpfs proc /proc && ulimit -S -f 1 &&
+    { "$0" record --seed 1 --harts 2 --limit 2000 ELF plain BOOK 2>err; [ $? -gt 128 ]; } && [ "$(stat -c %a .zelkuma-save-*)" = 600 ]'
 if unshare -rm true 2>/dev/null; then
     is_so "a full disk leaves the old log" unshare -rm bash -c "$in_full" "$program"
     is_so "a mounted file is written in place" unshare -rm bash -c "$in_place" "$program"
+    is_so "a file mounted from the same device is written in place" unshare -rm bash -c "$same_device" "$program"
+    is_so "a file in a folder that is read alone is written in place" unshare -rm bash -c "$read_only" "$program"
+    is_so "the file beside is its owner's alone" unshare -rm bash -c "$beside" "$program"
 else
-    echo "not tried: a full disk, a mounted file (unshare)"
+    echo "not tried: a full disk, mounted files, the file beside (unshare)"
 fi
 
 # A folder that takes no new file: the file is written in place. The superuser has no such folder.

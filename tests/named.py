@@ -14,8 +14,6 @@ import os
 import re
 import sys
 
-import fresh_start
-
 TOP = os.path.dirname(os.path.dirname(os.path.realpath(__file__)))
 
 
@@ -51,6 +49,20 @@ MUTANTS = [
     (
         "A guard ends the interval and leaves the bits of its hart's cache set.",
         edit("run_model", "the_guard_clears_no_bits"),
+    ),
+    # The turns of a lone hart, many at a time.
+    ("A lone hart, after an access, stays at its instruction.", edit("rv_meaning", "a_turn_of_a_lone_hart_is_done_twice")),
+    ("A guard is passed over.", edit("run_model", "a_guard_is_passed_over")),
+    ("A lone hart's store is done in place though its page isn't made.", edit("run_model", "a_lone_hart_stores_to_a_page_that_is_not_made")),
+    ("A lone hart takes more turns than it may.", edit("run_model", "a_lone_hart_takes_more_turns_than_it_may")),
+    (
+        "A lone hart whose turns ended by want of memory goes on, moved as it is.",
+        edit("bus_core", "a_lone_hart_out_of_memory_goes_on_from_where_it_was_moved"),
+    ),
+    ("A recording of a lone hart ends before the hart does.", edit("whole_runs", "a_lone_hart_stops_after_some_turns")),
+    (
+        "An audit takes a list whose lone hart is followed by another's turn.",
+        edit("run_files", "the_turns_of_a_lone_hart_may_be_of_others"),
     ),
     # The machine and its bus.
     ("A store is answered, and writes nothing.", edit("run_model", "a_store_writes_nothing")),
@@ -213,6 +225,16 @@ MUTANTS = [
     (
         "A file that was loaded is overwritten after its refusal.",
         edit("host_outside", "a_loaded_file_is_overwritten_after_its_refusal"),
+    ),
+    ("A save is told as done, and nothing is done.", edit("host_outside", "a_save_is_told_as_done_and_not_made")),
+    ("A load gives bytes of no file.", edit("host_outside", "a_load_gives_no_byte_of_no_file")),
+    (
+        "A file is written that no name can be given to, and told as saved.",
+        edit("host_outside", "a_name_that_no_file_can_have_is_told_as_saved"),
+    ),
+    (
+        "A file that is there is taken for a new one.",
+        edit("host_outside", "a_new_file_takes_one_that_is_there"),
     ),
     ("A load remembers no file.", edit("host_outside", "a_load_remembers_nothing")),
     ("A save remembers no file.", edit("host_outside", "a_saved_file_is_forgotten")),

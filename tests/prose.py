@@ -16,8 +16,6 @@ import os
 import re
 import sys
 
-import fresh_start
-
 TOP = os.path.dirname(os.path.dirname(os.path.realpath(__file__)))
 LONGEST_SENTENCE = 35
 LONGEST_CELL = 60
@@ -25,17 +23,19 @@ LONGEST_CELL = 60
 # Each page and the words that it may have. None: the page is generated, and its text comes from comments in the
 # sources and has the words of the code, so of it only the links are judged here.
 PAGES = {
+    "CHANGELOG.md": 2000,
+    "CONTRIBUTING.md": 700,
     "README.md": 900,
-    "docs/COMMANDS.md": 4200,
-    "docs/DECISIONS.md": 3000,
+    "docs/COMMANDS.md": 4900,
+    "docs/DECISIONS.md": float("inf"),  # no decision has to go because another one comes
     "docs/DEFINITIONS.md": None,
     "docs/FORMAT.md": 3700,
     "docs/GDB.md": 1300,
     "docs/GUIDE.md": 6700,
-    "docs/INTERNALS.md": 4000,
-    "docs/JSON.md": 650,
+    "docs/INTERNALS.md": 3600,
+    "docs/JSON.md": 950,
     "docs/PROOF.md": 3000,
-    "docs/PYTHON.md": 400,
+    "docs/PYTHON.md": 500,
     "docs/VIEW.md": 1300,
     "docs/WHY.md": 1750,
 }
@@ -115,7 +115,7 @@ COMMENTS = {
     ".edit": r"(?P<mark>^#)(?P<line>[^\n]*)",
 }
 COMMENTS = {ending: re.compile(pattern, re.S | re.M) for ending, pattern in COMMENTS.items()}
-ALIKE = {".awk": ".sh", ".bash": ".sh", "zelkuma": ".sh", "run": ".sh", "crates.txt": ".edit"}
+ALIKE = {".bash": ".sh", "zelkuma": ".sh", "run": ".sh", "crates.txt": ".edit"}
 
 # Sources, and the faults that their comments have, each as line and words.
 LONG = "word " * 20

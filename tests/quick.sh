@@ -7,7 +7,6 @@
 # line is 'N passed, N failed, N skipped', of scripts: one is skipped if it can try nothing on this machine (status 77).
 # However it is started, it passes: tests/fresh_start.sh.
 set -u
-. "$(dirname "$0")/fresh_start.sh"
 top=$(cd "$(dirname "$0")/.." && pwd)
 program=${1-"$top/release/zelkuma-x86_64-linux"}
 work=$(mktemp -d)
@@ -24,7 +23,7 @@ tries() { # SCRIPT WORD..
         return
     fi
     {
-        "$@" >"$kept.said" 2>&1
+        bash tests/fresh_start.sh "$@" >"$kept.said" 2>&1
         echo "status $?, $SECONDS s" >"$kept.status"
     } &
 }

@@ -2,7 +2,6 @@
 # Compares what examples/read_log.py says of logs with what the program's `check` and `list` say:
 # tests/read_log.sh PROGRAM LOG.. , or without logs of recordings that it makes of the examples.
 set -u
-. "$(dirname "$0")/fresh_start.sh"
 top=$(cd "$(dirname "$0")/.." && pwd)
 type -P python3 >/dev/null || { echo "skipped: python3 isn't here" && exit 77; }
 program=$(readlink -f "$1")

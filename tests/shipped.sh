@@ -28,6 +28,8 @@ cmp -s "$shipped" "$built" || fails "it isn't the program that was built"
 [ -x "$shipped" ] || fails "it can't be executed"
 [ "$(grep ^kit "$stamp")" = "kit rattle-kit-13f logic 0
 kit rattle-kit-13b" ] || fails "the stamp names other kits"
+runs 0 bash -c 'cd "$0/release" && sha256sum --check SHA256SUMS' "$tree"
+grep -qx "## $(<"$top/VERSION"), $(date -u +%F)" "$tree/CHANGELOG.md" || fails "the changes have no version"
 runs 0 "$tree/tests/release.sh"
 has out "the shipped program is the one that rattle-kit-13f logic 0 has built, byte for byte"
 runs 0 "$zelkuma" build
@@ -127,16 +129,26 @@ done
 what="what it says of itself"
 path=$PATH
 runs 0 "$tree/zelkuma" --version
-printf '%s\n' "program $(sha256sum <"$shipped" | cut -d ' ' -f 1) $shipped" "kit rattle-kit-13f logic 0" "kit rattle-kit-13b" >"$work/wanted"
+printf '%s\n' "zelkuma $(<"$top/VERSION")" "program $(sha256sum <"$shipped" | cut -d ' ' -f 1) $shipped" \
+    "kit rattle-kit-13f logic 0" "kit rattle-kit-13b" "commit unknown" >"$work/wanted"
 equals "$work/wanted" "$work/out"
 ZELKUMA_PROGRAM=other runs 0 "$tree/zelkuma" --version
 has out "^kit unknown"
 runs 0 "$zelkuma" --version
 has out "^program unknown"
 if type -P git >/dev/null; then
+    cp -r "$top/"{companion,.gitattributes} "$tree"
     (cd "$tree" && git init -q . && git add -A && git -c user.name=a -c user.email=a@b.c commit -qm a) >/dev/null 2>&1
     runs 0 "$tree/zelkuma" --version
     has out "^commit [0-9a-f]*$"
+    commit=$(git -C "$tree" rev-parse HEAD)
+    runs 0 "$tree/zelkuma" install "$work/prefix"
+    runs 0 "$work/prefix/bin/zelkuma" --version
+    has out "^commit $commit$"
+    mkdir "$work/exported"
+    git -C "$tree" archive HEAD | tar -C "$work/exported" -x
+    runs 0 "$work/exported/zelkuma" --version
+    has out "^commit $commit$"
     echo "$(<"$source") changed" >"$source"
     runs 0 "$tree/zelkuma" --version
     has out "^commit [0-9a-f]*, changed since$"
@@ -155,6 +167,10 @@ echo "# changed" >>"$shipped"
 runs 1 "$tree/tests/release.sh"
 has err "release/zelkuma-x86_64-linux isn't the file that its stamp says; tools/release.sh renews release/"
 cp -p "$work/kept" "$shipped"
+sed -i s/^./x/ "$tree/release/SHA256SUMS"
+runs 1 "$tree/tests/release.sh"
+has err "release/SHA256SUMS is of another file; tools/release.sh renews release/"
+runs 0 "$tree/tools/release.sh" rattle-kit-13b
 runs 0 "$tree/tests/release.sh"
 
 what="the gate, after a change"
@@ -162,10 +178,28 @@ echo changed >"$source"
 runs 0 "$zelkuma" build
 has err "what was built is not the shipped program"
 runs 1 "$tree/tests/release.sh"
-has err "the sources have changed since release/ was made; tools/release.sh renews release/"
+has err "the shipped program is not the one that rattle-kit-13f logic 0 has built; tools/release.sh renews release/"
 rm "$tree/crates/bugnet_main/out/zelkuma.stamp" # as the gate leaves it
 runs 0 "$tree/tools/release.sh" rattle-kit-13b
 runs 0 "$tree/tests/release.sh"
+
+what="a change of the sources by which the program stays as it is"
+mkdir "$tree/crates/mid/proofs"
+echo "a proof" >"$tree/crates/mid/proofs/Lib.antt"
+runs 0 "$zelkuma" build
+runs 0 "$tree/tests/release.sh"
+
+what="a version that the changes don't tell"
+echo 99.0.0 >"$tree/VERSION"
+runs 1 "$tree/tests/release.sh"
+has err "CHANGELOG.md says nothing of version 99.0.0"
+sed -i '2a## Unreleased\n' "$tree/CHANGELOG.md"
+runs 0 "$tree/tests/release.sh"
+runs 0 "$tree/tools/release.sh" rattle-kit-13b
+grep -q "^## 99.0.0, " "$tree/CHANGELOG.md" || fails "the changes have no version"
+sed -i '2a## Unreleased\n' "$tree/CHANGELOG.md"
+runs 0 "$tree/tools/release.sh" rattle-kit-13b
+[ "$(grep -c '^## ' "$tree/CHANGELOG.md")" -eq 3 ] && grep -qx "## Unreleased" "$tree/CHANGELOG.md" || fails "a version has two headings"
 
 # The gate's comparison, by a kit.
 compares_by() { # STATUS KIT

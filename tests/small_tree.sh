@@ -1,7 +1,6 @@
 # A small tree with the script zelkuma, and a toolchain that only seems to prove and build, for the tests of the script.
 # Read by these; each sets `what` to what it tries next.
 set -u
-. "$(dirname "$0")/fresh_start.sh"
 top=$(cd "$(dirname "$0")/.." && pwd)
 work=$(mktemp -d)
 trap 'rm -rf "$work"' EXIT
@@ -12,7 +11,7 @@ export RT_CALLS=$calls TMPDIR=$work/temporary
 
 # What the script may need of the system, and nothing else: so no other rt is found.
 mkdir -p "$work/system" "$work/kit/bin" "$TMPDIR" "$tree"
-for name in awk bash basename cat chmod cmp cp cut dirname env find flock grep install ln mkdir nproc od readlink rm \
+for name in awk bash basename cat chmod cmp cp cut date dirname env find flock grep install ln mkdir nproc od readlink rm \
     sed setsid sh sha256sum sleep sort stat tail touch tr wc xargs; do
     ln -s "$(type -P "$name")" "$work/system/$name"
 done
@@ -80,8 +79,10 @@ mkdir -p "$work/kit/"{rlibs,logic_built,toolchain,c,rattle/logic}
 touch "$work/kit/c/"lib{os,libc}_c.a "$work/kit/rattle/logic/antt-project.json"
 
 mkdir "$tree/tests" "$tree/release"
-cp -r "$top/zelkuma" "$top/tools" "$top/man" "$top/completion" "$tree"
-cp "$top"/tests/{release,fresh_start}.sh "$tree/tests"
+cp -r "$top/"{zelkuma,VERSION,tools,man,completion} "$tree"
+cp "$top/release/COMMIT" "$tree/release"
+printf '# Changes\n\n## Unreleased\n\nA change.\n' >"$tree/CHANGELOG.md"
+cp "$top/tests/release.sh" "$tree/tests"
 cat >"$tree/crates.txt" <<'END'
 # a comment
 low: clap

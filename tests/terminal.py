@@ -9,8 +9,6 @@ import os
 import pty
 import sys
 
-import fresh_start
-
 
 def main(words):
     awaited, file = None, None

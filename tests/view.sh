@@ -5,7 +5,6 @@
 # In FOLDER are made, to look at, the pages of a crash, a hang and a byte of the output, each in light and dark.
 # Without Chromium, or without the compiler that gives the example its names, nothing is made.
 set -eu
-. "$(dirname "$0")/fresh_start.sh"
 top=$(cd "$(dirname "$0")/.." && pwd)
 ZELKUMA_PROGRAM=${1:-${ZELKUMA_PROGRAM:-$(cd "$top" && python3 -B -c 'from companion import program; print(program.path())')}}
 export ZELKUMA_PROGRAM

@@ -220,7 +220,7 @@ build() {
     [ ${#failed[@]} -eq 0 ] || stop 1 "the program was not built; not proved: ${failed[*]}"
     [ "$(sources)" = "$sources" ] || stop 1 "the sources changed while they were proved: call it again"
     trap - INT TERM HUP
-    made "$sources" "$kit" "$built" >"$stamp"
+    made_from "$sources" "$built" "$kit" >"$stamp"
 }
 
 # Says whether the program that was built is the shipped one.

@@ -3,6 +3,7 @@
 #
 # In lib/zelkuma lie the program and the files of tools/files.txt, a fixed list, which is one of them. So an earlier
 # version's list says what is to go.
+. "$top/tools/version.sh"
 
 beside=(bin/zelkuma share/man/man1/zelkuma.1 share/bash-completion/completions/zelkuma)
 
@@ -12,6 +13,7 @@ lay() ( # PREFIX PROGRAM
     while IFS= read -r name; do
         install -D -m 644 -- "$top/$name" "$1/lib/zelkuma/$name" || exit
     done <"$top/tools/files.txt" &&
+        commit_of_tree >"$1/lib/zelkuma/release/COMMIT" &&
         install -D -m 644 -- "$top/man/zelkuma.1" "$1/${beside[1]}" &&
         install -D -m 644 -- "$top/completion/zelkuma.bash" "$1/${beside[2]}" &&
         install -D -m 755 -- "$2" "$1/lib/zelkuma/zelkuma" &&

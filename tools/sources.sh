@@ -7,6 +7,7 @@ built=$folder/out/bugnet_main
 stamp=$folder/out/zelkuma.stamp
 shipped=$top/release/zelkuma-x86_64-linux
 shipped_stamp=$top/release/STAMP
+shipped_sums=$top/release/SHA256SUMS
 
 # the kits by which it was proved and built, now or in an earlier state
 kits='rattle-kit-13f rattle-kit-13b'
@@ -48,12 +49,17 @@ kit() {
     echo "$id${cpu:+ for $cpu}"
 }
 
-# What a program was made from, as a stamp says it. Times would not do: a file that was written again may have the
-# same contents, and one of another branch may be old.
-made() { # SOURCES KIT PROGRAM [KIT..]
-    printf 'sources %s\n' "$1"
-    printf 'kit %s\n' "$2" "${@:4}"
-    printf 'program %s\n' "$(sha256 <"$3")"
+# Which program a kit, or several, have built, as a stamp says it.
+made() { # PROGRAM KIT..
+    printf 'kit %s\n' "${@:2}"
+    printf 'program %s\n' "$(sha256 <"$1")"
+}
+
+# The same with what it was made from, of the program that is built here. Times would not do: a file that was written again
+# may have the same contents, and one of another branch may be old.
+made_from() { # SOURCES PROGRAM KIT
+    echo "sources $1"
+    made "${@:2}"
 }
 
 # What a stamp says after a word.
@@ -69,7 +75,7 @@ is_fresh() { # SOURCES
     local kit
     [ -x "$built" ] && [ -f "$stamp" ] || return
     kit=$(kit) || kit=$(stamped "$stamp" kit) # no toolchain is here: what is built serves
-    [ "$(made "$1" "$kit" "$built")" = "$(<"$stamp")" ]
+    [ "$(made_from "$1" "$built" "$kit")" = "$(<"$stamp")" ]
 }
 
 # Whether a kit is one that the stamp of release/ names: those have to build the shipped program, byte for byte.
@@ -81,14 +87,17 @@ is_named() { # KIT
     return 1
 }
 
-# Whether the shipped program is that of these sources. If it isn't, `reason` says why.
-is_shipped() { # SOURCES
-    if [ ! -f "$shipped" ] || [ ! -f "$shipped_stamp" ]; then
+# The line that sha256sum --check reads of the shipped program.
+sum_of_shipped() { echo "$(sha256 <"$shipped")  ${shipped##*/}"; }
+
+# Whether the shipped program is whole. If it isn't, `reason` says why.
+is_shipped() {
+    if [ ! -f "$shipped" ] || [ ! -f "$shipped_stamp" ] || [ ! -f "$shipped_sums" ]; then
         reason="there is no shipped program in release/"
-    elif [ "$(stamped "$shipped_stamp" sources)" != "$1" ]; then
-        reason="the sources have changed since release/ was made"
     elif [ "$(stamped "$shipped_stamp" program)" != "$(sha256 <"$shipped")" ]; then
         reason="release/${shipped##*/} isn't the file that its stamp says"
+    elif [ "$(<"$shipped_sums")" != "$(sum_of_shipped)" ]; then
+        reason="release/SHA256SUMS is of another file"
     else
         return 0
     fi

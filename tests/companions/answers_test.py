@@ -28,6 +28,8 @@ class AnswersTest(case.Case):
         self.assertEqual(said.count("\n"), 1)
         found = json.loads(said)
         self.assertEqual((found.pop("answer"), found.pop("version")), (words[0], 1))
+        with open(os.path.join(common.TOP, "VERSION"), encoding="ascii") as file:
+            self.assertEqual(found.pop("zelkuma") + "\n", file.read())
         return found
 
     def test_why(self):
@@ -77,7 +79,7 @@ class AnswersTest(case.Case):
         words = ["--", "--harts", "2", self.elf("hand_over"), common.path("seeds.log"), common.path("seeds.book")]
         found = json.loads(self.says("seeds", "--json", "--only", "seeds", "1", "9", *words))
         self.assertEqual((found["answer"], found["seed"], found["from"], found["to"]), ("seeds", 3, 1, 9))
-        self.assertEqual(set(found), {"answer", "version", "kind", "number", "seed", "command", "status", "from", "to", "tried",
+        self.assertEqual(set(found), {"answer", "version", "zelkuma", "kind", "number", "seed", "command", "status", "from", "to", "tried",
                                       "endings"})
         self.assertEqual(found["endings"][0], {"status": 0, "place": "-", "count": 2, "kind": "seed", "number": 1})
         self.assertEqual((found["kind"], found["number"], found["tried"], len(found["endings"])), ("seed", 3, 3, 2))

@@ -66,7 +66,7 @@ class BadInputTest(case.Case):
         self.refused("bucket: a log that kept no interval", 14, "holds no", "bucket", none, hang)
         self.refused("why: a row that isn't there", 14, "no row 0:99999999", "why", log, elf, "--row", "0:99999999")
         self.refused("why: --row without a count", 2, "HART:COUNT", "why", log, elf, "--row", "7")
-        self.refused("why: a page that can't be saved", 4, "missing", "why", log, elf, "--html", path("nowhere/page.html"))
+        self.refused("why: a page that can't be saved", 3, "no folder", "why", log, elf, "--html", path("nowhere/page.html"))
         self.refused("names: no ELF", 6, "no 32-bit", "names", path("text"))
         self.refused("no such companion", 2, "no companion is called", "nothing")
         self.refused("no such program", 1, "is no program", "why", log, elf, environment={"ZELKUMA_PROGRAM": path("nowhere")})

@@ -93,11 +93,11 @@ def case_other_ends(recordings):
 
 def case_none_is_found(recordings):
     folder = Folder(recordings, "none")
-    recordings.write("none/LOG", b"of before")
+    recordings.write("none/LOG", b"BUGNETLG of before")
     status, out, err = seeds("--only", "seeds", "1", "2", "--", "--harts", "2", HAND_OVER, folder.log, folder.book)
     assert status == NOT_FOUND and err == "zelkuma: none of seeds from 1 to 2 ends with status 10\n", err
     assert out.startswith(HEAD) and rows(out) == [["0", "2", "seed 1", "-"]], out
-    assert content(folder.log) == b"of before" and folder.names() == ["LOG"]
+    assert content(folder.log) == b"BUGNETLG of before" and folder.names() == ["LOG"]
 
 
 def case_without_a_list_of_turns(recordings):
@@ -222,8 +222,8 @@ def program_of(recordings, name, line, status=0):
     """A script in place of the program: after a line of its own it saves LOG and BOOK, and ends with a status."""
     script = recordings.write(name, f"""#!/bin/bash
 {line}
-echo log >"${{@: -2:1}}"
-echo book >"${{@: -1}}"
+printf BUGNETLG >"${{@: -2:1}}"
+printf '\\0' >"${{@: -1}}"
 exit {status}
 """.encode())
     os.chmod(script, 0o755)
@@ -247,7 +247,7 @@ def case_a_hit_ends_what_could_go_on_for_ever(recordings):
         script = program_of(recordings, "ended.sh", f"[[ $* {test} *--seed=* ]] && exec sleep 600", 11)
         done = seeds(*words, program=script)
         assert first_line(done) == (0, f"{found}: status 11") and rows(done[1]) == [["11", "1", found, "-"]], done
-        assert folder.names() == ["BOOK", "LOG"] and content(folder.book) == b"book\n"
+        assert folder.names() == ["BOOK", "LOG"] and content(folder.book) == b"\0"
 
 
 def case_one_in_threads_at_a_time(recordings):
@@ -283,7 +283,7 @@ def case_interrupted_when_one_is_found(recordings):
     words = ["-j2", "--only", "seeds,sleepers", "--until", "0", "0", "9", "--", TWO_LOCKS]
     out = interrupted(folder, is_found, *words, program=script)
     assert out.startswith("sleeper 0: status 0\n") and rows(out) == [["0", "1", "sleeper 0", "-"]], out
-    assert folder.names() == ["BOOK", "LOG"] and content(folder.log) == b"log\n"
+    assert folder.names() == ["BOOK", "LOG"] and content(folder.log) == b"BUGNETLG"
 
 
 def case_progress_on_a_terminal(recordings):

@@ -125,6 +125,8 @@ class ViewTest(case.Case):
         self.assertEqual(reader.elements.count("script"), 2)
         self.assertEqual([tag for tag in reader.elements if tag in ("img", "link", "iframe", "object", "embed", "base")], [])
         self.assertEqual([name for name, _ in reader.attributes if name in ("src", "href", "action") or name[:2] == "on"], [])
+        with open(os.path.join(common.TOP, "VERSION"), encoding="ascii") as file:
+            self.assertIn(("content", f"Zelkuma {file.read().strip()}"), reader.attributes)
 
     def test_twice_the_same(self):
         self.assertEqual(self.view("tills", "--seed", "1", "--harts", "2"), self.view("tills", "--seed", "1", "--harts", "2"))

@@ -63,12 +63,6 @@ class WhyTest(case.Case):
         self.assertEqual(len(found), 1)
         self.assertIn("hart 0 chose the way in work hang_barrier.c:71", found[0])
 
-    def test_what_was_taken_and_not_given_back(self):
-        found = [item for item in suspects(self.says("why", *self.crash("hang_permits"))) if "it was taken in" in item]
-        self.assertEqual(len(found), 1)
-        self.assertIn("hart 0 chose the way in long_job hang_permits.c:81", found[0])
-        self.assertIn("else it is given back in give_back hang_permits.c:53", found[0])
-
     def test_the_store_that_closed_a_circle(self):
         first = suspects(self.says("why", *self.crash("hang_recent")))[0]
         self.assertIn("hart 0 stored it in put_second hang_recent.c:53", first)
@@ -143,6 +137,7 @@ class WhyTest(case.Case):
         with open(path("hang.html")) as file:
             page = file.read()
         self.check("--html holds the same text, and nothing to load", "<h2>CALLS</h2>" in page and not re.search(r"src=|href=|https?:|<script", page))
+        self.check("--html tells the version", re.search(r'name="generator" content="Zelkuma [0-9.]+"', page))
 
 
 if __name__ == "__main__":

@@ -1,4 +1,4 @@
-# What the script zelkuma knows of commands, options and statuses. Made by tools/help/make.sh of its tables.
+# What the script zelkuma knows of commands, options and statuses. Made by tools/help/make.py of its tables.
 
 # What a command takes: its names, and of each option the value.
 declare -A takes=(
@@ -30,7 +30,7 @@ declare -A takes=(
 [record.ways2]="N"
 [audit.input]="FILE"
 )
-companions=" names why race view gdb bucket output seeds again "
+companions=" names why race view gdb bucket output seeds again shrink history "
 # The ranges of names that are numbers.
 declare -A ranges=(
 [HART]="0 to 18446744073709551615"

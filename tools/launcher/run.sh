@@ -50,7 +50,7 @@ await_program() {
 
 run() { # WORD..
     local words=("$@") wanted=() child='' shower='' caught='' signal status
-    if [ "$1" = record ]; then
+    if [[ $1 == @(record|convert|salvage) ]]; then
         . "$top/tools/launcher/targets.sh"
         read_words
         [ -n "$complaint" ] || { check_schedule && check_targets; }

@@ -1,5 +1,5 @@
-# Looks before a recording whether its files can be saved, and whether they would take the place of one that is needed:
-# it saves only when the run is over. Read by run.sh, once words.sh has read the words.
+# Looks before a command that saves whether its files can be saved, and whether they would take the place of one that
+# isn't an older one: a recording saves only when the run is over. Read by run.sh, once words.sh has read the words.
 
 # Sets `place`, which a file of this name has or would have, through a link too that leads to no file; `folder`, its folder.
 find_place() { # NAME FILE
@@ -9,18 +9,26 @@ find_place() { # NAME FILE
     folder=${place%/*}/
 }
 
+# Whether a file that begins with `head` is of the kind that is saved: a log or, as BOOK, a list of turns.
+is_older() { # NAME
+    local LC_ALL=C
+    [[ -z $head || ($1 != BOOK && $head == BUGNETLG*) || ($1 == BOOK && $head != *[!$'\x01'-$'\x0f']*) ]]
+}
+
 # Stops if a file that is there can't be written, or is one of those that would be missed.
 check_old_target() { # NAME FILE
     [ ! -d "$2" ] || stop 3 "$1 can't be saved: ${2@Q} is a folder"
     [ -w "$2" ] || stop 3 "$1 can't be saved: ${2@Q} may not be written"
     [ -f "$2" ] || return 0
-    [ ! "$2" -ef "${names[0]}" ] || stop 2 "$1 would destroy ELF: ${2@Q} and ${names[0]@Q} are one file"
+    [ ! "$2" -ef "${names[0]}" ] || stop 2 "$1 would destroy ${wanted[0]}: ${2@Q} and ${names[0]@Q} are one file"
     [[ -z ${values[input]-} || ! $2 -ef ${values[input]} ]] ||
         stop 2 "$1 would destroy the input: ${2@Q} and ${values[input]@Q} are one file"
     [[ ${ZELKUMA_SCHEDULE-} != book:* || ! $2 -ef ${ZELKUMA_SCHEDULE#book:} ]] ||
         stop 2 "$1 would destroy ${2@Q}, whose turns ZELKUMA_SCHEDULE names"
-    read_head "$2" 4
-    [[ $head != $'\x7fELF'* ]] || stop 2 "$1 would destroy ${2@Q}, which is an ELF file; the order is ELF LOG BOOK"
+    [[ $1 != BOOK || ! $2 -ef ${names[1]} ]] || stop 2 "BOOK would destroy LOG: ${2@Q} and ${names[1]@Q} are one file"
+    read_head "$2"
+    [[ $head != $'\x7fELF'* ]] || stop 2 "$1 would destroy ${2@Q}, which is an ELF file; the order is ${wanted[*]}"
+    is_older "$1" || stop 2 "$1 would destroy ${2@Q}, which is no older $1; remove it first, or give another name"
 }
 
 # Whether the last part of a name has more bytes than a file's name can have.
@@ -37,18 +45,18 @@ check_target() { # NAME FILE
 
 # Stops if ZELKUMA_SCHEDULE names turns in no way that the program knows.
 check_schedule() {
-    [[ ${ZELKUMA_SCHEDULE:-book:} == book:* ]] ||
+    [[ ${words[0]} != record || ${ZELKUMA_SCHEDULE:-book:} == book:* ]] ||
         { [[ $ZELKUMA_SCHEDULE == @(bursts|sleeper):* ]] && is_number "${ZELKUMA_SCHEDULE#*:}" 0 18446744073709551615; } ||
         stop 2 "ZELKUMA_SCHEDULE is bursts:NUMBER, sleeper:NUMBER or book:FILE, and not ${ZELKUMA_SCHEDULE@Q}"
 }
 
-# LOG and BOOK, but for a lean recording, which saves no BOOK. Of equal names the program says it.
+# NEW, or LOG and BOOK, but for a lean recording, which saves no BOOK. Of equal names the program says it.
 check_targets() {
     local place folder log log_folder
-    check_target LOG "${names[1]}"
-    [[ -z ${values[lean]+given} && ${names[1]} != "${names[2]}" ]] || return 0
+    [ "NEW ${names[0]}" = "${wanted[1]} ${names[1]}" ] || check_target "${wanted[1]}" "${names[1]}"
+    [[ ${wanted[1]} == LOG && -z ${values[lean]+given} && ${names[1]} != "${names[2]}" ]] || return 0
     log=$place log_folder=$folder
     check_target BOOK "${names[2]}"
-    [[ (-f $log && $log -ef $place) || (! -e $log && ${log##*/} == "${place##*/}" && $log_folder -ef $folder) ]] || return 0
+    [[ ! -e $log && ${log##*/} == "${place##*/}" && $log_folder -ef $folder ]] || return 0
     stop 2 "BOOK would destroy LOG: ${names[2]@Q} and ${names[1]@Q} are one file"
 }

@@ -17,7 +17,7 @@ is_number() { # WORD LOW HIGH
 }
 
 # A number with K, M or G after it (1024 times, each), or 0x before it, in decimal; sets `decimal`. A word that is none,
-# and one that is too large, stay as they are.
+# and one that is too large, stay as they are. companion/options.py reads them alike: tests/numbers.txt.
 to_decimal() { # WORD
     local digits K=10 M=20 G=30
     decimal=$1
@@ -26,7 +26,7 @@ to_decimal() { # WORD
         printf -v decimal %u "0x${BASH_REMATCH[1]}"
     elif [[ $1 =~ ^0*([0-9]{1,18})([KMG])$ ]]; then
         digits=${BASH_REMATCH[1]}
-        ((digits << BASH_REMATCH[2] >> BASH_REMATCH[2] != digits)) || decimal=$((digits << BASH_REMATCH[2]))
+        ((digits >> 64 - BASH_REMATCH[2])) || printf -v decimal %u "$((digits << BASH_REMATCH[2]))"
     fi
 }
 

@@ -5,3 +5,4 @@ pub mod History
 pub mod LastMarks
 pub mod Order
 pub mod OwnTurn
+pub mod Lone

@@ -1,5 +1,5 @@
 -- What a bus keeps, and the rows that led to it.
-use Rattle.std.specs.Prelude.{◌≡◌, ℕ, zero, suc, ◌+◌, Bool, true, false, not, List, [], ◌∷◌, ◌++◌, slice_get, Option, Result, Ok, Err}
+use Rattle.std.specs.Prelude.{◌≡◌, ◌<◌, ◌≤◌, ℕ, zero, suc, ◌+◌, replicate, Bool, true, false, not, List, [], ◌∷◌, ◌++◌, slice_get, Option, Result, Ok, Err}
 use Rattle.bn_base.specs.Programs.{Program}
 use Rattle.bn_base.specs.declared.end_mark.EndMark.{EndMark}
 use Rattle.bn_base.specs.declared.settings.RawSettings.{RawSettings}
@@ -20,8 +20,8 @@ use Rattle.first_load_bits.specs.Represents.{Contents}
 use Rattle.run_model.specs.Represents.EachCache.{AreCaches}
 use Rattle.run_model.specs.Represents.Harts.{AreHarts, is_live_hart}
 use Rattle.run_model.specs.Turn.{Run, Served, halted, serve, turn}
-use Rattle.run_model.specs.Runs.{start}
-use Rattle.run_laws.specs.History.{after_rows, are_orderly, row_at, IsLawful}
+use Rattle.run_model.specs.Runs.{start, run_from, legal_from}
+use Rattle.run_laws.specs.History.{after_rows, are_orderly, row_at, rows_from, IsLawful}
 use Rattle.file_laws.specs.Recorded.{counts_of, KeepsRules}
 
 -- what a run begins with
@@ -170,6 +170,19 @@ pub record IsLogged (s : Seen) (ring : Held) (rows : List TurnRow) : Type 0 wher
 -- whether a hart of the bus is live
 abbrev pub is_live : Seen → ℕ → Bool
 is_live s k = is_live_hart (slice_get s.harts k)
+
+-- from one to the other the one hart of a run took turns, at least one and no more than the most, and at each it was live
+pub record HasTurnedAlone (tells : Bool) (most : ℕ) (old new : Seen) : Type 0 where
+  pub count : ℕ
+  pub some : 0 < count
+  pub few : count ≤ most
+  pub began : new.began ≡ old.began
+  pub halted : new.halted ≡ old.halted
+  pub disordered : new.disordered ≡ old.disordered
+  pub turns : new.turns ≡ old.turns + count
+  pub state : (run : Run) → IsState old run → IsState new (run_from old.began.settings old.began.image run (replicate count 0))
+  pub legal : (run : Run) → IsState old run → legal_from old.began.settings old.began.image run (replicate count 0) ≡ true
+  pub told : tells ≡ true → (run : Run) → IsState old run → new.rows ≡ old.rows ++ rows_from old.began.settings old.began.image run (replicate count 0)
 
 -- the last marks of n harts from k on
 abbrev pub marks : ℕ → ℕ → (ℕ → Hart) → List (Option EndMark)

@@ -1,10 +1,10 @@
 //! A turn of a hart in the bus's own place: its quiet instructions, and what it asks after them.
 //! Each run on the caller's thread takes all its turns here.
-ghost use Rattle.std.specs.Prelude.{◌≡◌, ◌<◌, ◌+◌, ◌∷◌, ◌++◌, [], true, false, IsTrue, OnOk, OnErr};
+ghost use Rattle.std.specs.Prelude.{◌≡◌, ◌<◌, ◌+◌, ◌∷◌, ◌++◌, [], true, false, IsTrue, IfOk, OnOk, OnErr};
 ghost use Rattle.run_model.specs.Turn.{Run, ask_at, is_orderly};
 ghost use Rattle.run_model.specs.Represents.Harts.{hart_in};
 ghost use Rattle.run_model.specs.Represents.Turning.{parts};
-ghost use Rattle.bus_core.specs.Bus.{turned_run, turn_row, is_live, IsState};
+ghost use Rattle.bus_core.specs.Bus.{turned_run, turn_row, is_live, IsState, HasTurnedAlone};
 
 use crate::bus::Bus;
 use crate::turn::answer_orderly;
@@ -47,6 +47,42 @@ impl<B: Book> Bus<B> {
         each_ask_is_orderly();
         self.plain.turn_ahead(code, hart)?;
         Ok(())
+    }
+
+    /// Turns of the one hart of a run, which is live: at least one, and at most so many. They are those of as many calls of
+    /// [`Bus::take_turn`], which takes longer.
+    ///
+    /// The only error is out of memory. The bus is dropped then.
+    // By value: a turn that finds no memory may have been done in part, and its bus would be that of no rows.
+    pub fn take_turns(self, code: &DecodedImage, most: u64) -> Result<Bus<B>, AllocError>
+        requires live { is_live self 0 ≡ true }
+        requires alone { self.began.settings.harts ≡ 1 }
+        requires code { code.now ≡ self.began.image }
+        requires some { 0 < most }
+        ensures turned { IfOk result (λ bus. HasTurnedAlone B.tells most self bus) }
+    {
+        notes_decide();
+        if self.book.rows().is_some() {
+            let mut bus = self;
+            bus.take_turn(code, 0)?;
+            return Ok(bus);
+        }
+        let Bus {
+            plain,
+            ends,
+            book,
+            halted,
+            disordered,
+        } = self;
+        let mut now = plain;
+        now.turns_alone(code, most)?;
+        Ok(Bus {
+            plain: now,
+            ends,
+            book,
+            halted,
+            disordered,
+        })
     }
 
     /// The next turn of a live hart, which does its quiet instructions up to its first ask: the ask is

@@ -1,13 +1,13 @@
 -- What a load answers by a try to open a file.
-use Rattle.std.proofs.Common.{◌≡◌, ℕ, List, Option, ap, subst, sym, inl, inr}
-use Rattle.std.specs.Prelude.{Result, Ok, Err, OnOk, Vec}
+use Rattle.std.proofs.Common.{ℕ, List, Option, ap, subst, sym, inl, inr}
+use Rattle.std.specs.Prelude.{Bool, Result, Ok, Err, Vec}
 use Rattle.std.specs.List.{Contains}
 use Rattle.std.specs.Io.KnownBytes.{Appends}
 use Rattle.std.specs.declared.io.Error.{Error}
 use Rattle.bn_outside.specs.declared.store.LoadError.{LoadError}
 use Rattle.host_outside.specs.declared.opened.Opened.{Opened}
 use Rattle.host_outside.specs.declared.spared_files.FileId.{FileId}
-use Rattle.host_outside.specs.Answers.{AnswersTry, FileTells, IsSpared, OpensToLoad, WroteSome}
+use Rattle.host_outside.specs.Answers.{AnswersTry, FileTells, IsSpared, OpensToLoad, WroteIf}
 
 -- what could not be opened, or not be remembered, is told as it was
 pub no_file : {F : Type 0} (A : Type 0) (remaining : F → Option (List ℕ)) (limit : ℕ) (spared : List FileId) (tried : Result (Opened F) Error) (e : LoadError) → OpensToLoad spared tried (Err e) → AnswersTry {F = F} {A = A} remaining limit spared tried (Err e)
@@ -24,12 +24,7 @@ pub is_spared : {F : Type 0} (spared : List FileId) (tried : Result (Opened F) E
 is_spared spared (Err x) o opened = absurd opened
 is_spared spared (Ok w) o opened = subst (λ v. IsSpared spared v) (sym opened.0) opened.1
 
--- a file that was written and remembered is one that was given the bytes
-pub wrote : {F T E : Type 0} (contents : F → Option (List ℕ)) (bytes : List ℕ) (spared : List FileId) (result : Result T E) (before : Opened F) (after : F) → OnOk result (Appends (contents before.file) (contents after) bytes) → OnOk result (IsSpared spared before) → OnOk result (WroteSome contents bytes spared)
-wrote contents bytes spared (Ok v) before after written is_spared = record { before = before; after = after; written = written; is_spared = is_spared }
-wrote contents bytes spared (Err e) before after written is_spared = tt
-
--- a file that was remembered, whatever it is, is spared
-pub remembered : {F T E : Type 0} (spared : List FileId) (result : Result T E) (o : Opened F) → OnOk result (Contains spared o.id) → OnOk result (IsSpared spared o)
-remembered spared (Ok v) o has = λ _. has
-remembered spared (Err e) o has = tt
+-- a file that was written and remembered is one that was given the bytes, whatever else is then answered
+pub wrote : {F E : Type 0} (contents : F → Option (List ℕ)) (bytes : List ℕ) (spared : List FileId) (result : Result Bool E) (before : Opened F) (after : F) → Appends (contents before.file) (contents after) bytes → Contains spared before.id → WroteIf contents bytes spared result
+wrote contents bytes spared (Ok done) before after written has = λ _. record { before = before; after = after; written = written; is_spared = λ _. has }
+wrote contents bytes spared (Err e) before after written has = tt

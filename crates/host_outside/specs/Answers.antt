@@ -1,5 +1,5 @@
 -- What an answer says of a file's bytes.
-use Rattle.std.specs.Prelude.{◌≡◌, ◌<◌, ◌↔◌, ◌⊎◌, ℕ, List, length, Option, IfSome, Result, Ok, Err, IsFalse, Vec, ⊤}
+use Rattle.std.specs.Prelude.{◌≡◌, ◌<◌, ◌↔◌, ◌⊎◌, ℕ, List, length, Bool, Option, IfOk, IfSome, Result, Ok, Err, IsFalse, IsTrue, Vec, ⊤}
 use Rattle.std.specs.List.{Contains}
 use Rattle.std.specs.Io.KnownBytes.{Appends}
 use Rattle.std.specs.IoError.{error_kind}
@@ -53,3 +53,7 @@ pub record WroteSome {F : Type 0} (contents : F → Option (List ℕ)) (bytes : 
   pub after : F
   pub written : Appends (contents before.file) (contents after) bytes
   pub is_spared : IsSpared spared before
+
+-- a save that is done, and not refused or left undone, wrote a file
+abbrev pub WroteIf : {F E : Type 0} → (F → Option (List ℕ)) → List ℕ → List FileId → Result Bool E → Type 0
+WroteIf contents bytes spared result = IfOk result (λ done. IsTrue done → WroteSome contents bytes spared)

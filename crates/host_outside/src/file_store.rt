@@ -1,21 +1,23 @@
 //! The files of the system as a store.
-ghost use Rattle.std.specs.Prelude.{◌≡◌, ◌≤◌, ◌↔◌, None, Ok, Err, IfOk, IsFalse, OnOk, vec_len};
+ghost use Rattle.std.specs.Prelude.{◌≡◌, ◌≤◌, ◌↔◌, ⊤, None, Ok, Err, IfOk, IsFalse, OnOk, vec_len};
 ghost use Rattle.std.specs.List.{Contains};
-ghost use Rattle.host_outside.specs.Answers.{AnswersSomeTry, AnswersTry, FileTells, OpensToLoad, WroteSome};
+ghost use Rattle.bn_outside.specs.Counts.{counted, NoneFell, LoadCause, SaveCause};
+ghost use Rattle.host_outside.specs.Answers.{AnswersSomeTry, AnswersTry, FileTells, OpensToLoad, WroteIf, WroteSome};
 ghost use Rattle.host_outside.specs.Kinds.{IsMissing, RanOutOfMemory};
 ghost use Rattle.host_outside.specs.declared.spared_files.FileId.{FileId as AnyFile};
 
 use crate::limits::most_bytes;
 use crate::opened::{Opened, open_to_read, open_to_write, save_options};
 use crate::replacing::{
-    end_of_links, is_free, make_beside, make_like, overwrite, put, put_over, save_error,
+    end_of_links, is_free, make_first, make_like, overwrite, put_first, put_over, save_error,
 };
 use crate::spared_files::SparedFiles;
 use crate::streams::ReaderSource;
 use bn_outside::{LoadError, ReadError, SaveError, Store, read_to_end};
 use std::alloc::Global;
-use std::fs::{Files, Metadata};
-use std::io::{ErrorKind, Read};
+use std::fs::{Files, Metadata, OpenFile};
+use std::io::{ErrorKind, Read, Write};
+use std::random::RandomSource;
 use std::{fs, io};
 
 /// The files of the system. A name is a path.
@@ -71,15 +73,15 @@ fn load_error(kind: ErrorKind) -> LoadError
 
 // Remembers a file that was opened to be loaded.
 fn open_to_load<F: Drop>(
-    opened: io::Result<Opened<F>>,
+    tried: io::Result<Opened<F>>,
     spared: &mut SparedFiles,
 ) -> Result<Opened<F>, LoadError>
-    ensures told { OpensToLoad spared.new opened result }
+    ensures told { OpensToLoad spared.new tried result }
     ensures kept { (id : AnyFile) → Contains spared.old id → Contains spared.new id }
 {
-    match opened {
-        Ok(open) => match open.remember(spared) {
-            Ok(()) => Ok(open),
+    match tried {
+        Ok(opened) => match opened.remember(spared) {
+            Ok(()) => Ok(opened),
             Err(_) => Err(LoadError::OutOfMemory),
         },
         Err(error) => Err(load_error(error.kind())),
@@ -89,15 +91,15 @@ fn open_to_load<F: Drop>(
 // The bytes of an open file, if they are at most `limit`. No more than the limit and one piece is read.
 fn read_file<F: Read + Drop>(
     alloc: Global,
-    open: Opened<F>,
+    opened: Opened<F>,
     spared: &SparedFiles,
     limit: usize,
 ) -> Result<Vec<u8>, LoadError>
-    requires { IsFalse open.is_stream → Contains spared.now open.id }
+    requires { IsFalse opened.is_stream → Contains spared.now opened.id }
     ensures bound { IfOk result (λ bytes. vec_len bytes ≤ limit) }
-    ensures told { FileTells (F.remaining open.file) limit result }
+    ensures told { FileTells (F.remaining opened.file) limit result }
 {
-    let Opened { file, metadata, .. } = open;
+    let Opened { file, metadata, .. } = opened;
     let size = usize::try_from(metadata.len()).unwrap_or(0);
     match read_to_end(alloc, &mut ReaderSource::new(file), size, limit) {
         Ok(bytes) => Ok(bytes),
@@ -110,16 +112,16 @@ fn read_file<F: Read + Drop>(
 // Loads what a try to open a file gave, and remembers the file.
 fn load_opened<F: Read + Drop>(
     alloc: Global,
-    opened: io::Result<Opened<F>>,
+    tried: io::Result<Opened<F>>,
     limit: usize,
     spared: &mut SparedFiles,
 ) -> Result<Vec<u8>, LoadError>
     ensures bound { IfOk result (λ bytes. vec_len bytes ≤ limit) }
-    ensures told { AnswersTry F.remaining limit spared.new opened result }
+    ensures told { AnswersTry F.remaining limit spared.new tried result }
     ensures kept { (id : AnyFile) → Contains spared.old id → Contains spared.new id }
 {
-    match open_to_load(opened, spared) {
-        Ok(open) => read_file(alloc, open, spared, limit),
+    match open_to_load(tried, spared) {
+        Ok(opened) => read_file(alloc, opened, spared, limit),
         Err(error) => Err(error),
     }
 }
@@ -154,26 +156,26 @@ fn has_room<R: Files>(rt: &R, name: &str, length: usize) -> bool {
 
 // A file that was opened to be saved, unless it is one that was loaded or saved.
 fn open_to_save<F: Drop>(
-    opened: io::Result<Opened<F>>,
+    tried: io::Result<Opened<F>>,
     spared: &SparedFiles,
 ) -> Result<Opened<F>, SaveError>
     ensures spared { IfOk result (λ o. Contains spared.now o.id → ⊥) }
-    ensures memory { (result ≡ Err SaveError.OutOfMemory) ↔ RanOutOfMemory opened }
-    ensures others { IfOk opened (λ o. (Contains spared.now o.id → ⊥) → result ≡ Ok o) }
+    ensures memory { (result ≡ Err SaveError.OutOfMemory) ↔ RanOutOfMemory tried }
+    ensures others { IfOk tried (λ o. (Contains spared.now o.id → ⊥) → result ≡ Ok o) }
 {
-    match opened {
-        Ok(open) => {
-            if spared.has(open.id) {
+    match tried {
+        Ok(opened) => {
+            if spared.has(opened.id) {
                 return Err(SaveError::Failed);
             }
-            Ok(open)
+            Ok(opened)
         }
         Err(error) => Err(save_error(error.kind())),
     }
 }
 
-// Saves a file under a name that none has, as two looks for one told. No other file may lose its name so.
-fn save_new<R: Files>(
+// Saves a file under a name that none has, as two looks for one told. Whether none had it until the save.
+fn save_first<R: Files + RandomSource>(
     rt: &R,
     alloc: Global,
     name: &str,
@@ -181,39 +183,80 @@ fn save_new<R: Files>(
     at_end: &io::Result<Metadata>,
     bytes: &[u8],
     spared: &mut SparedFiles,
-) -> Result<(), SaveError>
+) -> Result<bool, SaveError>
     requires { IsMissing found.now × IsMissing at_end.now }
-    ensures saved { OnOk result (WroteSome R.File.contents bytes.now spared.new) }
+    ensures saved { WroteIf R.File.contents bytes.now spared.new result }
     ensures kept { (id : AnyFile) → Contains spared.old id → Contains spared.new id }
 {
-    match make_beside(rt, alloc, name) {
-        Ok(fresh) => put(rt, fresh, name, bytes, spared),
+    match make_first(rt, alloc, name) {
+        Ok(fresh) => put_first(rt, fresh, name, bytes, spared),
         Err(error) => Err(save_error(error.kind())),
     }
 }
 
+// Saves an open file in place of what it has, unless it is one that was loaded or saved.
+fn save_in_place<F: OpenFile + Write + Drop>(
+    mut opened: Opened<F>,
+    bytes: &[u8],
+    spared: &mut SparedFiles,
+) -> Result<(), SaveError>
+    ensures saved { OnOk result (WroteSome F.contents bytes.now spared.new) }
+    ensures kept { (id : AnyFile) → Contains spared.old id → Contains spared.new id }
+{
+    if spared.has(opened.id) {
+        return Err(SaveError::Failed);
+    }
+    overwrite(&mut opened, bytes, spared)
+}
+
 // Saves a file that is there, and open. The name is its own, and no link.
-fn save_over<R: Files>(
+fn save_over<R: Files + RandomSource>(
     rt: &R,
     alloc: Global,
-    mut open: Opened<R::File>,
+    opened: Opened<R::File>,
     name: &str,
     bytes: &[u8],
     spared: &mut SparedFiles,
 ) -> Result<(), SaveError>
-    requires { Contains spared.old open.id → ⊥ }
+    requires { Contains spared.old opened.id → ⊥ }
     ensures saved { OnOk result (WroteSome R.File.contents bytes.now spared.new) }
     ensures kept { (id : AnyFile) → Contains spared.old id → Contains spared.new id }
 {
-    match make_like(rt, alloc, &open, name) {
-        Ok(Some(fresh)) => put_over(rt, fresh, name, open.id, bytes, spared),
-        Ok(None) => overwrite(&mut open, bytes, spared),
+    match make_like(rt, alloc, &opened, name) {
+        Ok(Some(fresh)) => match put_over(rt, fresh, name, &opened, bytes, spared) {
+            Ok(true) => Ok(()),
+            Ok(false) => save_in_place(opened, bytes, spared),
+            Err(error) => Err(error),
+        },
+        Ok(None) => save_in_place(opened, bytes, spared),
         Err(error) => Err(save_error(error.kind())),
     }
 }
 
-// Saves a file.
-fn save_file<R: Files>(
+// Saves a file, unless the name was free and then was not. Whether it is saved.
+fn try_to_save<R: Files + RandomSource>(
+    rt: &R,
+    alloc: Global,
+    name: &str,
+    bytes: &[u8],
+    spared: &mut SparedFiles,
+) -> Result<bool, SaveError>
+    ensures saved { WroteIf R.File.contents bytes.now spared.new result }
+    ensures kept { (id : AnyFile) → Contains spared.old id → Contains spared.new id }
+{
+    let end = end_of_links(rt, alloc, name)?;
+    let found = fs::metadata(rt, name);
+    let at_end = fs::symlink_metadata(rt, end.as_str());
+    if is_free(&found, &at_end) {
+        return save_first(rt, alloc, end.as_str(), &found, &at_end, bytes, spared);
+    }
+    let opened = open_to_save(open_to_write(rt, name, &save_options()), spared)?;
+    save_over(rt, alloc, opened, end.as_str(), bytes, spared)?;
+    Ok(true)
+}
+
+// Saves a file. A name that was taken meanwhile is looked for once more.
+fn save_file<R: Files + RandomSource>(
     rt: &R,
     alloc: Global,
     name: &str,
@@ -226,17 +269,16 @@ fn save_file<R: Files>(
     if !has_room(rt, name, bytes.len()) {
         return Err(SaveError::Failed);
     }
-    let end = end_of_links(rt, alloc, name)?;
-    let found = fs::metadata(rt, name);
-    let at_end = fs::symlink_metadata(rt, end.as_str());
-    if is_free(&found, &at_end) {
-        return save_new(rt, alloc, end.as_str(), &found, &at_end, bytes, spared);
+    if try_to_save(rt, alloc, name, bytes, spared)? {
+        return Ok(());
     }
-    let open = open_to_save(open_to_write(rt, name, &save_options()), spared)?;
-    save_over(rt, alloc, open, end.as_str(), bytes, spared)
+    if try_to_save(rt, alloc, name, bytes, spared)? {
+        return Ok(());
+    }
+    Err(SaveError::Failed)
 }
 
-impl<'a, R: Files> Store for FileStore<'a, R> {
+impl<'a, R: Files + RandomSource> Store for FileStore<'a, R> {
     // It notes nothing.
     ghost stored = { λ s. record {
       files = None;
@@ -247,7 +289,21 @@ impl<'a, R: Files> Store for FileStore<'a, R> {
 
     ghost note = { λ _ _. 0 };
 
-    fn load(&mut self, alloc: Global, name: &str, limit: usize) -> Result<Vec<u8>, LoadError> {
+    fn load(&mut self, alloc: Global, name: &str, limit: usize) -> Result<Vec<u8>, LoadError>
+        ensures bound { IfOk result (λ bytes. vec_len bytes ≤ limit) }
+        ensures asked { self.new.saves ≡ self.old.saves }
+        ensures later { NoneFell
+            (record { misses = self.old.misses; longs = self.old.longs; faults = self.old.faults })
+            (record { misses = self.new.misses; longs = self.new.longs; faults = self.new.faults }) }
+        ensures cause { LoadCause
+            (record { misses = self.old.misses; longs = self.old.longs; faults = self.old.faults })
+            (record { misses = self.new.misses; longs = self.new.longs; faults = self.new.faults })
+            result }
+
+        // It answers what some try to open a file came to, and spares the file.
+        ensures answers { AnswersSomeTry R.File.remaining limit self.new.spared result }
+        ensures kept { (id : AnyFile) → Contains self.old.spared id → Contains self.new.spared id }
+    {
         let result = load_file(self.rt, alloc, name, limit, &mut self.spared);
         match &result {
             Err(LoadError::Missing) => self.misses = self.misses.saturating_add(1),
@@ -258,7 +314,22 @@ impl<'a, R: Files> Store for FileStore<'a, R> {
         result
     }
 
-    fn save(&mut self, name: &str, bytes: &[u8]) -> Result<(), SaveError> {
+    // As no clause tells what files hold, `saved` says nothing.
+    fn save(&mut self, name: &str, bytes: &[u8]) -> Result<(), SaveError>
+        ensures saved { OnOk result ⊤ }
+        ensures asked { self.new.saves ≡ counted self.old.saves }
+        ensures later { NoneFell
+            (record { misses = self.old.misses; longs = self.old.longs; faults = self.old.faults })
+            (record { misses = self.new.misses; longs = self.new.longs; faults = self.new.faults }) }
+        ensures cause { SaveCause
+            (record { misses = self.old.misses; longs = self.old.longs; faults = self.old.faults })
+            (record { misses = self.new.misses; longs = self.new.longs; faults = self.new.faults })
+            result }
+
+        // It wrote the bytes to some file, and spares that.
+        ensures wrote { OnOk result (WroteSome R.File.contents bytes.now self.new.spared) }
+        ensures kept { (id : AnyFile) → Contains self.old.spared id → Contains self.new.spared id }
+    {
         self.saves = self.saves.saturating_add(1);
         match save_file(self.rt, self.alloc, name, bytes, &mut self.spared) {
             Err(SaveError::Failed) => {

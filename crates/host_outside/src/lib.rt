@@ -11,6 +11,7 @@ mod file_store;
 mod limits;
 mod opened;
 mod replacing;
+mod retries;
 mod spared_files;
 mod streams;
 #[cfg(test)]

@@ -1,6 +1,6 @@
 //! Open files, and what they are.
 ghost use Rattle.std.specs.Prelude.{◌≡◌, ◌↔◌, IfOk, IsFalse, IsTrue, OnOk};
-ghost use Rattle.std.specs.Fs.{asks_truncate};
+ghost use Rattle.std.specs.Fs.{asks_create_new, asks_truncate};
 ghost use Rattle.std.specs.List.{Contains};
 ghost use Rattle.host_outside.specs.declared.spared_files.FileId.{FileId as AnyFile};
 ghost use Rattle.host_outside.specs.Kinds.{IsStream};
@@ -8,7 +8,7 @@ ghost use Rattle.host_outside.specs.Kinds.{IsStream};
 use crate::spared_files::{FileId, SparedFiles, id_of};
 use std::alloc::AllocError;
 use std::fs::{Files, Metadata, OpenFile, OpenOptions};
-use std::os::unix::fs::MetadataExt;
+use std::os::unix::fs::{MetadataExt, OpenOptionsExt};
 use std::{fs, io};
 
 /// A file that is open, which one it is, and what its metadata said of it then.
@@ -69,6 +69,24 @@ pub fn save_options() -> OpenOptions
     let mut options = OpenOptions::new();
     options.write(true).create(true);
     options
+}
+
+/// How a new file is made, with these permissions, of which the process's mask takes some.
+// What a mode does to the other options is told by no clause, so they are set after it.
+pub fn new_options(mode: u32) -> OpenOptions
+    ensures { IsTrue (asks_create_new result) }
+{
+    let mut options = OpenOptions::new();
+    options.mode(mode);
+    options.write(true).create_new(true);
+    options
+}
+
+/// Makes a file, if nothing has the name. No link is followed.
+pub fn make_new<R: Files>(rt: &R, name: &str, options: &OpenOptions) -> io::Result<R::File>
+    requires { IsTrue (asks_create_new options.now) }
+{
+    options.open(rt, name)
 }
 
 /// Opens a file for writing. It isn't emptied, since by its name alone nobody knows which one it is.

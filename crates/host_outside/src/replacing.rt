@@ -7,29 +7,37 @@
 ghost use Rattle.std.specs.Prelude.{◌≡◌, ◌↔◌, IfOk, OnOk, OnSome, IsFalse, IsTrue};
 ghost use Rattle.std.specs.List.{Contains};
 ghost use Rattle.std.specs.Io.KnownBytes.{Appends};
-ghost use Rattle.host_outside.specs.Answers.{WroteSome};
+ghost use Rattle.host_outside.specs.Answers.{WroteIf, WroteSome};
 ghost use Rattle.host_outside.specs.Kinds.{IsMissing, IsRegular};
 ghost use Rattle.host_outside.specs.declared.spared_files.FileId.{FileId as AnyFile};
 
-use crate::opened::{Opened, identified};
+use crate::opened::{Opened, identified, make_new, new_options};
 use crate::spared_files::{FileId, SparedFiles, id_of};
 use bn_outside::SaveError;
 use std::alloc::{AllocError, Global};
-use std::fs::{File, Files, Metadata, OpenFile};
+use std::fs::{Files, Metadata, OpenFile};
 use std::io::{ErrorKind, Write};
 use std::os::unix::fs::MetadataExt;
+use std::random::RandomSource;
 use std::{fs, io};
 
-// So many names are tried for a new file: an ended process may have left some.
-const MOST_NAMES: u32 = 1_000;
+// So many names are tried for a new file. Each has a number that nobody can guess. But if the system gives none, an ended
+// process may have left some.
+const MOST_NAMES: u64 = 1_000;
 
 // Linux follows so many links.
 const MOST_LINKS: u32 = 40;
 
+// What others may do with a file that nothing had the name of: all but what the process's mask takes.
+const OF_ALL: u32 = 0o666;
+
+// What others may do with a file before it has the permissions of the one that it is to replace: nothing.
+const OF_OWNER: u32 = 0o600;
+
 /// A new file, and its name.
 #[derive(Drop)]
 pub struct Fresh<F> {
-    open: Opened<F>,
+    opened: Opened<F>,
     name: String,
 }
 
@@ -97,29 +105,44 @@ pub fn is_free(found: &io::Result<Metadata>, at_end: &io::Result<Metadata>) -> b
     is_missing(found) && is_missing(at_end)
 }
 
-// Gives up a new file.
-fn remove<R: Files>(rt: &R, fresh: Fresh<R::File>) {
+// Gives up a new file's name.
+fn remove<R: Files>(rt: &R, name: &str) {
     // What can be done about a failure was done.
-    let _ = fs::remove_file(rt, fresh.name.as_str());
+    let _ = fs::remove_file(rt, name);
 }
 
-// Makes a file of this name, if nothing has it. No link is followed.
-fn make<R: Files>(rt: &R, name: String) -> io::Result<Fresh<R::File>> {
-    let file = File::create_new(rt, name.as_str())?;
+// Makes a file of this name, if nothing has it.
+fn make<R: Files>(rt: &R, name: String, mode: u32) -> io::Result<Fresh<R::File>> {
+    let file = make_new(rt, name.as_str(), &new_options(mode))?;
     match identified(file) {
-        Ok(open) => Ok(Fresh { open, name }),
+        Ok(opened) => Ok(Fresh { opened, name }),
         Err(error) => {
-            let _ = fs::remove_file(rt, name.as_str());
+            remove(rt, name.as_str());
             Err(error)
         }
     }
 }
 
-/// Makes a new file in the folder of this name.
-pub fn make_beside<R: Files>(rt: &R, alloc: Global, name: &str) -> io::Result<Fresh<R::File>> {
-    for number in 0..MOST_NAMES {
-        let last = format!(in alloc; ".zelkuma-save-{number}")?;
-        match make(rt, beside(alloc, name, last.as_str())?) {
+// A number that nobody can guess, or this one if the system gives none.
+fn number_or<R: RandomSource>(rt: &R, other: u64) -> u64 {
+    let mut bytes = [0; 8];
+    match rt.fill_bytes(&mut bytes) {
+        Ok(()) => u64::from_le_bytes(bytes),
+        Err(_) => other,
+    }
+}
+
+// Makes a new file in the folder of this name.
+fn make_beside<R: Files + RandomSource>(
+    rt: &R,
+    alloc: Global,
+    name: &str,
+    mode: u32,
+) -> io::Result<Fresh<R::File>> {
+    for tried in 0..MOST_NAMES {
+        let number = number_or(rt, tried);
+        let last = format!(in alloc; ".zelkuma-save-{number:016x}")?;
+        match make(rt, beside(alloc, name, last.as_str())?, mode) {
             Err(error) if error.kind() == ErrorKind::AlreadyExists => {}
             made => return made,
         }
@@ -127,61 +150,64 @@ pub fn make_beside<R: Files>(rt: &R, alloc: Global, name: &str) -> io::Result<Fr
     Err(io::Error::from(ErrorKind::AlreadyExists))
 }
 
+/// Makes a new file for a name that nothing has.
+pub fn make_first<R: Files + RandomSource>(
+    rt: &R,
+    alloc: Global,
+    name: &str,
+) -> io::Result<Fresh<R::File>> {
+    make_beside(rt, alloc, name, OF_ALL)
+}
+
 // Whether a new file is on the device of an old one, and belongs to the same user and group.
 fn is_alike(new: &Metadata, old: &Metadata) -> bool {
     new.dev() == old.dev() && new.uid() == old.uid() && new.gid() == old.gid()
 }
 
-// Gives a new file the permissions of an old one.
-fn take_mode<F: OpenFile>(new: &Opened<F>, old: &Metadata) -> io::Result<()> {
-    if new.metadata.mode() == old.mode() {
-        return Ok(());
-    }
-    new.file.set_permissions(old.permissions())
-}
-
 // Whether a file can be replaced by a new one: it is a regular one, with this name alone.
-fn is_replaceable<R: Files, F>(rt: &R, open: &Opened<F>, name: &str) -> bool
-    ensures { IsTrue result → IsRegular open.now.metadata }
+fn is_replaceable<R: Files, F>(rt: &R, opened: &Opened<F>, name: &str) -> bool
+    ensures { IsTrue result → IsRegular opened.now.metadata }
 {
-    let is_alone = open.metadata.is_file() && open.metadata.nlink() == 1;
+    let is_alone = opened.metadata.is_file() && opened.metadata.nlink() == 1;
     match fs::symlink_metadata(rt, name) {
-        Ok(there) => is_alone && id_of(&there) == open.id,
+        Ok(there) => is_alone && id_of(&there) == opened.id,
         Err(_) => false,
     }
 }
 
-/// Makes a new file to replace an open one, whose name this is; none if that one is to be written in place.
-pub fn make_like<R: Files>(
-    rt: &R,
-    alloc: Global,
-    open: &Opened<R::File>,
-    name: &str,
-) -> io::Result<Option<Fresh<R::File>>>
-    ensures { IfOk result (λ o. OnSome o (IsRegular open.now.metadata)) }
-{
-    if !is_replaceable(rt, open, name) {
-        return Ok(None);
-    }
-    let fresh = match make_beside(rt, alloc, name) {
-        Ok(fresh) => fresh,
-        Err(error) if error.kind() == ErrorKind::PermissionDenied => return Ok(None),
-        Err(error) => return Err(error),
-    };
-    if !is_alike(&fresh.open.metadata, &open.metadata) {
-        remove(rt, fresh);
-        return Ok(None);
-    }
-    match take_mode(&fresh.open, &open.metadata) {
-        Ok(()) => Ok(Some(fresh)),
-        Err(error) => {
-            remove(rt, fresh);
-            Err(error)
-        }
-    }
+// Whether this is why a folder takes no new file, though one in it may be written to.
+fn is_closed(kind: ErrorKind) -> bool {
+    matches!(
+        kind,
+        ErrorKind::PermissionDenied | ErrorKind::ReadOnlyFilesystem
+    )
 }
 
-// Writes all bytes, and waits until the disk has them.
+/// Makes a new file to replace an open one, whose name this is; none if that one is to be written in place.
+pub fn make_like<R: Files + RandomSource>(
+    rt: &R,
+    alloc: Global,
+    opened: &Opened<R::File>,
+    name: &str,
+) -> io::Result<Option<Fresh<R::File>>>
+    ensures { IfOk result (λ o. OnSome o (IsRegular opened.now.metadata)) }
+{
+    if !is_replaceable(rt, opened, name) {
+        return Ok(None);
+    }
+    let fresh = match make_beside(rt, alloc, name, OF_OWNER) {
+        Ok(fresh) => fresh,
+        Err(error) if is_closed(error.kind()) => return Ok(None),
+        Err(error) => return Err(error),
+    };
+    if !is_alike(&fresh.opened.metadata, &opened.metadata) {
+        remove(rt, fresh.name.as_str());
+        return Ok(None);
+    }
+    Ok(Some(fresh))
+}
+
+// Writes all bytes, and then waits until the disk has them.
 fn write_durably<F: OpenFile + Write>(file: &mut F, bytes: &[u8]) -> io::Result<()>
     ensures { OnOk result (Appends (F.contents file.old) (F.contents file.new) bytes.now) }
 {
@@ -189,63 +215,121 @@ fn write_durably<F: OpenFile + Write>(file: &mut F, bytes: &[u8]) -> io::Result<
     file.sync_all()
 }
 
-// Remembers a new file, writes it, and gives it the name.
-fn finish<R: Files>(
-    rt: &R,
-    fresh: &mut Fresh<R::File>,
-    name: &str,
+// Remembers a new file, and writes it.
+fn fill<F: OpenFile + Write>(
+    fresh: &mut Fresh<F>,
     bytes: &[u8],
     spared: &mut SparedFiles,
 ) -> Result<(), SaveError>
-    ensures written { OnOk result (Appends (R.File.contents fresh.old.open.file) (R.File.contents fresh.new.open.file) bytes.now) }
-    ensures remembered { OnOk result (Contains spared.new fresh.old.open.id) }
+    ensures written { OnOk result (Appends (F.contents fresh.old.opened.file) (F.contents fresh.new.opened.file) bytes.now) }
+    ensures remembered { OnOk result (Contains spared.new fresh.old.opened.id) }
     ensures kept { (id : AnyFile) → Contains spared.old id → Contains spared.new id }
 {
-    spared.add(fresh.open.id)?;
-    if let Err(error) = write_durably(&mut fresh.open.file, bytes) {
-        return Err(save_error(error.kind()));
-    }
-    match fs::rename(rt, fresh.name.as_str(), name) {
+    spared.add(fresh.opened.id)?;
+    match write_durably(&mut fresh.opened.file, bytes) {
         Ok(()) => Ok(()),
         Err(error) => Err(save_error(error.kind())),
     }
 }
 
-/// Gives these bytes to a new file, and the name to it.
-pub fn put<R: Files>(
+// Gives a file a further name, unless something has that, and takes the old name away. Whether nothing had it.
+// If no file here can have two names, it is renamed: what took the name since the last look is replaced then.
+fn name_first<R: Files>(rt: &R, from: &str, to: &str) -> io::Result<bool> {
+    match fs::hard_link(rt, from, to) {
+        Ok(()) => {
+            remove(rt, from);
+            Ok(true)
+        }
+        Err(error) if error.kind() == ErrorKind::AlreadyExists => Ok(false),
+        Err(_) => {
+            fs::rename(rt, from, to)?;
+            Ok(true)
+        }
+    }
+}
+
+// Gives a file the permissions of an old one, and then its name. Whether another file can have that: no other can if
+// that one is mounted.
+fn name_over<R: Files>(
+    rt: &R,
+    fresh: &Fresh<R::File>,
+    to: &str,
+    old: &Metadata,
+) -> io::Result<bool> {
+    fresh.opened.file.set_permissions(old.permissions())?;
+    match fs::rename(rt, fresh.name.as_str(), to) {
+        Ok(()) => Ok(true),
+        Err(error) if error.kind() == ErrorKind::ResourceBusy => Ok(false),
+        Err(error) => Err(error),
+    }
+}
+
+// What became of a new file, whose old name is then gone: whether it has the other.
+fn settle<R: Files>(rt: &R, name: &str, named: io::Result<bool>) -> Result<bool, SaveError>
+    ensures { IfOk result (λ done. named ≡ Ok done) }
+{
+    match named {
+        Ok(true) => Ok(true),
+        Ok(false) => {
+            remove(rt, name);
+            Ok(false)
+        }
+        Err(error) => {
+            remove(rt, name);
+            Err(save_error(error.kind()))
+        }
+    }
+}
+
+/// Gives these bytes to a new file, and to that a name that nothing had. If something has it by now, nothing is done.
+pub fn put_first<R: Files>(
     rt: &R,
     fresh: Fresh<R::File>,
     name: &str,
     bytes: &[u8],
     spared: &mut SparedFiles,
-) -> Result<(), SaveError>
-    ensures remembered { OnOk result (Contains spared.new fresh.open.id) }
-    ensures saved { OnOk result (WroteSome R.File.contents bytes.now spared.new) }
+) -> Result<bool, SaveError>
+    ensures saved { WroteIf R.File.contents bytes.now spared.new result }
     ensures kept { (id : AnyFile) → Contains spared.old id → Contains spared.new id }
 {
     let mut fresh = fresh;
-    let result = finish(rt, &mut fresh, name, bytes, spared);
-    if result.is_err() {
-        remove(rt, fresh);
+    match fill(&mut fresh, bytes, spared) {
+        Ok(()) => {
+            let named = name_first(rt, fresh.name.as_str(), name);
+            settle(rt, fresh.name.as_str(), named)
+        }
+        Err(error) => {
+            remove(rt, fresh.name.as_str());
+            Err(error)
+        }
     }
-    result
 }
 
-/// The same, if another file has the name, which is then gone: so it must be none that is spared.
+/// Gives these bytes to a new file, and to that the name of an old one, which is then gone: so it must be none that is
+/// spared. If no other file can have the name, nothing is done.
 pub fn put_over<R: Files>(
     rt: &R,
     fresh: Fresh<R::File>,
     name: &str,
-    old: FileId,
+    old: &Opened<R::File>,
     bytes: &[u8],
     spared: &mut SparedFiles,
-) -> Result<(), SaveError>
-    requires { Contains spared.old old → ⊥ }
-    ensures remembered { OnOk result (Contains spared.new fresh.open.id) }
-    ensures saved { OnOk result (WroteSome R.File.contents bytes.now spared.new) }
+) -> Result<bool, SaveError>
+    requires { Contains spared.old old.now.id → ⊥ }
+    ensures saved { WroteIf R.File.contents bytes.now spared.new result }
     ensures kept { (id : AnyFile) → Contains spared.old id → Contains spared.new id }
 {
-    put(rt, fresh, name, bytes, spared)
+    let mut fresh = fresh;
+    match fill(&mut fresh, bytes, spared) {
+        Ok(()) => {
+            let named = name_over(rt, &fresh, name, &old.metadata);
+            settle(rt, fresh.name.as_str(), named)
+        }
+        Err(error) => {
+            remove(rt, fresh.name.as_str());
+            Err(error)
+        }
+    }
 }
 
 // Empties a file if it is a regular one, and writes these bytes.
@@ -264,18 +348,18 @@ fn write_over<F: OpenFile + Write>(
 
 /// Gives an open file these bytes, in place of what it has.
 pub fn overwrite<F: OpenFile + Write>(
-    open: &mut Opened<F>,
+    opened: &mut Opened<F>,
     bytes: &[u8],
     spared: &mut SparedFiles,
 ) -> Result<(), SaveError>
-    requires { Contains spared.old open.old.id → ⊥ }
-    ensures written { OnOk result (Appends (F.contents open.old.file) (F.contents open.new.file) bytes.now) }
-    ensures remembered { OnOk result (IsFalse open.old.is_stream → Contains spared.new open.old.id) }
+    requires { Contains spared.old opened.old.id → ⊥ }
+    ensures written { OnOk result (Appends (F.contents opened.old.file) (F.contents opened.new.file) bytes.now) }
+    ensures remembered { OnOk result (IsFalse opened.old.is_stream → Contains spared.new opened.old.id) }
     ensures saved { OnOk result (WroteSome F.contents bytes.now spared.new) }
     ensures kept { (id : AnyFile) → Contains spared.old id → Contains spared.new id }
 {
-    open.remember(spared)?;
-    match write_over(&mut open.file, &open.metadata, bytes) {
+    opened.remember(spared)?;
+    match write_over(&mut opened.file, &opened.metadata, bytes) {
         Ok(()) => Ok(()),
         Err(error) => Err(save_error(error.kind())),
     }

@@ -2,11 +2,13 @@
 ghost use Rattle.std.specs.Prelude.{◌≡◌, [], Some, cond, false};
 ghost use Rattle.bn_outside.specs.Counts.{counted};
 
+use crate::retries::write_on;
 use crate::until_end::UntilEnd;
 use bn_outside::{Failed, Sink, Source};
 use std::io::{Read, Write};
 
-/// A source of what a reader gives. Each read is one read of it, until it has said that it ended.
+/// A source of what a reader gives. Each read is one read of it, until it has said that it ended. One that a signal
+/// interrupts is made again.
 #[derive(Drop)]
 pub struct ReaderSource<R> {
     inner: UntilEnd<R>,
@@ -52,7 +54,8 @@ impl<R: Read, O: Sink> Source<O> for ReaderSource<R> {
     }
 }
 
-/// A sink that gives all to a writer. Each write is one write of it, and nothing waits.
+/// A sink that gives all to a writer. Each write is one write of it, and nothing waits. One that a signal interrupts is
+/// made again.
 #[derive(Drop)]
 pub struct Writing<W> {
     inner: W,
@@ -74,7 +77,7 @@ impl<W: Write> Sink for Writing<W> {
 
     // A writer that takes nothing of a piece has failed.
     fn write(&mut self, piece: &[u8]) -> Result<usize, Failed> {
-        match self.inner.write(piece) {
+        match write_on(&mut self.inner, piece) {
             Ok(count) if count > 0 || piece.is_empty() => Ok(count),
             _ => {
                 self.faults = self.faults.saturating_add(1);

@@ -1,16 +1,19 @@
 //! What no clause says: what real files hold, and that each adapter's calls succeed.
-ghost use Rattle.std.specs.Prelude.{◌<◌, length};
+ghost use Rattle.std.specs.Prelude.{◌≡◌, ◌<◌, IfOk, length};
 
 use crate::file_store::FileStore;
 use crate::limits::most_in;
 use crate::streams::{ReaderSource, Writing};
 use crate::words::words_of;
 use bn_outside::{Failed, LoadError, NoSink, SaveError, Source, Store, read_to_end, send_all};
-use std::alloc::{AllocError, Global};
+use std::alloc::{AllocError, Allocator, Global};
+use std::cell::Cell;
 use std::env::{Env, FillError};
-use std::fs::{Files, Permissions};
-use std::io::Read;
+use std::fs::{Files, Metadata, OpenOptions, Permissions};
+use std::io::{ErrorKind, Read, Write};
 use std::os::unix::fs::{MetadataExt, PermissionsExt, symlink};
+use std::path::PathBuf;
+use std::random::RandomSource;
 use std::test::Fail;
 use std::{env, fs, io, process};
 
@@ -49,7 +52,12 @@ fn name_in(alloc: Global, folder: &str, word: &str, process: u32) -> Result<Stri
 
 // Whether a longer file is saved, and a shorter one in its place that is kept; whether it is missing once it was
 // removed; and whether a folder is refused.
-fn replaced<R: Files + AllocGlobal>(rt: &R, alloc: Global, name: &str, folder: &str) -> [bool; 5] {
+fn replaced<R: Files + RandomSource + AllocGlobal>(
+    rt: &R,
+    alloc: Global,
+    name: &str,
+    folder: &str,
+) -> [bool; 5] {
     let longer = FileStore::new(rt).save(name, b"a longer text") == Ok(());
     let mut store = FileStore::new(rt);
     let kept = is_kept(alloc, &mut store, name, b"text");
@@ -74,7 +82,12 @@ fn files_are_saved_whole_and_loaded_within_the_limit(rt: HostRuntime) -> Result<
 }
 
 // Whether these bytes are kept in a file, and it is removed.
-fn kept_and_removed<R: Files + AllocGlobal>(rt: &R, alloc: Global, name: &str, bytes: &[u8]) -> bool
+fn kept_and_removed<R: Files + RandomSource + AllocGlobal>(
+    rt: &R,
+    alloc: Global,
+    name: &str,
+    bytes: &[u8],
+) -> bool
     requires { 0 < length bytes.now }
 {
     let mut store = FileStore::new(rt);
@@ -98,7 +111,7 @@ fn a_file_of_several_pieces_is_loaded_whole(rt: HostRuntime) -> Result<(), Fail>
 }
 
 // Makes a folder with a file of six bytes, two links to it, and a folder.
-fn make_links<R: Files + AllocGlobal>(rt: &R, folder: &str) -> io::Result<()> {
+fn make_links<R: Files + RandomSource + AllocGlobal>(rt: &R, folder: &str) -> io::Result<()> {
     let alloc = rt.alloc();
     let file = format!(in alloc; "{folder}/FILE")?;
     let inner = format!(in alloc; "{folder}/inner")?;
@@ -112,7 +125,7 @@ fn make_links<R: Files + AllocGlobal>(rt: &R, folder: &str) -> io::Result<()> {
 }
 
 // Whether a store that loaded a file refuses to save it by another spelling of its name, and the file stays.
-fn is_spared<R: Files + AllocGlobal>(
+fn is_spared<R: Files + RandomSource + AllocGlobal>(
     rt: &R,
     folder: &str,
     spelling: &str,
@@ -129,7 +142,10 @@ fn is_spared<R: Files + AllocGlobal>(
 }
 
 // Whether each spelling is refused.
-fn each_is_spared<R: Files + AllocGlobal>(rt: &R, folder: &str) -> Result<[bool; 5], AllocError> {
+fn each_is_spared<R: Files + RandomSource + AllocGlobal>(
+    rt: &R,
+    folder: &str,
+) -> Result<[bool; 5], AllocError> {
     Ok([
         is_spared(rt, folder, "FILE")?,
         is_spared(rt, folder, "./FILE")?,
@@ -140,7 +156,10 @@ fn each_is_spared<R: Files + AllocGlobal>(rt: &R, folder: &str) -> Result<[bool;
 }
 
 // Whether a store that loaded another file saves this one, and a store that loaded none does.
-fn others_are_saved<R: Files + AllocGlobal>(rt: &R, folder: &str) -> Result<[bool; 3], AllocError> {
+fn others_are_saved<R: Files + RandomSource + AllocGlobal>(
+    rt: &R,
+    folder: &str,
+) -> Result<[bool; 3], AllocError> {
     let alloc = rt.alloc();
     let name = format!(in alloc; "{folder}/FILE")?;
     let other = format!(in alloc; "{folder}/OTHER")?;
@@ -170,7 +189,7 @@ fn a_save_never_destroys_what_was_loaded(rt: HostRuntime) -> Result<(), Fail> {
 }
 
 // Whether a store that saved a file refuses to save it by another spelling of its name, and the file stays.
-fn is_saved_once<R: Files + AllocGlobal>(
+fn is_saved_once<R: Files + RandomSource + AllocGlobal>(
     rt: &R,
     folder: &str,
     spelling: &str,
@@ -188,7 +207,7 @@ fn is_saved_once<R: Files + AllocGlobal>(
 
 // Whether a save under each spelling of a file, in a folder with links, saves that one file: while it is there, and
 // after it was removed.
-fn each_is_saved_once<R: Files + AllocGlobal>(
+fn each_is_saved_once<R: Files + RandomSource + AllocGlobal>(
     rt: &R,
     folder: &str,
 ) -> Result<[bool; 5], AllocError> {
@@ -224,15 +243,92 @@ fn a_save_never_destroys_what_was_saved(rt: HostRuntime) -> Result<(), Fail> {
     Ok(())
 }
 
-// Makes a file that others may not read, a link to it, and a link that has the name of a new file.
+// A host that gives no random number, and keeps with which permissions a new file is made. Before its first link it gives
+// the name to another file.
+#[derive(Drop)]
+struct Hasty<'a, R> {
+    rt: &'a R,
+    mode: Cell<u32>,
+    has_linked: Cell<bool>,
+}
+
+impl<'a, R: Files> Files for Hasty<'a, R> {
+    type File = R::File;
+
+    type Dir = R::Dir;
+
+    fn open_file(&self, how: &OpenOptions, path: &str) -> io::Result<R::File> {
+        let opened = self.rt.open_file(how, path)?;
+        if how.asks_create_new() {
+            self.mode.set(fs::metadata(self.rt, path)?.mode());
+        }
+        Ok(opened)
+    }
+
+    fn open_dir(&self, path: &str) -> io::Result<R::Dir> {
+        self.rt.open_dir(path)
+    }
+
+    fn metadata(&self, path: &str) -> io::Result<Metadata> {
+        self.rt.metadata(path)
+    }
+
+    fn symlink_metadata(&self, path: &str) -> io::Result<Metadata> {
+        self.rt.symlink_metadata(path)
+    }
+
+    fn copy(&self, from: &str, to: &str) -> io::Result<u64> {
+        self.rt.copy(from, to)
+    }
+
+    fn rename(&self, from: &str, to: &str) -> io::Result<()> {
+        self.rt.rename(from, to)
+    }
+
+    fn remove_file(&self, path: &str) -> io::Result<()> {
+        self.rt.remove_file(path)
+    }
+
+    fn create_dir(&self, path: &str) -> io::Result<()> {
+        self.rt.create_dir(path)
+    }
+
+    fn remove_dir(&self, path: &str) -> io::Result<()> {
+        self.rt.remove_dir(path)
+    }
+
+    fn remove_dir_all<B: Allocator>(&self, alloc: B, path: &str) -> io::Result<()> {
+        self.rt.remove_dir_all(alloc, path)
+    }
+
+    fn read_link<B: Allocator>(&self, alloc: B, path: &str) -> io::Result<PathBuf<B>> {
+        self.rt.read_link(alloc, path)
+    }
+
+    fn hard_link(&self, original: &str, link: &str) -> io::Result<()> {
+        if !self.has_linked.replace(true) {
+            fs::write(self.rt, link, b"other")?;
+        }
+        self.rt.hard_link(original, link)
+    }
+}
+
+impl<'a, R> RandomSource for Hasty<'a, R> {
+    fn fill_bytes(&self, _bytes: &mut [u8]) -> io::Result<()> {
+        Err(io::Error::from(ErrorKind::Unsupported))
+    }
+}
+
+// Makes a file that others may read, a link to it, and a link that has the name of the first new file without a random
+// number.
 fn make_hostile<R: Files + AllocGlobal>(rt: &R, folder: &str) -> io::Result<()> {
     let alloc = rt.alloc();
     let file = format!(in alloc; "{folder}/FILE")?;
     let soft = format!(in alloc; "{folder}/soft")?;
-    let fresh = format!(in alloc; "{folder}/.zelkuma-save-0")?;
+    let fresh = format!(in alloc; "{folder}/.zelkuma-save-0000000000000000")?;
     fs::create_dir(rt, folder)?;
     fs::write(rt, file.as_str(), b"old")?;
-    fs::set_permissions(rt, file.as_str(), Permissions::from_mode(0o640))?;
+    fs::set_permissions(rt, file.as_str(), Permissions::from_mode(0o644))?;
     symlink(rt, "FILE", soft.as_str())?;
     symlink(rt, "VICTIM", fresh.as_str())
 }
@@ -242,22 +338,67 @@ fn is_link<R: Files>(rt: &R, name: &str) -> bool {
     fs::symlink_metadata(rt, name).is_ok_and(|there| there.is_symlink())
 }
 
-// Whether a save through a link keeps the link, gives its file the bytes, keeps what others may do with it, and touches
-// no other file.
-fn replaced_alone<R: Files + AllocGlobal>(rt: &R, folder: &str) -> Result<[bool; 5], AllocError> {
+// What others may do with a file.
+fn mode_of<R: Files>(rt: &R, name: &str) -> u32 {
+    match fs::metadata(rt, name) {
+        Ok(there) => there.mode() & 0o7777,
+        Err(_) => 0,
+    }
+}
+
+// With which permissions a save made a new file, if it was done.
+fn saved_by<R: Files>(rt: &R, alloc: Global, name: &str) -> u32 {
+    let host = (
+        Hasty {
+            rt,
+            mode: Cell::new(0),
+            has_linked: Cell::new(false),
+        },
+        alloc,
+    );
+    let mut store = FileStore::new(&host);
+    if store.save(name, b"new") == Ok(()) {
+        host.0.mode.get() & 0o7777
+    } else {
+        0
+    }
+}
+
+// Whether a save through a link keeps the link, gives its file the bytes, keeps what others may do with it, gives them
+// nothing before, and touches no other file.
+fn replaced_alone<R: Files + RandomSource + AllocGlobal>(
+    rt: &R,
+    folder: &str,
+) -> Result<[bool; 6], AllocError> {
     let alloc = rt.alloc();
     let file = format!(in alloc; "{folder}/FILE")?;
     let soft = format!(in alloc; "{folder}/soft")?;
     let victim = format!(in alloc; "{folder}/VICTIM")?;
-    let left = format!(in alloc; "{folder}/.zelkuma-save-1")?;
-    let saved = FileStore::new(rt).save(soft.as_str(), b"new") == Ok(());
+    let left = format!(in alloc; "{folder}/.zelkuma-save-0000000000000001")?;
+    let made = saved_by(rt, alloc, soft.as_str());
     let mut store = FileStore::new(rt);
     Ok([
-        saved && is_link(rt, soft.as_str()),
+        made == 0o600,
+        is_link(rt, soft.as_str()),
         loads(alloc, &mut store, file.as_str(), 3, b"new"),
-        fs::metadata(rt, file.as_str()).is_ok_and(|there| there.mode() & 0o7777 == 0o640),
+        mode_of(rt, file.as_str()) == 0o644,
         refusal(alloc, &mut store, victim.as_str(), 3) == Some(LoadError::Missing),
         refusal(alloc, &mut store, left.as_str(), 3) == Some(LoadError::Missing),
+    ])
+}
+
+// Whether a name that another file takes meanwhile is saved all the same, as one that was there.
+fn taken_meanwhile<R: Files + RandomSource + AllocGlobal>(
+    rt: &R,
+    folder: &str,
+) -> Result<[bool; 2], AllocError> {
+    let alloc = rt.alloc();
+    let first = format!(in alloc; "{folder}/FIRST")?;
+    let made = saved_by(rt, alloc, first.as_str());
+    let mut store = FileStore::new(rt);
+    Ok([
+        made == 0o600,
+        loads(alloc, &mut store, first.as_str(), 3, b"new"),
     ])
 }
 
@@ -272,13 +413,19 @@ fn a_save_replaces_the_bytes_alone(rt: HostRuntime) -> Result<(), Fail> {
     )?;
     make_hostile(&rt, folder.as_str())?;
     let told = replaced_alone(&rt, folder.as_str())?;
+    let taken = taken_meanwhile(&rt, folder.as_str())?;
     fs::remove_dir_all(&rt, folder.as_str())?;
-    assert_eq!(rt; told, [true; 5]);
+    assert_eq!(rt; told, [true; 6]);
+    assert_eq!(rt; taken, [true; 2]);
     Ok(())
 }
 
 // Whether what keeps no bytes is loaded and then saved.
-fn stream_is_saved<R: Files + AllocGlobal>(rt: &R, alloc: Global, name: &str) -> bool {
+fn stream_is_saved<R: Files + RandomSource + AllocGlobal>(
+    rt: &R,
+    alloc: Global,
+    name: &str,
+) -> bool {
     let mut store = FileStore::new(rt);
     loads(alloc, &mut store, name, 0, b"")
         && store.save(name, b"text") == Ok(())
@@ -326,6 +473,55 @@ fn read_twice() -> [bool; 2] {
 #[test]
 fn a_reader_that_has_ended_is_not_read_again(rt: HostRuntime) {
     assert_eq!(rt; read_twice(), [true; 2]);
+}
+
+// A stream at which each second call alone isn't interrupted.
+#[derive(Drop)]
+struct Shaken {
+    calls: u64,
+}
+
+impl Shaken {
+    fn moves(&mut self, count: usize) -> io::Result<usize>
+        ensures { IfOk result (λ n. n ≡ count) }
+    {
+        self.calls = self.calls.saturating_add(1);
+        if self.calls % 2 == 1 {
+            return Err(io::Error::from(ErrorKind::Interrupted));
+        }
+        Ok(count)
+    }
+}
+
+impl Read for Shaken {
+    fn read(&mut self, buffer: &mut [u8]) -> io::Result<usize> {
+        self.moves(buffer.len())
+    }
+}
+
+impl Write for Shaken {
+    fn write(&mut self, piece: &[u8]) -> io::Result<usize> {
+        self.moves(piece.len())
+    }
+
+    fn flush(&mut self) -> io::Result<()> {
+        Ok(())
+    }
+}
+
+// Whether a read and a write that a signal interrupts are made again.
+fn is_made_again() -> [bool; 2] {
+    let mut source = ReaderSource::new(Shaken { calls: 0 });
+    let mut sink = Writing::new(Shaken { calls: 0 });
+    [
+        source.read(&NoSink, &mut [0, 0]) == Ok(2),
+        send_all(&mut sink, b"text") == Ok(()),
+    ]
+}
+
+#[test]
+fn what_a_signal_interrupts_is_made_again(rt: HostRuntime) {
+    assert_eq!(rt; is_made_again(), [true; 2]);
 }
 
 // Whether a folder can be opened, and not read.

@@ -3,6 +3,7 @@ ghost use Rattle.std.specs.Prelude.{◌≡◌, ◌<◌, [], Some, Ok, IfOk, IsTr
 ghost use Rattle.std.specs.Io.{ReadsAtMost};
 ghost use Rattle.std.specs.Io.KnownBytes.{ReadConsumes};
 
+use crate::retries::read_on;
 use std::io;
 use std::io::Read;
 
@@ -40,7 +41,7 @@ impl<R: Read> Read for UntilEnd<R> {
         if self.has_ended {
             return Ok(0);
         }
-        let count = self.inner.read(buffer)?;
+        let count = read_on(&mut self.inner, buffer)?;
         if count == 0 && !buffer.is_empty() {
             self.has_ended = true;
         }

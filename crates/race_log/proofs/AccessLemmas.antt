@@ -9,6 +9,7 @@ use Rattle.race_log.specs.Kept.{is_write}
 use Rattle.race_log.specs.Search.{gathered, counts_after}
 use Rattle.race_log.specs.Slots.{counts_past}
 use Rattle.race_log.specs.Represents.{harts_of, times_of, next_count, kept_of, TakesIn}
+use Rattle.race_log.specs.Accesses.{NotesAlone}
 use Rattle.race_log.specs.Words.{counts_at}
 use Rattle.race_log.proofs.BoolFacts.{known, same_number, other_number}
 
@@ -45,6 +46,15 @@ counts_taken s t hart count turn first n mode taken h = elim (known (h == hart))
       subst (λ k. next_count t k ≡ (if k == hart then count + 1 else next_count s k)) (sym (same_number h hart same))
       (taken.own hart ∙ (here (count + 1) _ hart hart refl ∙ sym (here (count + 1) (next_count s hart) hart hart refl)))
   | inr apart ↦ taken.others h (other_number h hart apart) h ∙ sym (there (count + 1) (next_count s h) h hart apart)
+]
+
+-- the same of the one hart of a run
+pub counts_alone : (s t : Shadow) (ic turn : ℕ) → NotesAlone ic turn s t → (h : ℕ) → next_count t h ≡ (if h == 0 then ic + 1 else next_count s h)
+counts_alone s t ic turn notes h = elim (known (h == 0)) [
+  | inl same ↦
+      subst (λ k. next_count t k ≡ (if k == 0 then ic + 1 else next_count s k)) (sym (same_number h 0 same))
+      (notes.own 0)
+  | inr apart ↦ notes.others h (other_number h 0 apart) h ∙ sym (there (ic + 1) (next_count s h) h 0 apart)
 ]
 
 -- the times that are kept by the present epoch are those after the point

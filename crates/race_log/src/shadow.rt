@@ -43,7 +43,7 @@ impl Shadow {
     ghost use Rattle.race_log.specs.ByCount.{IsLatestPoint, IsTimesOf};
     ghost use Rattle.race_log.specs.Kept.{access_point};
     ghost use Rattle.race_log.specs.Sweep.{has_bit, is_covered, accessed_below};
-    ghost use Rattle.race_log.specs.Accesses.{MayAccess, HasEdges, TakesPoint, AwaitsNext};
+    ghost use Rattle.race_log.specs.Accesses.{MayAccess, HasEdges, HasNoEdges, TakesPoint, AwaitsNext, AwaitsAlone, NotesAlone};
     ghost use Rattle.race_log.specs.Represents.{RepresentsAccesses, KnowsSame, harts_of, lasting_of, lasts, next_turn, next_count, times_of, kept_of, words_of, held_of, is_known, reserved_range, edges_of, unswept_of, MakesRoom, HasSameSize, TakesIn};
 
     /// Knows of no point and keeps nothing.
@@ -106,6 +106,33 @@ impl Shadow {
         ensures next { AwaitsNext hart ic turn self.old self.new }
     {
         self.take_in(hart, ic, turn, first, count, mode);
+    }
+
+    /// Takes in an access of the one hart of a run, at this count and in this turn: whatever words it is of, no edge leads
+    /// into it, and nothing is kept of it. So no room is needed, and none that was made stays reserved or is given up.
+    #[inline(always)]
+    pub fn access_alone(&mut self, ic: Ic, turn: u64)
+        requires alone { harts_of self.old ≡ 1 }
+        requires small { ic < 2 ^ 41 }
+        requires turns { next_turn self.old ≤ turn }
+        requires counts { next_count self.old 0 ≤ ic }
+        requires lasting { IsTrue (lasts self.old 0) }
+        ensures point { (first n : ℕ) (mode : Mode) → TakesPoint 0 (access_point 0 ic turn first n mode) self.old self.new }
+        ensures none { (first n : ℕ) (mode : Mode) → HasNoEdges 0 (access_point 0 ic turn first n mode) self.old }
+        ensures next { AwaitsAlone ic turn self.old self.new }
+    {
+        self.note_alone(ic, turn);
+    }
+
+    // Notes the count of the one hart, and the turn.
+    #[inline(always)]
+    fn note_alone(&mut self, ic: Ic, turn: u64)
+        requires alone { harts_of self.old ≡ 1 }
+        requires small { ic < 2 ^ 41 }
+        ensures { NotesAlone ic turn self.old self.new }
+    {
+        self.times[0].set(0, ic + 1);
+        self.last_turn = Some(turn);
     }
 
     // Takes in an access. One hart alone has no other to learn from, and nothing is kept for others.

@@ -27,7 +27,7 @@ run_more c i run list at within =
 
 -- ---- what is wrong from a turn on
 
-first_live : (c : RawSettings) (i : Program) (run : Run) (at k : ℕ) (ks : List ℕ) → is_live c run k ≡ true → error_from c i run at (k ∷ ks) ≡ error_from c i (turn c i run k) (at + 1) ks
+pub first_live : (c : RawSettings) (i : Program) (run : Run) (at k : ℕ) (ks : List ℕ) → is_live c run k ≡ true → error_from c i run at (k ∷ ks) ≡ error_from c i (turn c i run k) (at + 1) ks
 first_live c i run at k ks e = ap (λ (b : Bool). elim b as (λ z. Option TurnError) [ true ↦ error_from c i (turn c i run k) (at + 1) ks | false ↦ Some (IllegalTurn at k) ]) e
 
 first_over : (c : RawSettings) (i : Program) (run : Run) (at k : ℕ) (ks : List ℕ) → is_live c run k ≡ false → error_from c i run at (k ∷ ks) ≡ Some (IllegalTurn at k)

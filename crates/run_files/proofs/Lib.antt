@@ -3,4 +3,5 @@ mod Followed
 mod FormatOne
 mod LogFile
 mod LogVersions
+mod LoneLists
 mod Verdicts

@@ -1,5 +1,5 @@
 -- What an audit compares, and what it finds.
-use Rattle.std.specs.Prelude.{◌≡◌, ◌≢◌, ℕ, ◌+◌, ◌<◌, ◌==◌, Bool, true, false, List, [], ◌∷◌, length, take, drop, get_or, slice_get, Option}
+use Rattle.std.specs.Prelude.{◌≡◌, ◌≢◌, ℕ, ◌+◌, ◌<◌, ◌≤◌, ◌==◌, ◌⊎◌, Bool, true, false, List, [], ◌∷◌, length, take, drop, get_or, replicate, slice_get, Option}
 use Rattle.std.specs.Str.{bytes_eq}
 use Rattle.bn_base.specs.Programs.{Program}
 use Rattle.bn_base.specs.declared.settings.RawSettings.{RawSettings}
@@ -68,13 +68,25 @@ pub record VerdictsAreUnique : Type 0 where
   pub one : (file log : List ℕ) (v w : Verdict) → IsVerdict file log v → IsVerdict file log w → v ≡ w
   pub is : (file log : List ℕ) → IsVerdict file log (verdict_of file log)
 
+-- ---- the turns of a list
+
+-- so many turns of hart 0 a list begins with, and no more
+pub record BeginsWithZeros (list : List ℕ) (count : ℕ) : Type 0 where
+  pub within : count ≤ length list
+  pub zeros : take count list ≡ replicate count 0
+  pub next : count < length list → get_or list count 0 ≢ 0
+
 -- ---- out of memory
+
+-- a machine stands in this run. With one hart it may have done a part of the next turn: then it has taken as many turns
+abbrev pub StandsIn : RawSettings → Run → PlainParts → Type 0
+StandsIn c run p = IsRun p run ⊎ ((c.harts ≡ 1) × (p.turns ≡ run.turns))
 
 -- a machine stands before a turn of a list whose hart is live then; with these settings, program and run it began
 pub record StandsBefore (c : RawSettings) (i : Program) (run : Run) (list : List ℕ) (p : PlainParts) : Type 0 where
   pub at : ℕ
   pub within : at < length list
-  pub stands : IsRun p (run_from c i run (take at list))
+  pub stands : StandsIn c (run_from c i run (take at list)) p
   pub live : is_live c (run_from c i run (take at list)) (get_or list at 0) ≡ true
 
 -- so it stands in a recording with this input, from its first turn on

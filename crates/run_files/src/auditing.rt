@@ -4,7 +4,7 @@ ghost use Rattle.run_model.specs.declared.error.TurnError.TheVariants.{OutOfMemo
 ghost use Rattle.run_model.specs.Turn.{Run};
 ghost use Rattle.run_model.specs.Runs.{start, run_from, run_of, live_harts};
 ghost use Rattle.run_model.specs.Lists.{unfinished, error_from, list_error};
-ghost use Rattle.run_files.specs.Audits.{is_version2, audited_file, IsVerdict, StandsBefore, StandsWithin};
+ghost use Rattle.run_files.specs.Audits.{is_version2, audited_file, BeginsWithZeros, IsVerdict, StandsBefore, StandsWithin};
 ghost use Rattle.run_model.specs.Represents.Plain.{IsRun};
 ghost use Rattle.run_model.specs.Represents.Turning.{parts};
 
@@ -14,9 +14,23 @@ use run_model::{Plain, Start, TurnError};
 use rv_meaning::DecodedImage;
 use std::alloc::{AllocError, Global};
 
-// The turns of a list, up to the first whose hart isn't live then.
-fn follow(code: &DecodedImage, plain: &mut Plain, list: &[u8]) -> Result<(), TurnError>
+// How many turns of hart 0 a list begins with.
+fn turns_of_zero(list: &[u8]) -> u64
+    ensures { BeginsWithZeros list.now result }
+{
+    for at in 0..list.len() {
+        if list[at] != 0 {
+            return at as u64;
+        }
+    }
+    list.len() as u64
+}
+
+// The turns of a list, up to the first whose hart isn't live then, of a machine with one hart.
+fn follow_alone(code: &DecodedImage, plain: &mut Plain, list: &[u8]) -> Result<(), TurnError>
     requires code { code.now ≡ (parts plain.old).start.image }
+    requires alone { (parts plain.old).start.settings.harts ≡ 1 }
+    requires some { (run : Run) × IsRun (parts plain.old) run }
     ensures run { OnOk result ((run : Run) → IsRun (parts plain.old) run → IsRun (parts plain.new) (run_from (parts plain.old).start.settings (parts plain.old).start.image run list.now)) }
     ensures legal { OnOk result ((run : Run) → IsRun (parts plain.old) run → let c = (parts plain.old).start.settings in let i = (parts plain.old).start.image in
         error_from c i run 0 list.now ≡ unfinished (live_harts 0 c.harts (run_from c i run list.now).harts)) }
@@ -24,6 +38,36 @@ fn follow(code: &DecodedImage, plain: &mut Plain, list: &[u8]) -> Result<(), Tur
     ensures memory { IfErr result (λ e. e ≡ OutOfMemory → (run : Run) → IsRun (parts plain.old) run → StandsBefore (parts plain.old).start.settings (parts plain.old).start.image run list.now (parts plain.new)) }
     ensures start { (parts plain.new).start ≡ (parts plain.old).start }
 {
+    let most = turns_of_zero(list);
+    let before = plain.turns();
+    let mut taken = 0;
+    'taking: while taken < most && plain.live(0) {
+        plain.turns_alone(code, most - taken)?;
+        taken = plain.turns() - before;
+    }
+    if taken < list.len() as u64 {
+        return Err(TurnError::IllegalTurn {
+            at: taken,
+            hart: list[taken as usize],
+        });
+    }
+    Ok(())
+}
+
+// The turns of a list, up to the first whose hart isn't live then.
+fn follow(code: &DecodedImage, plain: &mut Plain, list: &[u8]) -> Result<(), TurnError>
+    requires code { code.now ≡ (parts plain.old).start.image }
+    requires some { (run : Run) × IsRun (parts plain.old) run }
+    ensures run { OnOk result ((run : Run) → IsRun (parts plain.old) run → IsRun (parts plain.new) (run_from (parts plain.old).start.settings (parts plain.old).start.image run list.now)) }
+    ensures legal { OnOk result ((run : Run) → IsRun (parts plain.old) run → let c = (parts plain.old).start.settings in let i = (parts plain.old).start.image in
+        error_from c i run 0 list.now ≡ unfinished (live_harts 0 c.harts (run_from c i run list.now).harts)) }
+    ensures illegal { IfErr result (λ e. (e ≡ OutOfMemory) ⊎ ((run : Run) → IsRun (parts plain.old) run → error_from (parts plain.old).start.settings (parts plain.old).start.image run 0 list.now ≡ Some e)) }
+    ensures memory { IfErr result (λ e. e ≡ OutOfMemory → (run : Run) → IsRun (parts plain.old) run → StandsBefore (parts plain.old).start.settings (parts plain.old).start.image run list.now (parts plain.new)) }
+    ensures start { (parts plain.new).start ≡ (parts plain.old).start }
+{
+    if plain.start().settings.harts() == 1 {
+        return follow_alone(code, plain, list);
+    }
     for at in 0..list.len() {
         let hart = list[at];
         if !plain.live(hart) {

@@ -44,7 +44,7 @@ use Rattle.run_model.proofs.Stopping.{own_set, with_own}
 
 -- ---- the hart that was moved on
 
-within_interval : (c : RawSettings) (h : Hart) (ic : ℕ) → h.begun ≤ h.state.ic → h.state.ic ≤ h.begun + c.interval → ic < h.state.ic + budget c h → ic < h.begun + c.interval
+pub within_interval : (c : RawSettings) (h : Hart) (ic : ℕ) → h.begun ≤ h.state.ic → h.state.ic ≤ h.begun + c.interval → ic < h.state.ic + budget c h → ic < h.begun + c.interval
 within_interval c h ic low high below = omega (arith, low, high, below, budget_interval c h)
 
 some_left : (c : RawSettings) (h : Hart) (s : HartState) → h.begun ≤ s.ic → s.ic < h.begun + c.interval → s.ic < c.limit → 0 < budget c (in_state s h)
@@ -256,7 +256,7 @@ none_stop c h ic x = by (nat_le c.limit ic) (nat_le c.interval (ic - h.begun))
     by false true = refl
     by false false = refl
 
-own_same : (next : TurnEnd) (s to : HartState) (skipped bytes : ℕ) (h : Hart) → hart_after next to skipped bytes (in_state s h) ≡ hart_after next to skipped bytes h
+pub own_same : (next : TurnEnd) (s to : HartState) (skipped bytes : ℕ) (h : Hart) → hart_after next to skipped bytes (in_state s h) ≡ hart_after next to skipped bytes h
 own_same GoesOn s to skipped bytes h = refl
 own_same (NewInterval reason value) s to skipped bytes h = refl
 own_same (HartOver reason value) s to skipped bytes h = refl

@@ -25,3 +25,4 @@ pub mod Alike
 pub mod LiveSets
 pub mod Dropping
 pub mod InPlace
+pub mod LoneTurns

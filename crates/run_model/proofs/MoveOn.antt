@@ -53,7 +53,7 @@ budget_limit c h = grind (arith, common_steps)
 pub some_budget : (c : RawSettings) (h : Hart) → 0 < c.interval - (h.state.ic - h.begun) → 0 < c.limit - h.state.ic → 0 < budget c h
 some_budget c h a b = grind (arith, common_steps)
 
-one_up : (n : ℕ) → n < 2 ^ 63 → count_up n ≡ n + 1
+pub one_up : (n : ℕ) → n < 2 ^ 63 → count_up n ≡ n + 1
 one_up n small = grind (arith, common_steps)
 
 -- what is known of a count after which the hart continues

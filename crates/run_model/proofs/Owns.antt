@@ -29,7 +29,7 @@ after_same (NewInterval reason value) s skipped bytes h = refl
 after_same (HartOver reason value) s skipped bytes h = refl
 after_same (RunOver reason value) s skipped bytes h = refl
 
-next_same : (c : RawSettings) (call : Option Plan) (want : Want) (reply : Reply) (h : Hart) (s : HartState) (ic : ℕ) → next_of c call (record h { state = s }) want reply ic ≡ next_of c call h want reply ic
+pub next_same : (c : RawSettings) (call : Option Plan) (want : Want) (reply : Reply) (h : Hart) (s : HartState) (ic : ℕ) → next_of c call (record h { state = s }) want reply ic ≡ next_of c call h want reply ic
 next_same c (Some plan) want reply h s ic = refl
 next_same c None (Load addr width signed rd) reply h s ic = refl
 next_same c None (Store addr width value) reply h s ic = refl

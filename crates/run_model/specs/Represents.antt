@@ -11,3 +11,4 @@ pub mod First
 pub mod Tracing
 pub mod InPlace
 pub mod Accessed
+pub mod Alone

@@ -5,6 +5,7 @@
 //! methods of exported types.
 #![tactic(auto)]
 
+mod alone;
 mod caches;
 mod error;
 mod examples;

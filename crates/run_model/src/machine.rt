@@ -319,6 +319,7 @@ impl Machine {
     }
 
     // Writes an aligned word: the other harts' reservations of it end.
+    #[inline(always)]
     fn write(&mut self, hart: HartId, addr: Addr, value: u32)
         requires { IsSpanReady self.old.memory (span addr 1 Write) }
         ensures stands { (input : List ℕ) (m : Meant) → IsMachine input self.old m → IsMachine input self.new (with_memory (updated addr value m.memory) (others_lose hart addr m.reserved) m) }

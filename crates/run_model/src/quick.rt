@@ -181,9 +181,9 @@ impl Trace {
 }
 
 impl Plain {
-    // Whether a hart's ask that isn't a cut is guarded.
+    /// Whether a hart's ask that isn't a cut is guarded.
     #[inline(always)]
-    fn guards(&self, hart: HartId) -> bool
+    pub(crate) fn guards(&self, hart: HartId) -> bool
         requires { hart < self.now.start.settings.harts }
         ensures run { (run : Run) → IsRun (parts self.now) run → result ≡ (self.now.start.settings.format == 2) && nat_lt self.now.start.settings.log_size (2 * bytes_since run hart) }
     {

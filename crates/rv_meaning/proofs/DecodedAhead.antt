@@ -110,6 +110,19 @@ leads_on i b pc c p q x y z leads within some quiet ic fits =
     let counted : min (ic + (b - (c - 1))) (2 ^ 64 - 1) ≡ count_up n = omega (arith, within, some) in
     ap (λ (m : ℕ). ask_of i (c - 1) (record { pc = q; x = z; ic = m })) counted ∙ quiet_next i c s t some (quiet.2 n ∙ ahead_step i s d quiet.1) ∙ leads ic fits
 
+-- and so it is if more is left in any case
+pub leads_more : (i : Program) (b more pc c p q : ℕ) (x y z : List ℕ) → LeadsTo i (b + more) pc x (c + more) p y → c ≤ b → 0 < c
+    → Quietly true i (instruction_in (code_at i p)) p y q z → LeadsTo i (b + more) pc x (c - 1 + more) q z
+leads_more i b more pc c p q x y z leads within some quiet =
+    let less : c + more - 1 ≡ c - 1 + more = omega (arith, some) in
+    subst (λ (n : ℕ). LeadsTo i (b + more) pc x n q z) less (leads_on i (b + more) pc (c + more) p q x y z leads (omega (arith, within)) (omega (arith, some)) quiet)
+
+pub leads_plain : (i : Program) (b pc c p : ℕ) (x y : List ℕ) → LeadsTo i (b + 0) pc x (c + 0) p y → LeadsTo i b pc x c p y
+leads_plain i b pc c p x y leads =
+    let eb : b + 0 ≡ b = omega arith in
+    let ec : c + 0 ≡ c = omega arith in
+    subst (λ (n : ℕ). LeadsTo i n pc x c p y) eb (subst (λ (n : ℕ). LeadsTo i (b + 0) pc x n p y) ec leads)
+
 -- nothing was done, and pc and registers are unchanged
 pub leads_still : (i : Program) (b pc c p q : ℕ) (x y z : List ℕ) → LeadsTo i b pc x c p y → (q ≡ p) × (z ≡ y) → LeadsTo i b pc x c q z
 leads_still i b pc c p q x y z leads same =

@@ -3,7 +3,7 @@
 //! Decoding a word takes longer than doing its instruction. What runs a program for long makes a
 //! [`DecodedImage`] of it once; what does single instructions or short runs calls
 //! [`quiet_run_in_place`], which needs no memory.
-ghost use Rattle.std.specs.Prelude.{◌≡◌, ◌≤◌, ◌<◌, ◌%◌, ◌^◌, true, false, is_some, length, IfOk, IfSome, OnErr, ℕ, List};
+ghost use Rattle.std.specs.Prelude.{◌≡◌, ◌≤◌, ◌<◌, ◌+◌, ◌%◌, ◌^◌, true, false, is_some, length, IfOk, IfSome, OnErr, ℕ, List};
 ghost use Rattle.bn_base.specs.Programs.{Program, code_at, part_at};
 ghost use Rattle.rv_meaning.specs.Ahead.{start_of, starts_in_code, LeadsTo};
 ghost use Rattle.rv_meaning.specs.Execute.{ask_of};
@@ -13,6 +13,7 @@ ghost use Rattle.rv_meaning.specs.Rows.{instruction_in, instruction_at};
 use crate::asks::Want;
 use crate::interpreter::quiet_run_in_place;
 use crate::ops::{Op, ask_memory, do_quiet, pc_of};
+use crate::walk::Walk;
 use bn_base::{Addr, HartState, Image, Registers};
 use rv_decode::decode;
 use std::alloc::{AllocError, Global};
@@ -86,9 +87,9 @@ fn start_of(image: &Image) -> Addr
     }
 }
 
-// The place of a pc among the ops, if it has one.
+/// The place of a pc among the ops, if it has one.
 #[inline(always)]
-fn place_in(ops: &[Op], first: Addr, pc: Addr) -> Option<u32>
+pub(crate) fn place_in(ops: &[Op], first: Addr, pc: Addr) -> Option<u32>
     requires { IsBelowEnd first ops.now }
     ensures { IfSome result (λ place. pc_of first place ≡ pc) }
 {
@@ -101,10 +102,10 @@ fn place_in(ops: &[Op], first: Addr, pc: Addr) -> Option<u32>
     Some(place)
 }
 
-// Does quiet instructions from a place on, while there are ops and some of the budget is left. It gives the op that
-// isn't quiet, if it stops at one.
+/// Does quiet instructions from a place on, while there are ops and some of the budget is left. It gives the op that
+/// isn't quiet, if it stops at one.
 #[inline(always)]
-fn run_quiet<'a>(
+pub(crate) fn run_quiet<'a>(
     ops: &'a [Op],
     first: Addr,
     x: &mut Registers,
@@ -114,8 +115,8 @@ fn run_quiet<'a>(
     requires below { IsBelowEnd first ops.now }
     requires aligned { 0 < length ops.now → first % 4 ≡ 0 }
     ensures left { left.new ≤ left.old }
-    ensures runs { (i : Program) → IsAhead i first ops.now →
-        LeadsTo i left.old (pc_of first place.old) x.old left.new (pc_of first place.new) x.new }
+    ensures runs { (i : Program) (more : ℕ) → IsAhead i first ops.now →
+        LeadsTo i (left.old + more) (pc_of first place.old) x.old (left.new + more) (pc_of first place.new) x.new }
     ensures some { is_some result ≡ true → 0 < left.new }
     ensures found { (i : Program) → IsAhead i first ops.now →
         IfSome result (λ op. Says op.now (instruction_in (code_at i (pc_of first place.new)))) }
@@ -186,6 +187,14 @@ impl<'a> DecodedImage<'a> {
         state.pc = pc_of(self.first, place);
         state.ic = end - left;
         (found, left)
+    }
+
+    /// A hart's way through the code from a pc, if that is decoded, with so much of its budget left.
+    #[inline(always)]
+    pub fn walk(&self, pc: Addr, left: u64) -> Option<Walk<'_>>
+        ensures { IfSome result (λ walk. walk ≡ record { program = self.now; pc = pc; left = left }) }
+    {
+        Walk::new(self.image, self.ops.as_slice(), self.first, pc, left)
     }
 
     /// What a hart asks that stopped at this op, with so much of its budget left. A load or a store is asked by its op;

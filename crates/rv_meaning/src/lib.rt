@@ -17,6 +17,7 @@ mod ops;
 mod questions;
 mod replies;
 mod steps;
+mod walk;
 mod words;
 
 pub use access::{is_aligned, loaded_value, stored_word};
@@ -28,3 +29,4 @@ pub use interpreter::{quiet_run, quiet_run_in_place, step_in_place};
 pub use laws::{each_ask_is_orderly, each_instruction_is_counted_or_asks, registers_stay_words};
 pub use ops::Op;
 pub use replies::{absorb, absorb_in_place};
+pub use walk::Walk;

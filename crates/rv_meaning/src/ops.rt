@@ -1,5 +1,5 @@
 //! Decoded instructions in the form in which the loop of quiet instructions reads them: eight bytes each.
-ghost use Rattle.std.specs.Prelude.{◌≡◌, ◌%◌, ◌<◌, ◌^◌, ℕ, true, false, List, Option, option_map, slice_index};
+ghost use Rattle.std.specs.Prelude.{◌≡◌, ◌%◌, ◌<◌, ◌^◌, ℕ, true, false, List, Option, option_map, slice_index, IfSome};
 ghost use Rattle.bn_base.specs.Programs.{Program};
 ghost use Rattle.bn_base.specs.Registers.{put_reg};
 ghost use Rattle.rv_decode.specs.Seen.{seen};
@@ -7,10 +7,11 @@ ghost use Rattle.rv_decode.specs.Table.{Instruction};
 ghost use Rattle.rv_meaning.specs.Execute.{branch, jump};
 ghost use Rattle.rv_meaning.specs.Ops.{Says, Done, Quietly, Asking, pc_of};
 ghost use Rattle.rv_meaning.specs.declared.asks.Want.{Want};
+ghost use Rattle.rv_meaning.specs.declared.asks.Want.TheVariants.{Load, Store};
 ghost use Rattle.rv_meaning.specs.Words.{add};
 
 use crate::asks::Want;
-use crate::questions::{load, store};
+use crate::questions::{load, may_load, may_store, store};
 use crate::words::{
     div_signed, div_unsigned, flag, high_mixed, high_signed, high_unsigned, less, rem_signed,
     rem_unsigned, shift_left, shift_right, shift_right_signed, sub,
@@ -204,6 +205,42 @@ pub(crate) fn do_quiet(op: &Op, first: Addr, place: &mut u32, x: &mut Registers)
         ),
         Name::Fence => fence(place),
         _ => false,
+    }
+}
+
+/// The address from which an op loads a whole word, if it is such a load and the address passes its tests.
+#[inline(always)]
+pub fn word_load(op: &Op, image: &Image, x: &Registers) -> Option<Addr>
+    ensures { IfSome result (λ addr. (o : Option Instruction) → Says op.now o → Asking true image.now o x.now (Load addr 4 false op.now.rd)) }
+{
+    match op.name {
+        Name::Lw => {
+            let addr = there(op, x);
+            let mut fault = Want::Cut;
+            if may_load(&mut fault, image, addr, 4) {
+                return Some(addr);
+            }
+            None
+        }
+        _ => None,
+    }
+}
+
+/// The address at which an op stores a whole word, if it is such a store and the address passes its tests.
+#[inline(always)]
+pub fn word_store(op: &Op, image: &Image, x: &Registers) -> Option<Addr>
+    ensures { IfSome result (λ addr. (o : Option Instruction) → Says op.now o → Asking true image.now o x.now (Store addr 4 (slice_index x.now op.now.rs2))) }
+{
+    match op.name {
+        Name::Sw => {
+            let addr = there(op, x);
+            let mut fault = Want::Cut;
+            if may_store(&mut fault, image, addr, 4) {
+                return Some(addr);
+            }
+            None
+        }
+        _ => None,
     }
 }
 

@@ -19,9 +19,9 @@ pub fn fault(want: &mut Want, kind: Fault, value: u32) -> bool
     false
 }
 
-// Whether the address passes the tests of a load; if it doesn't, the fault is asked.
+/// Whether the address passes the tests of a load; if it doesn't, the fault is asked.
 #[inline(always)]
-fn may_load(want: &mut Want, image: &Image, addr: Addr, width: u8) -> bool
+pub(crate) fn may_load(want: &mut Want, image: &Image, addr: Addr, width: u8) -> bool
     requires { 0 < width }
     ensures { (w : Want) → load_or image.now addr width w ≡ if result then w else want.new }
 {
@@ -34,9 +34,9 @@ fn may_load(want: &mut Want, image: &Image, addr: Addr, width: u8) -> bool
     }
 }
 
-// Whether the address passes the tests of a store; if it doesn't, the fault is asked.
+/// Whether the address passes the tests of a store; if it doesn't, the fault is asked.
 #[inline(always)]
-fn may_store(want: &mut Want, image: &Image, addr: Addr, width: u8) -> bool
+pub(crate) fn may_store(want: &mut Want, image: &Image, addr: Addr, width: u8) -> bool
     requires { 0 < width }
     ensures { (w : Want) → store_or image.now addr width w ≡ if result then w else want.new }
 {

@@ -1,13 +1,13 @@
 -- The parts of a row's line are the line.
-use Rattle.std.proofs.Common.{◌≡◌, ℕ, List, ◌++◌, Option, Some, None, ◌∙◌, ap, sym, subst, refl, append_assoc}
+use Rattle.std.proofs.Common.{◌≡◌, ℕ, List, ◌++◌, Option, Some, None, ◌∙◌, ap, sym, subst, append_assoc}
 use Rattle.std.proofs.lemmas.List.{append-nil}
 use Rattle.std.specs.Prelude.{codes, decimal}
 use Rattle.bn_base.specs.declared.fault.Fault.{Fault}
 use Rattle.bn_base.specs.declared.row.Row.{Row}
 use Rattle.rv_decode.specs.Table.{decoded}
 use Rattle.rv_text.specs.Instructions.{hex8}
-use Rattle.rv_text.specs.Rows.{point_text, word_text, code_text, shown_word, register_text, access_text, fault_text, row_text}
-use Rattle.rv_text.specs.Lines.{count_text, place_text, labelled, changes_text, joined_text}
+use Rattle.rv_text.specs.Rows.{point_text, word_text, code_text, shown_word, changes_text, fault_text, row_text}
+use Rattle.rv_text.specs.Lines.{count_text, place_text, joined_text}
 
 regroup : (a s x c : List ℕ) → ((a ++ s) ++ x) ++ c ≡ a ++ ((s ++ x) ++ c)
 regroup a s x c = append_assoc (a ++ s) x c ∙ append_assoc a s (x ++ c) ∙ ap (λ (t : List ℕ). a ++ t) (sym (append_assoc s x c))
@@ -16,27 +16,14 @@ start : (hart ic pc word : ℕ) → count_text hart ic ++ place_text pc word ≡
 unfolding count_text place_text point_text
 start hart ic pc word = sym (regroup (decimal hart ++ codes " " ++ decimal ic) (codes " ") (hex8 pc) (word_text pc word (decoded word)))
 
-load-label : (x : Option (ℕ × ℕ)) → labelled (codes " | load ") x ≡ access_text (codes "load") x
-unfolding labelled access_text
-load-label None = refl
-load-label (Some access) = refl
-
-store-label : (x : Option (ℕ × ℕ)) → labelled (codes " | store ") x ≡ access_text (codes "store") x
-unfolding labelled access_text
-store-label None = refl
-store-label (Some access) = refl
-
-changes : (reg load store : Option (ℕ × ℕ)) → changes_text reg load store ≡ register_text reg ++ access_text (codes "load") load ++ access_text (codes "store") store ++ fault_text None
-unfolding changes_text fault_text
-changes reg load store =
-    ap (λ (t : List ℕ). register_text reg ++ t ++ labelled (codes " | store ") store) (load-label load)
-    ∙ ap (λ (t : List ℕ). register_text reg ++ access_text (codes "load") load ++ t) (store-label store)
-    ∙ sym (append-nil (register_text reg ++ access_text (codes "load") load ++ access_text (codes "store") store))
+changes : (reg load store : Option (ℕ × ℕ)) → changes_text reg load store ≡ changes_text reg load store ++ fault_text None
+unfolding fault_text
+changes reg load store = sym (append-nil (changes_text reg load store))
 
 -- a row's line, of its fields
 abbrev line_of : (hart ic pc : ℕ) → Option (Fault × ℕ) → Option ℕ → (reg load store : Option (ℕ × ℕ)) → List ℕ
 line_of hart ic pc fault word reg load store =
-    point_text hart ic pc ++ code_text pc fault (shown_word fault word) ++ (register_text reg ++ access_text (codes "load") load ++ access_text (codes "store") store ++ fault_text fault) ++ codes "\n"
+    point_text hart ic pc ++ code_text pc fault (shown_word fault word) ++ (changes_text reg load store ++ fault_text fault) ++ codes "\n"
 
 done : (hart ic pc w : ℕ) (reg load store : Option (ℕ × ℕ))
     → count_text hart ic ++ place_text pc w ++ changes_text reg load store ++ codes "\n" ≡ line_of hart ic pc None (Some w) reg load store

@@ -1,10 +1,10 @@
 -- The parts of the line of a row that has no fault.
-use Rattle.std.specs.Prelude.{◌≡◌, ◌<◌, ℕ, List, [], ◌++◌, codes, decimal, length, Option, Some, None}
+use Rattle.std.specs.Prelude.{◌≡◌, ◌<◌, ℕ, List, ◌++◌, codes, decimal, length}
 use Rattle.bn_base.specs.declared.row.Row.{Row}
 use Rattle.rv_decode.specs.Table.{decoded}
 use Rattle.rv_text.specs.Instructions.{hex8}
 use Rattle.rv_text.specs.Names.{register_name}
-use Rattle.rv_text.specs.Rows.{word_text, register_text}
+use Rattle.rv_text.specs.Rows.{word_text, changes_text}
 
 -- the hart and its count
 unfoldable pub count_text : ℕ → ℕ → List ℕ
@@ -17,15 +17,6 @@ place_text pc word = codes " " ++ hex8 pc ++ word_text pc word (decoded word)
 -- there is no text, or it is that of the pc and the word
 abbrev pub NoneOrText : ℕ → ℕ → List ℕ → Type 0
 NoneOrText pc word text = 0 < length text → text ≡ place_text pc word
-
--- an access after its label: its address and the whole word
-unfoldable pub labelled : List ℕ → Option (ℕ × ℕ) → List ℕ
-labelled label None = []
-labelled label (Some access) = label ++ hex8 access.0 ++ codes "=" ++ hex8 access.1
-
--- what the instruction changed or read
-unfoldable pub changes_text : Option (ℕ × ℕ) → Option (ℕ × ℕ) → Option (ℕ × ℕ) → List ℕ
-changes_text reg load store = register_text reg ++ labelled (codes " | load ") load ++ labelled (codes " | store ") store
 
 -- there is no text, or it is that of the hart and the count
 abbrev pub NoneOrCount : ℕ → ℕ → List ℕ → Type 0

@@ -49,10 +49,14 @@ unfoldable pub register_text : Option (ℕ × ℕ) → List ℕ
 register_text None = []
 register_text (Some written) = codes " | " ++ register_name written.0 ++ codes "=" ++ hex8 written.1
 
--- an access, by its kind: its address and the whole word
-unfoldable pub access_text : List ℕ → Option (ℕ × ℕ) → List ℕ
-access_text kind None = []
-access_text kind (Some access) = codes " | " ++ kind ++ codes " " ++ hex8 access.0 ++ codes "=" ++ hex8 access.1
+-- an access after its label: its address and the whole word
+unfoldable pub labelled : List ℕ → Option (ℕ × ℕ) → List ℕ
+labelled label None = []
+labelled label (Some access) = label ++ hex8 access.0 ++ codes "=" ++ hex8 access.1
+
+-- what the instruction changed or read
+unfoldable pub changes_text : Option (ℕ × ℕ) → Option (ℕ × ℕ) → Option (ℕ × ℕ) → List ℕ
+changes_text reg load store = register_text reg ++ labelled (codes " | load ") load ++ labelled (codes " | store ") store
 
 -- a fault and its value
 unfoldable pub fault_text : Option (Fault × ℕ) → List ℕ
@@ -61,7 +65,7 @@ fault_text (Some fault) = codes " | fault " ++ fault_name fault.0 ++ codes " " +
 
 -- what the instruction changed or read, and its fault
 abbrev pub effects_text : Row → List ℕ
-effects_text r = register_text r.reg ++ access_text (codes "load") r.load ++ access_text (codes "store") r.store ++ fault_text r.fault
+effects_text r = changes_text r.reg r.load r.store ++ fault_text r.fault
 
 -- the line of a row
 unfoldable pub row_text : Row → List ℕ

@@ -39,9 +39,14 @@ fn write_text(pc: Addr, instr: Option<Instr>, text: &mut Text) -> Result<(), All
     }
 }
 
-// A word and its text. An error may leave a part of it.
+/// Appends a word and its text. An error may leave a part of it.
 #[tactic(auto, unfolding(crate::specs::Rows::word_text))]
-fn write_word(pc: Addr, word: u32, instr: Option<Instr>, text: &mut Text) -> Result<(), AllocError>
+pub fn write_word(
+    pc: Addr,
+    word: u32,
+    instr: Option<Instr>,
+    text: &mut Text,
+) -> Result<(), AllocError>
     ensures ok { OnOk result (text.new ≡ text.old ++ word_text pc word (option_map seen instr)) }
     ensures begins { BeginsWith text.old text.new }
 {

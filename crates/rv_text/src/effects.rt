@@ -1,8 +1,8 @@
-//! The text of what an instruction changed or read, for `RowLines`.
+//! The text of what an instruction changed or read.
 ghost use Rattle.std.specs.Prelude.{◌≡◌, ◌<◌, ◌++◌, OnOk, codes};
-ghost use Rattle.rv_text.specs.Rows.{register_text};
+ghost use Rattle.rv_text.specs.Rows.{register_text, labelled, changes_text};
 ghost use Rattle.rv_text.specs.Texts.{BeginsWith};
-ghost use Rattle.rv_text.specs.Lines.{labelled, label_text, changes_text};
+ghost use Rattle.rv_text.specs.Lines.{label_text};
 
 use crate::Text;
 use bn_base::{Addr, Register, Row};
@@ -66,7 +66,7 @@ fn write_register(reg: Option<(Register, u32)>, text: &mut Text) -> Result<(), A
 }
 
 // An access after its label: the address and the whole word. An error may leave a part of it.
-#[tactic(auto, unfolding(crate::specs::Lines::labelled))]
+#[tactic(auto, unfolding(crate::specs::Rows::labelled))]
 fn write_access(label: &str, access: Option<(Addr, u32)>, text: &mut Text) -> Result<(), AllocError>
     ensures ok { OnOk result (text.new ≡ text.old ++ labelled label.now access) }
     ensures begins { BeginsWith text.old text.new }
@@ -83,7 +83,7 @@ fn write_access(label: &str, access: Option<(Addr, u32)>, text: &mut Text) -> Re
 }
 
 /// Appends what the instruction of a row changed or read. An error may leave a part of it.
-#[tactic(auto, unfolding(crate::specs::Lines::changes_text))]
+#[tactic(auto, unfolding(crate::specs::Rows::changes_text))]
 pub fn write_changes(row: &Row, text: &mut Text) -> Result<(), AllocError>
     ensures ok { OnOk result (text.new ≡ text.old ++ changes_text row.now.reg row.now.load row.now.store) }
     ensures begins { BeginsWith text.old text.new }

@@ -2,13 +2,13 @@
 ghost use Rattle.std.specs.Prelude.{◌≡◌, ◌++◌, ◌<◌, OnOk, OnErr, codes, option_map};
 ghost use Rattle.rv_decode.specs.Seen.{seen};
 ghost use Rattle.rv_text.specs.Instructions.{hex8};
-ghost use Rattle.rv_text.specs.Rows.{point_text, shown_word, shown_instruction, text_or_illegal, word_text, code_text, register_text, access_text, fault_text, effects_text, row_text};
+ghost use Rattle.rv_text.specs.Rows.{point_text, shown_word, shown_instruction, code_text, fault_text, effects_text, row_text};
 ghost use Rattle.rv_text.specs.Texts.{BeginsWith};
 
-use crate::instructions::write_instr_parts;
-use crate::names::register_name;
+use crate::code::write_word;
+use crate::effects::write_changes;
 use crate::text::Text;
-use bn_base::{Addr, Fault, HartId, Ic, Register, Row};
+use bn_base::{Addr, Fault, HartId, Ic, Row};
 use rv_decode::{Instr, decode};
 use std::alloc::AllocError;
 
@@ -53,28 +53,6 @@ fn shown_instruction(fault: Option<(Fault, u32)>, word: u32) -> Option<Instr>
     }
 }
 
-/// The text of an instruction, if there is one.
-fn write_text(pc: Addr, instr: Option<Instr>, text: &mut Text) -> Result<(), AllocError>
-    ensures ok { OnOk result (text.new ≡ text.old ++ text_or_illegal pc (option_map seen instr)) }
-    ensures begins { BeginsWith text.old text.new }
-{
-    match instr {
-        Some(instr) => write_instr_parts(&instr, pc, text),
-        None => text.push_str("illegal"),
-    }
-}
-
-/// A word and its text.
-#[tactic(auto, unfolding(crate::specs::Rows::word_text))]
-fn write_word(pc: Addr, word: u32, instr: Option<Instr>, text: &mut Text) -> Result<(), AllocError>
-    ensures ok { OnOk result (text.new ≡ text.old ++ word_text pc word (option_map seen instr)) }
-    ensures begins { BeginsWith text.old text.new }
-{
-    write_spaced(word, text)?;
-    text.push_str(" ")?;
-    write_text(pc, instr, text)
-}
-
 /// The code of a row: the word and its text.
 fn write_code(row: &Row, text: &mut Text) -> Result<(), AllocError>
     ensures ok { OnOk result (text.new ≡ text.old
@@ -84,55 +62,6 @@ fn write_code(row: &Row, text: &mut Text) -> Result<(), AllocError>
     match shown_word(row.fault, row.word) {
         Some(word) => write_word(row.pc, word, shown_instruction(row.fault, word), text),
         None => text.push_str(" -------- -"),
-    }
-}
-
-/// A value after its sign of equality.
-fn write_value(value: u32, text: &mut Text) -> Result<(), AllocError>
-    ensures ok { OnOk result (text.new ≡ text.old ++ (codes "=" ++ hex8 value)) }
-    ensures begins { BeginsWith text.old text.new }
-{
-    text.push_str("=")?;
-    text.push_hex8(value)
-}
-
-/// A word after a bar.
-fn write_barred(word: &str, text: &mut Text) -> Result<(), AllocError>
-    ensures ok { OnOk result (text.new ≡ text.old ++ (codes " | " ++ word.now)) }
-    ensures begins { BeginsWith text.old text.new }
-{
-    text.push_str(" | ")?;
-    text.push_str(word)
-}
-
-/// The register that was written and its new contents.
-#[tactic(auto, unfolding(crate::specs::Rows::register_text))]
-fn write_register(reg: Option<(Register, u32)>, text: &mut Text) -> Result<(), AllocError>
-    ensures ok { OnOk result (text.new ≡ text.old ++ register_text reg) }
-    ensures begins { BeginsWith text.old text.new }
-{
-    match reg {
-        Some((register, value)) => {
-            write_barred(register_name(register.number()), text)?;
-            write_value(value, text)
-        }
-        None => Ok(()),
-    }
-}
-
-/// An access by its kind: the address and the whole word.
-#[tactic(auto, unfolding(crate::specs::Rows::access_text))]
-fn write_access(kind: &str, access: Option<(Addr, u32)>, text: &mut Text) -> Result<(), AllocError>
-    ensures ok { OnOk result (text.new ≡ text.old ++ access_text kind.now access) }
-    ensures begins { BeginsWith text.old text.new }
-{
-    match access {
-        Some((addr, value)) => {
-            write_barred(kind, text)?;
-            write_spaced(addr, text)?;
-            write_value(value, text)
-        }
-        None => Ok(()),
     }
 }
 
@@ -157,9 +86,7 @@ fn write_effects(row: &Row, text: &mut Text) -> Result<(), AllocError>
     ensures ok { OnOk result (text.new ≡ text.old ++ effects_text row.now) }
     ensures begins { BeginsWith text.old text.new }
 {
-    write_register(row.reg, text)?;
-    write_access("load", row.load, text)?;
-    write_access("store", row.store, text)?;
+    write_changes(row, text)?;
     write_fault(row.fault, text)
 }
 

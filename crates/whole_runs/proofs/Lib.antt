@@ -10,3 +10,4 @@ pub mod Whole
 pub mod Own
 pub mod OwnTurns
 pub mod Answered
+pub mod Lone

@@ -9,7 +9,7 @@ ghost use Rattle.run_model.specs.declared.error.TurnError.TheVariants.{OutOfMemo
 
 use crate::choosing::live_at;
 use crate::listed::Listed;
-use crate::turns::{close, finish, finish_unlisted, follow};
+use crate::turns::{close, finish, finish_lone, finish_unlisted, follow, turns_alone};
 use bn_outside::Book;
 use bus_core::{Bus, Closed};
 use run_model::{Start, TurnError};
@@ -48,6 +48,9 @@ fn listed<B: Book>(
     ensures run { IfOk result (λ run. IsClosed B.tells bus.began run.list.items run.closed (B.told run.closed.book)) }
     ensures of_rows { IfOk result (λ run. (rows : List TurnRow) × IsOfRows bus.began run.closed rows) }
 {
+    if bus.start().settings.harts() == 1 {
+        return listed_alone(alloc, code, bus, seed);
+    }
     match finish(alloc, code, &mut bus, seed) {
         Ok(list) => Ok(Listed {
             closed: close(bus),
@@ -55,6 +58,28 @@ fn listed<B: Book>(
         }),
         Err(error) => Err(error),
     }
+}
+
+// The same of a bus with one hart.
+fn listed_alone<B: Book>(
+    alloc: Global,
+    code: &DecodedImage,
+    bus: Bus<B>,
+    seed: u64,
+) -> Result<Listed<B>, AllocError>
+    requires code { code.now ≡ bus.began.image }
+    requires alone { bus.began.settings.harts ≡ 1 }
+    requires start { HasTaken B.tells bus [] }
+    ensures list { IfOk result (λ run. run.list.items ≡ seeded_after bus.began [] seed) }
+    ensures run { IfOk result (λ run. IsClosed B.tells bus.began run.list.items run.closed (B.told run.closed.book)) }
+    ensures of_rows { IfOk result (λ run. (rows : List TurnRow) × IsOfRows bus.began run.closed rows) }
+{
+    let now = finish_lone(code, bus)?;
+    let list = turns_alone(alloc, now.turns())?;
+    Ok(Listed {
+        closed: close(now),
+        list,
+    })
 }
 
 /// The run by the turns that a number chooses. Each turn is noted in the book, which may keep them; no other list of
@@ -86,6 +111,10 @@ fn unlisted<B: Book>(
     ensures run { IfOk result (λ closed. IsClosed B.tells bus.began (seeded_after bus.began [] seed) closed (B.told closed.book)) }
     ensures of_rows { IfOk result (λ closed. (rows : List TurnRow) × IsOfRows bus.began closed rows) }
 {
+    if bus.start().settings.harts() == 1 {
+        let now = finish_lone(code, bus)?;
+        return Ok(close(now));
+    }
     match finish_unlisted(code, &mut bus, seed) {
         Ok(()) => Ok(close(bus)),
         Err(error) => Err(error),

@@ -8,29 +8,32 @@ ghost use Rattle.run_model.specs.declared.error.TurnError.TheVariants.{OutOfMemo
 use crate::choosing::{choose, count_after, count_live, draw};
 use bn_outside::Book;
 use bus_core::{Bus, Closed};
+use run_laws::runs_end;
 use run_model::TurnError;
 use rv_meaning::DecodedImage;
 use std::alloc::{AllocError, Global};
 
-// All turns that are left to a hart that is alone, which every draw chooses; how many.
-fn finish_alone<B: Book>(code: &DecodedImage, bus: &mut Bus<B>) -> Result<u64, AllocError>
-    requires code { code.now ≡ bus.old.began.image }
-    requires alone { bus.old.began.settings.harts ≡ 1 }
-    ensures taken { IfOk result (λ count. (list : List ℕ) → HasTaken B.tells bus.old list → HasTaken B.tells bus.new (list ++ replicate count 0)) }
-    ensures drawn { IfOk result (λ count. (list : List ℕ) (seed : ℕ) → HasTaken B.tells bus.old list → replicate count 0 ≡ seeded_after bus.old.began list seed) }
-    ensures finished { IfOk result (λ count. (list : List ℕ) → HasTaken B.tells bus.old list → is_finished bus.new.began (list ++ replicate count 0) ≡ true) }
-    ensures began { bus.new.began ≡ bus.old.began }
-    ensures halted { bus.new.halted ≡ bus.old.halted }
+/// The bus after all turns that are left to a hart that is alone, which every draw chooses.
+pub fn finish_lone<B: Book>(code: &DecodedImage, bus: Bus<B>) -> Result<Bus<B>, AllocError>
+    requires code { code.now ≡ bus.began.image }
+    requires alone { bus.began.settings.harts ≡ 1 }
+    requires start { HasTaken B.tells bus [] }
+    ensures taken { IfOk result (λ now. HasTaken B.tells now (replicate now.turns 0)) }
+    ensures drawn { IfOk result (λ now. (seed : ℕ) → replicate now.turns 0 ≡ seeded_after bus.began [] seed) }
+    ensures finished { IfOk result (λ now. is_finished now.began (replicate now.turns 0) ≡ true) }
+    ensures began { IfOk result (λ now. now.began ≡ bus.began) }
 {
-    let before = bus.turns();
-    'taking: while bus.live(0) {
-        bus.take_turn(code, 0)?;
+    runs_end();
+    let mut now = bus;
+    'taking: while now.live(0) {
+        now = now.take_turns(code, u64::MAX)?;
     }
-    Ok(bus.turns() - before)
+    let _settings = now.start().settings.raw();
+    Ok(now)
 }
 
-// The list of so many turns of hart 0.
-fn turns_alone(alloc: Global, count: u64) -> Result<Vec<u8>, AllocError>
+/// The list of so many turns of hart 0.
+pub fn turns_alone(alloc: Global, count: u64) -> Result<Vec<u8>, AllocError>
     ensures { IfOk result (λ list. list.items ≡ replicate count 0) }
 {
     vec![in alloc; 0; count as usize]
@@ -51,11 +54,6 @@ pub fn finish<B: Book>(
     ensures began { bus.new.began ≡ bus.old.began }
     ensures halted { bus.new.halted ≡ bus.old.halted }
 {
-    if bus.start().settings.harts() == 1 {
-        let taken = finish_alone(code, bus)?;
-        let list = turns_alone(alloc, taken)?;
-        return Ok(list);
-    }
     let mut list = Vec::new(alloc);
     let mut state = seed;
     let mut count = count_live(bus);
@@ -86,10 +84,6 @@ pub fn finish_unlisted<B: Book>(
     ensures began { bus.new.began ≡ bus.old.began }
     ensures halted { bus.new.halted ≡ bus.old.halted }
 {
-    if bus.start().settings.harts() == 1 {
-        finish_alone(code, bus)?;
-        return Ok(());
-    }
     let mut state = seed;
     let mut count = count_live(bus);
     'drawing: loop {

@@ -1,4 +1,4 @@
-use Rattle.std.proofs.Common.{◌∙◌, ◌+◌, ℕ, List, get_or, take, drop, sym, ap, subst, inr}
+use Rattle.std.proofs.Common.{◌∙◌, ◌+◌, ℕ, List, get_or, take, drop, sym, ap, subst, inl, inr}
 use Rattle.run_model.specs.declared.start.Start.{Start}
 use Rattle.run_model.specs.Turn.{Run, turn}
 use Rattle.run_model.specs.Runs.{run_from, is_live, live_harts}
@@ -54,6 +54,6 @@ returns-in_err-turn_ahead-clause-memory c = any_err _ c.from_residual.result (λ
     record {
       at = at;
       within = c.loop-at-test.true;
-      stands = c.in_err-turn_ahead.ensures.refused now (c.loop-at.invariant.run run is);
+      stands = inl (c.in_err-turn_ahead.ensures.refused now (c.loop-at.invariant.run run is));
       live = ap (λ (s : Start). is_live s.settings now (get_or list at 0)) (sym c.loop-at.invariant.start) ∙ sym (c.live.ensures.run now (c.loop-at.invariant.run run is)) ∙ c.if-not-live.false;
     })

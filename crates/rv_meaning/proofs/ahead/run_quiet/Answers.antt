@@ -1,8 +1,8 @@
-use Rattle.std.proofs.Common.{ℕ, arith, sym, subst}
+use Rattle.std.proofs.Common.{ℕ, ◌+◌, arith, sym, subst}
 use Rattle.bn_base.specs.Programs.{code_at}
 use Rattle.rv_meaning.specs.Ops.{Says, pc_of}
 use Rattle.rv_meaning.specs.Rows.{instruction_in}
-use Rattle.rv_meaning.proofs.DecodedAhead.{says_here, leads_on, leads_still}
+use Rattle.rv_meaning.proofs.DecodedAhead.{says_here, leads_more, leads_still}
 use Rattle.rv_meaning.proofs.ahead.run_quiet.Goals as goal
 
 pub quiet-preserved : goal.quiet-preserved
@@ -10,16 +10,16 @@ quiet-preserved c =
     let l = c.in-Some.ensures.lookup in record {
       none = c.quiet.invariant.none;
       rest = omega (arith, c.quiet.invariant.rest);
-      runs = λ i h. leads_on i c.args.left.now (pc_of c.args.first c.args.place.now) c.quiet.rest (pc_of c.args.first c.quiet.here) (pc_of c.args.first c.do_quiet.new.place) c.args.x.now c.quiet.x c.do_quiet.new.x
-          (c.quiet.invariant.runs i h) c.quiet.invariant.rest (omega (arith, c.quiet-test.true))
+      runs = λ i more h. leads_more i c.args.left.now more (pc_of c.args.first c.args.place.now) c.quiet.rest (pc_of c.args.first c.quiet.here) (pc_of c.args.first c.do_quiet.new.place) c.args.x.now c.quiet.x c.do_quiet.new.x
+          (c.quiet.invariant.runs i more h) c.quiet.invariant.rest (omega (arith, c.quiet-test.true))
           (c.if-not-do_quiet.ensures i (instruction_in (code_at i (pc_of c.args.first c.quiet.here))) (says_here i c.args.first c.quiet.here c.args.ops.now c.in-Some.op.now h c.requires.below l.3.0 l.1));
     }
 
 pub returns-then-not-do_quiet-clause-runs : goal.returns-then-not-do_quiet-clause-runs
-returns-then-not-do_quiet-clause-runs c i h =
+returns-then-not-do_quiet-clause-runs c i more h =
     let l = c.in-Some.ensures.lookup in
     let same = c.if-not-do_quiet.ensures i (instruction_in (code_at i (pc_of c.args.first c.quiet.here))) (says_here i c.args.first c.quiet.here c.args.ops.now c.in-Some.op.now h c.requires.below l.3.0 l.1) in
-    leads_still i c.args.left.now (pc_of c.args.first c.args.place.now) c.quiet.rest (pc_of c.args.first c.quiet.here) (pc_of c.args.first c.do_quiet.new.place) c.args.x.now c.quiet.x c.do_quiet.new.x (c.quiet.invariant.runs i h) same
+    leads_still i (c.args.left.now + more) (pc_of c.args.first c.args.place.now) (c.quiet.rest + more) (pc_of c.args.first c.quiet.here) (pc_of c.args.first c.do_quiet.new.place) c.args.x.now c.quiet.x c.do_quiet.new.x (c.quiet.invariant.runs i more h) same
 
 pub returns-then-not-do_quiet-clause-found : goal.returns-then-not-do_quiet-clause-found
 returns-then-not-do_quiet-clause-found c i h =

@@ -1,4 +1,4 @@
-use Rattle.std.proofs.Common.{◌≡◌, ◌≤◌}
+use Rattle.std.proofs.Common.{◌≡◌, ◌≤◌, ◌+◌, ℕ}
 use Rattle.std.specs.Prelude.{None}
 use Rattle.bn_base.specs.Programs.{Program}
 use Rattle.rv_meaning.specs.Ahead.{LeadsTo}
@@ -10,7 +10,7 @@ abbrev pub invariant-quiet : goal.invariant-quiet
 invariant-quiet l = record {
   none : l.found ≡ None;
   rest : l.rest ≤ l.fn.left;
-  runs : (i : Program) → IsAhead i l.first l.ops → LeadsTo i l.fn.left (pc_of l.first l.fn.place) l.fn.x l.rest (pc_of l.first l.here) l.x;
+  runs : (i : Program) (more : ℕ) → IsAhead i l.first l.ops → LeadsTo i (l.fn.left + more) (pc_of l.first l.fn.place) l.fn.x (l.rest + more) (pc_of l.first l.here) l.x;
 }
 
 abbrev pub decreases-quiet : goal.decreases-quiet

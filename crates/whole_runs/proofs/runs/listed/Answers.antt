@@ -1,4 +1,4 @@
-use Rattle.std.proofs.Common.{[], subst}
+use Rattle.std.proofs.Common.{[], subst, ap, arith}
 use Rattle.bus_core.specs.Bus.{Began}
 use Rattle.whole_runs.specs.Closed.{IsClosed, IsOfRows}
 use Rattle.whole_runs.proofs.runs.listed.Goals as goal
@@ -20,3 +20,6 @@ returns-in-Ok-clause-of_rows g c =
     let closed = c.close.ensures.closed list (c.in-Ok.ensures.taken [] start) (c.in-Ok.ensures.finished [] start) in
     let some = c.close.ensures.of_rows closed.finished in
     (some.0, subst (λ (x : Began). IsOfRows x c.close.result some.0) c.finish.ensures.began some.1)
+
+pub listed_alone-requires-clause-alone : goal.listed_alone-requires-clause-alone
+listed_alone-requires-clause-alone g c = omega (arith, c.if-harts-eq1.true, c.harts.ensures.value, ap (λ (b : Began). b.settings.harts) c.start.ensures)

@@ -61,15 +61,3 @@ drawing-preserved g c =
           let next = count_next c.drawing.bus c.take_turn.new.self all k c.drawing.count c.count_after-count.result c.take_turn.ensures.began (c.drawing.invariant.counted list h) taken.state c.count_after-count.ensures in
           subst (λ (xs : List ℕ). IsCount c.take_turn.new.self.began xs c.count_after-count.result) (append_assoc list rest (k ∷ []) ∙ ap (λ (xs : List ℕ). list ++ xs) (sym c.in_ok-push-in-Some.ensures.items)) next;
     }
-
-pub finish_alone-requires-clause-alone : goal.finish_alone-requires-clause-alone
-finish_alone-requires-clause-alone g c = omega (arith, c.if-harts-eq1.true, c.harts.ensures.value, ap (λ (b : Began). b.settings.harts) c.start.ensures)
-
-pub returns-then-harts-eq1-clause-list : goal.returns-then-harts-eq1-clause-list
-returns-then-harts-eq1-clause-list g c = λ list h. c.in_ok-list.ensures ∙ c.in_ok-taken.ensures.drawn list c.args.seed h
-
-pub returns-then-harts-eq1-clause-taken : goal.returns-then-harts-eq1-clause-taken
-returns-then-harts-eq1-clause-taken g c = λ list h. subst (λ (xs : List ℕ). HasTaken g.B.Book.tells c.finish_alone.new.bus (list ++ xs)) (sym c.in_ok-list.ensures) (c.in_ok-taken.ensures.taken list h)
-
-pub returns-then-harts-eq1-clause-finished : goal.returns-then-harts-eq1-clause-finished
-returns-then-harts-eq1-clause-finished g c = λ list h. subst (λ (xs : List ℕ). is_finished c.finish_alone.new.bus.began (list ++ xs) ≡ true) (sym c.in_ok-list.ensures) (c.in_ok-taken.ensures.finished list h)

@@ -57,14 +57,3 @@ drawing-preserved g c =
             ),
           );
     }
-
-pub finish_alone-requires-clause-alone : goal.finish_alone-requires-clause-alone
-finish_alone-requires-clause-alone g c = omega (arith, c.if-harts-eq1.true, c.harts.ensures.value, ap (λ (b : Began). b.settings.harts) c.start.ensures)
-
-pub returns-then-harts-eq1-clause-taken : goal.returns-then-harts-eq1-clause-taken
-returns-then-harts-eq1-clause-taken g c = λ list h.
-    subst (λ (xs : List ℕ). HasTaken g.B.Book.tells c.finish_alone.new.bus (list ++ xs)) (c.in_ok-finish_alone.ensures.drawn list c.args.seed h) (c.in_ok-finish_alone.ensures.taken list h)
-
-pub returns-then-harts-eq1-clause-finished : goal.returns-then-harts-eq1-clause-finished
-returns-then-harts-eq1-clause-finished g c = λ list h.
-    subst (λ (xs : List ℕ). is_finished c.finish_alone.new.bus.began (list ++ xs) ≡ true) (c.in_ok-finish_alone.ensures.drawn list c.args.seed h) (c.in_ok-finish_alone.ensures.finished list h)

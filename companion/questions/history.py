@@ -1,0 +1,182 @@
+"""Lists what stored to a variable."""
+from __future__ import annotations
+
+import itertools
+from collections import deque
+from dataclasses import dataclass
+from typing import Any, Deque, Iterable, Optional
+
+from .. import streams
+from ..answers import place_of, put_answer
+from ..elf import Elf
+from ..instruction import STORE, Instruction
+from ..memory import Bytes, words_of
+from ..options import parse, whole
+from ..text import columns, counted, number
+from .reading import Asked, asked_of
+from .types import Leaf, leaves, value_text
+from .variables import Variable, variable_of
+from .window import Window
+from .words import Change, Fill, Words
+
+HELP = """Lists each store to a variable: hart and count, the value before and after it, its place and the calls over it.
+
+    zelkuma history LOG ELF NAME [--names ELF] [--changes] [--last N] [--rows N] [--json]
+
+NAME is a variable or a part of it (`orders[3].amount`), a symbol, a symbol and an offset (`arena+56`), or an address;
+behind the last two a length can stand (`00011b60:4`).
+
+--names    the same program with names and lines, if ELF was stripped
+--changes  only stores that change it
+--last     how many of the latest are told, 100 without it
+--rows     how many of the last rows are read, 80 million without it
+--json     prints one JSON object in place of the text (docs/JSON.md)
+
+Types and parts are gdb's (gdb-multiarch, or what $ZELKUMA_GDB names). Rows are in the order of `joint`.
+Companions show; the program proves."""
+FORM = "history LOG ELF NAME [--names ELF] [--changes] [--last N] [--rows N] [--json]"
+OPTIONS = {"--names": True, "--changes": False, "--last": True, "--rows": True, "--json": False}
+TOLD, MOST_TOLD, MOST_FRAMES, LARGEST = 100, 1000000, 4, 8
+
+
+@dataclass(frozen=True)
+class Entry:
+    """A store or a `read` call: its hart and count, its row, its address and that of the call over it, what it stored to,
+    and the values of that before and after."""
+    hart: int
+    count: int
+    row: str
+    pcs: list[int]
+    part: Leaf
+    before: Bytes
+    after: Bytes
+    fill: Optional[Fill]
+
+
+class History:
+    """The latest stores to a variable.
+
+    total, told   how many there are, and those that are told"""
+
+    def __init__(self, asked: Asked, variable: Variable, most: int, only_changes: bool) -> None:
+        self.asked, self.variable, self.only_changes = asked, variable, only_changes
+        self.words, self.window, self.total = Words(asked, variable), Window(), 0
+        self.begins = dict(self.words.known)
+        self.waiting: Deque[Change] = deque(maxlen=most)    # whose text is kept
+        self.told: Deque[Entry] = deque(maxlen=most)
+
+    def read(self, texts: Iterable[bytes]) -> None:
+        for text in texts:
+            self.window.add(text)
+            for change in self.words.changes(text, self.window.begins[-1]):
+                if not self.only_changes or self.is_change(change):
+                    self.total += 1
+                    self.waiting.append(change)
+            while self.window.surplus():
+                self.tell(self.window.surplus())
+                self.window.drop()
+        self.tell(self.window.end + 1)
+
+    def is_change(self, change: Change) -> bool:
+        if self.words.is_aligned or change.after is None:
+            return change.after is None or change.after != change.before[1]
+        begin, end = max(change.word, self.variable.address), min(change.word + 4, self.variable.end)
+        return change.bytes_before(begin, end - begin) != change.bytes_after(begin, end - begin)
+
+    def tell(self, end: int) -> None:
+        """Looks for the callers of stores whose text is forgotten next."""
+        most = self.waiting.maxlen or 0
+        while self.waiting and self.waiting[0].place < end:
+            if self.told and len(self.told) + len(self.waiting) > most:
+                self.told.popleft()
+            self.told.append(self.entry(self.waiting.popleft()))
+
+    def entry(self, change: Change) -> Entry:
+        row = self.window.row(change.place)
+        hart, count, key = row.split(b" | ")[0].split(b" ", 2)
+        code, base = Instruction(0, key), self.variable.address
+        caller = self.window.caller(hart, change.place)
+        first, end = change.word, change.word + 4
+        if change.fill:
+            first, end = change.fill.address, change.fill.address + change.fill.size
+        elif code.kind == STORE:
+            first = int(row[-17:-9], 16)
+            end = first + code.width
+        first, end = max(first, base), min(end, self.variable.end)
+        part = self.part(first - base, end - base)
+        return Entry(int(hart), int(count), row.decode("ascii", "replace"), [code.pc] + ([caller] if caller else []), part,
+                     change.bytes_before(base + part.at, part.size), change.bytes_after(base + part.at, part.size), change.fill)
+
+    def part(self, first: int, end: int) -> Leaf:
+        """The part of the variable that has these bytes; of several the bytes as they are, by the first one's name."""
+        parts = list(itertools.islice(leaves(self.variable.type, first, end), 2))
+        if len(parts) == 1:
+            return parts[0]
+        return Leaf(parts[0].path if parts else f"+{first}", first, {"kind": "bytes", "size": end - first, "name": ""})
+
+
+def value_of(entry: Entry, data: Bytes, named: Elf) -> str:
+    return value_text(entry.part, data, lambda address: named.data_name(address) or named.function_name(address))
+
+
+def entry_line(entry: Entry, asked: Asked, name: str) -> list[str]:
+    """What is told of a store, in columns."""
+    new = f"{counted(entry.fill.size, 'byte')} of a read call" if entry.fill else value_of(entry, entry.after, asked.named)
+    part = name + entry.part.path
+    return [f"{entry.hart}:{entry.count}", part, f"{value_of(entry, entry.before, asked.named)} -> {new}",
+            asked.places.chain(entry.pcs, MOST_FRAMES)]
+
+
+def before_line(found: History) -> list[str]:
+    """What the variable was before the first row, if it has one part."""
+    variable, asked = found.variable, found.asked
+    part = found.part(0, variable.size)
+    if part.at or part.size != variable.size or variable.size > LARGEST:
+        return []
+    words = [found.begins.get(word) for word in words_of(variable.address, variable.size)]
+    data = [byte for word in words for byte in ([None] * 4 if word is None else word.to_bytes(4, "little"))]
+    data = data[variable.address & 3:][:variable.size]
+    if None in data:
+        return ["  before the first row: unknown"]
+    return [f"  before the first row: {value_text(part, data, asked.named.data_name)}, as the file has it"]
+
+
+def report(found: History) -> list[str]:
+    variable, asked = found.variable, found.asked
+    asked.places.fetch(pc for entry in found.told for pc in entry.pcs)
+    said = f"HISTORY of {variable.what()}: {counted(found.total, 'change' if found.only_changes else 'store')}"
+    if len(found.told) < found.total:
+        said += f"; the last {number(len(found.told))} are told (--last N)"
+    rows = [entry_line(entry, asked, variable.name) for entry in found.told]
+    if all(row[1] == variable.name for row in rows):
+        rows = [row[:1] + row[2:] for row in rows]
+    return [said] + before_line(found) + columns(rows) + ["  " + line for line in asked.left_out()]
+
+
+def history_answer(found: History) -> dict[str, Any]:
+    variable, asked = found.variable, found.asked
+    return {"name": variable.name, "address": f"{variable.address:08x}", "size": variable.size, "type": variable.type["name"],
+            "stores": found.total, "left_out": asked.left_out(),
+            "entries": [{"hart": entry.hart, "count": entry.count, "row": entry.row, "place": place_of(asked.places, entry.pcs[0]),
+                         "caller": place_of(asked.places, entry.pcs[1]) if len(entry.pcs) > 1 else None,
+                         "part": entry.part.path, "old": value_of(entry, entry.before, asked.named),
+                         "new": value_of(entry, entry.after, asked.named), "read": entry.fill.size if entry.fill else 0}
+                        for entry in found.told]}
+
+
+def history_of(asked: Asked, variable: Variable, most: int = TOLD, only_changes: bool = False) -> History:
+    found = History(asked, variable, most, only_changes)
+    found.read(asked.chunks())
+    return found
+
+
+def main(words: list[str]) -> int:
+    (log_name, elf_name, name), given = parse(words, OPTIONS, 3, FORM)
+    most = whole(given.get("--last", str(TOLD)), 1, MOST_TOLD, "--last")
+    with asked_of(log_name, elf_name, given) as asked:
+        found = history_of(asked, variable_of(asked.named, name), most, "--changes" in given)
+        if "--json" in given:
+            put_answer("history", **history_answer(found))
+        else:
+            streams.put("".join(line + "\n" for line in report(found)))
+    return 0

@@ -1,0 +1,119 @@
+"""Runs inside of gdb: answers what $ZELKUMA_ASKED asks of the program's names, as one line of JSON after its mark.
+
+It reads what the ELF file says, and nothing else: no process is started."""
+from __future__ import annotations
+
+import importlib
+import json
+import os
+import re
+from typing import Any
+
+gdb: Any = importlib.import_module("gdb")     # only there inside of gdb
+MOST_PARTS, DEEPEST = 4000, 12      # of a type
+PLAIN = {gdb.TYPE_CODE_INT: "int", gdb.TYPE_CODE_CHAR: "int", gdb.TYPE_CODE_BOOL: "bool", gdb.TYPE_CODE_FLT: "float",
+         gdb.TYPE_CODE_PTR: "pointer", gdb.TYPE_CODE_REF: "pointer"}
+
+
+class Types:
+    """Tells types. What is too deep or too much is told as bytes."""
+
+    def __init__(self) -> None:
+        self.parts = 0
+
+    def told(self, found: Any, depth: int = 0) -> dict[str, Any]:
+        plain = found.strip_typedefs()
+        said = {"kind": "bytes", "name": str(found.unqualified()), "size": int(plain.sizeof)}
+        self.parts += 1
+        if depth > DEEPEST or self.parts > MOST_PARTS:
+            return said
+        if plain.code in PLAIN:
+            said.update(kind=PLAIN[plain.code], signed=plain.code == gdb.TYPE_CODE_INT and is_signed(plain))
+        elif plain.code == gdb.TYPE_CODE_ENUM:
+            said.update(kind="enum", names={str(field.enumval): field.name for field in plain.fields()[:MOST_PARTS]})
+        elif plain.code == gdb.TYPE_CODE_ARRAY:
+            low, high = plain.range()
+            said.update(kind="array", count=max(0, high - low + 1), first=low, of=self.told(plain.target(), depth + 1))
+        elif plain.code in (gdb.TYPE_CODE_STRUCT, gdb.TYPE_CODE_UNION):
+            said.update(kind="fields", fields=[self.field(field, depth) for field in plain.fields()
+                                               if hasattr(field, "bitpos")])
+        return said
+
+    def field(self, field: Any, depth: int) -> dict[str, Any]:
+        said = {"name": field.name or "", "at": field.bitpos // 8, "type": self.told(field.type, depth + 1)}
+        if field.bitsize:
+            said.update(bit=field.bitpos % 8, bits=field.bitsize)
+        return said
+
+
+def is_signed(plain: Any) -> bool:
+    return bool(plain.is_signed) if hasattr(plain, "is_signed") else "unsigned" not in str(plain)
+
+
+def variable(name: str) -> dict[str, Any]:
+    """The address and the type of a variable or a part of it."""
+    place = gdb.parse_and_eval(f"&({name})")
+    return {"address": int(place) & 0xffffffff, "type": Types().told(place.type.target())}
+
+
+def function_of(block: Any) -> Any:
+    """The innermost function that a block belongs to, inlined or not: its block."""
+    while block is not None and block.function is None:
+        block = block.superblock
+    return block
+
+
+def is_inlined(block: Any) -> bool:
+    return function_of(block.superblock) is not None
+
+
+def registers_at(address: int) -> dict[str, str]:
+    """{parameter or variable: the register that holds it} at an address, as far as gdb says so."""
+    found: dict[str, str] = {}
+    text = gdb.execute(f"info scope *{address:#x}", to_string=True)
+    for name, said in re.findall(r"^Symbol (\S+) is (.*?)(?=^Symbol |\Z)", text, re.M | re.S):
+        here = re.match(r"a variable in \$(\w+)", said)
+        for low, high, register in re.findall(r"Range (\w+)-(\w+): a variable in \$(\w+)", said):
+            if int(low, 16) <= address < int(high, 16):
+                found.setdefault(name, register)
+        if here:
+            found.setdefault(name, here[1])
+    return found
+
+
+def function(name: str) -> dict[str, Any]:
+    """Each place where a function begins, and of its own code the parameters and the result's type."""
+    point = gdb.Breakpoint(name, internal=True)
+    begins: list[dict[str, Any]] = []
+    for location in point.locations:
+        block = function_of(gdb.block_for_pc(location.address))
+        if block is None:
+            continue
+        if is_inlined(block):
+            begins.append({"address": location.address, "inlined": True})
+        else:
+            begins.append(own_code(block.function, int(block.function.value().address)))
+    point.delete()
+    return {"begins": begins}
+
+
+def own_code(symbol: Any, address: int) -> dict[str, Any]:
+    held = registers_at(address)
+    block, parameters = function_of(gdb.block_for_pc(address)), []
+    for each in block or ():
+        if each.is_argument:
+            parameters.append({"name": each.name, "register": held.get(each.name, ""), "type": Types().told(each.type)})
+    return {"address": address, "inlined": False, "parameters": parameters, "result": Types().told(symbol.type.target())}
+
+
+def main() -> None:
+    asked = json.loads(os.environ["ZELKUMA_ASKED"])
+    gdb.execute("set language c" if asked.get("c") else "set language auto")
+    try:
+        said = variable(asked["variable"]) if "variable" in asked else function(asked["function"])
+    except (gdb.error, RuntimeError, ValueError, AttributeError) as error:
+        said = {"error": str(error)}
+    print(asked["mark"] + json.dumps(said), flush=True)
+
+
+main()

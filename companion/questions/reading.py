@@ -1,0 +1,52 @@
+"""Which rows of a log a question reads: as many of the last ones as its bound allows, decided before a row is read."""
+from __future__ import annotations
+
+import contextlib
+from contextlib import closing
+from typing import Iterator, Mapping, NamedTuple
+
+from ..chunks import chunks
+from ..elf import Elf
+from ..log import Log
+from ..naming import named_elf, places_of
+from ..options import whole
+from ..places import Places
+from ..recent import open_log
+from ..text import number
+
+MOST_ROWS = 80000000        # are read without --rows
+HIGHEST = 1 << 41
+
+
+class Asked(NamedTuple):
+    """The rows that a question is asked of, and the names of their program."""
+    log: Log
+    elf: Elf
+    named: Elf
+    places: Places
+
+    @property
+    def is_whole(self) -> bool:
+        """Whether these are all rows of the run."""
+        return not self.log.dropped and not self.log.unread
+
+    def chunks(self) -> Iterator[bytes]:
+        return chunks(self.log.name, self.elf.name)
+
+    def left_out(self) -> list[str]:
+        """What of the run isn't among the rows, as lines."""
+        log = self.log
+        if log.unread:
+            return [f"Only the last {number(log.rows())} rows were read; --rows N reads more."]
+        return [f"The log gave up {number(log.dropped)} records before its first row."] if log.dropped else []
+
+
+@contextlib.contextmanager
+def asked_of(log_name: str, elf_name: str, given: Mapping[str, str]) -> Iterator[Asked]:
+    """What a call asks of: its files, --names and --rows."""
+    rows = whole(given["--rows"], 1, HIGHEST, "--rows") if "--rows" in given else MOST_ROWS
+    with contextlib.ExitStack() as opened:
+        log = opened.enter_context(closing(open_log(log_name))).end(rows)
+        elf = Elf(elf_name)
+        named = named_elf(elf, given.get("--names", ""))
+        yield Asked(log, elf, named, opened.enter_context(closing(places_of(named))))

@@ -1,0 +1,83 @@
+"""What NAME is: a variable or a part of it as DWARF tells it, else a symbol, else an address with a length."""
+from __future__ import annotations
+
+import difflib
+import os
+import re
+from typing import NamedTuple, Optional
+
+from ..elf import FUNCTION, Elf, Symbol
+from ..errors import MISSING, REFUSED, CompanionError
+from ..text import clean, counted
+from .debugger import ask_gdb
+from .types import Type, words_type
+
+ADDRESS = re.compile(r"(?:0x([0-9a-f]{1,8})|([0-9a-f]{8}))(?::(\d{1,7}))?", re.I)
+OFFSET = re.compile(r"(.+)\+(\d{1,7})(?::(\d{1,7}))?")
+# A variable and its parts. gdb's own commands, functions and `$` have no place in it.
+PART = re.compile(r"(?:'[\w./\-]+'::)?[\w.]+(?:::\w+)*(?:\.\w+|\[\d+\])*")
+WORD, MOST_BYTES, NEAR = 4, 1 << 26, 5
+
+
+class Variable(NamedTuple):
+    """Bytes of memory that have a name."""
+    name: str
+    address: int
+    type: Type
+
+    @property
+    def size(self) -> int:
+        return int(self.type["size"])
+
+    @property
+    def end(self) -> int:
+        return self.address + self.size
+
+    def what(self) -> str:
+        """Its name, type, size and address."""
+        kind = f"{self.type['name']}, " if self.type["name"] else ""
+        place = f"{counted(self.size, 'byte')} at {self.address:08x}"
+        return place if self.name == f"{self.address:08x}" else f"{self.name} ({kind}{place})"
+
+
+def variable_of(elf: Elf, name: str) -> Variable:
+    """The variable of a name; CompanionError with near names if there is none."""
+    found = symbol_of(elf, name)
+    if found is None and (told := ADDRESS.fullmatch(name)):
+        return at_address(int(told[1] or told[2], 16), int(told[3] or WORD))
+    if found is None and (told := OFFSET.fullmatch(name)) and (base := symbol_of(elf, told[1])):
+        return Variable(name, base.address + int(told[2]), words_type(length(int(told[3] or WORD))))
+    if found and found.kind == FUNCTION:
+        raise CompanionError(f"{clean(name)} is a function: `calls` tells of it", REFUSED)
+    if elf.symbols and PART.fullmatch(name):
+        answer = ask_gdb(elf, variable=name)
+        if answer and "address" in answer:
+            return Variable(name, answer["address"], answer["type"])
+    if found is None:
+        raise CompanionError(not_found(elf, name, elf.objects), MISSING)
+    return Variable(name, found.address, words_type(length(found.size or WORD)))
+
+
+def at_address(address: int, size: int) -> Variable:
+    return Variable(f"{address:08x}", address, words_type(length(size)))
+
+
+def length(size: int) -> int:
+    if not 1 <= size <= MOST_BYTES:
+        raise CompanionError(f"so many bytes can't be asked of: 1 to {MOST_BYTES}", REFUSED)
+    return size
+
+
+def symbol_of(elf: Elf, name: str) -> Optional[Symbol]:
+    """The symbol of a name: of an object, if there is one."""
+    found = sorted((item for item in elf.symbols if item.name == name), key=lambda item: item.kind % FUNCTION)
+    return found[-1] if found else None
+
+
+def not_found(elf: Elf, name: str, among: list[Symbol]) -> str:
+    """That a name isn't there, and which names are near."""
+    if not elf.symbols:
+        return f"{clean(name)} isn't there: {os.path.basename(elf.name)} is stripped; --names ELF has names"
+    near = difflib.get_close_matches(re.split(r"[.\[+:]", name, maxsplit=1)[0], sorted({item.name for item in among}), NEAR, 0.6)
+    said = f"; near it: {', '.join(near)}" if near else ""
+    return f"{os.path.basename(elf.name)} has no {clean(name)}{said}"

@@ -1,0 +1,136 @@
+"""What rows and `read` calls did to the words that a variable is in."""
+from __future__ import annotations
+
+from collections import deque
+from dataclasses import dataclass
+from typing import Deque, Iterator, NamedTuple, Optional
+
+from ..chunks import LOAD, STORE, touching
+from ..instruction import A7, A1
+from ..log import Interval, Log
+from ..memory import Bytes, words_of
+from .reading import Asked
+from .variables import Variable
+
+READ, LONGEST = 63, 4096    # the call's number, and the bytes that it moves at most
+WIDTHS = {b"sb": 1, b"sh": 2}
+LAST_WORD = 0xfffffffc
+Word = Optional[int]
+
+
+@dataclass(frozen=True)
+class Fill:
+    """A `read` call that filled bytes: its hart and count, and these."""
+    hart: int
+    count: int
+    address: int
+    size: int
+
+
+class Change(NamedTuple):
+    """A store to a word: its place in the text, the word, the values before it of the word before, of this one and of the one
+    after, and the new value. What a `read` call put there isn't known."""
+    place: int
+    word: int
+    before: tuple[Word, Word, Word]
+    after: Word
+    fill: Optional[Fill] = None
+
+    def bytes_before(self, address: int, size: int) -> Bytes:
+        return self.taken(self.before, address, size)
+
+    def bytes_after(self, address: int, size: int) -> Bytes:
+        return self.taken((self.before[0], self.after, self.before[2]), address, size)
+
+    def taken(self, words: tuple[Word, Word, Word], address: int, size: int) -> Bytes:
+        found: list[Optional[int]] = []
+        for word in words:
+            found += [None] * 4 if word is None else word.to_bytes(4, "little")
+        begin = address - self.word + 4
+        return found[begin:begin + size] if 0 <= begin and begin + size <= len(found) else [None] * size
+
+
+def fills_of(log: Log, first: int, end: int) -> dict[int, Deque[Fill]]:
+    """{hart: the `read` calls that filled some of these bytes}. A call ends an interval, and the next one begins with the
+    registers behind it."""
+    found: dict[int, Deque[Fill]] = {}
+    last: dict[int, Interval] = {}
+    for interval in log.intervals:
+        before, address = last.get(interval.hart), interval.registers[A1]
+        if before and before.reason == "call" and before.end == interval.start and interval.registers[A7] == READ \
+                and 0 < before.value <= LONGEST and address < end and first < address + before.value:
+            found.setdefault(interval.hart, deque()).append(Fill(interval.hart, before.end - 1, address, before.value))
+        last[interval.hart] = interval
+    return found
+
+
+class Words:
+    """Follows the words of a variable through the rows.
+
+    known    {word: its value, or None if nothing tells it}
+    fills    {hart: the `read` calls that are still to come}"""
+
+    def __init__(self, asked: Asked, variable: Variable) -> None:
+        self.variable = variable
+        self.first, self.end = variable.address & ~3, (variable.end + 3) & ~3
+        self.fills = fills_of(asked.log, variable.address, variable.end)
+        self.known: dict[int, Word] = {}
+        for word in words_of(variable.address, variable.size):
+            at_start = asked.is_whole or asked.elf.is_read_only(word)
+            self.known[word] = asked.elf.word(word) or 0 if at_start else None
+        self.unknown = {word for word, value in self.known.items() if value is None}
+        self.stores, self.loads = (touching(variable.address, variable.end, kind) for kind in (STORE, LOAD))
+        self.is_aligned = variable.size == self.end - self.first
+
+    def changes(self, text: bytes, begin: int) -> Iterator[Change]:
+        """The stores of a chunk, whose place is `begin`, and the `read` calls in it."""
+        fills = list(self.fills_in(text))
+        events = [(found.end(), STORE) for found in self.stores.finditer(text)]
+        if self.unknown or fills:
+            events += [(found.end(), LOAD) for found in self.loads.finditer(text)]
+            events.sort()
+        for at, kind in events:
+            while fills and fills[0][0] < at:
+                yield from self.filled(begin, *fills.pop(0))
+            word, value = int(text[at - 9:at - 1], 16) & LAST_WORD, int(text[at:at + 8], 16)
+            if kind == STORE and (self.is_aligned or self.is_touched(text, at)):
+                yield Change(begin + at, word, self.around(word), value)
+            if word in self.known:
+                self.tells(word, value)
+        for fill in fills:
+            yield from self.filled(begin, *fill)
+
+    def is_touched(self, text: bytes, at: int) -> bool:
+        """Whether the store whose value begins at a place of a text is to the variable."""
+        row = text[text.rfind(b"\n", 0, at) + 1:at]
+        address = int(row[-9:-1], 16)
+        return address < self.variable.end and self.variable.address < address + WIDTHS.get(row.split(b" ", 5)[4], 4)
+
+    def around(self, word: int) -> tuple[Word, Word, Word]:
+        return self.known.get(word - 4), self.known.get(word), self.known.get(word + 4)
+
+    def tells(self, word: int, value: int) -> None:
+        self.known[word] = value
+        self.unknown.discard(word)
+
+    def filled(self, begin: int, at: int, fill: Fill) -> Iterator[Change]:
+        """What a `read` call did: no row tells what it put there."""
+        first, end = max(fill.address, self.variable.address), min(fill.address + fill.size, self.variable.end)
+        yield Change(begin + at, first & ~3, self.around(first & ~3), None, fill)
+        for word in words_of(first, end - first):
+            self.known[word] = None
+            self.unknown.add(word)
+
+    def fills_in(self, text: bytes) -> Iterator[tuple[int, Fill]]:
+        """The `read` calls whose rows are in a chunk, with the places behind their rows' beginnings."""
+        found = []
+        for hart, fills in self.fills.items():
+            last = text.rfind(b"\n%d " % hart)
+            count, at = int(text[last:last + 40].split(b" ", 2)[1]) if last >= 0 else -1, 0
+            while fills and fills[0].count <= count:
+                fill = fills.popleft()
+                at = text.find(b"\n%d %d " % (hart, fill.count), at)
+                if at >= 0:
+                    found.append((at + 1, fill))
+                at = max(at, 0)
+        yield from sorted(found)

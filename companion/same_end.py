@@ -1,0 +1,186 @@
+"""Whether two recordings end the same: the same fault at the same place with the same callers, the same harts that wait for
+the same words, the same exit codes, or the same byte of the output.
+
+Each is told in two parts: one that costs nothing, and one that takes the last rows."""
+from __future__ import annotations
+
+from dataclasses import dataclass, field
+from typing import Hashable, Mapping, Optional, Union
+
+from .bucket import MOST_FRAMES, last_place
+from .control import load_behind
+from .elf import Elf
+from .errors import NO_INTERVAL, CompanionError
+from .instruction import STORE
+from .log import Log, is_fault
+from .loops import Loop
+from .program import Output
+from .recording import FAULT, LIMIT
+from .rows import trace_of
+from .trace import Trace
+from .turn_ends import turn_ends
+
+CALLS_ROWS = 100000         # so many of a hart's last rows are read for its calls, as whole intervals
+STAY_ROWS = 200000          # and for how long it is in its loop
+LOOP_ROWS = 1500, 10000     # in so many of them its loop is looked for
+MOST_INTERVALS = 16         # of a hart are replayed
+MOST_SPILLS = 8             # so often is a value followed through the stack
+CALLS = b" jal", b" ra=", b" t0="       # what a row has that tells of a call or of where it returns to
+
+
+@dataclass(frozen=True)
+class Recording:
+    """A recording that was made: its status, and the names of its log, its list of turns and its output."""
+    status: int
+    log: str
+    book: str
+    said: str
+
+    def turns(self) -> bytes:
+        with open(self.book, "rb") as file:
+            return file.read()
+
+
+@dataclass(frozen=True)
+class Faulted:
+    """The fault, the address of its code, and the functions that are under way, innermost first: all, or the last of them."""
+    reason: str
+    pc: int
+    functions: tuple[str, ...]
+    is_cut: bool
+
+    def is_like(self, other: object) -> bool:
+        if not isinstance(other, Faulted):
+            return False
+        known = min(len(self.functions), len(other.functions)) if self.is_cut or other.is_cut else MOST_FRAMES
+        return (self.reason, self.pc, self.functions[:known]) == (other.reason, other.pc, other.functions[:known])
+
+
+@dataclass(frozen=True)
+class Waiting:
+    """words  of each hart at its limit those whose values would have ended its loop
+    stays  {hart: how many of its last turns are in that loop}"""
+    words: Mapping[int, tuple[int, ...]]
+    stays: dict[int, int] = field(compare=False)
+
+    def is_like(self, other: object) -> bool:
+        return self == other
+
+    def begin(self, turns: bytes) -> int:
+        """How many turns there are before all these harts are in their loops."""
+        left, at = dict(self.stays), len(turns)
+        while at and left.get(turns[at - 1]) != 0:
+            at -= 1
+            if turns[at] in left:
+                left[turns[at]] -= 1
+        return at
+
+
+@dataclass(frozen=True)
+class Over:
+    """An end that needs no row to be told."""
+
+    def is_like(self, other: object) -> bool:
+        return self == other
+
+
+Exact = Union[Faulted, Waiting, Over]
+
+
+class Ends:
+    """Tells how recordings of a program end.
+
+    offset  of the byte of the output that is asked of, or None"""
+
+    def __init__(self, elf: Elf, offset: Optional[int] = None) -> None:
+        self.elf, self.offset = elf, offset
+
+    def rough(self, made: Recording) -> Hashable:
+        """The byte that is asked of; else the fault's name, the harts at their limit, or how each hart ended."""
+        if self.offset is not None:
+            return made.status, byte_at(made.said, self.offset)
+        ends = log_of(made.log).ends
+        if made.status == FAULT:
+            return made.status, tuple(sorted(end.reason for end in ends.values() if is_fault(end.reason)))
+        if made.status == LIMIT:
+            return made.status, tuple(sorted(hart for hart, end in ends.items() if end.reason == "limit"))
+        return made.status, tuple(sorted((hart, end.reason, end.value) for hart, end in ends.items()))
+
+    def exact(self, made: Recording) -> Exact:
+        if self.offset is not None or made.status not in (FAULT, LIMIT):
+            return Over()
+        log = log_of(made.log)
+        if made.status == FAULT:
+            return self.faulted(log, next(hart for hart, end in log.ends.items() if is_fault(end.reason)))
+        words, stays = {}, {}
+        for hart in sorted(hart for hart, end in log.ends.items() if end.reason == "limit"):
+            words[hart], stays[hart] = self.waits(log, hart)
+        return Waiting(words, stays)
+
+    def faulted(self, log: Log, hart: int) -> Faulted:
+        lines, is_cut = self.last_lines(log, hart, CALLS_ROWS)
+        lines = [line for line in lines if line[:1].isdigit()]
+        lines = [line for line in lines[:-2] if any(mark in line for mark in CALLS)] + lines[-2:]
+        trace, reason = trace_of(log, b"".join(lines)), log.ends[hart].reason
+        n = last_place(trace, hart, reason)
+        pcs = [trace.code_of(n).pc] + trace.tree.calls(trace.node_of(n), MOST_FRAMES).calls
+        functions = dict.fromkeys(self.elf.function_name(at) or f"{at:08x}" for at in pcs)
+        return Faulted(reason, pcs[0], tuple(functions), is_cut)
+
+    def waits(self, log: Log, hart: int) -> tuple[tuple[int, ...], int]:
+        """The words for which a hart waits, and how many of its last turns are in its loop."""
+        lines, _ = self.last_lines(log, hart, STAY_ROWS)
+        for most in LOOP_ROWS:
+            trace = trace_of(log, b"".join(lines[-most:]))
+            loop = Loop(trace, hart)
+            if loop.places:
+                break
+        loads = [operand.load for item in loop.exits if item.leads_out for operand in item.operands]
+        places = {b"%08x" % trace.codes[at].pc for at in loop.places}
+        return (tuple(sorted({trace.access(unspilled(trace, load)).address & ~3 for load in loads if load})),
+                len(turn_ends(stay(lines, places))))
+
+    def last_lines(self, log: Log, hart: int, most: int) -> tuple[list[bytes], bool]:
+        """What `replay` prints of a hart's last intervals, until they have so many rows, and whether there are rows before."""
+        pieces: list[list[bytes]] = []
+        mine = [interval for interval in log.intervals if interval.hart == hart]
+        for interval in reversed(mine[-MOST_INTERVALS:]):
+            with Output("replay", log.name, self.elf.name, str(hart), str(interval.number)) as output:
+                pieces.append(output.read().splitlines(True))
+            most -= interval.end - interval.start
+            if most <= 0:
+                break
+        if not pieces:
+            raise CompanionError(f"the log holds no row of hart {hart} (see `list`)", NO_INTERVAL)
+        return [line for piece in reversed(pieces) for line in piece], mine[-len(pieces)].start > 0
+
+
+def log_of(name: str) -> Log:
+    """A log that the program has just made."""
+    with open(name, "rb") as file:
+        return Log(name, file.read())
+
+
+def byte_at(name: str, offset: int) -> bytes:
+    with open(name, "rb") as file:
+        file.seek(offset)
+        return file.read(1)
+
+
+def stay(lines: list[bytes], places: set[bytes]) -> list[bytes]:
+    """The last lines, as far as their rows are at some places."""
+    at = len(lines)
+    while at and (not lines[at - 1][:1].isdigit() or lines[at - 1].split(b" ", 3)[2] in places):
+        at -= 1
+    return lines[at:]
+
+
+def unspilled(trace: Trace, load: int) -> int:
+    """The load behind a load: one that takes back what this hart put on the stack leads to where that came from."""
+    for _ in range(MOST_SPILLS):
+        store = trace.dm[load]
+        source = load_behind(trace, trace.d2[store]) if store and trace.code_of(store).kind == STORE else 0
+        if not source:
+            break
+        load = source
+    return load

@@ -1,0 +1,42 @@
+"""Lists of turns, as `record` keeps and follows them, in pieces: turns of one hart in a row."""
+from __future__ import annotations
+
+import itertools
+from typing import NamedTuple, Sequence, Tuple
+
+
+class Piece(NamedTuple):
+    hart: int
+    turns: int
+
+
+Pieces = Tuple[Piece, ...]
+
+
+def pieces_of(turns: bytes) -> Pieces:
+    """A byte is a turn, and says whose."""
+    return tuple(Piece(hart, len(list(group))) for hart, group in itertools.groupby(turns))
+
+
+def turns_of(pieces: Sequence[Piece]) -> bytes:
+    return b"".join(bytes([piece.hart]) * piece.turns for piece in pieces)
+
+
+def joined(pieces: Sequence[Piece]) -> Pieces:
+    """The same turns, with one piece where a hart goes on."""
+    found: list[Piece] = []
+    for piece in pieces:
+        if found and found[-1].hart == piece.hart:
+            found[-1] = Piece(piece.hart, found[-1].turns + piece.turns)
+        elif piece.turns:
+            found.append(piece)
+    return tuple(found)
+
+
+def size_of(pieces: Sequence[Piece]) -> tuple[int, int]:
+    """What is smaller is better: pieces, then turns."""
+    return len(pieces), sum(piece.turns for piece in pieces)
+
+
+def shown(pieces: Sequence[Piece]) -> str:
+    return " ".join(f"{piece.hart}x{piece.turns}" for piece in pieces)

@@ -1,0 +1,89 @@
+-- The turns of a hart that is alone.
+use Rattle.std.proofs.Common.{◌≡◌, ℕ, zero, suc, ◌+◌, ◌-◌, ◌≤◌, ◌<◌, Bool, true, false, List, [], ◌∷◌, ◌++◌, refl, sym, ◌∙◌, ap, subst, arith}
+use Rattle.std.specs.Prelude.{replicate}
+use Rattle.std.proofs.lemmas.List.{replicate-append-replicate, length-replicate}
+use Rattle.bn_base.specs.Programs.{Program}
+use Rattle.bn_base.specs.Ranges.{IsSetting}
+use Rattle.bn_base.specs.declared.settings.RawSettings.{RawSettings}
+use Rattle.bn_outside.specs.declared.turn_row.TurnRow.{TurnRow}
+use Rattle.run_model.specs.Turn.{Run, turn}
+use Rattle.run_model.specs.Runs.{run_from, legal_from, any_live, draw, seeded_from, most_turns}
+use Rattle.run_laws.specs.History.{row_at, rows_from}
+use Rattle.run_laws.specs.Laws.{RunsEnd}
+use Rattle.bus_core.specs.Bus.{Began, Seen, IsState, HasTurnedAlone, first_run}
+use Rattle.whole_runs.specs.Lists.{HasTaken, list_run, list_rows, is_legal, seeded_after}
+use Rattle.whole_runs.proofs.Live.{one_alone, live_of}
+use Rattle.whole_runs.proofs.Rows.{legal_first, legal_cons}
+use Rattle.whole_runs.proofs.Seeds.{seeded_first, seeded_none}
+use Rattle.whole_runs.proofs.Taken.{turns_are}
+
+-- ---- lists after lists
+
+run_append : (c : RawSettings) (i : Program) (run : Run) (b more : List ℕ) → run_from c i run (b ++ more) ≡ run_from c i (run_from c i run b) more
+run_append c i run [] more = refl
+run_append c i run (k ∷ b) more = run_append c i (turn c i run k) b more
+
+rows_append : (c : RawSettings) (i : Program) (run : Run) (b more : List ℕ) → rows_from c i run (b ++ more) ≡ rows_from c i run b ++ rows_from c i (run_from c i run b) more
+rows_append c i run [] more = refl
+rows_append c i run (k ∷ b) more = ap (λ (xs : List TurnRow). row_at c i run k ∷ xs) (rows_append c i (turn c i run k) b more)
+
+legal_append : (c : RawSettings) (i : Program) (run : Run) (b more : List ℕ) → legal_from c i run b ≡ true → legal_from c i (run_from c i run b) more ≡ true → legal_from c i run (b ++ more) ≡ true
+legal_append c i run [] more e then_too = then_too
+legal_append c i run (k ∷ b) more e then_too =
+    let first = legal_first c i run k b e in
+    legal_cons c i run k (b ++ more) first.0 (legal_append c i (turn c i run k) b more first.1 then_too)
+
+-- ---- a bus that took them
+
+taken_list : (tells : Bool) (most : ℕ) (old new : Seen) (list : List ℕ) → HasTaken tells old list → (t : HasTurnedAlone tells most old new) → HasTaken tells new (list ++ replicate t.count 0)
+taken_list tells most old new list h t =
+    let b = old.began in
+    let c = b.settings in let i = b.image in
+    let run = list_run b list in
+    let more : List ℕ = replicate t.count 0 in
+    record {
+      legal = subst (λ (x : Began). is_legal x (list ++ more) ≡ true) (sym t.began) (legal_append c i (first_run b) list more h.legal (t.legal run h.state));
+      state = subst (λ (r : Run). IsState new r) (sym (run_append c i (first_run b) list more) ∙ ap (λ (x : Began). list_run x (list ++ more)) (sym t.began)) (t.state run h.state);
+      rows = λ told.
+          t.told told run h.state
+          ∙ ap (λ (xs : List TurnRow). xs ++ rows_from c i run more) (h.rows told)
+          ∙ sym (rows_append c i (first_run b) list more)
+          ∙ ap (λ (x : Began). list_rows x (list ++ more)) (sym t.began);
+      orderly = t.disordered ∙ h.orderly;
+      running = t.halted ∙ h.running;
+    }
+
+pub taken_none : (tells : Bool) (s : Seen) → HasTaken tells s [] → HasTaken tells s (replicate s.turns 0)
+taken_none tells s h = subst (λ (xs : List ℕ). HasTaken tells s xs) (ap (λ (k : ℕ). replicate k 0) (sym (turns_are tells s [] h))) h
+
+pub taken_alone : (tells : Bool) (most : ℕ) (old new : Seen) → HasTaken tells old (replicate old.turns 0) → HasTurnedAlone tells most old new → HasTaken tells new (replicate new.turns 0)
+taken_alone tells most old new h t =
+    subst (λ (xs : List ℕ). HasTaken tells new xs) (replicate-append-replicate old.turns t.count 0 ∙ ap (λ (k : ℕ). replicate k 0) (sym t.turns)) (taken_list tells most old new (replicate old.turns 0) h t)
+
+-- fewer are left then
+pub fewer_left : (tells : Bool) (most : ℕ) (old new : Seen) → HasTurnedAlone tells most old new → old.turns < most_turns old.began.settings → most_turns new.began.settings - new.turns < most_turns old.began.settings - old.turns
+fewer_left tells most old new t few = less (most_turns old.began.settings) (most_turns new.began.settings) old.turns new.turns t.count (ap (λ (x : Began). most_turns x.settings) t.began) few t.some t.turns
+  where
+    less : (m n a b k : ℕ) → n ≡ m → a < m → 0 < k → b ≡ a + k → n - b < m - a
+    less m n a b k e few some is = omega (arith, e, few, some, is)
+
+-- ---- the turns that every number chooses
+
+lone_seeded : (c : RawSettings) (i : Program) (run : Run) (s n m : ℕ) → c.harts ≡ 1 → n ≤ m → legal_from c i run (replicate n 0) ≡ true → any_live c.harts (run_from c i run (replicate n 0)).harts ≡ false → replicate n 0 ≡ seeded_from c i run s m
+lone_seeded c i run s zero m alone few legal over = sym (seeded_none c i run s m over)
+lone_seeded c i run s (suc n) zero alone few legal over = absurd (omega (arith, few))
+lone_seeded c i run s (suc n) (suc m) alone few legal over =
+    let first = legal_first c i run 0 (replicate n 0) legal in
+    let one = one_alone c.harts (draw s) run.harts alone (live_of c run 0 first.0) in
+    ap (λ (xs : List ℕ). 0 ∷ xs) (lone_seeded c i (turn c i run 0) (draw s) n m alone (omega (arith, few)) first.1 over)
+    ∙ ap (λ (k : ℕ). k ∷ seeded_from c i (turn c i run k) (draw s) m) one.1
+    ∙ sym (seeded_first c i run s m one.0)
+
+-- once no hart is live, all turns were taken
+pub lone_drawn : RunsEnd → (tells : Bool) (s : Seen) (seed : ℕ) → IsSetting s.began.settings → s.began.settings.harts ≡ 1 → HasTaken tells s (replicate s.turns 0) → any_live s.began.settings.harts (list_run s.began (replicate s.turns 0)).harts ≡ false
+    → replicate s.turns 0 ≡ seeded_after s.began [] seed
+lone_drawn ends tells s seed setting alone h over =
+    let b = s.began in
+    let few = ends b.settings b.image b.input (replicate s.turns 0) setting h.legal in
+    let within : s.turns ≤ most_turns b.settings - 0 = omega (arith, few, length-replicate {A = ℕ} s.turns 0) in
+    lone_seeded b.settings b.image (first_run b) seed s.turns (most_turns b.settings - 0) alone within h.legal over

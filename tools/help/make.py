@@ -1,0 +1,341 @@
+#!/usr/bin/env python3
+"""Makes all that tells the words of zelkuma from the tables beside this file, so that no two of them differ.
+
+tools/help/make.py [TOP]    TOP is the folder of the sources that these are written to, at first its own
+
+These are the pages that `zelkuma help` and `zelkuma COMMAND --help` print, what the script knows of words, the manual
+page, the completion of words in bash, and the tables of docs/COMMANDS.md, which stand there between two comments. It also
+lists the files that `zelkuma install` lays. tests/help.sh tries that it was called. A table has this form:
+
+    # a comment
+    ENTRY              at the line's start; several with nothing between them share what follows,
+      KEY TEXT         and are one entry, with ", " between them
+          TEXT         more indented: the text continues
+
+A text `-` says that there is none. A text of which one is made has lines `@FORM TABLE@` in its file NAME.in.
+"""
+import pathlib
+import re
+import sys
+import textwrap
+from typing import Callable, Dict, Iterable, Iterator, List, NamedTuple, Tuple
+
+HERE = pathlib.Path(__file__).resolve().parent
+BEGINS, ENDS = re.compile(r"(<!-- made by tools/help/make\.py: (\w+) (\w+) ?(.*?) -->\n)"), "<!-- end of the table -->\n"
+OPTIONAL = r"\[[^]]*\](?:\.\.\.)?"
+
+
+class Entry(NamedTuple):
+    """An entry of a table: its name, and its texts with their keys."""
+    name: str
+    texts: List[Tuple[str, str]]
+
+    @property
+    def first(self) -> str:
+        return self.name.split()[0]
+
+    @property
+    def rest(self) -> str:
+        return self.name[len(self.first):].strip()
+
+    def all(self, *keys: str) -> List[str]:
+        return [text for key, text in self.texts if key in keys]
+
+    def last(self, *keys: str) -> str:
+        return (self.all(*keys) or [""])[-1]
+
+
+Table = Iterable[Entry]
+Lines = Iterator[str]
+
+
+def read(name: str) -> List[Entry]:
+    """The entries of a table."""
+    entries: List[Entry] = []
+    for line in (HERE / f"{name}.txt").read_text(encoding="utf-8").splitlines():
+        if not line or line.startswith("#"):
+            continue
+        if not line.startswith(" "):
+            is_more = entries and not entries[-1].texts
+            entries.append(Entry(f"{entries.pop().name}, {line}" if is_more else line, []))
+        elif line.startswith("   "):
+            key, text = entries[-1].texts.pop()
+            entries[-1].texts.append((key, f"{text} {line.strip()}"))
+        else:
+            key, _, text = line.strip().partition(" ")
+            entries[-1].texts.append((key, text.strip().replace("-", "") if text.strip() == "-" else text.strip()))
+    return entries
+
+
+def plain(text: str) -> str:
+    return text.replace("`", "")
+
+
+def capital(text: str) -> str:
+    return text[:1].upper() + text[1:]
+
+
+# The page that `zelkuma help` prints.
+
+def page_words(table: Table) -> Lines:
+    for entry in table:
+        # (an option and its value stay together)
+        parts = re.findall(r"\[[^]]*\](?:\.\.\.)?|\S+", f"zelkuma {entry.name}")
+        lines = textwrap.wrap(" ".join(part.replace(" ", "\0") for part in parts), 110, subsequent_indent=" " * 8,
+                              break_long_words=False, break_on_hyphens=False)
+        *first, last = [line.replace("\0", " ") for line in lines]
+        yield from first
+        does = plain(entry.last("does"))
+        yield f"{last:<50}{does}" if len(last) < 50 and not first else f"{last}\n{'':50}{does}"
+
+
+def page_options(table: Table) -> Lines:
+    """An option without a range may tell in its place what it does."""
+    for entry in table:
+        yield f"{entry.name:<18}{plain(entry.last('range', 'page')):<45}{plain(entry.last('default'))}"
+
+
+def page_statuses(table: Table) -> Lines:
+    for entry in table:
+        yield f"{entry.first:>9}  {entry.rest}"
+
+
+def page_names(table: Table) -> Lines:
+    """The names stand in as many lines as they need."""
+    line = ""
+    for entry in table:
+        if len(line + entry.name) > 98:
+            yield line[:-1]
+            line = ""
+        line += f"{entry.name}, "
+    yield line[:-2]
+
+
+# What `zelkuma COMMAND --help` prints.
+
+def folded(text: str) -> Lines:
+    """Text in lines of at most 98 characters."""
+    line = ""
+    for word in plain(text).split():
+        if len(line + word) > 95:
+            yield " " + line
+            line = ""
+        line += " " + word
+    yield " " + line
+
+
+def each_words(table: Table) -> Lines:
+    for entry in table:
+        yield f"zelkuma {entry.name}"
+        for text in entry.all("does", "more"):
+            yield from folded(text)
+
+
+def each_options(table: Table) -> Lines:
+    return (f"  {line}" for line in page_options(table))
+
+
+# The manual page. Characters that roff would take otherwise are written by their names.
+
+def roff(text: str) -> str:
+    return text.replace("\\", "\\e").replace("^", "\\(ha")
+
+
+def bold(text: str) -> str:
+    return "\\fB" + roff(text).replace("-", "\\-").replace("'", "\\(aq") + "\\fR"
+
+
+def paragraph(text: str) -> str:
+    """Text for roff: each sentence begins a line, and `CODE` is set in bold."""
+    parts = text.split("`")
+    parts[::2] = [re.sub(r"\. (?=[A-Z])", ".\n", roff(part)) for part in parts[::2]]
+    parts[1::2] = [bold(part) for part in parts[1::2]]
+    return ("\\&" if parts[0][:1] in tuple(".'") else "") + "".join(parts)
+
+
+def sentence(text: str) -> Lines:
+    """The sentence of a cell's phrase, if it has one."""
+    if text:
+        yield paragraph(text if re.match("[a-z]+:", text) else capital(text)) + "."
+
+
+def man_words(table: Table) -> Lines:
+    for entry in table:
+        yield f".TP\n{bold(entry.name)}"
+        for key, text in entry.texts:
+            yield from sentence(text) if key == "does" else [paragraph(text)] if key == "more" else []
+
+
+def man_options(table: Table) -> Lines:
+    for entry in table:
+        yield f".TP\n{bold(entry.name)}"
+        yield from sentence(entry.last("sets"))
+        yield from (f"Range: {paragraph(text)}." for text in entry.all("range") if text)
+        yield f"Without it: {paragraph(entry.last('default'))}."
+
+
+def man_statuses(table: Table) -> Lines:
+    for entry in table:
+        yield f".TP\n{bold(entry.first)}"
+        yield from sentence(entry.rest)
+        for key, text in entry.texts:
+            if key == "line" and text:
+                yield f".br\n{paragraph(text)}"
+            elif key == "cause" and entry.first != "0":
+                yield f"\\(em {paragraph(text)}."
+            elif key in ("remedy", "advice"):
+                yield f"To do: {paragraph(text)}."
+
+
+# The tables of docs/COMMANDS.md.
+
+def row(*cells: str) -> str:
+    return ("| " + " | ".join(cells) + " |").replace("  |", " |")
+
+
+def cell_of(name: str) -> str:
+    """A name as code: a `|` would part the cells of a table, and the names of one entry stand apart."""
+    escaped = name.replace("|", "\\|").replace(", ", "`, `")
+    return f"`{escaped}`"
+
+
+def table_words(table: Table) -> Lines:
+    return (row(cell_of(entry.name), entry.last("does")) for entry in table)
+
+
+def table_options(table: Table) -> Lines:
+    return (row(cell_of(entry.name), *(entry.last(key) for key in ("sets", "range", "default"))) for entry in table)
+
+
+def table_statuses(table: Table) -> Lines:
+    """A status has a row for each line that err may get; a remedy follows the cause as a sentence."""
+    for entry in table:
+        rows: List[List[str]] = []
+        for key, text in entry.texts:
+            if key == "line":
+                rows.append([text, ""])
+            else:
+                rows[-1][1] += text if key == "cause" else f". {capital(text)}"
+        yield from (row(entry.first, *cells) for cells in rows)
+
+
+# What the script knows, as elements of arrays in bash. The value of an option is N (a number), FILE, or for one without a
+# value `flag`.
+
+def element(key: str, text: str) -> str:
+    escaped = re.sub(r'[\\"$]', r"\\\g<0>", text).replace("`", "'")
+    return f'[{key}]="{escaped}"'
+
+
+def option(command: str, text: str) -> str:
+    name, _, value = text.partition(" ")
+    return element(f"{command}.{name[2:]}", value or "flag")
+
+
+def names_of(entry: Entry) -> str:
+    """A form without what is optional."""
+    return re.sub(f" {OPTIONAL}", "", entry.name)
+
+
+def words_names(table: Table) -> Lines:
+    return (element(f"{entry.first}.", names_of(entry)[len(entry.first):].strip()) for entry in table)
+
+
+def words_record(table: Table) -> Lines:
+    return (option("record", entry.name) for entry in table)
+
+
+def words_options(table: Table) -> Lines:
+    return (option(entry.first, text) for entry in table for text in re.findall(r"\[(--[^]]*)\]", entry.name))
+
+
+def words_ranges(table: Table) -> Lines:
+    return (element(*text.split(" ", 1)) for entry in table for text in entry.all("range"))
+
+
+def words_advice(table: Table) -> Lines:
+    return (element(entry.first, text) for entry in table for text in entry.all("advice"))
+
+
+def words_companions(table: Table) -> Lines:
+    yield f'companions=" {" ".join(entry.first for entry in table)} "'
+
+
+# What the completion of words has to know: a command and its names; a command, an option and its value.
+
+def completion_words(table: Table) -> Lines:
+    return map(names_of, table)
+
+
+def completion_record(table: Table) -> Lines:
+    return (f"record {entry.name}" for entry in table)
+
+
+def completion_options(table: Table) -> Lines:
+    return (f"{entry.first} {text}" for entry in table for text in re.findall(r"\[(-[^]]*)\]", entry.name))
+
+
+def lines_of(kind: str, form: str, table: str) -> str:
+    make: Callable[[Table], Lines] = globals()[f"{kind}_{form}"]
+    return "".join(f"{line}\n" for line in make(read(table)))
+
+
+def filled(top: pathlib.Path, kind: str) -> str:
+    """The text of NAME.in, in which each line `@FORM TABLE@` is replaced by a table."""
+    text = (HERE / f"{kind}.in").read_text(encoding="utf-8")
+    text = re.sub(r"^@(\w+) (\w+)@\n", lambda found: lines_of(kind, found[1], found[2]), text, flags=re.M)
+    return text.replace("@VERSION@", (top / "VERSION").read_text(encoding="utf-8").strip())
+
+
+def heads_of(form: str, first: str) -> List[str]:
+    return {"words": [first, "what it does"], "options": ["option", "what it sets", "range", "without it"],
+            "statuses": ["status", "line on err, after `bugnet: `", "cause, and what to do"]}[form]
+
+
+def renewed(name: str, text: str) -> str:
+    """A document with the tables that stand in it made again."""
+    made, *pieces = BEGINS.split(text)
+    for mark, form, table, first, piece in zip(*[iter(pieces)] * 5):
+        _, end, rest = piece.partition(ENDS)
+        if not end:
+            sys.exit(f"{name}: a table has no end")
+        heads = heads_of(form, first)
+        made += f"{mark}{row(*heads)}\n{'|---' * len(heads)}|\n{lines_of('table', form, table)}{end}{rest}"
+    return made
+
+
+def listed(top: pathlib.Path) -> str:
+    """The names of the files that an installed script has in lib/zelkuma, beside the program."""
+    names = ["VERSION", "release/COMMIT", "release/STAMP", *(f"tools/{name}" for name in (
+        "files.txt", "install.sh", "say.sh", "version.sh", "help/each.txt", "help/page.txt", "help/words.sh"))]
+    found = [*top.glob("tools/launcher/*.sh"), *(file for ending in ("py", "html", "js", "css")
+                                                 for depth in ("", "*/") for file in top.glob(f"companion/{depth}*.{ending}"))]
+    return "".join(f"{name}\n" for name in sorted([*names, *(str(file.relative_to(top)) for file in found)]))
+
+
+def write(file: pathlib.Path, text: str) -> None:
+    """Writes a file in one step."""
+    file.parent.mkdir(parents=True, exist_ok=True)
+    new = file.with_name(f"{file.name}.new")
+    new.write_text(text, encoding="utf-8")
+    new.replace(file)
+
+
+def main(words: List[str]) -> None:
+    top = pathlib.Path(words[0]).resolve() if words else HERE.parent.parent
+    document = top / "docs" / "COMMANDS.md"
+    made: Dict[str, str] = {
+        "tools/help/page.txt": filled(top, "page"),
+        "tools/help/each.txt": filled(top, "each"),
+        "tools/help/words.sh": filled(top, "words"),
+        "tools/files.txt": listed(top),
+        "man/zelkuma.1": filled(top, "man"),
+        "completion/zelkuma.bash": filled(top, "completion"),
+        "docs/COMMANDS.md": renewed("docs/COMMANDS.md", document.read_text(encoding="utf-8")),
+    }
+    for name, text in made.items():
+        write(top / name, text)
+
+
+if __name__ == "__main__":
+    main(sys.argv[1:])
