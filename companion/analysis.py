@@ -3,6 +3,7 @@ from __future__ import annotations
 
 from typing import Sequence
 
+from . import streams
 from .calls import entries_of
 from .control import Control
 from .elf import Elf
@@ -72,12 +73,15 @@ def analysed(log_name: str, elf_name: str, names: str = "", row: str = "", rows:
         trace = read_trace(log, elf_name, entries, 2 * most, asked)
         if (log.unread or trace.passed) and not rows and trace.last:
             more = source.end(MORE_ROWS, asked)
-            if needs_more(trace, log, more, row, byte):
+            with streams.working("values from before are looked for"):
+                is_short = needs_more(trace, log, more, row, byte)
+            if is_short:
                 del trace                       # it is large
                 log, trace = more, read_trace(more, elf_name, entries, MORE_ROWS, asked)
             else:
                 log = source.end(most, asked)
-        return Analysis(source, log, elf, named, trace, row, byte, folders)
+        with streams.working("what is behind it is looked for"):
+            return Analysis(source, log, elf, named, trace, row, byte, folders)
     except BaseException:
         source.close()
         raise

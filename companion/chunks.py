@@ -38,6 +38,11 @@ def chunks(log_name: str, elf_name: str, command: str = "joint", *words: str) ->
             out.finish()
 
 
+def check_program(log_name: str, elf_name: str) -> None:
+    """Refuses an ELF file that isn't the recorded one."""
+    next(chunks(log_name, elf_name), b"")
+
+
 def rows_between(log: Log, elf_name: str, hart: int, first: int, end: int) -> Iterator[bytes]:
     """The rows of a hart from one count up to another, as far as the log has them. The intervals that they are in are replayed, and
     no others."""

@@ -177,13 +177,12 @@ def write_answer(places: Places, write: Write) -> dict[str, Any]:
 
 def texts_of(log: Log, elf_name: str, most: int) -> Iterator[bytes]:
     """About so many of the last rows."""
-    left, progress, rows = max(0, log.rows() - most) if log.rows() > 2 * most else 0, streams.Progress(), 0
+    left, rows = max(0, log.rows() - most) if log.rows() > 2 * most else 0, 0
     for text in chunks(log.name, elf_name):
-        rows += text.count(b"\n")
-        progress.tell(f"{number(rows)} of {number(log.rows())} rows are read")
+        here = text.count(b"\n")
+        rows += here
         if rows > left:
-            yield parted(text, text.count(b"\n") - rows + left)[1] if rows - left < text.count(b"\n") else text
-    progress.clear()
+            yield parted(text, max(0, here - rows + left))[1]
 
 
 def numbered(log: Log) -> dict[SystemCall, int]:
@@ -194,6 +193,15 @@ def numbered(log: Log) -> dict[SystemCall, int]:
 def writes_of(log: Log, elf: Elf, tree: CallTree, numbers: dict[SystemCall, int], most: int) -> Iterator[Write]:
     """The writes among about so many of the last rows of a log. `numbers` are those of the whole log's."""
     return Reader(log, elf, tree, numbers).writes(texts_of(log, elf.name, most))
+
+
+def watched(writes: Iterator[Write]) -> Iterator[Write]:
+    while True:
+        with streams.working("rows are read"):
+            write = next(writes, None)
+        if not write:
+            break
+        yield write
 
 
 def said_of(places: Places, tree: CallTree, write: Write) -> str:
@@ -212,7 +220,7 @@ def main(words: list[str]) -> int:
         numbers, listed = numbered(all_rows), []
         count = size = unknown = 0
         with closing(places_of(named)) as places:
-            for write in writes_of(log, elf, tree, numbers, most):
+            for write in watched(writes_of(log, elf, tree, numbers, most)):
                 if "--json" in given:
                     listed.append(write_answer(places, write))
                 else:

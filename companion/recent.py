@@ -13,7 +13,7 @@ import struct
 import tempfile
 from typing import Iterator, Optional
 
-from . import program
+from . import program, streams
 from .errors import NO_INTERVAL, UNREADABLE, CompanionError
 from .log import END, FIRST_FAULT, HEAD_2, HEADER, SEAL, SIZES, At, End, Log, check, runs_of
 
@@ -42,6 +42,10 @@ class LogFile:
                 raise CompanionError(f"no place for the end of {self.name}: {error.strerror or error}", UNREADABLE)
         return os.path.join(self.folder, name)
 
+    def harts(self) -> int:
+        with open(self.name, "rb") as file:
+            return int.from_bytes(file.read(16)[12:], "little")
+
     def whole(self) -> Log:
         with open(self.name, "rb") as file:
             return Log(self.name, file.read())
@@ -55,7 +59,8 @@ class LogFile:
                     log = self.whole()
                     if log.rows() <= rows:
                         return log
-                program.output("convert", self.name, self.path("converted"))
+                with streams.working("the log is converted"):
+                    program.output("convert", self.name, self.path("converted"))
                 self.source = self.path("converted")
                 return self.end(rows, asked)
             last = LastRecords(data, rows, asked)
@@ -81,7 +86,8 @@ class LogFile:
 
 def open_log(name: str) -> LogFile:
     """A log that the program has checked."""
-    check(name)
+    with streams.working("the log is checked"):
+        check(name)
     return LogFile(name)
 
 

@@ -97,7 +97,7 @@ class OutputsTest(case.Case):
             said = os.read(ours, 65536).decode()
             os.close(ours)
             self.assertEqual(done.returncode, 0)
-            self.assertRegex(said, r"\A\r4,096 of 60,000 rows are read\x1b\[K(\r[\d,]+ of 60,000 rows are read\x1b\[K)*\r\x1b\[K\Z")
+            self.assertRegex(said, r"\A\r[\d,]+ of 60,000 rows are read\x1b\[K(\r[^\r]*\x1b\[K)*\r\x1b\[K\Z")
 
     def test_numbers_that_are_too_long(self):
         log, elf = self.crash("hang")
