@@ -15,7 +15,7 @@ from typing import Iterator, Optional
 
 from . import program, streams
 from .errors import NO_INTERVAL, UNREADABLE, CompanionError
-from .log import END, FIRST_FAULT, HEAD_2, HEADER, SEAL, SIZES, At, End, Log, check, runs_of
+from .log import END, FIRST_FAULT, HEAD_2, HEADER, REASONS, SEAL, SIZES, At, End, Log, check, runs_of
 
 VERSION_1, LARGEST_SMALL = 1, 1 << 20   # a file of version 1 that is larger isn't read whole
 SETTINGS, BLOCK = 92, 4096                      # bytes of a head up to its count of dropped records; of a block's records
@@ -72,16 +72,8 @@ class LogFile:
         with open(self.path("log"), "wb") as kept:
             kept.write(sealed)
         log = Log(self.path("log"), sealed, self.name, last.unread)
-        log.ends = self.ends()                  # some may be further back
+        log.ends = dict(sorted(last.last.items()))      # some may be further back
         return log
-
-    def ends(self) -> dict[int, End]:
-        """{hart: its last End} of the whole log."""
-        found: dict[int, End] = {}
-        for line in program.output("list", self.name).text.splitlines():
-            hart, _, _, count, reason, value = line.split(" ")
-            found[int(hart)] = End(int(count), reason, int(value, 16))
-        return found
 
 
 def open_log(name: str) -> LogFile:
@@ -96,7 +88,8 @@ class LastRecords:
     ended there, and the row that is asked of. Intervals can be long: once there are twice as many rows, those of the harts
     that faulted are enough.
 
-    unread   how many bytes come before them; dropped: how many records"""
+    unread   how many bytes come before them; dropped: how many records
+    last     {hart: its last End}, wherever that is"""
 
     def __init__(self, data: mmap.mmap, rows: int, asked: Optional[At]) -> None:
         self.most, self.asked = rows, asked
@@ -105,9 +98,10 @@ class LastRecords:
         self.awaited: set[int] = set()          # harts whose last interval is still incomplete
         self.faulted: set[int] = set()
         self.seen: set[int] = set()
+        self.last: dict[int, End] = {}
         self.pieces: list[bytes] = []
-        end = len(data)
-        while end > HEAD_2 and not self.unread:
+        harts, end = struct.unpack_from("<I", data, 12)[0], len(data)
+        while end > HEAD_2 and not (self.unread and len(self.last) == harts):
             before, _, size = struct.unpack_from("<QII", data, end - SEAL)
             end -= SEAL + size
             self.take_block(data[end:end + size], end - HEAD_2, before)
@@ -121,14 +115,19 @@ class LastRecords:
         while runs:
             run = runs.pop()
             at -= len(run)
-            self.take(run)
-            if run[0] == HEADER and self.is_enough():
-                self.unread, self.dropped = unread + at, before + sum(len(one) // SIZES[one[0]] for one in runs)
-                break
-        self.pieces.append(block[at:])
+            if run[0] == END:
+                count, reason, value = struct.unpack_from("<QBI", run, 2)
+                self.last.setdefault(run[1], End(count, REASONS[reason], value))
+            if not self.unread:
+                self.take(run)
+                if run[0] == HEADER and self.is_enough():
+                    self.unread, self.dropped = unread + at, before + sum(len(one) // SIZES[one[0]] for one in runs)
+                    self.pieces.append(block[at:])
+        if not self.unread:
+            self.pieces.append(block)
 
     def is_enough(self) -> bool:
-        if self.asked or not self.seen or self.rows < self.most or self.awaited & self.faulted:
+        if self.asked or not self.last or self.rows < self.most or self.awaited & self.faulted:
             return False
         return not self.awaited or self.rows >= 2 * self.most
 
