@@ -11,9 +11,10 @@ import subprocess
 import sys
 import tempfile
 
-import forge
-
 TOP = os.path.dirname(os.path.dirname(os.path.realpath(__file__)))
+sys.path.insert(0, f"{TOP}/tests/hostile")
+import forge  # noqa: E402
+
 PROGRAM = os.environ.get("ZELKUMA_PROGRAM", f"{TOP}/release/zelkuma-x86_64-linux")
 HALTED = (0, 10, 11)
 T0, T1, T2, S0, S1, A0, A1, A2, A7, ROUNDS = 5, 6, 7, 8, 9, 10, 11, 12, 17, 28

@@ -7,6 +7,7 @@ from typing import Mapping, Sequence
 
 from . import program, streams
 from .errors import BAD_LOG, UNREADABLE, CompanionError
+from .files import check_regular
 from .options import parse, whole
 from .recording import ENDS, Child, last_line
 from .saving import LOG, TURNS, Target, target
@@ -73,6 +74,7 @@ def record(options: Mapping[str, str], elf: str, book: str, folder: str) -> tupl
         status = child.process.wait()
     finally:
         child.process.kill()
+        child.process.wait()
     if status not in ENDS:
         why = last_line(said).split(": ", 1)[-1] or f"the recording ended with {status}"
         raise CompanionError(why, status if status > 0 else UNREADABLE)
@@ -121,6 +123,7 @@ def main(words: list[str]) -> int:
     numbers = {name: str(whole(given[name], 1, LARGEST, name)) for name in ("--log-size", "--interval") if name in given}
     source = {"--input": given["--input"]} if "--input" in given else {}
     read = log, elf, book, *source.values()
+    check_regular(*read)
     new_log, new_list = target(output, LOG, read), target(output + ".book", TURNS, [*read, output])
     check_book(log, elf, book, [f"--input={name}" for name in source.values()])
     options = {**settings_of(log), **source, **numbers}

@@ -29,7 +29,6 @@ WORDS = {
     "history": "lists what stored to a variable",
 }
 QUESTIONS = ("history",)    # whose modules are in a folder of their own
-INTERRUPTED = 130           # what a shell says of a program that Ctrl-C ended
 BROKEN = 1                  # a fault of the companion itself
 
 
@@ -58,8 +57,8 @@ def guarded(words: list[str]) -> int:
     except CompanionError as error:
         streams.say(error)
         return error.status
-    except KeyboardInterrupt:
-        return INTERRUPTED
+    except KeyboardInterrupt as stop:
+        return streams.interrupted(stop)
     except BrokenPipeError:
         return UNWRITABLE
     except MemoryError:
@@ -82,10 +81,10 @@ def main(words: list[str]) -> None:
     """Ends the process with the status of a word."""
     streams.prepare()
     try:
-        streams.on_interrupt(signal.default_int_handler)
+        streams.on_interrupt(streams.interrupt)
         status = guarded(words)
         streams.on_interrupt(signal.SIG_IGN)
-    except KeyboardInterrupt:                   # it came while another way to fail was told
-        status = INTERRUPTED
+    except KeyboardInterrupt as stop:           # it came while another way to fail was told
+        status = streams.interrupted(stop)
     streams.give_up()
     sys.exit(status)

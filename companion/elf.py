@@ -7,6 +7,7 @@ import struct
 from typing import NamedTuple
 
 from .errors import BAD_ELF, CompanionError
+from .files import check_regular
 from .text import clean
 
 LOADED, SYMBOL_TABLE = 1, 2                 # kinds of segments and sections
@@ -44,6 +45,7 @@ class Elf:
 
     def __init__(self, name: str) -> None:
         self.name = name
+        check_regular(name)
         with open(name, "rb") as file:
             self.data = file.read(LARGEST_FILE + 1)
         if len(self.data) > LARGEST_FILE:

@@ -9,6 +9,7 @@ from typing import Iterator, NamedTuple
 
 from . import program
 from .errors import BAD_LOG, CompanionError
+from .files import check_regular
 
 HEADER, FIRST_LOAD, SC_OK, SC_FAILED, EDGE, END = 1, 2, 3, 4, 5, 6
 SIZES = {HEADER: 146, FIRST_LOAD: 10, SC_OK: 2, SC_FAILED: 2, EDGE: 19, END: 15}
@@ -165,6 +166,7 @@ def runs_of(records: bytes) -> Iterator[bytes]:
 
 def check(name: str) -> None:
     """Has the program check a log."""
+    check_regular(name)
     try:
         program.output("check", name)
     except CompanionError as error:

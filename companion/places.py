@@ -12,6 +12,7 @@ import subprocess
 import time
 from typing import Iterable, NamedTuple, Optional, Sequence
 
+from .children import start
 from .elf import Elf
 from .sources import Sources
 from .text import clean
@@ -70,7 +71,7 @@ class Tool:
         while self.tools and not self.process:
             self.name = self.tools.pop(0)
             try:
-                self.process = subprocess.Popen(
+                self.process = start(
                     [self.name, "-a", "-f", "-i", "-e", os.path.abspath(self.elf.name)], bufsize=0,
                     stdin=subprocess.PIPE, stdout=subprocess.PIPE, stderr=subprocess.DEVNULL)
                 resource.prlimit(self.process.pid, resource.RLIMIT_AS, (MOST_MEMORY, MOST_MEMORY))

@@ -2,12 +2,13 @@
 from __future__ import annotations
 
 import os
-import signal
 import subprocess
 from types import TracebackType
 from typing import Iterator, NamedTuple, Sequence
 
+from .children import start
 from .errors import CompanionError
+from .streams import STOPS
 
 BUFFER = 1 << 20
 NOT_BUILT = 1
@@ -36,8 +37,8 @@ class Output:
 
     def __enter__(self) -> Output:
         try:
-            self.process = subprocess.Popen(self.words, stdin=subprocess.DEVNULL, stdout=subprocess.PIPE,
-                                            stderr=subprocess.PIPE, bufsize=BUFFER)
+            self.process = start(self.words, stdin=subprocess.DEVNULL, stdout=subprocess.PIPE, stderr=subprocess.PIPE,
+                                 bufsize=BUFFER)
         except OSError as error:
             raise CompanionError(f"{self.words[0]} can't be run: {error.strerror}", NOT_BUILT)
         assert self.process.stdout and self.process.stderr
@@ -57,8 +58,8 @@ class Output:
     def finish(self) -> None:
         """Waits for the end, and raises if the status isn't accepted."""
         self.status = self.process.wait()
-        if self.status == -signal.SIGINT:
-            raise KeyboardInterrupt
+        if -self.status in STOPS:               # it came to the whole group
+            raise KeyboardInterrupt(-self.status)
         if self.status not in self.accept:
             last = self.err.read(LONGEST_REFUSAL).decode("utf-8", "replace").strip().split("\n")[-1]
             said = last.split(": ", 1)[-1] or f"the program ended with {self.status}"

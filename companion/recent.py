@@ -37,7 +37,8 @@ class LogFile:
         """The name of a file that is kept until the end."""
         if not self.folder:
             try:
-                self.folder = self.files.enter_context(tempfile.TemporaryDirectory(prefix="zelkuma-"))
+                with streams.uninterrupted():
+                    self.folder = self.files.enter_context(tempfile.TemporaryDirectory(prefix="zelkuma-"))
             except OSError as error:
                 raise CompanionError(f"no place for the end of {self.name}: {error.strerror or error}", UNREADABLE)
         return os.path.join(self.folder, name)

@@ -10,7 +10,9 @@ from enum import IntEnum
 from typing import Mapping, NamedTuple, Sequence
 
 from . import program
+from .children import start
 from .errors import REFUSED, CompanionError
+from .files import check_regular
 from .options import decimal, parse
 from .saving import LOG, TURNS, target
 
@@ -58,6 +60,7 @@ class RecordWords:
         self.elf, log, *books = self.names
         self.options = options_of(options)
         read = self.elf, options.get("--input", "")
+        check_regular(*read)
         self.targets = [target(log, LOG, read)] + [target(book, TURNS, [*read, log]) for book in books]
 
     def command(self, plan: Plan, outputs: Sequence[str]) -> list[str]:
@@ -92,8 +95,7 @@ class Child:
     def __init__(self, words: Sequence[str], said: str, err: str, schedule: str = "") -> None:
         self.said, self.err = said, err
         with open(said, "wb") as out, open(err, "wb") as errors:
-            self.process = subprocess.Popen(words, stdin=subprocess.DEVNULL, stdout=out, stderr=errors,
-                                            env=environment(schedule))
+            self.process = start(words, stdin=subprocess.DEVNULL, stdout=out, stderr=errors, env=environment(schedule))
 
     def end(self, status: int) -> int:
         """Takes the status that the system tells of the process."""

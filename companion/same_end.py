@@ -1,28 +1,29 @@
 """Whether two recordings end the same: the same fault at the same place with the same callers, the same harts that wait for
-the same words, the same exit codes, or the same byte of the output.
+the same words, the same exit code, or the same byte of the output.
 
 Each is told in two parts: one that costs nothing, and one that takes the last rows."""
 from __future__ import annotations
 
+import re
 from dataclasses import dataclass, field
-from typing import Hashable, Mapping, Optional, Union
+from typing import Hashable, Mapping, Optional, Sequence, Union
 
 from .bucket import MOST_FRAMES, last_place
 from .control import load_behind
 from .elf import Elf
 from .errors import NO_INTERVAL, CompanionError
 from .instruction import STORE
-from .log import Log, is_fault
+from .log import End, Log, is_fault
 from .loops import Loop
 from .program import Output
 from .recording import FAULT, LIMIT
 from .rows import trace_of
 from .trace import Trace
-from .turn_ends import turn_ends
 
 CALLS_ROWS = 100000         # so many of a hart's last rows are read for its calls, as whole intervals
 STAY_ROWS = 200000          # and for how long it is in its loop
 LOOP_ROWS = 1500, 10000     # in so many of them its loop is looked for
+LONGEST_ROW = 160           # bytes
 MOST_INTERVALS = 16         # of a hart are replayed
 MOST_SPILLS = 8             # so often is a value followed through the stack
 CALLS = b" jal", b" ra=", b" t0="       # what a row has that tells of a call or of where it returns to
@@ -96,7 +97,7 @@ class Ends:
         self.elf, self.offset = elf, offset
 
     def rough(self, made: Recording) -> Hashable:
-        """The byte that is asked of; else the fault's name, the harts at their limit, or how each hart ended."""
+        """The byte that is asked of; else the fault's name, the harts at their limit, or the exit code."""
         if self.offset is not None:
             return made.status, byte_at(made.said, self.offset)
         ends = log_of(made.log).ends
@@ -104,7 +105,7 @@ class Ends:
             return made.status, tuple(sorted(end.reason for end in ends.values() if is_fault(end.reason)))
         if made.status == LIMIT:
             return made.status, tuple(sorted(hart for hart, end in ends.items() if end.reason == "limit"))
-        return made.status, tuple(sorted((hart, end.reason, end.value) for hart, end in ends.items()))
+        return made.status, exit_code(ends)
 
     def exact(self, made: Recording) -> Exact:
         if self.offset is not None or made.status not in (FAULT, LIMIT):
@@ -118,8 +119,8 @@ class Ends:
         return Waiting(words, stays)
 
     def faulted(self, log: Log, hart: int) -> Faulted:
-        lines, is_cut = self.last_lines(log, hart, CALLS_ROWS)
-        lines = [line for line in lines if line[:1].isdigit()]
+        text, is_cut = self.last_text(log, hart, CALLS_ROWS)
+        lines = [line for line in text.splitlines(True) if line[:1].isdigit()]
         lines = [line for line in lines[:-2] if any(mark in line for mark in CALLS)] + lines[-2:]
         trace, reason = trace_of(log, b"".join(lines)), log.ends[hart].reason
         n = last_place(trace, hart, reason)
@@ -129,30 +130,35 @@ class Ends:
 
     def waits(self, log: Log, hart: int) -> tuple[tuple[int, ...], int]:
         """The words for which a hart waits, and how many of its last turns are in its loop."""
-        lines, _ = self.last_lines(log, hart, STAY_ROWS)
+        text, _ = self.last_text(log, hart, STAY_ROWS)
         for most in LOOP_ROWS:
-            trace = trace_of(log, b"".join(lines[-most:]))
+            trace = trace_of(log, b"".join(text[-most * LONGEST_ROW:].splitlines(True)[-most:]))
             loop = Loop(trace, hart)
             if loop.places:
                 break
         loads = [operand.load for item in loop.exits if item.leads_out for operand in item.operands]
-        places = {b"%08x" % trace.codes[at].pc for at in loop.places}
-        return (tuple(sorted({trace.access(unspilled(trace, load)).address & ~3 for load in loads if load})),
-                len(turn_ends(stay(lines, places))))
+        words = {trace.access(unspilled(trace, load)).address & ~3 for load in loads if load}
+        return tuple(sorted(words)), turns_in(text, [trace.codes[at].pc for at in loop.places])
 
-    def last_lines(self, log: Log, hart: int, most: int) -> tuple[list[bytes], bool]:
+    def last_text(self, log: Log, hart: int, most: int) -> tuple[bytes, bool]:
         """What `replay` prints of a hart's last intervals, until they have so many rows, and whether there are rows before."""
-        pieces: list[list[bytes]] = []
+        pieces: list[bytes] = []
         mine = [interval for interval in log.intervals if interval.hart == hart]
         for interval in reversed(mine[-MOST_INTERVALS:]):
             with Output("replay", log.name, self.elf.name, str(hart), str(interval.number)) as output:
-                pieces.append(output.read().splitlines(True))
+                pieces.append(output.read())
             most -= interval.end - interval.start
             if most <= 0:
                 break
         if not pieces:
             raise CompanionError(f"the log holds no row of hart {hart} (see `list`)", NO_INTERVAL)
-        return [line for piece in reversed(pieces) for line in piece], mine[-len(pieces)].start > 0
+        return b"".join(reversed(pieces)), mine[-len(pieces)].start > 0
+
+
+def exit_code(ends: Mapping[int, End]) -> int:
+    """The code that a hart ended all of them with, else that of hart 0."""
+    group = [end.value for end in ends.values() if end.reason == "group"]
+    return group[0] if group else ends[0].value if 0 in ends else 0
 
 
 def log_of(name: str) -> Log:
@@ -167,12 +173,15 @@ def byte_at(name: str, offset: int) -> bytes:
         return file.read(1)
 
 
-def stay(lines: list[bytes], places: set[bytes]) -> list[bytes]:
-    """The last lines, as far as their rows are at some places."""
-    at = len(lines)
-    while at and (not lines[at - 1][:1].isdigit() or lines[at - 1].split(b" ", 3)[2] in places):
-        at -= 1
-    return lines[at:]
+def turns_in(text: bytes, places: Sequence[int]) -> int:
+    """How many of the last turns ended at some places. It is fast, and may leave out some that end with no access."""
+    others, end = b"|".join(b"%08x" % pc for pc in places), 0
+    for found in re.finditer(rb"^\d+ \d+ (?!%s)" % others, text, re.M) if places else ():
+        end = found.end()
+    last = text[text.rfind(b"\n", 0, text.rfind(b"\nend ")):]
+    atomics = len(re.findall(rb" load \w+=\w+ \| store ", text[end:]))
+    has_rest = b" load " not in last and b" store " not in last     # the last turn ended at the limit
+    return text.count(b" | load ", end) + text.count(b" | store ", end) - atomics + has_rest if places else 0
 
 
 def unspilled(trace: Trace, load: int) -> int:

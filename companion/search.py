@@ -5,23 +5,26 @@ from typing import Callable, Iterator
 
 from . import moves
 from .moves import Move
-from .recording import FAULT
 from .same_end import Recording, Waiting
-from .tries import Tries
+from .tries import ANY, Tries
+from .windows import Window, windows_of
 from .turns import Pieces, pieces_of, size_of, turns_of
 
 MORE_COUNTS = 10000         # a hart may do twice as many instructions as in the recording, and so many more
 LEAST_LIMIT = 2000          # to which the limit of a run that hangs is lowered
-ANY = 1 << 62, 0            # a size that no list has
 
 
 class Search:
-    """best   the shortest list so far; of a run that hangs only up to where all of its harts wait"""
+    """best    the shortest list so far; of a run that hangs only up to where all of its harts wait, until it is done
+    recorded_pieces, recorded_turns     of the recording
+    core    its pieces that matter: behind them harts wait for ever"""
 
     def __init__(self, tries: Tries, recorded: Recording) -> None:
         self.tries, self.best = tries, pieces_of(recorded.turns())
         self.limit = int(tries.options["--limit"])
-        self.first_pieces = len(self.best)
+        self.recorded_pieces, self.recorded_turns = size_of(self.best)
+        self.core = self.best
+        self.windows: list[Window] = []
         tries.want(recorded)
 
     def run(self) -> None:
@@ -31,8 +34,13 @@ class Search:
         else:
             self.tries.options["--limit"] = str(min(self.limit, 2 * self.tries.most_counts + MORE_COUNTS))
         self.group()
-        while self.drop() | self.follow(moves.moved) | self.follow(moves.shorter):
-            pass
+        while True:
+            if self.tries.leaves_rest:
+                self.lower_limit()              # a shorter list needs less
+            if not self.drop() | self.follow(moves.moved) | self.follow(moves.shorter):
+                break
+        self.core = self.best
+        self.windows = windows_of(self.tries, self.best)
         self.tries.options["--limit"] = str(self.limit)
         if self.tries.leaves_rest:
             self.tries.leaves_rest = False
@@ -69,7 +77,7 @@ class Search:
 
     def lower_limit(self) -> None:
         """Harts that wait for ever wait under a lower limit as well, and a try is done sooner."""
-        limit = self.limit
+        limit = int(self.tries.options["--limit"])
         while limit > LEAST_LIMIT:
             self.tries.options["--limit"] = str(limit // 2)
             held = self.tries.first([self.best], ANY)

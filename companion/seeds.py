@@ -7,7 +7,6 @@ from typing import Mapping, Optional, Sequence
 
 from . import streams
 from .answers import LONGEST, put_answer
-from .call import INTERRUPTED
 from .errors import REFUSED, CompanionError
 from .options import parse, whole
 from .recording import ENDS, FAULT, Kind, Plan, RecordWords
@@ -30,7 +29,7 @@ RECORD-WORDS are those of `record` but for --seed. Of each number from FROM to T
 LOG and BOOK are those of the first run that ends with STATUS; if a number draws its turns, no lower one does.
 Its kind and number are printed, and the command that makes it again. A table tells how the runs up to it ended: status,
 count, the first of them, and of a fault the line of `bucket`. If none ends so, nothing is saved, and the status is 22.
-Ctrl-C ends the search: the table is printed, what was found is kept, and the status is 130.
+Ctrl-C (or TERM, HUP) ends the search: the table is printed, what was found is kept, and the status is 130 (143, 129).
 
     -j N             so many recordings at a time; without it, as many as there are processors
     --until STATUS   0 (done), 10 (a fault) or 11 (a hart came to the limit); without it 10
@@ -116,7 +115,7 @@ def find(search: Search, is_json: bool) -> None:
 
 def status_of(search: Search, names: Sequence[str], first: int, last: int) -> int:
     if search.stopped:
-        return INTERRUPTED
+        return 128 + search.stopped
     if search.found is not None:
         return 0
     streams.say(f"none of {', '.join(names)} from {first} to {last} ends with status {search.until}")

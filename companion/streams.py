@@ -11,7 +11,8 @@ from typing import Any, Iterator
 
 from .errors import UNWRITABLE, CompanionError
 
-PAUSE, SILENCE = 0.2, 1.0    # seconds between two lines of progress, and before the first
+STOPS = signal.SIGINT, signal.SIGTERM, signal.SIGHUP        # Ctrl-C, `kill`, the end of the terminal
+PAUSE, SILENCE = 0.2, 1.0   # seconds between two lines of progress, and before the first
 
 
 def prepare() -> None:
@@ -110,16 +111,28 @@ def give_up() -> None:
 
 
 def on_interrupt(handler: Any) -> None:
-    """Sets what Ctrl-C does, unless this process was started to ignore it."""
-    if signal.getsignal(signal.SIGINT) is not signal.SIG_IGN:
-        signal.signal(signal.SIGINT, handler)
+    """Sets what each of STOPS does, unless this process was started to ignore it."""
+    for stop in STOPS:
+        if signal.getsignal(stop) is not signal.SIG_IGN:
+            signal.signal(stop, handler)
+
+
+def interrupt(number: int, _: object) -> None:
+    """Ends the call. What comes after the first doesn't break off what has to be done at the end."""
+    on_interrupt(signal.SIG_IGN)
+    raise KeyboardInterrupt(number)
+
+
+def interrupted(stop: KeyboardInterrupt) -> int:
+    """The status that a shell says of a program that such a signal has ended."""
+    return 128 + int(stop.args[0] if stop.args else signal.SIGINT)
 
 
 @contextlib.contextmanager
-def uninterrupted() -> Iterator[None]:
-    """Ctrl-C waits until the end of it."""
-    before = signal.pthread_sigmask(signal.SIG_BLOCK, {signal.SIGINT})
+def uninterrupted() -> Iterator[set[Any]]:
+    """Each of STOPS waits until the end of it. Gives the signals that waited before."""
+    before = signal.pthread_sigmask(signal.SIG_BLOCK, STOPS)
     try:
-        yield
+        yield before
     finally:
         signal.pthread_sigmask(signal.SIG_SETMASK, before)

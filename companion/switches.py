@@ -2,23 +2,16 @@
 one that stopped had loaded."""
 from __future__ import annotations
 
-from typing import Iterator, NamedTuple, Optional, Sequence
+from typing import Any, Iterator, NamedTuple, Optional, Sequence
 
+from .answers import place_of
 from .elf import Elf
 from .log import Log
 from .places import Places
-from .program import Output
 from .rows import Row, parse_row
-from .turn_ends import turn_ends
+from .turn_ends import turn_lines
 from .turns import Pieces
-
-MOST_ROWS = 10000000        # of a log are read for its switches
-
-
-class Turn(NamedTuple):
-    """A turn: its hart and the row that ended it, or None if none did or the log hasn't got it."""
-    hart: int
-    row: Optional[Row]
+from .windows import Window, again_at
 
 
 class Clash(NamedTuple):
@@ -28,45 +21,40 @@ class Clash(NamedTuple):
 
 
 class Switch(NamedTuple):
-    """stopped  the last row with which a turn of the hart ended that stops
-    next     the first such row of the hart that goes on
-    resumed  the first such row of the hart that stops, once it goes on again
-    clash    what the others do to a word that it had loaded, until then"""
+    """hart     that stops, and the other that goes on
+    stopped  the row with which the last turn of the hart ended that stops
+    next     the row with which the first turn of the other ends
+    clash    what the others do to a word that the hart had loaded, until it goes on
+    after, before   the rows of the hart between which the switch has to come"""
     hart: int
     other: int
     stopped: Optional[Row]
     next: Optional[Row]
-    resumed: Optional[Row]
     clash: Optional[Clash]
+    after: Optional[Row]
+    before: Optional[Row]
 
 
-def rows_by_turn(log: Log, elf: Elf, pieces: Pieces) -> list[list[Optional[Row]]]:
-    """Of each piece the rows with which its turns ended. What the log has of a hart is of its last turns."""
-    rows: dict[int, Iterator[Optional[Row]]] = {}
+def rows_by_piece(log: Log, elf_name: str, pieces: Pieces, most: int) -> list[list[Optional[Row]]]:
+    """Of each of the first so many pieces the rows with which its turns ended."""
+    lines: dict[int, Iterator[bytes]] = {}
     for hart in {piece.hart for piece in pieces}:
-        known = [parse_row(line) for line in turn_ends(lines_of(log, elf, hart))]
-        taken = sum(piece.turns for piece in pieces if piece.hart == hart)
-        rows[hart] = iter(([None] * (taken - len(known)) + known)[-taken:])
-    return [[next(rows[piece.hart]) for _ in range(piece.turns)] for piece in pieces]
+        lines[hart] = iter(turn_lines(log, elf_name, hart, sum(piece.turns for piece in pieces if piece.hart == hart)))
+    return [[parse_row(next(lines[piece.hart])) for _ in range(piece.turns)] for piece in pieces[:most]]
 
 
-def lines_of(log: Log, elf: Elf, hart: int) -> Iterator[bytes]:
-    """What `replay` prints of all of a hart's intervals."""
-    for interval in log.intervals:
-        if interval.hart == hart:
-            with Output("replay", log.name, elf.name, str(hart), str(interval.number)) as output:
-                yield from output
-
-
-def switches_of(pieces: Pieces, rows: Sequence[Sequence[Optional[Row]]]) -> list[Switch]:
+def switches_of(pieces: Pieces, rows: Sequence[Sequence[Optional[Row]]], windows: Sequence[Window]) -> list[Switch]:
+    """The switches between the pieces that have rows. Windows are known of all, or of none."""
     found = []
-    for at in range(len(pieces) - 1):
+    for at in range(len(rows) - 1):
         hart, other = pieces[at].hart, pieces[at + 1].hart
-        again = next((i for i in range(at + 1, len(pieces)) if pieces[i].hart == hart), len(pieces))
-        between = [row for piece in rows[at + 1:again] for row in piece]
-        before = [row for piece, i in zip(rows, pieces[:at + 1]) if i.hart == hart for row in piece]
-        resumed = rows[again][0] if again < len(pieces) else None
-        found.append(Switch(hart, other, rows[at][-1], rows[at + 1][0], resumed, clash_of(before, between)))
+        again = again_at(pieces, at)
+        between = [row for piece in rows[at + 1:again if again >= 0 else len(rows)] for row in piece]
+        done = [row for piece, i in zip(rows[:at + 1], pieces) if i.hart == hart for row in piece]
+        after, before = None, None
+        if at < len(windows):
+            after, before = done[-1 - windows[at].earlier], windows[at].before
+        found.append(Switch(hart, other, done[-1], rows[at + 1][0], clash_of(done, between), after, before))
     return found
 
 
@@ -89,21 +77,39 @@ class Teller:
         self.elf, self.places = elf, places
 
     def where(self, row: Optional[Row]) -> str:
-        return self.places.where(row.pc) if row else "a place that the log hasn't got"
+        return self.places.where(row.pc) if row else "a place that isn't known"
 
-    def word(self, address: int) -> str:
+    def with_source(self, row: Optional[Row]) -> str:
+        text = self.places.source(row.pc) if row else ""
+        return self.where(row) + (f"   {text}" if text else "")
+
+    def word(self, row: Row) -> str:
+        address = row.store.address if row.store else 0
         return self.elf.data_name(address) or f"{address:08x}"
 
-    def source(self, row: Optional[Row]) -> str:
-        text = self.places.source(row.pc) if row else ""
-        return f"   {text}" if text else ""
-
     def lines(self, number: int, switch: Switch) -> list[str]:
-        said = [f"{number:>3}. hart {switch.hart} stops behind {self.where(switch.stopped)}{self.source(switch.stopped)}",
-                f"     hart {switch.other} goes on with {self.where(switch.next)}{self.source(switch.next)}"]
+        said = [f"{number:>3}. hart {switch.hart} stops after {self.with_source(switch.stopped)}",
+                f"     hart {switch.other} goes on at {self.with_source(switch.next)}"]
         if switch.clash:
             store, load = switch.clash
-            assert store.store
-            said.append(f"     hart {store.hart} stores to {self.word(store.store.address)} in {self.where(store)}, which hart "
-                        f"{load.hart} had loaded in {self.where(load)}")
-        return said
+            said.append(f"     hart {store.hart} stores to {self.word(store)} in {self.where(store)}, "
+                        f"which hart {load.hart} loaded in {self.where(load)}")
+        return said + self.window(switch)
+
+    def window(self, switch: Switch) -> list[str]:
+        """The race window."""
+        if switch.after is None:
+            return []
+        if switch.before is None:
+            return [f"     it has to come after {self.where(switch.after)}"]
+        return [f"     it has to come between {self.where(switch.after)} and {self.where(switch.before)}"]
+
+    def answer(self, switch: Switch) -> dict[str, Any]:
+        """A switch for other programs."""
+        store, load = switch.clash or (None, None)
+        return {"hart": switch.hart, "other": switch.other, "stopped": self.point(switch.stopped), "next": self.point(switch.next),
+                "store": self.point(store), "load": self.point(load), "after": self.point(switch.after),
+                "before": self.point(switch.before)}
+
+    def point(self, row: Optional[Row]) -> Optional[dict[str, Any]]:
+        return {"hart": row.hart, "count": row.ic, "place": place_of(self.places, row.pc)} if row else None

@@ -14,7 +14,7 @@ def number(value: int) -> str:
 
 
 def counted(value: int, noun: str) -> str:
-    return f"{number(value)} {noun}{'' if value == 1 else 's'}"
+    return f"{number(value)} {noun}{'' if value == 1 else 'es' if noun.endswith('ch') else 's'}"
 
 
 def short(text: str, width: int = 92) -> str:

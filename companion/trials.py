@@ -3,7 +3,6 @@ from __future__ import annotations
 
 import heapq
 import os
-import signal
 import sys
 import time
 from typing import Iterator, NamedTuple, Optional, Sequence
@@ -90,7 +89,7 @@ class Search:
     that ends as wanted ends the search.
 
     found    the trial that is kept
-    stopped  whether Ctrl-C came"""
+    stopped  the signal that ends it, if one came"""
 
     def __init__(self, words: RecordWords, numbers: range, kinds: Sequence[Kind], until: int, jobs: int,
                  folders: Sequence[str]) -> None:
@@ -98,7 +97,7 @@ class Search:
         self.jobs, self.folders = jobs, folders
         self.running: dict[int, Trial] = {}     # by process
         self.found: Optional[Trial] = None
-        self.stopped = False
+        self.stopped = 0
         self.endings = Endings()
         self.at = numbers.start
         self.progress, self.began = streams.Progress(), time.monotonic()
@@ -112,9 +111,9 @@ class Search:
     def in_threads(self) -> bool:
         return any(trial.plan.kind is Kind.THREADS for trial in self.running.values())
 
-    def stop(self, *_: object) -> None:
-        """Ctrl-C. No call is broken off, so that each child is known."""
-        self.stopped = True
+    def stop(self, number: int, _: object) -> None:
+        """Ctrl-C, or another signal. No call is broken off, so that each child is known."""
+        self.stopped = number
         for trial in self.running.values():
             trial.child.kill()
 
@@ -145,7 +144,8 @@ class Search:
 
     def take(self, trial: Trial, status: int) -> None:
         """Takes a child that has ended: a recording, or the search for its place."""
-        self.stopped |= status == -signal.SIGINT
+        if -status in streams.STOPS:            # it came to the whole group
+            self.stopped = self.stopped or -status
         if self.is_given_up(trial):
             trial.remove()
         elif trial.status in ENDS:

@@ -3,8 +3,8 @@ however many are under way."""
 from __future__ import annotations
 
 import os
-import signal
-from typing import Hashable, Iterable, Iterator, Mapping, NamedTuple, Optional, Sequence
+from contextlib import closing
+from typing import Generator, Hashable, Iterable, Iterator, Mapping, NamedTuple, Optional, Sequence
 
 from . import program, streams
 from .errors import NO_INTERVAL, UNREADABLE, CompanionError
@@ -12,6 +12,7 @@ from .recording import ENDS, Child, last_line
 from .same_end import Ends, Exact, Over, Recording, Waiting, log_of
 from .turns import Pieces, pieces_of, size_of, turns_of
 
+ANY = 1 << 62, 0            # a size that no list has
 AHEAD = 4                   # so many tries for each that is under way may wait for those before them
 
 
@@ -53,13 +54,14 @@ class Try:
 class Tries:
     """options      those of `record`
     leaves_rest  whether a list counts only as far as it was asked for, and what comes behind it is left to seed 0
+    ends_within  whether a run has to end by what was asked for
     count        how many tries were judged
     most_counts  how many instructions a hart did at most in the recording that is wanted
     stopped      whether the search is to end"""
 
     def __init__(self, options: Mapping[str, str], ends: Ends, jobs: int, folder: str) -> None:
         self.options, self.ends, self.jobs, self.folder = dict(options), ends, jobs, folder
-        self.leaves_rest, self.stopped = False, False
+        self.leaves_rest = self.ends_within = self.stopped = False
         self.rough: Hashable = None
         self.exact: Exact = Over()
         self.exact_of_last: Exact = Over()
@@ -90,23 +92,32 @@ class Tries:
 
     def first(self, candidates: Iterable[Pieces], most: tuple[int, int]) -> Optional[Held]:
         """The first candidate that ends as wanted and is smaller than `most` says."""
-        left, ended, begun, at = iter(candidates), dict[int, Try](), self.started, 0
+        with closing(self.judged_in_order(candidates, most)) as judged:
+            return next((Held(at, pieces) for at, pieces in enumerate(judged) if pieces is not None), None)
+
+    def each(self, candidates: Sequence[Pieces]) -> list[bool]:
+        """Of each candidate whether it ends as wanted; of those that the search's end left out, not."""
+        with closing(self.judged_in_order(candidates, ANY)) as judged:
+            found = [pieces is not None for pieces in judged]
+        return found + [False] * (len(candidates) - len(found))
+
+    def judged_in_order(self, candidates: Iterable[Pieces], most: tuple[int, int]) -> Generator[Optional[Pieces], None, None]:
+        """Of each candidate its turns, or None."""
+        left, ended, at = iter(candidates), dict[int, Try](), self.started
         try:
             while not self.stopped:
-                self.start(left, begun + at + self.jobs * AHEAD)
-                while begun + at in ended and not self.stopped:
-                    pieces = self.judged(ended[begun + at], most)
-                    ended.pop(begun + at).remove()
-                    if pieces is not None:
-                        return Held(at, pieces)
+                self.start(left, at + self.jobs * AHEAD)
+                while at in ended and not self.stopped:
+                    pieces = self.judged(ended[at], most)
+                    ended.pop(at).remove()
                     at += 1
+                    yield pieces
                 if self.running:
                     self.wait(ended)
-                elif begun + at == self.started:
+                elif at == self.started:
                     break
         finally:
             self.clear(ended)
-        return None
 
     def start(self, left: Iterator[Pieces], most: int) -> None:
         while len(self.running) < self.jobs and self.started < most and not self.stopped:
@@ -121,7 +132,7 @@ class Tries:
         process, status = os.wait()
         one = self.running.pop(process)
         one.status = one.child.end(status)
-        self.stopped |= one.status in (-signal.SIGINT, -signal.SIGTERM)
+        self.stopped |= -one.status in streams.STOPS
         ended[one.number] = one
 
     def judged(self, one: Try, most: tuple[int, int]) -> Optional[Pieces]:
@@ -131,9 +142,10 @@ class Tries:
         if self.ends.rough(made) != self.rough:
             return None
         turns = made.turns()
-        needed = followed(turns_of(one.asked), turns) if self.leaves_rest else turns
+        asked = turns_of(one.asked)
+        needed = followed(asked, turns) if self.leaves_rest else turns
         pieces = pieces_of(needed)
-        if size_of(pieces) >= most:
+        if size_of(pieces) >= most or (self.ends_within and not asked.startswith(turns)):
             return None
         found = self.exact_of(made)
         if found is None or not self.exact.is_like(found):

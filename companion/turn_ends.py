@@ -2,21 +2,35 @@
 from __future__ import annotations
 
 import re
-from typing import Iterable
 
-ASKS = re.compile(rb"\d+ \d+ \w+ \w+ (?:(?:l[bhw]u?|s[bhw]|ecall)\b|lr\.|sc\.|amo)|.* \| fault ")
-WITHOUT_ROW = b" length ", b" limit "   # an interval was full, or the hart at its limit: a turn ended with no such row
+from .log import Log
+from .program import Output
+
+# A row that accesses memory, calls the system or faults; or, behind a row that does neither, the end of an interval that was
+# full or came to the hart's limit.
+TURN_ENDS = re.compile(rb"^(?:\d+ \d+ \w+ \S+ (?:l[bhw]u? |s[bhw] |ecall|lr\.|sc\.|amo|[^|\n]*\| fault )"
+                       rb"|end \d+ \d+ \d+ (?:length|limit) ).*\n", re.M)
 
 
-def turn_ends(lines: Iterable[bytes]) -> list[bytes]:
+def turn_ends(text: bytes) -> list[bytes]:
     """Of what `replay` prints of a hart, the line with which each turn ended."""
-    found: list[bytes] = []
-    has_asked = True
-    for line in lines:
-        if line[:1].isdigit():
-            has_asked = ASKS.match(line) is not None
-            if has_asked:
-                found.append(line)
-        elif line.startswith(b"end ") and not has_asked and any(word in line for word in WITHOUT_ROW):
-            found.append(line)
+    found = []
+    for match in TURN_ENDS.finditer(text):
+        if not (match[0].startswith(b"end ") and has_asked(text, match.start())):
+            found.append(match[0])
     return found
+
+
+def has_asked(text: bytes, end: int) -> bool:
+    """Whether the row before a place ended a turn."""
+    return TURN_ENDS.match(text, text.rfind(b"\n", 0, end - 1) + 1) is not None
+
+
+def turn_lines(log: Log, elf_name: str, hart: int, turns: int) -> list[bytes]:
+    """The line with which each of a hart's turns ended, or nothing: the log has those of its last ones."""
+    known: list[bytes] = []
+    for interval in log.intervals:
+        if interval.hart == hart:
+            with Output("replay", log.name, elf_name, str(hart), str(interval.number)) as output:
+                known += turn_ends(output.read())
+    return ([b""] * (turns - len(known)) + known)[-turns:]

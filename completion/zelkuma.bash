@@ -81,12 +81,11 @@ seeds --json
 again --input FILE
 again --log-size N
 again --interval N
-shrink -j N
 shrink --seconds N
 shrink --output N:BYTE
 shrink --names ELF
 shrink --json
-shrink -- OPTION..
+shrink -- WORD..
 history --names ELF
 history --changes
 history --last N

@@ -70,6 +70,7 @@ tries tests/read_log.sh "$program"
 tries tests/limits.sh "$program"
 tries tests/documents.py "$program" README.md examples/README.md docs/COMMANDS.md tests/examples.md
 tries tests/named.py
+tries tests/stale.py
 tries tests/companions.sh "$program"
 wait
 tell

@@ -89,10 +89,10 @@ low: clap
 side:
 mid: low
 bugnet: mid low side
-bench: low # which the program doesn't stand on
+apart: low # which the program doesn't stand on
 bugnet_main: bugnet
 END
-for name in low side mid bugnet bench bugnet_main; do
+for name in low side mid bugnet apart bugnet_main; do
     mkdir -p "$tree/crates/$name/src"
     echo "$name as it was" >"$tree/crates/$name/src/lib.rt"
 done

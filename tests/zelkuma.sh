@@ -64,8 +64,8 @@ is_built
 builds_nothing
 
 what="a crate that the program doesn't stand on"
-echo changed >"$tree/crates/bench/src/lib.rt"
-sed -i 's/^bench: low/bench: mid/' "$tree/crates.txt"
+echo changed >"$tree/crates/apart/src/lib.rt"
+sed -i 's/^apart: low/apart: mid/' "$tree/crates.txt"
 is_built
 builds_nothing
 

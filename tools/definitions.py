@@ -1,7 +1,8 @@
 #!/usr/bin/env python3
-"""Makes docs/DEFINITIONS.md of the comments in crates/*/specs, so that the page says what the definitions say.
+"""Prints a page of all definitions, with the comments that they have in crates/*/specs.
 
-tools/definitions.py [TOP]    writes the page of the sources at TOP, at first its own
+tools/definitions.py [TOP]           the page of the sources at TOP, at first its own
+tools/definitions.py --bare [TOP]    the definitions that have no comment, a line each
 
 The crates stand in the order of crates.txt, under its headings. The files of a crate stand in the order of its `pub mod`
 lines. A definition's comment is the lines of `--` right before it; one that has none is listed by its name alone.
@@ -11,8 +12,6 @@ import re
 import sys
 
 HEAD = """# Definitions
-
-<!-- Made by tools/definitions.py of the comments in crates/*/specs: change those, and call it again. -->
 
 The words of the contracts: each public definition of `crates/*/specs`, with the comment that it has there. The crates
 stand in the order of `crates.txt`, the lowest layer first. `docs/INTERNALS.md` says how to read a contract, and has the
@@ -86,7 +85,7 @@ def file_lines(top, crate, file):
     if not definitions:
         return []
     name = file.relative_to(crate / "specs").with_suffix("")
-    link = f"[{name}](../{file.relative_to(top)})"
+    link = f"[{name}]({file.relative_to(top)})"
     lines = ["", f"**{link}.** {sentence(head)}".strip(), ""]
     lines += [f"- `{name}`: {sentence(comment)}" for name, comment in definitions if comment]
     bare = [f"`{name}`" for name, comment in definitions if not comment]
@@ -115,12 +114,21 @@ def page(top):
     return "\n".join(lines) + "\n"
 
 
+def bare(top):
+    """The lines of the definitions without a comment: file and name."""
+    for _, crates in crate_layers(top):
+        for crate in crates:
+            folder = top / "crates" / crate / "specs"
+            for file in spec_files(folder, folder / "Lib.antt") if folder.is_dir() else []:
+                yield from (f"{file.relative_to(top)}: {name}\n" for name, comment in definitions_in(file)[1] if not comment)
+
+
 def main(words):
+    lists_bare, words = words[:1] == ["--bare"], words[words[:1] == ["--bare"]:]
     if len(words) > 1:
         sys.exit(__doc__)
-    top = pathlib.Path(words[0] if words else __file__).resolve()
-    top = top if words else top.parent.parent
-    (top / "docs" / "DEFINITIONS.md").write_text(page(top), encoding="utf-8")
+    top = pathlib.Path(words[0]).resolve() if words else pathlib.Path(__file__).resolve().parent.parent
+    sys.stdout.write("".join(bare(top)) if lists_bare else page(top))
 
 
 if __name__ == "__main__":

@@ -3,6 +3,7 @@
 
 tools/sizes.py [TOP] [CRATE..]    all crates of its own checkout, if none is named
 tools/sizes.py --layers [TOP]     sums by the layers of crates.txt
+tools/sizes.py --renew [TOP]      writes them into the table of docs/INTERNALS.md, whose last column has code+specs+proofs
 
 It prints by crate, or by layer:
 
@@ -84,9 +85,22 @@ def summed(rows):
     return [sum(column) for column in zip(*rows)]
 
 
+def by_layer_of(top, sizes):
+    """The sums of each layer, by the sizes of its crates."""
+    return [(layer, summed(sizes[name] for name in crates)) for layer, crates in layers_of(top).items()]
+
+
+def renewed(text, layers):
+    """A page in whose table of layers the last column has code+specs+proofs."""
+    for layer, sizes in layers:
+        lines = "+".join(f"{sizes[HEADS.index(head)]:,d}" for head in ("code", "specs", "proofs"))
+        text = re.sub(rf"(?m)^(\| {layer} \|.*\| )[\d,+]+( \|)$", rf"\g<1>{lines}\g<2>", text)
+    return text
+
+
 def main(words):
-    top, by_layer = OWN, "--layers" in words
-    words = [word for word in words if word != "--layers"]
+    top, by_layer, renews = OWN, "--layers" in words or "--renew" in words, "--renew" in words
+    words = [word for word in words if word not in ("--layers", "--renew")]
     if words and pathlib.Path(words[0]).is_dir():
         top = pathlib.Path(words.pop(0))
     names = words or sorted(folder.parent.name for folder in top.glob("crates/*/src"))
@@ -97,8 +111,10 @@ def main(words):
     rows = [(name, sizes_of(top / "crates" / name)) for name in names]
     whole = ("all", summed(sizes for _, sizes in rows))
     if by_layer:
-        sizes = dict(rows)
-        rows = [(layer, summed(sizes[name] for name in crates)) for layer, crates in layers_of(top).items()]
+        rows = by_layer_of(top, dict(rows))
+    if renews:
+        page = top / "docs" / "INTERNALS.md"
+        page.write_text(renewed(page.read_text(encoding="utf-8"), rows), encoding="utf-8")
     rows.append(whole)
     print(f"{'layer' if by_layer else 'crate':16s}" + "".join(f"{head:>10s}" for head in HEADS))
     for name, sizes in rows:
@@ -106,4 +122,5 @@ def main(words):
     return 0
 
 
-sys.exit(main(sys.argv[1:]))
+if __name__ == "__main__":
+    sys.exit(main(sys.argv[1:]))

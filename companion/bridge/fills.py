@@ -7,10 +7,11 @@ from typing import Iterator, NamedTuple, Optional
 
 from ..instruction import A1, A7
 from ..log import Log
-from .lines import Pattern
+from .lines import Part, Pattern, line_around
 from .steps import Steps
 
-ECALL = re.compile(rb"^(\d+) .* ecall \| a0=([0-9a-f]{8})$")
+CALL_WORD = b" ecall | a0="
+ECALL = re.compile(rb"(\d+) .* ecall \| a0=([0-9a-f]{8})$")
 READ = 63  # the call's number, in a7
 LONGEST = 4096  # bytes that a `read` moves at most; a larger result is an error's number
 
@@ -27,6 +28,18 @@ class Call(NamedTuple):
     address: int
 
 
+def latest(text: bytearray, hart: int, name: bytes, low: int, high: int, value: int) -> int:
+    """A register's value at the end of text[low:high], and `value` if no row of the hart there wrote it."""
+    word, own = b"| %s=" % name, b"%d " % hart
+    at = text.rfind(word, low, high)
+    while at >= 0:
+        begin, _ = line_around(text, at)
+        if text.startswith(own, begin):
+            return int(text[at + len(word):at + len(word) + 8], 16)
+        at = text.rfind(word, low, begin)
+    return value
+
+
 class Fills:
     """The `read` calls among the steps. If no row tells a register, a hart's first Header does."""
 
@@ -37,6 +50,8 @@ class Fills:
         self.seen = 0  # the steps before this place have been looked through
         self.places: list[int] = []  # of the fills
         self.ranges: list[Range] = []
+        self.places_of: dict[Range, list[int]] = {}
+        self.different: list[Range] = []  # those ranges, by address
         self.calls: dict[int, Call] = {}  # by hart
         steps.when_cut.append(self.forget)
 
@@ -44,6 +59,10 @@ class Fills:
         """Forgets the calls from a place on."""
         self.seen = min(self.seen, place)
         kept = bisect.bisect_left(self.places, place)
+        for filled in reversed(self.ranges[kept:]):
+            self.places_of[filled].pop()
+            if not self.places_of[filled]:
+                del self.places_of[filled], self.different[bisect.bisect_left(self.different, filled)]
         del self.places[kept:], self.ranges[kept:]
         self.calls = {hart: call for hart, call in self.calls.items() if call.place < place}
 
@@ -58,29 +77,46 @@ class Fills:
         at = line.index(word) + len(word)
         return int(line[at:at + 8], 16)
 
-    def take(self, place: int) -> None:
-        """Takes the call at a place."""
-        found = ECALL.match(self.steps.lines.line(place))
-        assert found  # it was found by this expression
-        hart, result = int(found[1]), int(found[2], 16)
-        start, number, address = self.calls.get(hart, self.begin[hart])
-        number = self.register(hart, b"a7", start, place, number)
-        address = self.register(hart, b"a1", start, place, address)
-        self.calls[hart] = Call(place, number, address)
+    def take(self, call: Call, hart: int, result: int) -> None:
+        """Takes the next call."""
+        place, number, address = self.calls[hart] = call
         if number == READ and 0 < result <= LONGEST:
+            filled = Range(address, result)
             self.places.append(place)
-            self.ranges.append(Range(address, result))
+            self.ranges.append(filled)
+            if filled not in self.places_of:
+                self.places_of[filled] = []
+                bisect.insort(self.different, filled)
+            self.places_of[filled].append(place)
 
     def look(self, end: int) -> None:
         """Looks through the steps before a place."""
-        is_call = [Pattern(b" ecall | a0=", lambda line: bool(ECALL.match(line)))]
         while self.seen < end:
-            place = self.steps.lines.find(is_call, self.seen, end)
-            if place is None:
-                self.seen = end
-            else:
-                self.take(place)
-                self.seen = place + 1
+            part = self.steps.lines.part(self.seen, end)
+            self.scan(part)
+            self.seen = part.end
+
+    def scan(self, part: Part) -> None:
+        """Takes the calls in a part of the steps. A hart's registers are searched from its latest call on."""
+        text, place, at = part.text, part.start, part.low
+        called: dict[int, int] = {}  # by hart: the offset of its latest call in this part
+        found = text.find(CALL_WORD, at, part.high)
+        while found >= 0:
+            begin, end = line_around(text, found)
+            place, at = place + text.count(b"\n", at, begin), begin
+            row = ECALL.match(text, begin, end)
+            if row:
+                hart = int(row[1])
+                start, number, address = self.calls.get(hart, self.begin[hart])
+                if hart in called:
+                    number = latest(text, hart, b"a7", called[hart], begin, number)
+                    address = latest(text, hart, b"a1", called[hart], begin, address)
+                else:
+                    number = self.register(hart, b"a7", start, place, number)
+                    address = self.register(hart, b"a1", start, place, address)
+                called[hart] = begin
+                self.take(Call(place, number, address), hart, int(row[2], 16))
+            found = text.find(CALL_WORD, end, part.high)
 
     def between(self, start: int, end: int) -> Iterator[tuple[int, Range]]:
         """The fills in [start, end): the place of each, with its address and length."""
@@ -90,8 +126,13 @@ class Fills:
 
     def find(self, first: int, length: int, start: int, end: int, last: bool = False) -> Optional[int]:
         """The place of the first call in [start, end), or the last, that filled one of these bytes."""
-        fills = list(self.between(start, end))
-        for place, (address, filled) in reversed(fills) if last else fills:
-            if address < first + length and first < address + filled:
-                return place
-        return None
+        self.look(end)
+        low, high = (bisect.bisect_left(self.different, Range(address, 0)) for address in (first - LONGEST, first + length))
+        found = []
+        for filled in self.different[low:high]:
+            if first < filled.address + filled.length:
+                places = self.places_of[filled]
+                begin, stop = (bisect.bisect_left(places, place) for place in (start, end))
+                if begin < stop:
+                    found.append(places[stop - 1 if last else begin])
+        return (max(found) if last else min(found)) if found else None

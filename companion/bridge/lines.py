@@ -5,13 +5,26 @@ Parsed rows would take less room but ten times as long to make: text goes in as 
 from __future__ import annotations
 
 import bisect
+from collections import deque
 from typing import Callable, NamedTuple, Optional, Sequence
+
+
+CLOSE = 16  # so many lines are counted at once
 
 
 class Pattern(NamedTuple):
     """A line matches if it has the word, and the function accepts it."""
     word: bytes
     accepts: Callable[[bytes], bool]
+
+
+class Part(NamedTuple):
+    """The lines [start, end), which are text[low:high]."""
+    start: int
+    end: int
+    text: bytearray
+    low: int
+    high: int
 
 
 class Near(NamedTuple):
@@ -64,12 +77,13 @@ def nearest(text: bytearray, patterns: Sequence[Pattern], low: int, high: int, l
 class KeptLines:
     """A list of lines that grows and is cut at its end. Its text is in pieces of whole lines."""
     PIECE = 1 << 20  # bytes: a line is found by counting within its piece
+    NEAR = 4  # known lines: a search goes on beside one of the latest
 
     def __init__(self) -> None:
         self.texts: list[bytearray] = []
         self.starts: list[int] = []
         self.count = 0
-        self.near: Optional[Near] = None
+        self.near: deque[Near] = deque(maxlen=self.NEAR)
 
     def add(self, text: bytes, count: int) -> None:
         if not self.texts or len(self.texts[-1]) > self.PIECE:
@@ -84,21 +98,36 @@ class KeptLines:
     def end_of(self, piece: int) -> int:
         return self.starts[piece + 1] if piece + 1 < len(self.starts) else self.count
 
+    def nearest(self, piece: int, number: int) -> Near:
+        """A known line of a piece: a close one, else the nearest."""
+        for near in reversed(self.near):
+            if near.piece == piece and -CLOSE < near.number - number < CLOSE:
+                return near
+        known = [near for near in self.near if near.piece == piece]
+        known += [Near(piece, self.starts[piece], 0), Near(piece, self.end_of(piece), len(self.texts[piece]))]
+        return min(known, key=lambda near: abs(near.number - number))
+
     def offset(self, piece: int, number: int) -> int:
-        """The beginning of a line in its piece, counted from the nearest known line."""
+        """The beginning of a line in its piece, counted from a known line."""
         text = self.texts[piece]
-        known = [(self.starts[piece], 0), (self.end_of(piece), len(text))]
-        if self.near and self.near.piece == piece:
-            known.append((self.near.number, self.near.offset))
-        at, offset = min(known, key=lambda pair: abs(pair[0] - number))
+        _, at, offset = self.nearest(piece, number)
+        if at == number:
+            return offset
         while at < number:
             offset = text.index(b"\n", offset) + 1
             at += 1
         while at > number:
             offset = text.rfind(b"\n", 0, offset - 1) + 1
             at -= 1
-        self.near = Near(piece, at, offset)
+        self.near.append(Near(piece, at, offset))
         return offset
+
+    def part(self, start: int, end: int) -> Part:
+        """Of the lines [start, end) those in the piece that holds the first."""
+        piece = self.piece_of(start)
+        end = min(end, self.end_of(piece))
+        text = self.texts[piece]
+        return Part(start, end, text, self.offset(piece, start), len(text) if end == self.end_of(piece) else self.offset(piece, end))
 
     def line(self, number: int) -> bytes:
         piece = self.piece_of(number)
@@ -125,7 +154,7 @@ class KeptLines:
         if self.texts:
             del self.texts[-1][self.offset(len(self.texts) - 1, number):]
         self.count = number
-        self.near = None
+        self.near.clear()
 
     def find(self, patterns: Sequence[Pattern], start: int, end: int, last: bool = False) -> Optional[int]:
         """The first line in [start, end), or the last, that a pattern matches, else None."""
@@ -138,7 +167,10 @@ class KeptLines:
             high = self.offset(piece, end) if end < self.end_of(piece) else len(text)
             found = nearest(text, patterns, low, high, last)
             if found is not None:
-                number = self.starts[piece] + text.count(b"\n", 0, found)
-                self.near = Near(piece, number, found)
+                if last:
+                    number = min(end, self.end_of(piece)) - text.count(b"\n", found, high)
+                else:
+                    number = max(start, self.starts[piece]) + text.count(b"\n", low, found)
+                self.near.append(Near(piece, number, found))
                 return number
         return None

@@ -6,6 +6,7 @@ import subprocess
 from typing import NoReturn
 
 from .. import program
+from ..children import start
 from ..errors import CompanionError
 
 END_MARK = "?"  # an unknown command: its answer, the same mark, ends the lines of those before it
@@ -20,8 +21,7 @@ class DebugProcess:
         self.start()
 
     def start(self) -> None:
-        self.process = subprocess.Popen(self.words, stdin=subprocess.PIPE, stdout=subprocess.PIPE,
-                                        stderr=subprocess.PIPE, bufsize=0)
+        self.process = start(self.words, stdin=subprocess.PIPE, stdout=subprocess.PIPE, stderr=subprocess.PIPE, bufsize=0)
         assert self.process.stdin and self.process.stdout and self.process.stderr
         self.commands, self.answers, self.refusals = self.process.stdin, self.process.stdout, self.process.stderr
         self.sent = 0

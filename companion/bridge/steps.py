@@ -44,9 +44,11 @@ class Steps:
             if not self.owners or self.owners[-1] != hart:
                 self.spans.append(self.count)
                 self.owners.append(hart)
-            ends = re.finditer(rb"^end ", text, re.M) if b"end " in text else ()
-            places = [self.count + text.count(b"\n", 0, end.start()) for end in ends]
-            self.ends.setdefault(hart, []).extend(places)
+            ends = self.ends.setdefault(hart, [])
+            place, at = self.count, 0
+            for end in re.finditer(rb"^end ", text, re.M) if b"end " in text else ():
+                place, at = place + text.count(b"\n", at, end.start()), end.start()
+                ends.append(place)
             self.lines.add(text, count)
         return count
 

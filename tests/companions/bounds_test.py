@@ -8,7 +8,7 @@ import case
 import common
 from gdb.recordings import A0, A1, A2, A7, ECALL, T0, addi, load, lui
 
-sys.path.insert(0, os.path.join(common.TOP, "bench"))
+sys.path.insert(0, os.path.join(common.TOP, "tests", "hostile"))
 import forge
 
 from companion import analysis, recent

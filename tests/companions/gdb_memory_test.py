@@ -7,7 +7,7 @@ sys.path.insert(0, os.path.join(os.path.dirname(os.path.abspath(__file__)), "gdb
 
 import cases
 from client import Client, Stop
-from recordings import (A0, A1, A2, A7, DATA, ECALL, EXIT, FIRST, SEGV, T0, T1, addi, branch_unless_equal,
+from recordings import (A0, A1, A2, A7, DATA, ECALL, EXIT, FIRST, SEGV, T0, T1, T2, addi, branch_unless_equal,
                         load, lui, pc_of, store)
 from reference import Reference, agrees
 
@@ -50,6 +50,31 @@ def case_03_memory_that_a_read_filled(recordings):
         client("bs")
     assert client(f"m{DATA:x},14") == "11" * 20
     assert client.close() == 0
+
+
+def processor_seconds(process):
+    with open(f"/proc/{process}/stat", encoding="ascii") as file:
+        user, system = file.read().rsplit(")", 1)[1].split()[11:13]
+    return (int(user) + int(system)) / os.sysconf("SC_CLK_TCK")
+
+
+def case_03_memory_after_many_reads(recordings):
+    """20,480 calls, by registers that were set once and for each: what they filled is found in less than 2 s of processor
+    time, and so is each of two thousand watched bytes that they didn't fill."""
+    many = 20480
+    for at, (before, each) in enumerate((([lui(A1, DATA), addi(A2, 0, 1), addi(A7, 0, 63)], []),
+                                         ([lui(A1, DATA - 4096)], [addi(A1, A1, 1), addi(A2, 0, 1), addi(A7, 0, 63)]))):
+        loop = [*each, addi(A0, 0, 0), ECALL, addi(T2, T2, -1), branch_unless_equal(T2, 0, -4 * (len(each) + 3))]
+        name = f"reads{at}"
+        log, elf = recordings.words(name, [*before, lui(T2, many), *loop, *EXIT], "--log-size", "67108864",
+                                    "--input", recordings.write(name, bytes(many)), "--memory", "1048576")
+        client = Client(log, elf)
+        client("vCont;c")
+        began = processor_seconds(client.process.pid)
+        assert client(f"m{DATA:x},4") == "E0e" and client(f"m{DATA + many:x},800") == "00" * 2048
+        spent = processor_seconds(client.process.pid) - began
+        assert spent < 2, spent
+        assert client.close() == 0
 
 
 def case_03_memory_that_is_loaded_later(recordings):

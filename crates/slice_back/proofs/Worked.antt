@@ -6,7 +6,7 @@ use Rattle.hex.specs.Hex.{encode_with}
 use Rattle.bn_base.specs.Faults.{fault_name}
 use Rattle.rv_text.specs.Names.{register_name, mnemonic, ordering}
 use Rattle.rv_text.specs.Instructions.{hex8, first_operand, register_operand, number_operand, offset_operand, memory_operand, target_operand, upper_operand, instruction_text}
-use Rattle.rv_text.specs.Rows.{point_text, word_text, register_text, access_text, fault_text, row_text}
+use Rattle.rv_text.specs.Rows.{point_text, word_text, register_text, labelled, changes_text, fault_text, row_text}
 use Rattle.slice_back.specs.declared.error.SliceError.TheVariants.{NoRow}
 use Rattle.slice_back.specs.Slices.{registers_from}
 use Rattle.slice_back.specs.Texts.{head_text, register_line, word_line, branch_line}
@@ -15,11 +15,11 @@ use Rattle.slice_back.specs.Examples.{shown, text_of, byte_store, byte_store_tex
 use Rattle.slice_back.specs.Examples as examples
 
 pub byte_store_is : text_of 0 2 byte_store ≡ byte_store_text
-unfolding digits encode_with register_name mnemonic ordering hex8 first_operand register_operand number_operand offset_operand memory_operand target_operand upper_operand instruction_text point_text word_text register_text access_text fault_text row_text head_text register_line word_line branch_line registers_from
+unfolding digits encode_with register_name mnemonic ordering hex8 first_operand register_operand number_operand offset_operand memory_operand target_operand upper_operand instruction_text point_text word_text register_text labelled changes_text fault_text row_text head_text register_line word_line branch_line registers_from
 byte_store_is = refl
 
 pub fault_is : text_of 0 0 (fault 0) ≡ examples.fault_text
-unfolding digits fault_name encode_with register_name mnemonic ordering hex8 first_operand register_operand number_operand offset_operand memory_operand target_operand upper_operand instruction_text point_text word_text register_text access_text fault_text row_text head_text register_line word_line branch_line registers_from
+unfolding digits fault_name encode_with register_name mnemonic ordering hex8 first_operand register_operand number_operand offset_operand memory_operand target_operand upper_operand instruction_text point_text word_text register_text labelled changes_text fault_text row_text head_text register_line word_line branch_line registers_from
 fault_is = refl
 
 pub no_row_is : fault 1 ≡ Err (NoRow 1)

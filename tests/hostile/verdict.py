@@ -1,7 +1,7 @@
 """Says what `check` has to print of a log file, and what `salvage` has to save of one of version 2.
 
 It knows docs/FORMAT.md alone: each refusal in its order, the walk over the blocks, and the seven rules of the order of
-records. bench/fuzz.py compares the program with it.
+records. tests/hostile/fuzz.py compares the program with it.
 """
 
 import struct

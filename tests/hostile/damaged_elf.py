@@ -1,7 +1,7 @@
 #!/usr/bin/env python3
 """Damages ELF files with names and lines, and gives them to the companions: names, why, bucket, view, gdb.
 
-bench/damaged_elf.py [COUNT [SEED [FIRST]]]: so many files (2000), drawn from the crashing programs of tests/crashes, but
+tests/hostile/damaged_elf.py [COUNT [SEED [FIRST]]]: so many files (2000), drawn from the crashing programs of tests/crashes, but
 those before FIRST. Bits are flipped, sections are cut, sizes and offsets of headers, symbols and DWARF are forged. Each file is taken for the names of a
 recording, and if it can be recorded, for the program itself. Each call has to end with the answer or with a line and a
 status, within 30 seconds and 1 GB; else it is told, and the status is 1."""
@@ -17,7 +17,7 @@ import sys
 import tempfile
 import time
 
-TOP = os.path.dirname(os.path.dirname(os.path.realpath(__file__)))
+TOP = os.path.dirname(os.path.dirname(os.path.dirname(os.path.realpath(__file__))))
 sys.path.insert(0, TOP)
 from companion import call, program             # noqa: E402
 

@@ -1,7 +1,7 @@
 #!/usr/bin/env python3
 """Gives the program logs and program files that nobody recorded, and looks at how each is answered.
 
-bench/fuzz.py [COUNT [SEED [PROCESSES [SECONDS]]]], at most so many seconds by the clock
+tests/hostile/fuzz.py [COUNT [SEED [PROCESSES [SECONDS]]]], at most so many seconds by the clock
 
 First come all prefixes and all flipped bits of a small log, in version 1 and in version 2, with its digests and with
 renewed ones. The same is done with a small program file and a log made for it. Then come COUNT files (10,000) made from
@@ -17,7 +17,7 @@ A log is given to `check`, and one of version 2 to `salvage`. One that `check` t
 `joint`, `debug`, `races`, `slice`, `convert` and, with a drawn list of turns, to `audit`. One that `check` refuses is
 given to one of these. A program file is given to `replay`, `joint`, `debug`, `races`, `slice` and `record`. Each call
 has to end by itself, within SECONDS of processor time and BYTES of memory, with a status that its command has and one
-line on err that fits it. What `check`, `convert` and `salvage` say has to be what bench/verdict.py says, and the last
+line on err that fits it. What `check`, `convert` and `salvage` say has to be what tests/hostile/verdict.py says, and the last
 two have to save it.
 
 With ZELKUMA_CASES the same files are given to the same call in memory, many of them to one process: that variable
@@ -42,7 +42,7 @@ import time
 import forge
 import verdict
 
-TOP = os.path.dirname(os.path.dirname(os.path.realpath(__file__)))
+TOP = os.path.dirname(os.path.dirname(os.path.dirname(os.path.realpath(__file__))))
 PROGRAM = os.environ.get("ZELKUMA_PROGRAM", f"{TOP}/crates/bugnet_main/out/bugnet_main")
 SECONDS, BYTES, PATIENCE = 1.0, 64 << 20, 30
 CASES = os.environ.get("ZELKUMA_CASES")

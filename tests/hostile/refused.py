@@ -1,7 +1,7 @@
 #!/usr/bin/env python3
 """Runs the built program with one call of the system or of the C library refused, for each such call in turn.
 
-bench/refused.py [MOST [COMMAND..]]: for each command, or for those named, at most so many calls of a kind (400, and
+tests/hostile/refused.py [MOST [COMMAND..]]: for each command, or for those named, at most so many calls of a kind (400, and
 of `demo` 600) are refused, evenly chosen if there are more. The kinds:
 
 - `alloc`: room for bytes isn't given
@@ -9,7 +9,7 @@ of `demo` 600) are refused, evenly chosen if there are more. The kinds:
 - `short`: a read or a write of several bytes moves one
 - `ended`: the process is killed at a call that could change a file or a folder
 
-bench/refuse.c does it, before the C library.
+tests/hostile/refuse.c does it, before the C library.
 
 Each run has to end with the status of a run that nothing was refused, and then with its texts and files, or else:
 
@@ -41,7 +41,7 @@ import tempfile
 
 import forge
 
-TOP = os.path.dirname(os.path.dirname(os.path.realpath(__file__)))
+TOP = os.path.dirname(os.path.dirname(os.path.dirname(os.path.realpath(__file__))))
 PROGRAM = os.environ.get("ZELKUMA_PROGRAM", f"{TOP}/crates/bugnet_main/out/bugnet_main")
 KINDS = ("alloc", "open", "read", "write", "short", "sync", "rename")
 SAVING = ("record", "convert", "salvage")
@@ -248,7 +248,7 @@ def try_command(folder, name, words, most):
 def main(words):
     most, names = int(words[0]) if words else 400, words[1:] or COMMANDS
     with tempfile.TemporaryDirectory() as folder:
-        shim = ["cc", "-O2", "-shared", "-fPIC", "-o", f"{folder}/refuse.so", f"{TOP}/bench/refuse.c"]
+        shim = ["cc", "-O2", "-shared", "-fPIC", "-o", f"{folder}/refuse.so", f"{TOP}/tests/hostile/refuse.c"]
         subprocess.run(shim, check=True)
         write(f"{folder}/ELF", forge.program(*CODE))
         write(f"{folder}/IN", b"wxyz")

@@ -1,7 +1,7 @@
 #!/usr/bin/env python3
 """Gives the program the worst files within its limits that are known, and tells what each command takes of them.
 
-bench/worst.py [MIB [NAME..]]: logs of so many MiB (64), of all kinds or of those named; a call is stopped after
+tests/hostile/worst.py [MIB [NAME..]]: logs of so many MiB (64), of all kinds or of those named; a call is stopped after
 SECONDS of processor time. Those of many records are given in version 1 and in version 2. For each call it prints the
 status, the processor time and the most memory, both also for each byte of all files that the call was given. It says
 too whether the memory is within the goal of 20 bytes a byte and 64 MiB.
@@ -16,7 +16,7 @@ import tempfile
 
 import forge
 
-TOP = os.path.dirname(os.path.dirname(os.path.realpath(__file__)))
+TOP = os.path.dirname(os.path.dirname(os.path.dirname(os.path.realpath(__file__))))
 PROGRAM = os.environ.get("ZELKUMA_PROGRAM", f"{TOP}/crates/bugnet_main/out/bugnet_main")
 SECONDS = 300
 GREAT = {"log_size": 2**28, "limit": 2**40}

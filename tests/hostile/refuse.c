@@ -1,4 +1,4 @@
-/* Refuses one call that a program makes of the C library: for LD_PRELOAD (bench/refused.py).
+/* Refuses one call that a program makes of the C library: for LD_PRELOAD (tests/hostile/refused.py).
  *
  * REFUSE=KIND:N refuses the Nth call of a kind: `alloc` (room for bytes), `open`, `read`, `write`, `sync`, `rename`;
  * with the kind `short` the Nth read or write of several bytes moves one. With the kind `ended` the process is killed

@@ -1,7 +1,7 @@
 #!/usr/bin/env python3
 """Records examples with format 2 by drawn settings, and gives the logs to all that read them, whole and damaged.
 
-bench/damaged.py [SECONDS [SEED]]: as many recordings as there is time for (60). Each log has to be taken by `check`,
+tests/hostile/damaged.py [SECONDS [SEED]]: as many recordings as there is time for (60). Each log has to be taken by `check`,
 `list` and `joint`, `audit` has to agree, `convert` and `salvage` have to save the same bytes, and drawn intervals have
 to be replayed to their last row. Then a bit after the head is flipped: what `salvage` saves has to be taken by
 `joint`, and drawn intervals of it by `replay`; or nothing is left. It ends with 1 if a call was answered otherwise.
@@ -16,7 +16,7 @@ import sys
 import tempfile
 import time
 
-TOP = os.path.dirname(os.path.dirname(os.path.realpath(__file__)))
+TOP = os.path.dirname(os.path.dirname(os.path.dirname(os.path.realpath(__file__))))
 PROGRAM = os.environ.get("ZELKUMA_PROGRAM", f"{TOP}/crates/bugnet_main/out/bugnet_main")
 SETTINGS = {
     "harts": (1, 2, 3, 8, 9, 13, 16),

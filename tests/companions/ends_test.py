@@ -1,0 +1,170 @@
+#!/usr/bin/env python3
+"""How a companion ends that is told to: by which status, and that no process and no folder of it stays."""
+import os
+import shutil
+import signal
+import subprocess
+import sys
+import time
+
+sys.path.insert(0, os.path.join(os.path.dirname(os.path.abspath(__file__)), "gdb"))
+
+import cases
+from common import COMPANION, EXAMPLES, companion
+
+TABLE, COUNTER = (os.path.join(EXAMPLES, name + ".elf") for name in ("table", "counter"))
+BOUND = 60                  # seconds after which a call hangs
+STATUSES = {signal.SIGINT: 130, signal.SIGTERM: 143, signal.SIGHUP: 129}
+
+
+def children(process):
+    with open(f"/proc/{process}/task/{process}/children", encoding="ascii") as file:
+        return [int(word) for word in file.read().split()]
+
+
+def is_running(process):
+    try:
+        with open(f"/proc/{process}/stat", encoding="ascii", errors="replace") as file:
+            return file.read().rsplit(")", 1)[1].split()[0] != "Z"
+    except OSError:
+        return False
+
+
+def awaits(what):
+    until = time.monotonic() + BOUND
+    while not what():
+        assert time.monotonic() < until
+        time.sleep(0.02)
+
+
+class Calls:
+    """Companions whose program never ends, in a folder of their own."""
+
+    def __init__(self, recordings, name):
+        self.folder, self.temporary = recordings.path(name), recordings.path(name + "-tmp")
+        os.mkdir(self.folder)
+        os.mkdir(self.temporary)
+        self.log, self.book, self.new = (os.path.join(self.folder, word) for word in ("LOG", "BOOK", "NEW"))
+        log, self.elf = recordings.example("counter", "--limit", "2000")
+        shutil.copy(log, self.log)
+        shutil.copy(recordings.path("book"), self.book)
+        self.script = os.path.join(self.folder, "program")
+
+    def program(self, line):
+        with open(self.script, "w", encoding="ascii") as file:
+            file.write(f"#!/bin/bash\n{line}\nexec sleep 600\n")
+        os.chmod(self.script, 0o755)
+
+    def start(self, *words):
+        """A companion, once it waits for a process."""
+        process = subprocess.Popen([sys.executable, COMPANION, *words], stdin=subprocess.PIPE, stdout=subprocess.PIPE,
+                                   stderr=subprocess.PIPE, start_new_session=True,
+                                   env=dict(os.environ, ZELKUMA_PROGRAM=self.script, TMPDIR=self.temporary))
+        awaits(lambda: process.poll() is not None or children(process.pid))
+        time.sleep(0.1)
+        return process
+
+    def words(self):
+        names = self.log, self.elf
+        return [(word, *names) for word in ("why", "race", "view", "bucket", "output", "gdb")] + [
+            ("again", *names, self.book, self.new), ("seeds", "1", "9", "--", self.elf, self.new, self.new + "2")]
+
+    def check_clean(self, words):
+        left = [name for name in os.listdir(self.folder) if name not in ("LOG", "BOOK", "program")]
+        assert not left and not os.listdir(self.temporary), (words, left)
+
+
+def case_each_signal_ends_all(recordings):
+    """It comes to the companion alone, as from `timeout` or a job's end."""
+    calls = Calls(recordings, "signals")
+    calls.program("")
+    for words in calls.words():
+        for number, status in STATUSES.items():
+            process = calls.start(*words)
+            began = children(process.pid)
+            process.send_signal(number)
+            out, err = process.communicate(timeout=BOUND)
+            assert (process.returncode, out, err) == (status, b"", b""), (words, process.returncode, out, err)
+            awaits(lambda: began and not any(map(is_running, began)))
+            calls.check_clean(words)
+
+
+def case_who_is_killed_takes_its_processes_along(recordings):
+    calls = Calls(recordings, "killed")
+    calls.program("")
+    for words in calls.words():
+        process = calls.start(*words)
+        began = children(process.pid)
+        process.kill()
+        process.communicate(timeout=BOUND)
+        awaits(lambda: not any(map(is_running, began)))
+        assert began
+
+
+def case_the_tool_for_lines_ends_too(recordings):
+    calls = Calls(recordings, "tool")
+    tools = os.path.join(calls.folder, "tools")
+    os.mkdir(tools)
+    calls.script = os.path.join(tools, "riscv64-unknown-elf-addr2line")
+    calls.program("")
+    process = subprocess.Popen([sys.executable, COMPANION, "names", calls.elf], stdin=subprocess.PIPE, stdout=subprocess.PIPE,
+                               env=dict(os.environ, PATH=f"{tools}:{os.environ['PATH']}"))
+    process.stdin.write(b"0 0 00010074 00000013 addi zero,zero,0\n")
+    process.stdin.flush()
+    awaits(lambda: children(process.pid))
+    began = children(process.pid)
+    process.kill()
+    process.communicate(timeout=BOUND)
+    awaits(lambda: not any(map(is_running, began)))
+
+
+def case_what_seeds_has_found_is_kept(recordings):
+    for number, status in STATUSES.items():
+        calls = Calls(recordings, f"found-{status}")
+        calls.program('[ -n "${ZELKUMA_SCHEDULE-}" ] || exec sleep 600; printf BUGNETLG >"${@: -2:1}"; printf "\\0" >"${@: -1}"; exit 0')
+        process = calls.start("seeds", "-j2", "--only", "seeds,sleepers", "--until", "0", "0", "9", "--", calls.elf, calls.new,
+                              calls.new + "2")
+        awaits(lambda: any("sleeper-0.1" in names for _, _, names in os.walk(calls.folder)) and len(children(process.pid)) == 1)
+        process.send_signal(number)
+        out, err = process.communicate(timeout=BOUND)
+        assert process.returncode == status and out.startswith(b"sleeper 0: status 0\n") and err == b"", (out, err)
+        with open(calls.new, "rb") as file:
+            assert file.read() == b"BUGNETLG"
+
+
+def case_the_end_of_the_terminal_can_be_ignored(recordings):
+    """As by nohup."""
+    calls = Calls(recordings, "nohup")
+    calls.program("")
+    handler = signal.signal(signal.SIGHUP, signal.SIG_IGN)
+    try:
+        process = calls.start("why", calls.log, calls.elf)
+    finally:
+        signal.signal(signal.SIGHUP, handler)
+    process.send_signal(signal.SIGHUP)
+    time.sleep(0.2)
+    assert process.poll() is None
+    process.terminate()
+    process.communicate(timeout=BOUND)
+    assert process.returncode == 143
+
+
+def case_a_pipe_is_refused_at_once(recordings):
+    """Files are read several times."""
+    calls = Calls(recordings, "pipes")
+    pipe = recordings.path("pipe")
+    os.mkfifo(pipe)
+    for words in calls.words():
+        for at, name in enumerate(words):
+            if name in (calls.log, calls.elf, calls.book):
+                done = companion(*words[:at], pipe, *words[at + 1:], bound=BOUND)
+                assert done[0] == 3 and done[2] == f"zelkuma: {pipe} is no regular file, and it is read several times: copy it into one\n", done
+    done = companion("names", pipe, bound=BOUND)
+    assert done[0] == 3, done
+
+
+Cases = cases.tests_of(globals())
+
+
+if __name__ == "__main__":
+    cases.main()
