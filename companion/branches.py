@@ -2,6 +2,7 @@
 from __future__ import annotations
 
 import math
+from array import array
 from collections import Counter
 from itertools import compress
 from typing import NamedTuple, Optional
@@ -129,7 +130,7 @@ class Ways:
         self.trace = facts.trace
         self.times: Counter[tuple[int, int]] = Counter()
         for hart in self.trace.last:
-            codes = list(compress(self.trace.pc, rows_of(self.trace, hart)))
+            codes = array("I", compress(self.trace.pc, rows_of(self.trace, hart)))
             self.times.update(pairs_of(codes))
         self.all_times: Counter[int] = Counter()
         for (at, _), times in self.times.items():
