@@ -73,6 +73,7 @@ gdb --trace
 bucket --names ELF
 bucket --json
 output --names ELF
+output --rows N
 output --json
 seeds -j N
 seeds --until STATUS

@@ -17,7 +17,7 @@ from companion.log import At
 from companion.recent import LogFile
 from companion.rows import read_trace
 
-CODE = 0x10054                  # where a forged program begins
+CODE = 0x10054                  # the first address of a forged program
 FOREVER = 0x6f                  # jal zero,0
 MOST = 20000                    # rows that are read here
 

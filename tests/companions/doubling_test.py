@@ -1,7 +1,7 @@
 """Companions keep up: where the rows of a log double, no companion's processor time more than trebles.
 
-Each program here once cost a companion the square of its rows, or might: counters of bytes in a word, words that are copied on
-and on, a list that goes in a circle, harts that wait for a lock, system calls, a recursion, memory that is given out again."""
+Each program here has rows that a search could walk over again and again: counters of bytes in a word, copies of copies, a
+list in a circle, harts that wait for a lock. Others make calls, call themselves, or take the same memory again."""
 import contextlib
 import os
 import sys
@@ -40,9 +40,8 @@ def asking(number, size):
 
 
 def counters(rounds):
-    """Two counters of a byte, in a word that is loaded whole; it is an address in the end."""
-    return [lui(S0, DATA), *again(rounds, [load(T0, S0, 0, BYTE), addi(T0, T0, 1), store(T0, S0, 0, BYTE), load(T1, S0, 1, BYTE),
-                                           addi(T1, T1, 1), store(T1, S0, 1, BYTE), load(T2, S0)]), load(T2, T2, 1)]
+    """A counter of a byte, in a word that is loaded whole; it is an address in the end."""
+    return [lui(S0, DATA), *again(rounds, [load(T0, S0), addi(T0, T0, 1), store(T0, S0, 0, BYTE)]), load(T2, S0), load(T2, T2, 1)]
 
 
 def copies(rounds):
@@ -114,7 +113,6 @@ class DoublingTest(case.Case):
                         one, other = seconds((word, *few)), seconds((word, *many))
                         self.assertEqual((one[0], other[0]), (0, 0))
                         tries.append((one[1], other[1]))
-                    print(family.__name__, harts, word, tries)
                     self.assertTrue(any(more <= MOST * max(less, LEAST) for less, more in tries), tries)
 
 
