@@ -7,14 +7,12 @@ from typing import NamedTuple
 
 from . import streams
 from .answers import put_answer
+from .cause import EXITS, Cause, cause_of
 from .elf import Elf
-from .errors import NO_INTERVAL, CompanionError
-from .log import Log, is_fault
 from .naming import named_elf, places_of
 from .options import parse
+from .places import Places
 from .recent import FIRST_ROWS, open_log
-from .rows import read_trace
-from .trace import Trace
 
 HELP = """One line that is the same for logs that ended for the same cause, for sorting many logs.
 
@@ -27,39 +25,13 @@ is told by the outermost function of its last rows, since any row of a loop can 
 rows are read, and calls from before them aren't known. --json prints one JSON object in place of the line (docs/JSON.md).
 Companions show; the program proves."""
 FORM = "bucket LOG ELF [--names ELF] [--json]"
-LOOP_ROWS, MOST_FRAMES, UNKNOWN = 300, 200, "-"
+UNKNOWN = "-"
 
 
-def ended_hart(log: Log, trace: Trace) -> int:
-    """The hart that tells how the run ended: the one with the fault, else one at its limit, else one that exited; if
-    possible one whose rows were read."""
-    def rank(hart: int) -> tuple[bool, bool, bool, bool, int]:
-        reason = log.ends[hart].reason
-        return not is_fault(reason), hart not in trace.last, reason != "limit", reason != "group", hart
-
-    if not log.ends:
-        raise CompanionError("the log holds no interval (see `list`)", NO_INTERVAL)
-    return min(log.ends, key=rank)
-
-
-def last_place(trace: Trace, hart: int, reason: str) -> int:
-    """The row that tells where the hart ended."""
-    if hart not in trace.last:
-        raise CompanionError(f"the log holds no row of hart {hart} (see `list`)", NO_INTERVAL)
-    last = trace.last_rows(trace.last[hart], LOOP_ROWS)
-    if reason == "limit":                       # any row of the loop can be last
-        return min(last, key=lambda n: (trace.tree.depth[trace.node_of(n)], trace.code_of(n).pc))
-    # After a jump to an address without code, the jump's place tells more.
-    return last[-2 if reason == "FetchOutside" and len(last) > 1 else -1]
-
-
-def digest_of(trace: Trace, elf: Elf, n: int, reason: str) -> str:
+def digest_of(cause: Cause, elf: Elf) -> str:
     """Of what the recorded file and the log alone say: so it is the same on each machine, whatever tools and files with
-    names are there. Each function counts once, so that a recursion's depth isn't told."""
-    pc = trace.code_of(n).pc
-    calls = trace.tree.calls(trace.node_of(n), MOST_FRAMES).calls
-    functions = dict.fromkeys(elf.function_name(at) or f"{at:08x}" for at in [pc] + calls)
-    said = [reason, UNKNOWN if reason == "limit" else f"{pc:08x}", *functions]
+    names are there."""
+    said = [cause.reason, UNKNOWN if cause.reason == "limit" else f"{cause.pc:08x}", *cause.functions(elf)]
     return hashlib.sha256("\n".join(said).encode("utf-8", "replace")).hexdigest()[:8]
 
 
@@ -74,18 +46,13 @@ class Bucket(NamedTuple):
         return " ".join(word.replace(" ", "_") if at else word for at, word in enumerate(self))
 
 
-def bucket_of(log: Log, elf: Elf, named: Elf) -> Bucket:
-    trace = read_trace(log, elf.name)
-    hart = ended_hart(log, trace)
-    end = log.ends[hart]
-    if end.reason in ("exit", "group"):
-        return Bucket(end.reason, str(end.value), UNKNOWN, UNKNOWN)
-    n = last_place(trace, hart, end.reason)
-    pc = trace.code_of(n).pc
-    with closing(places_of(named)) as places:
-        frame, function = places.innermost(pc), places.function(pc)
-    place = f"{frame.file}:{frame.line}" if frame.line and end.reason != "limit" else UNKNOWN
-    return Bucket(end.reason, function, place, digest_of(trace, elf, n, end.reason))
+def bucket_of(cause: Cause, elf: Elf, places: Places) -> Bucket:
+    """`elf` is the recorded file, and `places` are those of one with names."""
+    if cause.reason in EXITS:
+        return Bucket(cause.reason, str(cause.value), UNKNOWN, UNKNOWN)
+    frame = places.innermost(cause.pc)
+    place = f"{frame.file}:{frame.line}" if frame.line and cause.reason != "limit" else UNKNOWN
+    return Bucket(cause.reason, places.function(cause.pc), place, digest_of(cause, elf))
 
 
 def main(words: list[str]) -> int:
@@ -93,7 +60,9 @@ def main(words: list[str]) -> int:
     with closing(open_log(log_name)) as source:
         elf = Elf(elf_name)
         named = named_elf(elf, given.get("--names", ""))
-        bucket = bucket_of(source.end(FIRST_ROWS), elf, named)
+        cause = cause_of(source.end(FIRST_ROWS), elf_name)
+        with closing(places_of(named)) as places:
+            bucket = bucket_of(cause, elf, places)
     if "--json" in given:
         put_answer("bucket", line=bucket.line(), **bucket._asdict())
     else:

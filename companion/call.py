@@ -22,13 +22,18 @@ WORDS = {
     "view": "draws a log as one page",
     "gdb": "lets gdb attach to a log",
     "bucket": "sorts logs by the cause of their end",
+    "triage": "sorts the logs of folders into one table",
     "output": "lists what the guest wrote",
     "seeds": "searches for turns by which a program crashes",
     "shrink": "finds the shortest order of harts that still crashes",
     "again": "makes a recording again, with a larger log",
     "history": "lists what stored to a variable",
+    "calls": "lists the calls of a function",
+    "find": "lists the places at which a value occurs",
+    "compare": "compares two logs of one program",
+    "export": "saves what a recording did for other tools",
 }
-QUESTIONS = ("history",)    # whose modules are in a folder of their own
+QUESTIONS = ("history", "calls", "find", "compare", "export")    # whose modules are in a folder of their own
 BROKEN = 1                  # a fault of the companion itself
 
 

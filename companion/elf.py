@@ -3,6 +3,7 @@ with a line, or left out, and takes no more memory than the file and its symbols
 from __future__ import annotations
 
 import bisect
+import os
 import struct
 from typing import NamedTuple
 
@@ -47,7 +48,8 @@ class Elf:
         self.name = name
         check_regular(name)
         with open(name, "rb") as file:
-            self.data = file.read(LARGEST_FILE + 1)
+            # (as much memory is asked for as this says, however long the file is)
+            self.data = file.read(min(os.fstat(file.fileno()).st_size, LARGEST_FILE) + 1)
         if len(self.data) > LARGEST_FILE:
             raise CompanionError(f"elf: {name} is longer than {LARGEST_FILE} bytes", BAD_ELF)
         if self.data[:6] != b"\x7fELF\1\1":

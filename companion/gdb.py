@@ -1,24 +1,36 @@
 """Lets gdb attach to a log."""
 from __future__ import annotations
 
+import contextlib
+import os
+import shlex
 import socket
 import sys
-from typing import Mapping, Optional
+from contextlib import closing
+from typing import Mapping, NoReturn, Optional
 
 from . import streams
 from .bridge.fills import Fills
 from .bridge.memory import Memory
 from .bridge.packets import PacketStream
+from .bridge.questions import Questions
 from .bridge.server import Server
 from .bridge.session import Session, begin_session
 from .elf import Elf
 from .errors import UNREADABLE, CompanionError
-from .log import Log, read_log
+from .facts import asked_row
+from .log import At, Log
+from .naming import named_elf
 from .options import parse, whole
+from .program import NOT_BUILT
+from .questions.debugger import PACKAGE, gdb_path
+from .recent import FIRST_ROWS, open_log
+from .text import number
 
-HELP = """zelkuma gdb LOG ELF [--port N] [--end] [--trace]
+HELP = """zelkuma gdb LOG ELF [--run] [--names ELF] [--at HART:IC] [--rows N] [--port N] [--end] [--trace]
 
-Lets gdb attach to a recording: harts are threads, and it goes forward and back.
+Lets gdb attach to a recording: harts are threads, and it goes forward and back. With --run it starts gdb itself, at the end of
+the log; else gdb starts it:
 
     gdb-multiarch NAMES -ex 'target remote | zelkuma gdb LOG ELF'
 
@@ -26,6 +38,10 @@ NAMES is the same program with its symbols and lines; ELF is the very file that 
 serve as both. The session begins where the log does; `continue` goes to the crash, and there
 `watch` and `reverse-continue` to the store behind it.
 
+    --run      starts gdb-multiarch, or what $ZELKUMA_GDB names; `run` starts again at the beginning
+    --names    the same program with names and lines, if ELF was stripped
+    --at       begins at a place
+    --rows N   loads the last N rows alone; with --run a million, unless it is given
     --port N   waits on port N of this machine for one connection (`target remote :N`), and says so;
                0 takes a free port
     --end      begins where the log ends, which is where the program crashed
@@ -33,7 +49,12 @@ serve as both. The session begins where the log does; `continue` goes to the cra
 
 Companions show; the program proves. What gdb shows is what `debug` says of the log, and ELF of memory that
 nothing touched."""
-FORM = "gdb LOG ELF [--port N] [--end] [--trace]"
+FORM = "gdb LOG ELF [--run] [--names ELF] [--at HART:IC] [--rows N] [--port N] [--end] [--trace]"
+OPTIONS = {"--run": False, "--names": True, "--at": True, "--rows": True, "--port": True, "--end": False, "--trace": False}
+HIGHEST = 1 << 41
+SETTINGS = [word for said in ("debuginfod enabled off", "architecture riscv:rv32", "remotetimeout 60", "confirm off",
+                                                   "auto-connect-native-target off")
+            for word in ("-iex", f"set {said}")]
 LOOPBACK = "127.0.0.1"
 
 
@@ -49,27 +70,55 @@ def wait_for_gdb(port: int) -> socket.socket:
     return peer
 
 
-def serve(log: Log, elf: Elf, session: Session, peer: Optional[socket.socket], options: Mapping[str, str]) -> None:
-    """Serves the connection, or what reads and writes this process's own input and output."""
-    source, sink = (peer.fileno(),) * 2 if peer else (sys.stdin.fileno(), sys.stdout.fileno())
-    stream, fills = PacketStream(source, sink, "--trace" in options), Fills(session.steps, log)
+def begin_server(log: Log, elf: Elf, session: Session, stream: PacketStream, questions: Questions) -> Server:
+    fills = Fills(session.steps, log)
+    return Server(session, Memory(log, elf, session, fills), fills, stream, questions)
+
+
+def serve(server: Server, at_end: bool, place: Optional[At]) -> None:
     try:
-        Server(session, Memory(log, elf, session, fills), fills, stream).serve("--end" in options)
-    except (EOFError, ConnectionError):  # gdb has left
+        server.begin(at_end, place)
+        server.serve()
+    except (EOFError, ConnectionError):         # gdb has left
         pass
 
 
+def told_of_rows(log: Log) -> str:
+    """How far back the rows that are loaded lead."""
+    first = ", ".join(f"hart {hart} from count {number(each.start)}" for hart, each in sorted(log.first_intervals().items()))
+    return f"the last {number(log.rows())} rows are loaded, {first}; --rows N loads more"
+
+
+def run_gdb(log_name: str, elf_name: str, options: Mapping[str, str]) -> NoReturn:
+    """Becomes gdb, which starts the bridge. It begins at the end of the log, unless it is asked for a place."""
+    gdb, package = gdb_path(), os.path.dirname(os.path.abspath(__file__))
+    if not gdb:
+        raise CompanionError(f"no gdb is here; Debian has it in {PACKAGE}", NOT_BUILT)
+    place = ["--at", options["--at"]] if "--at" in options else ["--end"]
+    names = ["--names", options["--names"]] if "--names" in options else []
+    bridge = [sys.executable, package, "gdb", *place, *names, "--rows", options.get("--rows", str(FIRST_ROWS)), "--", log_name, elf_name]
+    words = [gdb, "-q", *SETTINGS, "-x", os.path.join(package, "bridge", "inside_gdb.py"), "-ex",
+             "target extended-remote | " + shlex.join(bridge), "--", options.get("--names", elf_name)]
+    os.execvp(gdb, words)
+
+
 def main(words: list[str]) -> int:
-    (log_name, elf_name), options = parse(words, {"--port": True, "--end": False, "--trace": False}, 2, FORM)
+    (log_name, elf_name), options = parse(words, OPTIONS, 2, FORM)
     port = whole(options["--port"], 0, 65535, "--port") if "--port" in options else None
-    log, elf = read_log(log_name), Elf(elf_name)
-    session = begin_session(log, elf_name)
-    try:
-        if port is None:
-            serve(log, elf, session, None, options)
-        else:
-            with wait_for_gdb(port) as peer:
-                serve(log, elf, session, peer, options)
-    finally:
-        session.close()
+    rows = whole(options["--rows"], 1, HIGHEST, "--rows") if "--rows" in options else 0
+    at = asked_row(options["--at"]) if "--at" in options else None
+    with contextlib.ExitStack() as opened:
+        source, elf = opened.enter_context(closing(open_log(log_name))), Elf(elf_name)
+        named_elf(elf, options.get("--names", ""))
+        if "--run" in options:
+            run_gdb(log_name, elf_name, options)
+        log = source.end(rows, at) if rows else source.whole()
+        if log.unread:
+            streams.say(told_of_rows(log))
+        session = opened.enter_context(closing(begin_session(log, elf_name)))
+        peer = opened.enter_context(wait_for_gdb(port)) if port is not None else None
+        ends = (peer.fileno(),) * 2 if peer else (sys.stdin.fileno(), sys.stdout.fileno())
+        stream = PacketStream(*ends, "--trace" in options)
+        serve(begin_server(log, elf, session, stream, Questions(log_name, elf_name, options.get("--names", ""))),
+              "--end" in options, at)
     return 0

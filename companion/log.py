@@ -18,6 +18,7 @@ REASONS = {1: "length", 2: "call", 3: "exit", 4: "group", 5: "stopped", 6: "guar
            22: "LoadMisaligned", 23: "StoreOutside", 24: "StoreMisaligned", 25: "StoreReadOnly"}
 CALL, A1, A7, FAILED = "call", 11, 17, 1 << 31  # a call's reason and registers, and the least result of one that failed
 LONGEST_CALL = 4096                             # bytes that a call moves at most
+MOST_HARTS = 16
 NO_END = ""                                     # the reason of an interval without an End
 HEAD_1, HEAD_2, DIGEST, SEAL = 92, 136, 32, 48  # bytes before the records, of a digest, of what ends a block
 # Most records are FirstLoads: so many that follow each other are passed at once. The sizes are those of SIZES.
@@ -95,12 +96,14 @@ class Log:
         try:
             self.read_records(self.read_head(data))
         except (struct.error, IndexError, KeyError):
-            raise CompanionError(f"log: {self.shown} changed while it was read", BAD_LOG)
+            raise changed(self.shown)
         self.faulted = any(is_fault(end.reason) for end in self.ends.values())
 
     def read_head(self, data: bytes) -> bytes:
         """Reads the settings; gives the records."""
         self.version, self.harts, self.length, self.limit, self.size, self.memory = struct.unpack_from("<IIIQII", data, 8)
+        if not 1 <= self.harts <= MOST_HARTS:
+            raise IndexError(self.harts)        # of so many lists would be made
         self.dropped = struct.unpack_from("<Q", data, 80 if self.version == 1 else 92)[0]
         if self.version == 1:
             return data[HEAD_1:-DIGEST]
@@ -162,6 +165,11 @@ class Log:
 def runs_of(records: bytes) -> Iterator[bytes]:
     """Each record; FirstLoads that follow each other are one piece."""
     return (found[0] for found in RUNS.finditer(records))
+
+
+def changed(name: str) -> CompanionError:
+    """What to raise of a file that isn't what `check` took."""
+    return CompanionError(f"log: {name} changed while it was read", BAD_LOG)
 
 
 def check(name: str) -> None:

@@ -15,7 +15,7 @@ from typing import Iterator, Optional
 
 from . import program, streams
 from .errors import NO_INTERVAL, UNREADABLE, CompanionError
-from .log import END, FIRST_FAULT, HEAD_2, HEADER, REASONS, SEAL, SIZES, At, End, Log, check, runs_of
+from .log import END, FIRST_FAULT, HEAD_2, HEADER, REASONS, SEAL, SIZES, At, End, Log, changed, check, runs_of
 
 VERSION_1, LARGEST_SMALL = 1, 1 << 20   # a file of version 1 that is larger isn't read whole
 SETTINGS, BLOCK = 92, 4096                      # bytes of a head up to its count of dropped records; of a block's records
@@ -54,6 +54,12 @@ class LogFile:
     def end(self, rows: int, asked: Optional[At] = None) -> Log:
         """The shortest end that holds so many rows and what else is needed, or the whole log if it is no longer. Of a row that
         is asked of, so many rows before it are held."""
+        try:
+            return self.end_of_file(rows, asked)
+        except (ValueError, IndexError, KeyError, struct.error):
+            raise changed(self.name)
+
+    def end_of_file(self, rows: int, asked: Optional[At]) -> Log:
         with open(self.source, "rb") as file, mmap.mmap(file.fileno(), 0, access=mmap.ACCESS_READ) as data:
             if struct.unpack_from("<I", data, 8)[0] == VERSION_1:
                 if len(data) <= LARGEST_SMALL:
@@ -63,7 +69,7 @@ class LogFile:
                 with streams.working("the log is converted"):
                     program.output("convert", self.name, self.path("converted"))
                 self.source = self.path("converted")
-                return self.end(rows, asked)
+                return self.end_of_file(rows, asked)
             last = LastRecords(data, rows, asked)
             if last.asked:
                 raise CompanionError(f"the log holds no row {last.asked.hart}:{last.asked.count}", NO_INTERVAL)

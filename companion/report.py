@@ -9,6 +9,7 @@ from .history import ADDRESS
 from .instruction import NAMES
 from .origins import advice
 from .page import Part
+from .ready import ready
 from .suspect import Suspect
 from .text import as_text, counted, number, short
 
@@ -120,7 +121,8 @@ def one_suspect(facts: Analysis, place: int, item: Suspect) -> list[str]:
                  "      " + short(facts.trace.text(item.load)) + data_words(facts, item.load)]
     times = f" ({number(item.rows)} such pairs)" if item.rows > 1 else ""
     reasons = item.why if item.kind == "exit" else [distance(item)] + item.why
-    return said + ["   because: " + "; ".join(reasons) + times]
+    guilty = ready(facts.log, facts.elf, facts.named, facts.trace.hart[item.guilty], facts.trace.count_of(item.guilty))
+    return said + ["   because: " + "; ".join(reasons) + times] + ["   " + line for line in guilty]
 
 
 def did(facts: Analysis, n: int, words: str) -> str:

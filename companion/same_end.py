@@ -1,14 +1,13 @@
-"""Whether two recordings end the same: the same fault at the same place with the same callers, the same harts that wait for
-the same words, the same exit code, or the same byte of the output.
+"""Whether two recordings end the same: in a fault, at the limit, with an exit code, or with a byte of the output.
 
 Each is told in two parts: one that costs nothing, and one that takes the last rows."""
 from __future__ import annotations
 
 import re
 from dataclasses import dataclass, field
-from typing import Hashable, Mapping, Optional, Sequence, Union
+from typing import AbstractSet, Hashable, Mapping, Optional, Sequence, Union
 
-from .bucket import MOST_FRAMES, last_place
+from .cause import MOST_FRAMES, cause_along
 from .control import load_behind
 from .elf import Elf
 from .errors import NO_INTERVAL, CompanionError
@@ -26,7 +25,6 @@ LOOP_ROWS = 1500, 10000     # in so many of them its loop is looked for
 LONGEST_ROW = 160           # bytes
 MOST_INTERVALS = 16         # of a hart are replayed
 MOST_SPILLS = 8             # so often is a value followed through the stack
-CALLS = b" jal", b" ra=", b" t0="       # what a row has that tells of a call or of where it returns to
 
 
 @dataclass(frozen=True)
@@ -91,10 +89,12 @@ Exact = Union[Faulted, Waiting, Over]
 class Ends:
     """Tells how recordings of a program end.
 
-    offset  of the byte of the output that is asked of, or None"""
+    offset  of the byte of the output that is asked of, or None
+    waiting the harts at their limit that are looked at, or None for all: under a lower limit more may come to it"""
 
     def __init__(self, elf: Elf, offset: Optional[int] = None) -> None:
         self.elf, self.offset = elf, offset
+        self.waiting: Optional[AbstractSet[int]] = None
 
     def rough(self, made: Recording) -> Hashable:
         """The byte that is asked of; else the fault's name, the harts at their limit, or the exit code."""
@@ -104,7 +104,7 @@ class Ends:
         if made.status == FAULT:
             return made.status, tuple(sorted(end.reason for end in ends.values() if is_fault(end.reason)))
         if made.status == LIMIT:
-            return made.status, tuple(sorted(hart for hart, end in ends.items() if end.reason == "limit"))
+            return made.status, tuple(self.limited(ends))
         return made.status, exit_code(ends)
 
     def exact(self, made: Recording) -> Exact:
@@ -114,19 +114,19 @@ class Ends:
         if made.status == FAULT:
             return self.faulted(log, next(hart for hart, end in log.ends.items() if is_fault(end.reason)))
         words, stays = {}, {}
-        for hart in sorted(hart for hart, end in log.ends.items() if end.reason == "limit"):
+        for hart in self.limited(log.ends):
             words[hart], stays[hart] = self.waits(log, hart)
         return Waiting(words, stays)
 
+    def limited(self, ends: Mapping[int, End]) -> list[int]:
+        return sorted(hart for hart, end in ends.items()
+                      if end.reason == "limit" and (self.waiting is None or hart in self.waiting))
+
     def faulted(self, log: Log, hart: int) -> Faulted:
         text, is_cut = self.last_text(log, hart, CALLS_ROWS)
-        lines = [line for line in text.splitlines(True) if line[:1].isdigit()]
-        lines = [line for line in lines[:-2] if any(mark in line for mark in CALLS)] + lines[-2:]
-        trace, reason = trace_of(log, b"".join(lines)), log.ends[hart].reason
-        n = last_place(trace, hart, reason)
-        pcs = [trace.code_of(n).pc] + trace.tree.calls(trace.node_of(n), MOST_FRAMES).calls
-        functions = dict.fromkeys(self.elf.function_name(at) or f"{at:08x}" for at in pcs)
-        return Faulted(reason, pcs[0], tuple(functions), is_cut)
+        rows = b"\n" + b"".join(line for line in text.splitlines(True) if line[:1].isdigit()).rstrip(b"\n")
+        cause = cause_along([rows], hart, log.ends[hart])
+        return Faulted(cause.reason, cause.pc, cause.functions(self.elf), is_cut)
 
     def waits(self, log: Log, hart: int) -> tuple[tuple[int, ...], int]:
         """The words for which a hart waits, and how many of its last turns are in its loop."""

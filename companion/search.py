@@ -11,19 +11,19 @@ from .windows import Window, windows_of
 from .turns import Pieces, pieces_of, size_of, turns_of
 
 MORE_COUNTS = 10000         # a hart may do twice as many instructions as in the recording, and so many more
-LEAST_LIMIT = 2000          # to which the limit of a run that hangs is lowered
+LEAST_LIMIT = 1000          # to which the limit of a run that hangs is lowered
 
 
 class Search:
     """best    the shortest list so far; of a run that hangs only up to where all of its harts wait, until it is done
-    recorded_pieces, recorded_turns     of the recording
+    recorded, recorded_pieces, recorded_turns   of the recording
     core    its pieces that matter: behind them harts wait for ever"""
 
     def __init__(self, tries: Tries, recorded: Recording) -> None:
         self.tries, self.best = tries, pieces_of(recorded.turns())
         self.limit = int(tries.options["--limit"])
         self.recorded_pieces, self.recorded_turns = size_of(self.best)
-        self.core = self.best
+        self.core = self.recorded = self.best
         self.windows: list[Window] = []
         tries.want(recorded)
 
@@ -76,7 +76,9 @@ class Search:
         return has_moved
 
     def lower_limit(self) -> None:
-        """Harts that wait for ever wait under a lower limit as well, and a try is done sooner."""
+        """Harts that wait for ever wait under a lower limit as well, and a try is done sooner. Others may come to it too."""
+        if isinstance(self.tries.exact, Waiting):
+            self.tries.ends.waiting = set(self.tries.exact.words)
         limit = int(self.tries.options["--limit"])
         while limit > LEAST_LIMIT:
             self.tries.options["--limit"] = str(limit // 2)
@@ -99,9 +101,11 @@ class Search:
 
     def end_waiting(self) -> None:
         """The whole list: where the harts wait, one after the other."""
-        known = self.best
-        held = self.tries.first([known], ANY)
-        if held is None:
+        known, self.tries.ends.waiting = self.best, None
+        made = self.tries.record(known)
+        if not self.tries.is_wanted(made):      # other harts come to the limit as well
+            self.best = self.core = self.recorded
+            self.windows = []
             return
-        self.best = held.pieces
+        self.best = pieces_of(made.turns())
         self.follow(lambda pieces, begin: moves.rest_grouped(pieces, known) if not begin else iter(()))

@@ -9,11 +9,11 @@ from . import streams
 from .answers import LONGEST, put_answer
 from .errors import REFUSED, CompanionError
 from .options import parse, whole
-from .recording import ENDS, FAULT, Kind, Plan, RecordWords
+from .recording import ENDS, FAULT, LIMIT, Kind, Plan, RecordWords
 from .text import number
-from .trials import Count, Ending, Search
+from .trials import MOST_KEPT, Count, Ending, Numbers, Search
 
-HELP = """zelkuma seeds [-j N] [--until STATUS] [--only KIND,..] [--json] FROM TO -- RECORD-WORDS
+HELP = """zelkuma seeds [-j N] [--until STATUS] [--only KIND,..] [--all DIR] [--part K/N] [--json] FROM TO -- RECORD-WORDS
 
 Records a program by one order of turns after another, on all processors, until a run ends as wanted.
 
@@ -33,12 +33,22 @@ Ctrl-C (or TERM, HUP) ends the search: the table is printed, what was found is k
 
     -j N             so many recordings at a time; without it, as many as there are processors
     --until STATUS   0 (done), 10 (a fault) or 11 (a hart came to the limit); without it 10
-    --only KIND,..   these kinds alone
+    --only KIND,..   these kinds alone. Without it runs in threads are left out with --all, and for status 11, since a slow
+                     run isn't a hang
+    --all DIR        makes all runs, and saves LOG and BOOK of the first with each ending in DIR, as KIND-NUMBER.log and .book;
+                     an ending is a line of the table. RECORD-WORDS end with ELF then
+    --part K/N       every Nth number alone, from the Kth on: the parts 1/N to N/N together are all numbers
     --json           prints one JSON object in place of the text (docs/JSON.md)
 
 One recording in threads is under way at a time. One that spins on a busy machine takes long: give a --limit.
-Numbers may end in K, M or G. Trials are saved beside LOG and BOOK, in folders that are taken away again."""
-FORM = "seeds [-j N] [--until STATUS] [--only KIND,..] [--json] FROM TO -- RECORD-WORDS"
+Numbers may end in K, M or G. Trials are saved beside LOG and BOOK, in folders that are taken away again.
+
+Over machines, each of which has a part; `triage` joins what they found:
+
+    parallel --sshloginfile MACHINES zelkuma seeds --all found/{} --part {}/8 1 1000 -- program.elf ::: 1 2 3 4 5 6 7 8
+    zelkuma triage found --elfs ."""
+FORM = "seeds [-j N] [--until STATUS] [--only KIND,..] [--all DIR] [--part K/N] [--json] FROM TO -- RECORD-WORDS"
+OPTIONS = {"--jobs": True, "--until": True, "--only": True, "--all": True, "--part": True, "--json": False}
 KINDS = {"seeds": Kind.SEED, "bursts": Kind.BURSTS, "sleepers": Kind.SLEEPER, "threads": Kind.THREADS}
 HEAD = "status", "count", "first", "place"
 NOT_FOUND = 22
@@ -52,9 +62,11 @@ def split(words: list[str]) -> tuple[list[str], list[str]]:
     return own, words[at + 1:]
 
 
-def kinds_of(options: Mapping[str, str], is_lean: bool) -> list[Kind]:
-    """The kinds of turns, in order. Turns of threads can be taken again only from BOOK."""
-    words = options["--only"].split(",") if "--only" in options else [name for name in KINDS if name != "threads" or not is_lean]
+def kinds_of(options: Mapping[str, str], is_lean: bool, until: Optional[int]) -> list[Kind]:
+    """The kinds of turns, in order. Turns of threads can be taken again only from BOOK; a slow run in threads comes to its
+    limit without a hang; and parts that make all runs are to give what the whole gives."""
+    leaves_out = is_lean or until in (None, LIMIT)
+    words = options["--only"].split(",") if "--only" in options else [name for name in KINDS if name != "threads" or not leaves_out]
     for word in words:
         if word not in KINDS:
             raise CompanionError(f"--only takes some of {', '.join(KINDS)}, with commas between them, not {word!r}", REFUSED)
@@ -89,12 +101,14 @@ def fields_of(plan: Optional[Plan]) -> dict[str, object]:
 
 
 def tell_json(search: Search) -> None:
-    plan, counts = search.found.plan if search.found else None, search.endings.counts
-    endings = [{"status": ending.status, "place": ending.place, "count": count.count, **fields_of(count.first)}
+    plan, counts, numbers = search.found.plan if search.found else None, search.endings.counts, search.numbers
+    endings = [{"status": ending.status, "place": ending.place, "count": count.count, **fields_of(count.first),
+                "files": list(filter(os.path.exists, search.words.outputs_of(count.first))) if ending in search.kept else []}
                for ending, count in in_order(counts)]
     put_answer("seeds", **fields_of(plan), seed=plan.number if plan and plan.kind is Kind.SEED else None,
-               command=search.words.shown(plan) if plan else None, status=search.until, **{"from": search.numbers.start},
-               to=search.numbers.stop - 1, tried=sum(count.count for count in counts.values()), endings=endings[:LONGEST])
+               command=search.words.shown(plan) if plan else None, status=search.until,
+               **{"from": numbers.first}, to=numbers.last, part=numbers.part, parts=numbers.parts,
+               tried=sum(count.count for count in counts.values()), endings=endings[:LONGEST])
 
 
 def find(search: Search, is_json: bool) -> None:
@@ -104,8 +118,8 @@ def find(search: Search, is_json: bool) -> None:
     finally:
         streams.on_interrupt(signal.SIG_IGN)
         try:
-            if search.found is not None:
-                search.found.save()
+            for trial in [search.found] if search.found else search.kept.values():
+                trial.save()
         finally:
             if not is_json:
                 tell(search)
@@ -113,33 +127,58 @@ def find(search: Search, is_json: bool) -> None:
         tell_json(search)
 
 
-def status_of(search: Search, names: Sequence[str], first: int, last: int) -> int:
+def status_of(search: Search, names: Sequence[str]) -> int:
     if search.stopped:
         return 128 + search.stopped
     if search.found is not None:
         return 0
-    streams.say(f"none of {', '.join(names)} from {first} to {last} ends with status {search.until}")
+    if search.until is None:
+        more = len(search.endings.counts) - len(search.kept)
+        if more:
+            streams.say(f"of {number(more)} endings nothing is kept: {number(MOST_KEPT)} others came before them")
+        return 0
+    streams.say(f"none of {', '.join(names)} from {search.numbers} ends with status {search.until}")
     return NOT_FOUND
+
+
+def numbers_of(low: str, high: str, part: str) -> Numbers:
+    first, last = whole(low, 0, LAST_NUMBER, "FROM"), whole(high, 0, LAST_NUMBER, "TO")
+    if last < first:
+        raise CompanionError(f"TO is {last}, which is below FROM", REFUSED)
+    at, slash, of = part.partition("/")
+    if not slash:
+        raise CompanionError(f"--part has to be K/N, not {part!r}", REFUSED)
+    parts = whole(of, 1, LAST_NUMBER, "the N of --part")
+    return Numbers(first, last, whole(at, 1, parts, "the K of --part"), parts)
+
+
+def until_of(options: Mapping[str, str]) -> Optional[int]:
+    """The status that ends the search, or None if all are wanted."""
+    if "--all" in options:
+        if "--until" in options:
+            raise CompanionError("with --all no status ends the search, so --until can't be given", REFUSED)
+        return None
+    until = whole(options.get("--until", str(FAULT)), 0, max(ENDS), "--until")
+    if until not in ENDS:
+        raise CompanionError(f"--until has to be one of {', '.join(map(str, ENDS))}", REFUSED)
+    return until
 
 
 def main(words: list[str]) -> int:
     own, rest = split(words)
-    (low, high), options = parse(own, {"--jobs": True, "--until": True, "--only": True, "--json": False}, 2, FORM)
-    first, last = whole(low, 0, LAST_NUMBER, "FROM"), whole(high, 0, LAST_NUMBER, "TO")
-    if last < first:
-        raise CompanionError(f"TO is {last}, which is below FROM", REFUSED)
-    until = whole(options.get("--until", str(FAULT)), 0, max(ENDS), "--until")
-    if until not in ENDS:
-        raise CompanionError(f"--until has to be one of {', '.join(map(str, ENDS))}", REFUSED)
-    record = RecordWords(rest)
-    kinds = kinds_of(options, record.is_lean)
+    (low, high), options = parse(own, OPTIONS, 2, FORM)
+    numbers, until = numbers_of(low, high, options.get("--part", "1/1")), until_of(options)
+    record = RecordWords(rest, options.get("--all", ""))
+    kinds = kinds_of(options, record.is_lean, until)
     processors = 1 if kinds == [Kind.THREADS] else len(os.sched_getaffinity(0))
     jobs = whole(options["--jobs"], 1, 1024, "-j") if "--jobs" in options else processors
-    folders = [target.scratch() for target in record.targets]
-    search = Search(record, range(first, last + 1), kinds, until, jobs, [folder.name for folder in folders])
+    if record.folder:
+        os.makedirs(record.folder, exist_ok=True)
+    folders = record.scratch()
+    search = Search(record, numbers, kinds, until, jobs, [folder.name for folder in folders])
     try:
         find(search, "--json" in options)
     finally:
         for folder in folders:
             folder.cleanup()
-    return status_of(search, [name for name, kind in KINDS.items() if kind in kinds], first, last)
+    return status_of(search, [name for name, kind in KINDS.items() if kind in kinds])

@@ -11,6 +11,7 @@ from . import streams
 from .again import check_book, settings_of
 from .answers import LONGEST, put_answer
 from .bucket import bucket_of
+from .cause import cause_of
 from .calls import CallTree
 from .elf import Elf
 from .errors import NO_INTERVAL, REFUSED, CompanionError
@@ -173,7 +174,7 @@ class Told:
         self.pieces, self.turns = pieces_of(made.turns()), found.recorded_turns
         rows = rows_by_piece(log, elf.name, self.pieces, len(found.core))
         self.switches = switches_of(self.pieces, rows, found.windows)
-        self.bucket = bucket_of(log, elf, teller.elf)
+        self.bucket = bucket_of(cause_of(log, elf.name), elf, teller.places)
         self.waiting = tuple(found.tries.exact.words) if isinstance(found.tries.exact, Waiting) else ()
 
     def order(self) -> str:

@@ -104,10 +104,10 @@ def show(text: str) -> None:
 
 def give_up() -> None:
     """What is left to write can't be written: python must not try it again when it ends."""
+    os.close(0)                                 # so there is a number for one more, however few there may be
+    null = os.open(os.devnull, os.O_RDWR)
     for number in (1, 2):
-        null = os.open(os.devnull, os.O_WRONLY)
         os.dup2(null, number)
-        os.close(null)
 
 
 def on_interrupt(handler: Any) -> None:

@@ -14,6 +14,9 @@ from .turns import Pieces
 from .windows import Window, again_at
 
 
+MOST_INLINED = 1            # lines into which a row is inlined are told
+
+
 class Clash(NamedTuple):
     """A store to a word, and the load of it by the hart that had stopped."""
     store: Row
@@ -79,9 +82,17 @@ class Teller:
     def where(self, row: Optional[Row]) -> str:
         return self.places.where(row.pc) if row else "a place that isn't known"
 
+    def in_lines(self, row: Optional[Row]) -> str:
+        """The place of a row, and the line into which it is inlined."""
+        return self.where(row) + "".join(f" (in {place})" for place in self.inlined(row))
+
+    def inlined(self, row: Optional[Row]) -> list[str]:
+        frames = self.places.frames(row.pc)[1:1 + MOST_INLINED] if row else []
+        return [f"{frame.function} {frame.file}:{frame.line}" for frame in frames]
+
     def with_source(self, row: Optional[Row]) -> str:
         text = self.places.source(row.pc) if row else ""
-        return self.where(row) + (f"   {text}" if text else "")
+        return self.in_lines(row) + (f"   {text}" if text else "")
 
     def word(self, row: Row) -> str:
         address = row.store.address if row.store else 0
@@ -102,7 +113,10 @@ class Teller:
             return []
         if switch.before is None:
             return [f"     it has to come after {self.where(switch.after)}"]
-        return [f"     it has to come between {self.where(switch.after)} and {self.where(switch.before)}"]
+        ends = [self.where(row) for row in (switch.after, switch.before)]
+        if ends[0] == ends[1]:
+            ends = [self.in_lines(row) for row in (switch.after, switch.before)]
+        return [f"     it has to come between {ends[0]} and {ends[1]}"]
 
     def answer(self, switch: Switch) -> dict[str, Any]:
         """A switch for other programs."""
@@ -112,4 +126,6 @@ class Teller:
                 "before": self.point(switch.before)}
 
     def point(self, row: Optional[Row]) -> Optional[dict[str, Any]]:
-        return {"hart": row.hart, "count": row.ic, "place": place_of(self.places, row.pc)} if row else None
+        if row is None:
+            return None
+        return {"hart": row.hart, "count": row.ic, "place": place_of(self.places, row.pc), "inlined": self.inlined(row)}

@@ -1,17 +1,40 @@
-"""Trials: one recording after another, a child a processor, until one ends as wanted."""
+"""Trials: one recording after another, a child a processor, until one ends as wanted, or all to keep one of each ending."""
 from __future__ import annotations
 
 import heapq
 import os
-import sys
 import time
-from typing import Iterator, NamedTuple, Optional, Sequence
+from contextlib import closing
+from typing import Iterator, NamedTuple, Optional, Sequence, Union
 
 from . import streams
+from .bucket import bucket_of
+from .cause import Cause, cause_of
+from .elf import Elf
 from .errors import UNREADABLE, CompanionError
+from .forked import Forked
+from .naming import places_of
+from .places import Places
+from .recent import FIRST_ROWS, LogFile
 from .recording import ENDS, FAULT, Child, Kind, Plan, RecordWords, last_line
 
 NO_PLACE = "-"
+MOST_KEPT = 1000            # endings of which one recording each is kept
+
+
+class Numbers(NamedTuple):
+    """From the first to the last, or one of so many parts of them. Each part has numbers from all over, so that the lowest
+    are tried first on each machine."""
+    first: int
+    last: int
+    part: int = 1
+    parts: int = 1
+
+    def range(self) -> range:
+        return range(self.first + self.part - 1, self.last + 1, self.parts)
+
+    def __str__(self) -> str:
+        return f"{self.first:,} to {self.last:,}" + (f", part {self.part}/{self.parts}" if self.parts > 1 else "")
 
 
 class Ending(NamedTuple):
@@ -50,7 +73,7 @@ class Endings:
 
 
 class Trial:
-    """A recording, under way or done, and then of a fault the search for its place.
+    """A recording, under way or done, and then of a fault the search for its cause.
 
     status  that of the recording, once it is done"""
 
@@ -59,15 +82,19 @@ class Trial:
         name = str(plan).replace(" ", "-")
         self.outputs = [os.path.join(folder, f"{name}.{number}") for number, folder in enumerate(folders)]
         self.said, self.err = self.outputs[0] + ".said", self.outputs[0] + ".err"
-        self.child = Child(words.command(plan, self.outputs), os.devnull, self.err, plan.schedule())
+        self.child: Union[Child, Forked] = Child(words.command(plan, self.outputs), os.devnull, self.err, plan.schedule())
 
-    def look_for_place(self) -> None:
-        words = [sys.executable, "-B", os.path.dirname(os.path.abspath(__file__)), "bucket", "--", self.outputs[0], self.words.elf]
-        self.child = Child(words, self.said, self.err)
+    def look_for_cause(self) -> None:
+        self.child = Forked(self.find_cause, self.said, self.err)
 
-    def place(self) -> str:
+    def find_cause(self) -> str:
+        with closing(LogFile(self.outputs[0])) as source:
+            return cause_of(source.end(FIRST_ROWS), self.words.elf).text()
+
+    def cause(self) -> Optional[Cause]:
         """What was found; nothing in a log that lost the interval of its fault."""
-        return last_line(self.said) or NO_PLACE
+        line = last_line(self.said) if os.path.exists(self.said) else ""
+        return Cause.of(line) if line else None
 
     def refusal(self, status: int) -> str:
         return last_line(self.err).split(": ", 1)[-1] or f"the recording of {self.plan} ended with {status}"
@@ -78,9 +105,30 @@ class Trial:
                 os.remove(name)
 
     def save(self) -> None:
-        for name, target in zip(self.outputs, self.words.targets):
+        for name, target in zip(self.outputs, self.words.targets(self.plan)):
             if os.path.exists(name):
                 target.take(name)
+
+
+class Buckets:
+    """The line of `bucket` for each cause. One addr2line answers all."""
+
+    def __init__(self, elf_name: str) -> None:
+        self.elf_name = elf_name
+        self.lines: dict[Cause, str] = {}
+        self.opened: Optional[tuple[Elf, Places]] = None
+
+    def line(self, cause: Cause) -> str:
+        if cause not in self.lines:
+            if self.opened is None:
+                elf = Elf(self.elf_name)
+                self.opened = elf, places_of(elf)
+            self.lines[cause] = bucket_of(cause, *self.opened).line()
+        return self.lines[cause]
+
+    def close(self) -> None:
+        if self.opened:
+            self.opened[1].close()
 
 
 class Search:
@@ -88,22 +136,25 @@ class Search:
     only one is under way: beside others it is left out when its turn comes too early. They don't repeat, so the first
     that ends as wanted ends the search.
 
+    until    the status that is searched for; None keeps one of each ending
     found    the trial that is kept
+    kept     those of each ending
     stopped  the signal that ends it, if one came"""
 
-    def __init__(self, words: RecordWords, numbers: range, kinds: Sequence[Kind], until: int, jobs: int,
+    def __init__(self, words: RecordWords, numbers: Numbers, kinds: Sequence[Kind], until: Optional[int], jobs: int,
                  folders: Sequence[str]) -> None:
         self.words, self.numbers, self.kinds, self.until = words, numbers, kinds, until
         self.jobs, self.folders = jobs, folders
         self.running: dict[int, Trial] = {}     # by process
         self.found: Optional[Trial] = None
+        self.kept: dict[Ending, Trial] = {}
         self.stopped = 0
-        self.endings = Endings()
-        self.at = numbers.start
+        self.endings, self.buckets = Endings(), Buckets(words.elf)
+        self.at = numbers.first
         self.progress, self.began = streams.Progress(), time.monotonic()
 
     def plans(self) -> Iterator[Plan]:
-        for self.at in self.numbers:
+        for self.at in self.numbers.range():
             for kind in self.kinds:
                 if kind is not Kind.THREADS or len(self.kinds) == 1 or not self.in_threads():
                     yield Plan(self.at, kind)
@@ -123,7 +174,7 @@ class Search:
         return Kind.THREADS in (trial.plan.kind, self.found.plan.kind) or trial.plan > self.found.plan
 
     def watch(self, trial: Trial) -> None:
-        self.running[trial.child.process.pid] = trial
+        self.running[trial.child.pid] = trial
         if self.stopped:
             trial.child.kill()
 
@@ -143,13 +194,14 @@ class Search:
                 other.child.kill()
 
     def take(self, trial: Trial, status: int) -> None:
-        """Takes a child that has ended: a recording, or the search for its place."""
+        """Takes a child that has ended: a recording, or the search for its cause."""
         if -status in streams.STOPS:            # it came to the whole group
             self.stopped = self.stopped or -status
         if self.is_given_up(trial):
             trial.remove()
         elif trial.status in ENDS:
-            self.end(trial, trial.place())
+            cause = trial.cause()
+            self.end(trial, self.buckets.line(cause) if cause else NO_PLACE)
         elif status in ENDS:
             trial.status = status
             self.recorded(trial)
@@ -162,20 +214,27 @@ class Search:
         if trial.status == self.until:
             self.keep(trial)
         if trial.status == FAULT:
-            trial.look_for_place()
+            trial.look_for_cause()
             self.watch(trial)
         else:
             self.end(trial, NO_PLACE)
 
     def end(self, trial: Trial, place: str) -> None:
-        self.endings.add(trial.plan, Ending(trial.status, place))
+        ending = Ending(trial.status, place)
+        self.endings.add(trial.plan, ending)
+        if self.until is None:
+            first = self.kept.get(ending)
+            if first and trial.plan < first.plan or not first and len(self.kept) < MOST_KEPT:
+                self.kept[ending], trial = trial, first or trial
+            if trial is self.kept.get(ending):
+                return
         if trial is not self.found:
             trial.remove()
 
     def tell(self) -> None:
         met = self.endings.by_status
         done = sum(met.values())
-        said = [f"{self.at:,} of {self.numbers.start:,} to {self.numbers.stop - 1:,}",
+        said = [f"{self.at:,} of {self.numbers}",
                 f"{done / max(time.monotonic() - self.began, 0.001):.1f} runs a second"]
         said += [f"{count:,} of status {status}" for status, count in sorted(met.items())]
         said += [f"found {self.found.plan}"] if self.found else []
@@ -188,6 +247,8 @@ class Search:
             self.start(plans)
             while self.running:
                 process, status = os.wait()
+                if process not in self.running:         # an addr2line that failed
+                    continue
                 trial = self.running.pop(process)
                 self.take(trial, trial.child.end(status))
                 self.start(plans)
@@ -197,7 +258,8 @@ class Search:
             self.progress.clear()
             for trial in self.running.values():
                 trial.child.kill()
-                trial.child.process.wait()
+                trial.child.wait()
+            self.buckets.close()
             self.count_rest()
 
     def count(self) -> None:

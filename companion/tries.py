@@ -155,6 +155,10 @@ class Tries:
         self.exact_of_last = found
         return pieces
 
+    def is_wanted(self, made: Recording) -> bool:
+        found = self.exact_of(made) if self.ends.rough(made) == self.rough else None
+        return found is not None and self.exact.is_like(found)
+
     def exact_of(self, made: Recording) -> Optional[Exact]:
         try:
             return self.ends.exact(made)

@@ -39,7 +39,7 @@ mkdir -p "$work/files/folder"
 touch "$work/files/mylog" "$work/files/program.elf" "$work/files/with space"
 {
     echo 'zelkuma() { printf GOT; printf "<%s>" "$@"; echo; }'
-    echo "source '$top/completion/zelkuma.bash'; cd '$work/files'"
+    echo "source '$top/packaging/zelkuma.bash'; cd '$work/files'"
     cat "$work/typed"
     echo exit
 } | INPUTRC=/dev/null TERM=dumb script -qec "bash --norc --noprofile -i" /dev/null >"$work/out" 2>"$work/err"

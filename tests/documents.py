@@ -7,9 +7,9 @@ An example can be pasted: a block ```sh has commands, and a block ```text right 
 from them; without such a block that is nothing. A block whose first line begins with a prompt ('$ ') can't be pasted,
 and is refused.
 
-All examples of a document run in one bash, one after another, with another folder for /tmp/. Their folder has examples/,
-tests/crashes/, companion/, LICENSE and ./zelkuma, which runs PROGRAM as an installed one does. A line '...' represents
-any lines. A block after a line '<!-- not run -->' isn't run, nor one after '<!-- needs NAME.. -->' if there is no command
+All examples of a document run in one bash, one after another, as those of a new user: with a PATH of /usr/bin:/bin, no
+other variables but HOME, and another folder for /tmp/. Their folder has what a checkout has, but for the crates, and
+PROGRAM as the shipped one. A line '...' represents any lines. A block after a line '<!-- not run -->' isn't run, nor one after '<!-- needs NAME.. -->' if there is no command
 or file NAME, which is said. With --write the document gets what was printed, if it differs.
 """
 import os
@@ -21,6 +21,9 @@ import tempfile
 
 TOP = os.path.dirname(os.path.dirname(os.path.realpath(__file__)))
 END = "\x01"
+NEW_PATH = "/usr/bin:/bin"
+if not os.path.exists("/usr/bin/python3"):
+    NEW_PATH += f":{os.path.dirname(sys.executable)}"
 
 
 class Step:
@@ -38,7 +41,7 @@ def is_run(before, name):
     before = before.rstrip()
     needs = re.search(r"<!-- needs ([^>]+) -->$", before)
     for need in needs[1].split() if needs else ():
-        if not shutil.which(need) and not os.path.exists(need):
+        if not shutil.which(need, path=NEW_PATH) and not os.path.exists(need):
             print(f"skipped: the example at line {before.count(chr(10)) + 2} of {name}: there is no {need}")
             return False
     return not before.endswith("<!-- not run -->")
@@ -69,22 +72,26 @@ def prompts_in(name, text):
     return len(prompts)
 
 
+def lay_checkout(top, program):
+    """A checkout without its crates, and with this program as the shipped one."""
+    for name in ("companion", "docs", "examples", "packaging", "tests/crashes", "tools"):
+        shutil.copytree(f"{TOP}/{name}", f"{top}/{name}", ignore=shutil.ignore_patterns("__pycache__"))
+    for name in ("LICENSE", "README.md", "VERSION", "crates.txt", "zelkuma"):
+        shutil.copy(f"{TOP}/{name}", top)
+    os.makedirs(f"{top}/release")
+    for name in ("COMMIT", "STAMP"):
+        shutil.copy(f"{TOP}/release/{name}", f"{top}/release")
+    os.symlink(program, f"{top}/release/zelkuma-x86_64-linux")
+
+
 def printed_by(commands, program, room):
     """Returns what each of the commands prints, run one after another."""
-    os.makedirs(f"{room}/top")
+    lay_checkout(f"{room}/top", program)
     os.makedirs(f"{room}/tmp")
-    lays = 'top=$0 && . "$top/tools/install.sh" && lay "$1" "$2"'
-    subprocess.run(["bash", "-c", lays, TOP, f"{room}/installed", program], check=True)
-    os.symlink(f"{room}/installed/bin/zelkuma", f"{room}/top/zelkuma")
-    shutil.copytree(f"{TOP}/examples", f"{room}/top/examples")
-    shutil.copytree(f"{TOP}/tests/crashes", f"{room}/top/tests/crashes")
-    shutil.copytree(f"{TOP}/companion", f"{room}/top/companion")
-    os.makedirs(f"{room}/top/release")
-    os.symlink(program, f"{room}/top/release/zelkuma-x86_64-linux")     # where scripts of the package look for it
-    shutil.copy(f"{TOP}/LICENSE", f"{room}/top")
     script = "".join(f"{it.replace('/tmp/', f'{room}/tmp/')}__status=$?; echo '{END}'; (exit $__status)\n" for it in commands)
-    how = {"cwd": f"{room}/top", "stdin": subprocess.DEVNULL, "stdout": subprocess.PIPE, "stderr": subprocess.STDOUT}
-    ran = subprocess.run(["bash", "-c", script], **how, timeout=7200)
+    new = {"PATH": NEW_PATH, "HOME": room, "LANG": "C.UTF-8"}
+    ran = subprocess.run(["bash", "-c", script], cwd=f"{room}/top", stdin=subprocess.DEVNULL, stdout=subprocess.PIPE,
+                         stderr=subprocess.STDOUT, env=new, timeout=7200)
     said = ran.stdout.decode(errors="replace").replace(f"{room}/tmp/", "/tmp/")
     return said.split(f"{END}\n")[:-1]
 

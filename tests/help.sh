@@ -9,7 +9,7 @@ program=$(readlink -f -- "${1:?the words are PROGRAM}")
 work=$(mktemp -d)
 trap 'rm -rf "$work"' EXIT
 . "$top/tests/asserts.sh"
-made=(tools/help/{page.txt,each.txt,words.sh} tools/files.txt man/zelkuma.1 completion/zelkuma.bash docs/COMMANDS.md)
+made=(tools/help/{page.txt,each.txt,words.sh} tools/files.txt packaging/zelkuma.1 packaging/zelkuma.bash docs/COMMANDS.md)
 
 # A tree with the help's source, the document whose tables are made, and the files that are listed.
 tree=$work/tree
@@ -160,16 +160,16 @@ tools=0
 if type -P mandoc >/dev/null; then
     tools=1
     # (it has no date, which would be that of its making)
-    mandoc -T lint -W warning "$top/man/zelkuma.1" | grep -v 'missing date' >"$work/out" && fails "mandoc has something to say"
+    mandoc -T lint -W warning "$top/packaging/zelkuma.1" | grep -v 'missing date' >"$work/out" && fails "mandoc has something to say"
 fi
 if type -P groff >/dev/null; then
     tools=1
-    runs 0 groff -man -ww -z -Tutf8 "$top/man/zelkuma.1"
+    runs 0 groff -man -ww -z -Tutf8 "$top/packaging/zelkuma.1"
     [ ! -s "$work/err" ] || fails "groff has something to say"
 fi
 if type -P man >/dev/null; then
     tools=1
-    LC_ALL=C.UTF-8 MANWIDTH=100 runs 0 man -P cat -l "$top/man/zelkuma.1"
+    LC_ALL=C.UTF-8 MANWIDTH=100 runs 0 man -P cat -l "$top/packaging/zelkuma.1"
     has out "record [OPTION..] ELF LOG BOOK"
 fi
 [ "$tools" -eq 1 ] || skips "whether the manual page is well formed: mandoc, groff and man aren't here"

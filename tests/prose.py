@@ -24,11 +24,12 @@ LONGEST_CELL = 60
 PAGES = {
     "CHANGELOG.md": 2000,
     "CONTRIBUTING.md": 700,
-    "README.md": 900,
+    "README.md": 1000,
+    "SECURITY.md": 450,
     "docs/COMMANDS.md": 4900,
     "docs/DECISIONS.md": float("inf"),  # no decision has to go because another one comes
     "docs/FORMAT.md": 3700,
-    "docs/GDB.md": 1300,
+    "docs/GDB.md": 1500,
     "docs/GUIDE.md": 6700,
     "docs/INTERNALS.md": 3600,
     "docs/JSON.md": 950,
@@ -290,7 +291,7 @@ def target_fault(page, text, target):
 
 
 FILE = re.compile(
-    r"`((?:docs|tests|tools|bench|examples|crates|companion|packaging|man|completion)/[\w./-]*\.[a-z]+)`"
+    r"`((?:docs|tests|tools|bench|examples|crates|companion|packaging|debian)/[\w./-]*\.[a-z]+)`"
 )
 
 
@@ -401,9 +402,9 @@ def try_samples():
         failed += fault is not None
         if fault:
             print(f"tests/prose.py: sample {number} {fault}")
-    long_page = [fault for _, fault in size_faults("word " * 901, "README.md")]
-    if long_page != ["has 901 words, and may have 900"] or list(size_faults("word " * 900, "README.md")):
-        print("tests/prose.py: a page of 901 words where 900 are the most is not told from one of 900")
+    long_page = [fault for _, fault in size_faults("word " * 1001, "README.md")]
+    if long_page != ["has 1001 words, and may have 1000"] or list(size_faults("word " * 1000, "README.md")):
+        print("tests/prose.py: a page of 1001 words, with 1000 allowed, is not told from one of 1000")
         return passed, failed + 1
     return passed + 1, failed
 

@@ -79,7 +79,7 @@ mkdir -p "$work/kit/"{rlibs,logic_built,toolchain,c,rattle/logic}
 touch "$work/kit/c/"lib{os,libc}_c.a "$work/kit/rattle/logic/antt-project.json"
 
 mkdir "$tree/tests" "$tree/release"
-cp -r "$top/"{zelkuma,VERSION,tools,man,completion} "$tree"
+cp -r "$top/"{zelkuma,VERSION,tools,packaging} "$tree"
 cp "$top/release/COMMIT" "$tree/release"
 printf '# Changes\n\n## Unreleased\n\nA change.\n' >"$tree/CHANGELOG.md"
 cp "$top/tests/release.sh" "$tree/tests"

@@ -77,7 +77,7 @@ def nearest(text: bytearray, patterns: Sequence[Pattern], low: int, high: int, l
 class KeptLines:
     """A list of lines that grows and is cut at its end. Its text is in pieces of whole lines."""
     PIECE = 1 << 20  # bytes: a line is found by counting within its piece
-    NEAR = 4  # known lines: a search goes on beside one of the latest
+    NEAR = 4  # known lines: a search begins beside one of the latest
 
     def __init__(self) -> None:
         self.texts: list[bytearray] = []
@@ -127,7 +127,8 @@ class KeptLines:
         piece = self.piece_of(start)
         end = min(end, self.end_of(piece))
         text = self.texts[piece]
-        return Part(start, end, text, self.offset(piece, start), len(text) if end == self.end_of(piece) else self.offset(piece, end))
+        high = len(text) if end == self.end_of(piece) else self.offset(piece, end)
+        return Part(start, end, text, self.offset(piece, start), high)
 
     def line(self, number: int) -> bytes:
         piece = self.piece_of(number)

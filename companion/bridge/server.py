@@ -2,14 +2,19 @@
 from __future__ import annotations
 
 import re
-from typing import Callable
+from typing import Callable, Optional
 
 from . import target
+from ..errors import CompanionError
+from ..facts import asked_row
+from ..log import At
 from .fills import Fills
+from .goto import go_to_place
 from .memory import Memory
 from .motion import Motion, Stop
 from .packets import PACKET_SIZE, PacketStream
 from .points import Points
+from .questions import WORDS, Questions
 from .session import Session
 from .threads import Threads
 
@@ -21,7 +26,9 @@ MOST_BYTES = PACKET_SIZE // 4  # of memory in an answer, each two digits
 MOST_ROWS = 100
 MONITOR_HELP = ("monitor where: the next count and address of each hart\n"
                 "monitor rows N: the last N rows\n"
-                "monitor at: how many steps lead here\n")
+                "monitor at: how many steps lead here\n"
+                "monitor goto HART:COUNT: goes there\n" + "".join(f"{said}\n" for said in WORDS.values()))
+PIECE = PACKET_SIZE // 4  # bytes of a long answer to `monitor` that go at once
 
 
 def number_of(text: str) -> int:
@@ -39,12 +46,13 @@ def numbers_of(text: str) -> tuple[int, int]:
 class Server:
     """One session with gdb."""
 
-    def __init__(self, session: Session, memory: Memory, fills: Fills, stream: PacketStream) -> None:
-        self.session, self.memory, self.stream = session, memory, stream
+    def __init__(self, session: Session, memory: Memory, fills: Fills, stream: PacketStream, questions: Questions) -> None:
+        self.session, self.memory, self.stream, self.questions = session, memory, stream, questions
         self.points = Points(session.steps, fills)
         self.motion = Motion(session, self.points, stream.is_interrupted)
         self.threads = Threads(session)
-        self.last_stop = ""
+        self.last_stop, self.is_extended = "", False
+        self.moved = ""     # the hart that `monitor goto` went to, until gdb has asked for it
         self.whole, self.begun = self.packets(), self.packets_with_more()
 
     def packets(self) -> dict[str, Callable[[], str]]:
@@ -58,6 +66,7 @@ class Server:
             "qsThreadInfo": lambda: "l",
             "qAttached": lambda: "1",
             "vCont?": lambda: "vCont;c;C;s;S;r",
+            "!": self.extend,
             "s": lambda: self.stopped(motion.step(*threads.moving())),
             "c": lambda: self.stopped(motion.go(*threads.moving())),
             "bs": lambda: self.stopped(motion.step_back(*threads.moving())),
@@ -73,6 +82,7 @@ class Server:
             "qThreadExtraInfo,": self.about_thread,
             "qRcmd,": self.monitor,
             "vCont;": self.resume,
+            "vRun;": lambda _: self.run_again(),
             "p": self.register,
             "m": self.read_memory,
             "H": self.choose_thread,
@@ -86,6 +96,11 @@ class Server:
         }
 
     # What is asked
+
+    def extend(self) -> str:
+        """gdb stays connected when its program ends, and can run it again."""
+        self.is_extended = True
+        return OK
 
     def description(self, text: str) -> str:
         offset, length = numbers_of(text)
@@ -124,6 +139,30 @@ class Server:
 
     def monitor(self, text: str) -> str:
         words = bytes.fromhex(text).decode().split()
+        if words == ["moved"]:
+            said, self.moved = self.moved, ""
+        elif len(words) == 2 and words[0] == "goto":
+            said = self.goto(words[1])
+        elif words and words[0] in WORDS:
+            said = self.questions.answer(words[0], words[1:])
+        else:
+            said = self.monitor_session(words)
+        told = said.encode()
+        for at in range(0, len(told) - PIECE, PIECE):
+            self.stream.send("O" + told[at:at + PIECE].hex())
+        return told[(max(0, len(told) - 1)) // PIECE * PIECE:].hex() or OK
+
+    def goto(self, text: str) -> str:
+        try:
+            place = asked_row(text)
+            go_to_place(self.session, place)
+        except CompanionError as error:
+            return f"{error}\n"
+        self.motion.told, self.threads.shown, self.moved = None, place.hart, str(place.hart)
+        return f"at {text}\n" if self.is_extended else f"at {text}; type: maintenance flush register-cache\n"
+
+    def monitor_session(self, words: list[str]) -> str:
+        """What the session itself tells."""
         if words == ["where"]:
             said = self.session.where()
         elif words == ["at"]:
@@ -134,7 +173,7 @@ class Server:
                            for place in range(first, self.session.at))
         else:
             said = MONITOR_HELP
-        return said.encode().hex()
+        return said
 
     # What moves
 
@@ -176,15 +215,29 @@ class Server:
             return REFUSED
         return UNSUPPORTED
 
-    def serve(self, at_end: bool = False) -> None:
-        """Answers packets until gdb leaves; begins at the end of the log, or at its beginning."""
+    def begin(self, at_end: bool, place: Optional[At]) -> None:
+        """Goes to the beginning of the log, to its end or to a place."""
         self.stopped(self.motion.begin())
-        if at_end:
+        if place:
+            go_to_place(self.session, place)
+            self.stopped(Stop(place.hart))
+        elif at_end:
             self.stopped(self.motion.go(self.threads.shown, False))
+
+    def run_again(self) -> str:
+        """gdb's `run`: from the beginning."""
+        self.session.go_to(self.motion.base)
+        self.motion.told = None
+        return self.stopped(Stop(self.motion.first_hart()))
+
+    def serve(self) -> None:
+        """Answers packets until gdb leaves."""
         while True:
             packet = self.stream.receive()
-            if packet[:1] == "k":
+            if packet[:1] == "k" and not self.is_extended:
                 return
+            if packet[:1] == "k":               # gdb's `run` kills what runs
+                continue
             if packet[:1] == "D":
                 self.stream.send(OK)
                 return

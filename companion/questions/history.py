@@ -8,7 +8,6 @@ from typing import Any, Deque, Iterable, Optional
 
 from .. import streams
 from ..answers import place_of, put_answer
-from ..elf import Elf
 from ..instruction import STORE, Instruction
 from ..memory import Bytes, words_of
 from ..options import parse, whole
@@ -115,15 +114,15 @@ class History:
         return Leaf(parts[0].path if parts else f"+{first}", first, {"kind": "bytes", "size": end - first, "name": ""})
 
 
-def value_of(entry: Entry, data: Bytes, named: Elf) -> str:
-    return value_text(entry.part, data, lambda address: named.data_name(address) or named.function_name(address))
+def value_of(entry: Entry, data: Bytes, asked: Asked) -> str:
+    return value_text(entry.part, data, asked.name_of)
 
 
 def entry_line(entry: Entry, asked: Asked, name: str) -> list[str]:
     """What is told of a store, in columns."""
-    new = f"{counted(entry.fill.size, 'byte')} of a read call" if entry.fill else value_of(entry, entry.after, asked.named)
+    new = f"{counted(entry.fill.size, 'byte')} of a read call" if entry.fill else value_of(entry, entry.after, asked)
     part = name + entry.part.path
-    return [f"{entry.hart}:{entry.count}", part, f"{value_of(entry, entry.before, asked.named)} -> {new}",
+    return [f"{entry.hart}:{entry.count}", part, f"{value_of(entry, entry.before, asked)} -> {new}",
             asked.places.chain(entry.pcs, MOST_FRAMES)]
 
 
@@ -138,7 +137,7 @@ def before_line(found: History) -> list[str]:
     data = data[variable.address & 3:][:variable.size]
     if None in data:
         return ["  before the first row: unknown"]
-    return [f"  before the first row: {value_text(part, data, asked.named.data_name)}, as the file has it"]
+    return [f"  before the first row: {value_text(part, data, asked.name_of)}, as the file has it"]
 
 
 def report(found: History) -> list[str]:
@@ -150,7 +149,8 @@ def report(found: History) -> list[str]:
     rows = [entry_line(entry, asked, variable.name) for entry in found.told]
     if all(row[1] == variable.name for row in rows):
         rows = [row[:1] + row[2:] for row in rows]
-    return [said] + before_line(found) + columns(rows) + ["  " + line for line in asked.left_out()]
+    last = asked.ready(found.told[-1].hart, found.told[-1].count) if found.told else []
+    return [said] + before_line(found) + columns(rows) + ["  " + line for line in last + asked.left_out()]
 
 
 def history_answer(found: History) -> dict[str, Any]:
@@ -159,8 +159,8 @@ def history_answer(found: History) -> dict[str, Any]:
             "stores": found.total, "left_out": asked.left_out(),
             "entries": [{"hart": entry.hart, "count": entry.count, "row": entry.row, "place": place_of(asked.places, entry.pcs[0]),
                          "caller": place_of(asked.places, entry.pcs[1]) if len(entry.pcs) > 1 else None,
-                         "part": entry.part.path, "old": value_of(entry, entry.before, asked.named),
-                         "new": value_of(entry, entry.after, asked.named), "read": entry.fill.size if entry.fill else 0}
+                         "part": entry.part.path, "old": value_of(entry, entry.before, asked),
+                         "new": value_of(entry, entry.after, asked), "read": entry.fill.size if entry.fill else 0}
                         for entry in found.told]}
 
 

@@ -63,8 +63,10 @@ def function_of(block: Any) -> Any:
     return block
 
 
-def is_inlined(block: Any) -> bool:
-    return function_of(block.superblock) is not None
+def depth_of(block: Any) -> int:
+    """How many functions a function's block is in: 0 unless it is inlined."""
+    over = function_of(block.superblock)
+    return 0 if over is None else 1 + depth_of(over)
 
 
 def registers_at(address: int) -> dict[str, str]:
@@ -89,8 +91,8 @@ def function(name: str) -> dict[str, Any]:
         block = function_of(gdb.block_for_pc(location.address))
         if block is None:
             continue
-        if is_inlined(block):
-            begins.append({"address": location.address, "inlined": True})
+        if depth_of(block):
+            begins.append({"address": location.address, "inlined": True, "depth": depth_of(block)})
         else:
             begins.append(own_code(block.function, int(block.function.value().address)))
     point.delete()

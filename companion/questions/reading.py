@@ -6,11 +6,12 @@ from contextlib import closing
 from typing import Iterator, Mapping, NamedTuple
 
 from ..chunks import chunks
-from ..elf import Elf
+from ..elf import Elf, last_before
 from ..log import Log
 from ..naming import named_elf, places_of
 from ..options import whole
 from ..places import Places
+from ..ready import ready
 from ..recent import open_log
 from ..text import number
 
@@ -32,6 +33,16 @@ class Asked(NamedTuple):
 
     def chunks(self) -> Iterator[bytes]:
         return chunks(self.log.name, self.elf.name)
+
+    def name_of(self, address: int) -> str:
+        """The object or the function that an address is in, with the offset, or nothing."""
+        function = last_before(self.named.functions, address)
+        if function and address < function.address + max(1, function.size):
+            return function.name + (f"+{address - function.address}" if address > function.address else "")
+        return self.named.data_name(address)
+
+    def ready(self, hart: int, count: int) -> list[str]:
+        return ready(self.log, self.elf, self.named, hart, count)
 
     def left_out(self) -> list[str]:
         """What of the run isn't among the rows, as lines."""

@@ -6,7 +6,7 @@ from __future__ import annotations
 import bisect
 from typing import Iterator, Optional
 
-KEPT = 8 << 20              # bytes of text, about
+KEPT = 12 << 20             # bytes of text, about
 MOST_JUMPS = 20000          # are looked through behind a row
 CALLS = (b" jal ra,", b" jalr ra,", b" jal t0,", b" jalr t0,")
 RETURNS = (b" jalr zero,0(ra)", b" jalr zero,0(t0)")
@@ -52,6 +52,19 @@ class Window:
             while offset >= 0:
                 yield begin + offset
                 offset = text.rfind(word, 0, offset)
+
+    def row_before(self, hart: bytes, place: int) -> bytes:
+        """The row of a hart before the row that a place is in, or nothing if the kept text has none."""
+        begin = place - len(self.row_start(place)) - 1
+        for at in self.found_before(b"\n" + hart + b" ", begin):
+            return self.row(at + 1)
+        return b""
+
+    def row_start(self, place: int) -> bytes:
+        """What its row has before a place."""
+        at = bisect.bisect_right(self.begins, place) - 1
+        text, offset = self.texts[at], place - self.begins[at]
+        return text[text.rfind(b"\n", 0, offset) + 1:offset]
 
     def is_of(self, hart: bytes, place: int) -> bool:
         """Whether the row that a place is in is of a hart."""

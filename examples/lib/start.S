@@ -24,3 +24,6 @@ _start:
 other_harts:
     li      a0, 0
     ret
+
+# The assembler would name its own temporary object here, another one in each build. (This one is with_names.sh's.)
+    .file   "start.o"

@@ -71,6 +71,26 @@ class BadInputTest(case.Case):
         self.refused("no such companion", 2, "no companion is called", "nothing")
         self.refused("no such program", 1, "is no program", "why", log, elf, environment={"ZELKUMA_PROGRAM": path("nowhere")})
 
+    def test_a_log_that_changes_once_it_is_checked(self):
+        log, elf = self.crash("use_after_free")
+        with open(log, "rb") as file:
+            good = file.read()
+        program, other = path("program.sh"), path("other.log")
+        write("program.sh", f"""#!/bin/bash
+{PROGRAM} "$@"
+status=$?
+[ "$1" != check ] || cp {other} {path("changes.log")}
+exit $status
+""".encode())
+        os.chmod(program, 0o755)
+        forged = good[:12] + b"\xff" * 4 + good[16:]
+        for data in (b"", good[:8], good[:60], good[:-1], good[:len(good) // 2], forged):
+            write("other.log", data)
+            for word in ("why", "bucket", "race", "view", "output"):
+                write("changes.log", good)
+                self.refused(f"{word}: of {len(good)} bytes {len(data)} are left", 7, "log: ", word, path("changes.log"), elf,
+                             environment={"ZELKUMA_PROGRAM": program}, bound=60)
+
     def test_closed_pipe(self):
         log, elf = self.crash("use_after_free")
         for words in (("why", log, elf, "--more"), ("names", elf)):

@@ -14,3 +14,12 @@ for elf in "$top"/examples/*.elf; do
     cmp "$elf" "$work/$(basename "$elf")"
 done
 echo "the ELF files of examples/ are those of the sources"
+
+# the guide's line gives the same file twice, though the assembler names its objects each time otherwise
+cd "$top"
+line=$(sed -n '/^riscv64-unknown-elf-gcc /,/heap\.c$/p' docs/GUIDE.md)
+for name in once twice; do
+    bash -c "$(sed -E "s# -o [^ ]+# -o $work/$name#" <<<"$line")"
+done
+cmp "$work/once" "$work/twice"
+echo "the guide's line gives the same ELF file twice"

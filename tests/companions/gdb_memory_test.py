@@ -59,8 +59,8 @@ def processor_seconds(process):
 
 
 def case_03_memory_after_many_reads(recordings):
-    """20,480 calls, by registers that were set once and for each: what they filled is found in less than 2 s of processor
-    time, and so is each of two thousand watched bytes that they didn't fill."""
+    """After 20,480 calls memory is told in less than 2 s of processor time: what they filled, and 2,048 bytes behind it. Their
+    registers were set once, or for each."""
     many = 20480
     for at, (before, each) in enumerate((([lui(A1, DATA), addi(A2, 0, 1), addi(A7, 0, 63)], []),
                                          ([lui(A1, DATA - 4096)], [addi(A1, A1, 1), addi(A2, 0, 1), addi(A7, 0, 63)]))):

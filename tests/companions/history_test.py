@@ -10,7 +10,7 @@ sys.path.insert(0, os.path.join(os.path.dirname(os.path.abspath(__file__)), "lib
 import case
 import common
 
-from companion.questions import debugger
+from companion.questions import debugger, history
 from companion.questions.types import Leaf, leaves, value_text, words_type
 
 WIDTHS = {"sb": 1, "sh": 2}
@@ -133,21 +133,15 @@ class HistoryTest(case.Case):
 
     def test_refusals(self):
         log, elf = self.crash("use_after_free")
-        self.assertIn("has no sesions; near it: sessions", self.refuses_name(log, elf, "sesions"))
-        self.assertIn("has no sesions[2].user; near it: sessions", self.refuses_name(log, elf, "sesions[2].user"))
-        self.assertIn("main is a function", self.refuses(2, "history", log, elf, "main"))
-        self.refuses(2, "history", log, elf, "00011478:0")
-        self.refuses(2, "history", log, elf, "00011478", "--last", "0")
-        self.refuses(2, "history", log, elf)
+        self.assertIn("has no sesions; near it: sessions", self.refuses_here(4, history, log, elf, "sesions"))
+        self.assertIn("has no sesions[2].user; near it: sessions", self.refuses_here(4, history, log, elf, "sesions[2].user"))
+        self.assertIn("main is a function", self.refuses_here(2, history, log, elf, "main"))
+        self.refuses_here(2, history, log, elf, "00011478:0")
+        self.refuses_here(2, history, log, elf, "00011478", "--last", "0")
+        self.refuses_here(2, history, log, elf)
         self.refuses(8, "history", log, self.elf("counter"), "00011478")
         stripped = self.record("tills", "--seed", "1", "--harts", "2")
-        self.assertIn("tills.elf is stripped", self.refuses(4, "history", stripped, self.elf("tills"), "till"))
-
-    def refuses_name(self, log, elf, name):
-        """That of a name is the last line: one before may say that no gdb is here."""
-        status, said, err = common.companion("history", log, elf, name)
-        self.assertEqual((status, said), (4, ""))
-        return err
+        self.assertIn("tills.elf is stripped", self.refuses_here(4, history, stripped, self.elf("tills"), "till"))
 
 
 class NamesTest(case.Case):
@@ -168,7 +162,7 @@ class NamesTest(case.Case):
         log, elf = self.record("heap", "--seed", "1"), self.elf("heap")
         made = common.path("made")
         for name in (f'$_shell("touch {made}")', "orders[$_exitcode]", "end+sizeof(int)", "orders[3];shell id"):
-            self.refuses(4, "history", log, elf, name)
+            self.refuses_here(4, history, log, elf, name)
         self.assertFalse(os.path.exists(made))
 
     def test_an_elf_file_gives_gdb_no_commands(self):

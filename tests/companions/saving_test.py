@@ -33,7 +33,8 @@ class Call:
         self.folder = recordings.path(name)
         os.mkdir(self.folder)
         log, _ = recordings.example("hand_over", *HARTS, "--seed", "3")
-        self.log, self.elf, self.target = shutil.copy(log, self.path("L")), shutil.copy(HAND_OVER, self.path("elf")), self.path("target")
+        self.log, self.elf = shutil.copy(log, self.path("L")), shutil.copy(HAND_OVER, self.path("elf"))
+        self.target = self.path("target")
         self.word, self.begins = word, PAGE_BEGINS if word == "why" else b"BUGNETLG"
         if word == "again":
             self.book = shutil.copy(recordings.path("book"), self.path("book"))

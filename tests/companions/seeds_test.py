@@ -1,6 +1,7 @@
 #!/usr/bin/env python3
 """Tries `zelkuma seeds`: the kinds of turns, the lowest hit and its files, the table, Ctrl-C, what is refused, and GNU
 parallel on this machine."""
+import json
 import os
 import pty
 import re
@@ -48,6 +49,12 @@ def again(said):
     names = dict(word.split("=", 1) for word in words[:words.index("zelkuma")])
     return subprocess.run([PROGRAM, *words[words.index("zelkuma") + 1:]], stdout=subprocess.DEVNULL,
                           stderr=subprocess.DEVNULL, env=dict(os.environ, **names), check=False).returncode
+
+
+def json_of(*words):
+    status, out, err = seeds("--json", *words)
+    assert status == 0, (status, out, err)
+    return json.loads(out)
 
 
 def content(name):
@@ -149,11 +156,61 @@ def case_threads(recordings):
 
 
 def case_all_kinds_of_one_number(recordings):
+    """Those in threads are left out without a BOOK, and, unless they are asked for, for status 11 and with --all."""
     folder = Folder(recordings, "all")
+    done = seeds("1", "1", "--", "--harts=2", TWO_LOCKS, folder.log, folder.book)
+    assert done[0] == NOT_FOUND and rows(done[1]) == [["0", "4", "seed 1", "-"]], done
     done = seeds("--until", "11", "1", "1", "--", "--harts=2", "--limit", "20000", TWO_LOCKS, folder.log, folder.book)
-    assert done[0] == NOT_FOUND and rows(done[1]) == [["0", "4", "seed 1", "-"]] or "threads 1: status 11" in done[1], done
+    assert done[0] == NOT_FOUND and rows(done[1]) == [["0", "3", "seed 1", "-"]], done
     done = seeds("1", "1", "--", "--lean", "--harts=2", TWO_LOCKS, folder.log, folder.book)
     assert done[0] == NOT_FOUND and rows(done[1]) == [["0", "3", "seed 1", "-"]], done
+    done = seeds("--all", folder.path, "1", "1", "--", "--harts=2", TWO_LOCKS)
+    assert done[0] == 0 and rows(done[1]) == [["0", "3", "seed 1", "-"]], done
+    done = seeds("--only", "threads", "--all", folder.path, "1", "1", "--", "--harts=2", "--limit=100K", TWO_LOCKS)
+    assert done[0] == 0 and rows(done[1])[0][1:3] == ["1", "threads 1"], done
+
+
+def case_one_of_each_ending(recordings):
+    """The first run with each ending is kept, however many are under way, and its BOOK makes it again."""
+    known = None
+    for jobs in ("-j1", "-j3"):
+        folder = Folder(recordings, "each" + jobs)
+        done = seeds(jobs, "--only", "seeds,sleepers", "--all", folder.path, "1", "6", "--", "--harts", "2", HAND_OVER)
+        first = [row[2].replace(" ", "-") for row in rows(done[1])]
+        assert done[0] == 0 and len(first) == 3 and sum(int(row[1]) for row in rows(done[1])) == 12, done
+        assert folder.names() == sorted(name + end for name in first for end in (".log", ".book")), (first, folder.names())
+        found = {name: content(os.path.join(folder.path, name)) for name in folder.names()}
+        assert known in (None, found)
+        known = found
+    log, _ = recordings.example("hand_over", "--harts", "2", "--seed", str(CRASHES))
+    assert known[f"seed-{CRASHES}.log"] == content(log)
+    folder = Folder(recordings, "lean")
+    done = seeds("--only", "seeds", "--all", folder.path, "1", "3", "--", "--lean", "--harts", "2", HAND_OVER)
+    assert done[0] == 0 and folder.names() == ["seed-1.log", f"seed-{CRASHES}.log"], done
+
+
+def case_parts(recordings):
+    """The parts are the whole: each number is in one of them, and each ending of the whole in some."""
+    folder = Folder(recordings, "parts")
+    words = ["--only", "seeds,bursts", "1", "8", "--", "--harts", "2", HAND_OVER]
+    whole, parts = json_of("--all", folder.path + "/whole", *words), []
+    for part in ("1/3", "2/3", "3/3"):
+        parts.append(json_of("--all", folder.path + "/" + part[0], "--part", part, *words))
+    assert sum(part["tried"] for part in parts) == whole["tried"] == 16, parts
+
+    def endings(answer):
+        return {(one["status"], one["place"]): one["count"] for one in answer["endings"]}
+
+    assert [(part["part"], part["parts"]) for part in parts] == [(1, 3), (2, 3), (3, 3)]
+    assert sorted(set().union(*map(endings, parts))) == sorted(endings(whole))
+    for ending, count in endings(whole).items():
+        assert sum(endings(part).get(ending, 0) for part in parts) == count, ending
+    for one in whole["endings"]:
+        assert [os.path.basename(name) for name in one["files"]] == [f"{one['kind']}-{one['number']}{end}" for end in (".log", ".book")]
+        assert all(map(os.path.exists, one["files"]))
+    found = [seeds("--only", "seeds", "--part", part, "1", "9", "--", "--harts", "2", HAND_OVER, folder.log, folder.book)[1]
+             for part in ("1/2", "2/2")]
+    assert [said.partition(":")[0] for said in found] == ["seed 3", "seed 6"], found
 
 
 def case_numbers_with_a_letter(recordings):
@@ -185,7 +242,11 @@ def case_refusals(recordings):
             (2, ["1", "2", "--", "--harts", "99", *good[3:]]), (2, ["1", "2", "--", elf, elf, folder.book]),
             (2, ["1", "2", "--", "--input", elf, HAND_OVER, elf, folder.book]),
             (2, ["1", "2", "--", elf, folder.log, folder.log]), (2, ["--only", "seed", "1", "2", *good]),
-            (2, ["--only", "", "1", "2", *good]), (2, ["--only", "threads", "1", "2", "--", "--lean", *good[1:]]),
+            (2, ["--only", "", "1", "2", *good]), (2, ["--all", folder.path, "1", "2", *good]),
+            (2, ["--all", folder.path, "--until", "10", "1", "2", "--", elf]), (2, ["--part", "3", "1", "2", *good]),
+            (2, ["--part", "4/3", "1", "2", *good]), (2, ["--part", "0/3", "1", "2", *good]),
+            (3, ["--all", elf, "1", "2", "--", elf]),
+            (2, ["--only", "threads", "1", "2", "--", "--lean", *good[1:]]),
             (2, ["1", "20P", *good]), (2, ["1", "2", "--", "--limit", "1X", *good[1:]]), (2, ["1", str(2**64), *good]),
             (3, ["1", "2", "--", elf, folder.path, folder.book]), (3, ["1", "2", "--", elf, "/dev/null", folder.book]),
             (3, ["1", "2", "--", elf, "/nowhere/LOG", folder.book]),

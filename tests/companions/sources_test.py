@@ -44,9 +44,10 @@ class SourcesTest(case.Case):
 
     def shows(self, *words):
         """The words by which sources are shown, and those that say how to allow others."""
-        said = [self.says_of(word, *words) for word in ("why", "view")]
-        self.assertEqual(len({(SECRET in text, "--source DIR allows" in text) for text in said}), 1)
-        return SECRET in said[0], "--source DIR allows" in said[0]
+        said = {(SECRET in text, "--source DIR allows" in text)
+                for text in (self.says_of(word, *words) for word in ("why", "view"))}
+        self.assertEqual(len(said), 1, said)
+        return said.pop()
 
     def test_a_source_beside_the_elf_is_shown(self):
         self.write(self.source)

@@ -329,8 +329,8 @@ def main(words: List[str]) -> None:
         "tools/help/each.txt": filled(top, "each"),
         "tools/help/words.sh": filled(top, "words"),
         "tools/files.txt": listed(top),
-        "man/zelkuma.1": filled(top, "man"),
-        "completion/zelkuma.bash": filled(top, "completion"),
+        "packaging/zelkuma.1": filled(top, "man"),
+        "packaging/zelkuma.bash": filled(top, "completion"),
         "docs/COMMANDS.md": renewed("docs/COMMANDS.md", document.read_text(encoding="utf-8")),
     }
     for name, text in made.items():

@@ -33,27 +33,27 @@ pub one_too_many_is : last_bytes (10 ∷ 10 ∷ []) ≡ with_line [] (ends_in []
 one_too_many_is = refl
 
 pub leaving_is : leaving_session ≡ leaving_told
-unfolding digits encode_with reason_word register_name mnemonic ordering hex8 first_operand register_operand number_operand offset_operand memory_operand target_operand upper_operand instruction_text rows.point_text rows.word_text rows.register_text rows.access_text rows.fault_text rows.row_text mark_text end_text pass_text point_text hart_text waits_text stop_text address_text word_text register_text two_text four_text half_text place_text hart_done_text
+unfolding digits encode_with reason_word register_name mnemonic ordering hex8 first_operand register_operand number_operand offset_operand memory_operand target_operand upper_operand instruction_text rows.point_text rows.word_text rows.register_text rows.labelled rows.changes_text rows.fault_text rows.row_text mark_text end_text pass_text point_text hart_text waits_text stop_text address_text word_text register_text two_text four_text half_text place_text hart_done_text
 leaving_is = refl
 
 pub returning_is : returning_session ≡ returning_told
-unfolding digits encode_with reason_word register_name mnemonic ordering hex8 first_operand register_operand number_operand offset_operand memory_operand target_operand upper_operand instruction_text rows.point_text rows.word_text rows.register_text rows.access_text rows.fault_text rows.row_text mark_text end_text pass_text point_text hart_text waits_text stop_text at_text address_text word_text register_text two_text four_text half_text place_text hart_done_text
+unfolding digits encode_with reason_word register_name mnemonic ordering hex8 first_operand register_operand number_operand offset_operand memory_operand target_operand upper_operand instruction_text rows.point_text rows.word_text rows.register_text rows.labelled rows.changes_text rows.fault_text rows.row_text mark_text end_text pass_text point_text hart_text waits_text stop_text at_text address_text word_text register_text two_text four_text half_text place_text hart_done_text
 returning_is = refl
 
 pub starting_is : starting_session ≡ starting_told
-unfolding digits encode_with reason_word register_name mnemonic ordering hex8 first_operand register_operand number_operand offset_operand memory_operand target_operand upper_operand instruction_text rows.point_text rows.word_text rows.register_text rows.access_text rows.fault_text rows.row_text mark_text end_text pass_text point_text hart_text waits_text stop_text at_text address_text word_text register_text two_text four_text half_text place_text hart_done_text
+unfolding digits encode_with reason_word register_name mnemonic ordering hex8 first_operand register_operand number_operand offset_operand memory_operand target_operand upper_operand instruction_text rows.point_text rows.word_text rows.register_text rows.labelled rows.changes_text rows.fault_text rows.row_text mark_text end_text pass_text point_text hart_text waits_text stop_text at_text address_text word_text register_text two_text four_text half_text place_text hart_done_text
 starting_is = refl
 
 pub breaking_is : breaking_session ≡ breaking_told
-unfolding digits encode_with reason_word register_name mnemonic ordering hex8 first_operand register_operand number_operand offset_operand memory_operand target_operand upper_operand instruction_text rows.point_text rows.word_text rows.register_text rows.access_text rows.fault_text rows.row_text mark_text end_text pass_text point_text hart_text waits_text stop_text address_text word_text register_text two_text four_text half_text place_text hart_done_text
+unfolding digits encode_with reason_word register_name mnemonic ordering hex8 first_operand register_operand number_operand offset_operand memory_operand target_operand upper_operand instruction_text rows.point_text rows.word_text rows.register_text rows.labelled rows.changes_text rows.fault_text rows.row_text mark_text end_text pass_text point_text hart_text waits_text stop_text address_text word_text register_text two_text four_text half_text place_text hart_done_text
 breaking_is = refl
 
 pub relay_is : relay_session ≡ relay_told
-unfolding digits encode_with reason_word register_name mnemonic ordering hex8 first_operand register_operand number_operand offset_operand memory_operand target_operand upper_operand instruction_text rows.point_text rows.word_text rows.register_text rows.access_text rows.fault_text rows.row_text mark_text end_text pass_text point_text hart_text waits_text stop_text address_text word_text register_text two_text four_text half_text place_text hart_done_text
+unfolding digits encode_with reason_word register_name mnemonic ordering hex8 first_operand register_operand number_operand offset_operand memory_operand target_operand upper_operand instruction_text rows.point_text rows.word_text rows.register_text rows.labelled rows.changes_text rows.fault_text rows.row_text mark_text end_text pass_text point_text hart_text waits_text stop_text address_text word_text register_text two_text four_text half_text place_text hart_done_text
 relay_is = refl
 
 pub crossed_is : crossed_session ≡ crossed_told
-unfolding digits encode_with reason_word register_name mnemonic ordering hex8 first_operand register_operand number_operand offset_operand memory_operand target_operand upper_operand instruction_text rows.point_text rows.word_text rows.register_text rows.access_text rows.fault_text rows.row_text mark_text end_text pass_text point_text hart_text waits_text stop_text address_text word_text register_text two_text four_text half_text place_text hart_done_text
+unfolding digits encode_with reason_word register_name mnemonic ordering hex8 first_operand register_operand number_operand offset_operand memory_operand target_operand upper_operand instruction_text rows.point_text rows.word_text rows.register_text rows.labelled rows.changes_text rows.fault_text rows.row_text mark_text end_text pass_text point_text hart_text waits_text stop_text address_text word_text register_text two_text four_text half_text place_text hart_done_text
 crossed_is = refl
 
 pub prompt_is : IsInTurn prompt_reads

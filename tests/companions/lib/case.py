@@ -5,6 +5,7 @@ import unittest
 
 sys.path.insert(0, os.path.dirname(os.path.dirname(os.path.abspath(__file__))))
 import common
+from companion.errors import CompanionError
 
 logs = {}
 
@@ -65,6 +66,15 @@ class Case(unittest.TestCase):
         self.assertEqual((found, said), (status, ""), err)
         self.assertRegex(err, r"\Azelkuma: [^\n]+\n\Z")
         return err
+
+
+    def refuses_here(self, status, module, *words):
+        """The same of a companion's module, without a process of its own. Gives what it says."""
+        with self.assertRaises(CompanionError) as found:
+            module.main(list(words))
+        self.assertEqual(found.exception.status, status, found.exception)
+        self.assertNotIn("\n", str(found.exception))
+        return str(found.exception)
 
 
 def main():

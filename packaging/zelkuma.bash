@@ -31,6 +31,10 @@ seeds FROM TO -- RECORD-WORDS
 again LOG ELF BOOK NEWLOG
 shrink LOG ELF BOOK NEWLOG NEWBOOK
 history LOG ELF NAME
+calls LOG ELF FUNCTION
+find LOG ELF VALUE
+compare GOOD BAD ELF
+export LOG ELF --callgrind FILE | --lcov FILE | --perfetto FILE
 '
 # a command, an option of it, and what its value is
 _zelkuma_options='
@@ -67,6 +71,10 @@ view --source DIR
 view --row HART:IC
 view --output N:BYTE
 view --rows N
+gdb --run
+gdb --names ELF
+gdb --at HART:IC
+gdb --rows N
 gdb --port N
 gdb --end
 gdb --trace
@@ -92,6 +100,19 @@ history --changes
 history --last N
 history --rows N
 history --json
+calls --names ELF
+calls --where ARG==VALUE
+calls --last N
+calls --rows N
+calls --json
+find --names ELF
+find --rows N
+find --json
+compare --names ELF
+compare --rows N
+compare --json
+export --names ELF
+export --rows N
 '
 
 # Prints the lines of a table that begin with a word, without it.

@@ -1,0 +1,50 @@
+"""A function of a companion that runs in a process of its own."""
+from __future__ import annotations
+
+import contextlib
+import os
+import signal
+from typing import Callable
+
+from .errors import CompanionError
+
+FAILED = 1
+
+
+class Forked:
+    """Such a process. The text that its function gives goes into a file, as does the line of what it refuses."""
+
+    def __init__(self, work: Callable[[], str], said: str, err: str) -> None:
+        self.pid = os.fork()
+        if not self.pid:
+            self.run(work, said, err)
+
+    @staticmethod
+    def run(work: Callable[[], str], said: str, err: str) -> None:
+        """The new process. Nothing of the old one is done again in it, whatever happens."""
+        status = FAILED
+        try:
+            signal.signal(signal.SIGINT, signal.SIG_DFL)
+            write(said, work())
+            status = 0
+        except CompanionError as error:
+            status = error.status
+            write(err, f"zelkuma: {error}")
+        finally:
+            os._exit(status)
+
+    def end(self, status: int) -> int:
+        """Takes the status that the system tells of the process."""
+        return os.WEXITSTATUS(status) if os.WIFEXITED(status) else -os.WTERMSIG(status)
+
+    def kill(self) -> None:
+        with contextlib.suppress(ProcessLookupError):
+            os.kill(self.pid, signal.SIGKILL)
+
+    def wait(self) -> None:
+        os.waitpid(self.pid, 0)
+
+
+def write(name: str, text: str) -> None:
+    with open(name, "w", encoding="utf-8", errors="backslashreplace") as file:
+        file.write(text + "\n")

@@ -1,0 +1,69 @@
+"""Callgrind's format: instructions by function and line, and calls with those that they took."""
+from __future__ import annotations
+
+import os
+from collections import Counter
+from typing import NamedTuple
+
+from ..places import Frame
+from .flow import Flow, Open
+from .reading import Asked
+
+
+class Where(NamedTuple):
+    """A file and a function, and the line in it."""
+    file: str
+    function: str
+    line: int
+
+
+class Costs:
+    """own     {where: instructions}
+    calls   {(where, function that is called): how often, and its instructions}"""
+
+    def __init__(self, asked: Asked) -> None:
+        self.asked = asked
+        self.own: Counter[Where] = Counter()
+        self.times: Counter[tuple[Where, Where]] = Counter()
+        self.inner: Counter[tuple[Where, Where]] = Counter()
+
+    def where(self, pc: int) -> Where:
+        """The outermost frame's place: the function whose code it is, whatever is inlined there."""
+        frames = self.asked.places.frames(pc)
+        frame = frames[-1] if frames else Frame(f"{pc:08x}", "", 0, "")
+        return Where(frame.path or "?", frame.function, frame.line)
+
+    def entered(self, hart: int, call: Open) -> None:
+        self.times[self.where(call.call), self.where(call.function)] += 1
+
+    def left(self, _hart: int, call: Open, count: int, _place: int) -> None:
+        self.inner[self.where(call.call), self.where(call.function)] += count - call.count
+
+    def lines(self) -> list[str]:
+        said = ["# callgrind format", "version: 1", "creator: zelkuma", f"cmd: {os.path.basename(self.asked.elf.name)}",
+                "positions: line", "events: Instructions", ""]
+        functions: dict[tuple[str, str], list[str]] = {}
+        for place, cost in sorted(self.own.items()):
+            functions.setdefault((place.file, place.function), []).append(f"{place.line} {cost}")
+        for (source, callee), times in sorted(self.times.items()):
+            functions.setdefault((source.file, source.function), []).extend([
+                f"cfi={callee.file}", f"cfn={callee.function}", f"calls={times} {callee.line}",
+                f"{source.line} {self.inner[source, callee]}"])
+        for (file, function), costs in functions.items():
+            said += [f"fl={file}", f"fn={function}", *costs, ""]
+        return said
+
+
+def callgrind(asked: Asked) -> str:
+    costs = Costs(asked)
+    flow = Flow(costs.entered, costs.left)
+    flow.read(asked.chunks())
+    pcs = {int(pc, 16): times for pc, times in flow.times.items()}
+    asked.places.fetch(pcs)
+    for hart, calls in flow.open.items():       # of those that didn't return: up to the hart's end
+        end = asked.log.ends[int(hart)].count
+        for call in calls:
+            costs.left(int(hart), call, end, 0)
+    for pc, times in pcs.items():
+        costs.own[costs.where(pc)] += times
+    return "\n".join(costs.lines()) + "\n"

@@ -1,0 +1,160 @@
+"""Lists the places at which a value occurs."""
+from __future__ import annotations
+
+import re
+from dataclasses import dataclass, field
+from typing import Any, Iterable
+
+from .. import streams
+from ..answers import LONGEST, place_of, put_answer
+from ..chunks import rows_with
+from ..elf import Elf
+from ..errors import MISSING, REFUSED, CompanionError
+from ..options import parse
+from ..text import clean, columns, counted, number
+from .reading import Asked, asked_of
+from .variables import ADDRESS, not_found, symbol_of
+
+HELP = """Lists the places of the program at which a value occurs, in registers and in words of memory.
+
+    zelkuma find LOG ELF VALUE [--names ELF] [--rows N] [--json]
+
+VALUE is a number, hexadecimal if it has eight digits or begins with 0x, or a symbol, which is its address. Of each place it
+tells the first and the last time, how often, and what it did with the value: put it into a register, loaded it or stored it.
+
+--names  the same program with names and lines, if ELF was stripped
+--rows   how many of the last rows are read, 80 million without it
+--json   prints one JSON object in place of the text (docs/JSON.md)
+
+A word that holds the value while no row touches it isn't seen. Companions show; the program proves."""
+FORM = "find LOG ELF VALUE [--names ELF] [--rows N] [--json]"
+OPTIONS = {"--names": True, "--rows": True, "--json": False}
+MOST_ROWS = 2000000         # with the value are told by place; of the others only the number is told
+TOLD, MOST_FRAMES, MOST_WORDS = 100, 3, 3
+VERBS = {b"load ": "loads it from", b"store": "stores it to"}
+
+
+@dataclass
+class Group:
+    """The rows of one place that do the same with the value. `words` are those of memory, of which the first are kept."""
+    pc: int
+    did: str
+    first: str
+    last: str = ""
+    times: int = 0
+    words: list[int] = field(default_factory=list)
+
+
+class Found:
+    """total   how many rows have the value; groups: of the first of them, by place and what they do"""
+
+    def __init__(self, asked: Asked, value: int) -> None:
+        self.asked, self.value = asked, value
+        self.needle = b"=%08x" % value
+        self.pattern = re.compile(self.needle)
+        self.groups: dict[tuple[bytes, str], Group] = {}
+        self.total = self.told = 0
+
+    def read(self, texts: Iterable[bytes]) -> None:
+        for text in texts:
+            if self.told >= MOST_ROWS:
+                self.total += text.count(self.needle)
+                continue
+            for row in rows_with(text, self.pattern):
+                self.take(row)
+        self.total += self.told
+
+    def take(self, row: bytes) -> None:
+        self.told += 1
+        head, *told = row.split(b" | ")
+        hart, count, pc, _ = head.split(b" ", 3)
+        for part in reversed(told):             # memory before registers: a load puts the value there by itself
+            if part.endswith(self.needle):
+                self.occurs((hart + b":" + count).decode(), pc, part)
+                break
+
+    def occurs(self, when: str, pc: bytes, part: bytes) -> None:
+        verb = VERBS.get(part[:5], "")
+        did = verb or f"puts it into {part.partition(b'=')[0].decode()}"
+        group = self.groups.get((pc, did))
+        if group is None:
+            group = self.groups[pc, did] = Group(int(pc, 16), did, when)
+        group.last, group.times = when, group.times + 1
+        if verb and len(group.words) < MOST_WORDS:
+            word = int(part[-17:-9], 16) & ~3
+            if word not in group.words:
+                group.words.append(word)
+
+    def in_file(self) -> list[int]:
+        """The words of the program's file that are the value, some of them."""
+        needle = self.value.to_bytes(4, "little")
+        found: list[int] = []
+        for part in self.asked.elf.parts if self.value else ():
+            body, at = bytes(part.body), -1
+            while len(found) < MOST_WORDS and (at := body.find(needle, at + 1)) >= 0:
+                if (part.address + at) % 4 == 0:
+                    found.append(part.address + at)
+        return found
+
+
+def value_of(elf: Elf, text: str) -> int:
+    """The value that is asked for."""
+    symbol = symbol_of(elf, text)
+    if symbol:
+        return symbol.address
+    if (told := ADDRESS.fullmatch(text)):
+        return int(told[1] or told[2], 16)
+    if not re.fullmatch(r"-?\d{1,10}", text):
+        raise CompanionError(not_found(elf, text, elf.symbols), MISSING)
+    if not -(1 << 31) <= int(text) < 1 << 32:
+        raise CompanionError(f"{clean(text)} is no value of 32 bits", REFUSED)
+    return int(text) & 0xffffffff
+
+
+def word_text(asked: Asked, word: int) -> str:
+    name = asked.named.data_name(word)
+    return f"{word:08x}" + (f" <{name}>" if name else "")
+
+
+def group_line(group: Group, asked: Asked) -> list[str]:
+    words = ", ".join(word_text(asked, word) for word in group.words)
+    more = ", .." if len(group.words) == MOST_WORDS else ""
+    return [group.first, group.last, number(group.times), " ".join(filter(None, (group.did, words))) + more,
+            asked.places.chain([group.pc], MOST_FRAMES)]
+
+
+def report(found: Found) -> list[str]:
+    asked, groups = found.asked, list(found.groups.values())
+    asked.places.fetch(group.pc for group in groups[:TOLD])
+    lines = [f"FIND {found.value:08x}: {counted(found.total, 'row')}, {counted(len(groups), 'place')}"]
+    if found.total > found.told:
+        lines.append(f"  Places are those of the first {number(found.told)} rows that have it.")
+    in_file = found.in_file()
+    if in_file:
+        lines.append("  in the file: " + ", ".join(word_text(asked, word) for word in in_file))
+    rows = [["first", "last", "times", "", ""]] + [group_line(group, asked) for group in groups[:TOLD]]
+    lines += columns(rows) if groups else []
+    if len(groups) > TOLD:
+        lines.append(f"  .. and {counted(len(groups) - TOLD, 'more place')}")
+    return lines + ["  " + line for line in asked.left_out()]
+
+
+def find_answer(found: Found) -> dict[str, Any]:
+    asked = found.asked
+    return {"value": f"{found.value:08x}", "rows": found.total, "rows_by_place": found.told, "left_out": asked.left_out(),
+            "in_file": [f"{word:08x}" for word in found.in_file()],
+            "places": [{"place": place_of(asked.places, group.pc), "did": group.did, "first": group.first, "last": group.last,
+                        "times": group.times, "words": [f"{word:08x}" for word in group.words]}
+                       for group in list(found.groups.values())[:LONGEST]]}
+
+
+def main(words: list[str]) -> int:
+    (log_name, elf_name, text), given = parse(words, OPTIONS, 3, FORM)
+    with asked_of(log_name, elf_name, given) as asked:
+        found = Found(asked, value_of(asked.named, text))
+        found.read(asked.chunks())
+        if "--json" in given:
+            put_answer("find", **find_answer(found))
+        else:
+            streams.put("".join(line + "\n" for line in report(found)))
+    return 0

@@ -1,0 +1,76 @@
+"""How the harts of a log called functions: what the rows of calls and returns tell, and how often each address was done."""
+from __future__ import annotations
+
+import re
+from collections import Counter
+from dataclasses import dataclass, field
+from typing import Callable, Iterable, Optional
+
+from ..chunks import JUMPS
+from .window import CALLS, RETURNS
+
+PCS = re.compile(rb"\n\d+ \d+ (\w{8}) ")
+
+
+@dataclass(frozen=True)
+class Open:
+    """A call that hasn't returned: its function's address, that of the call, the hart's count and the row's number."""
+    function: int
+    call: int
+    count: int
+    place: int
+
+
+Entered = Callable[[int, Open], None]
+Left = Callable[[int, Open, int, int], None]
+
+
+@dataclass
+class Flow:
+    """times   {address: how often}, as text
+    open    {hart: its calls that haven't returned, innermost last}
+    entered, left  are told of a call of a hart, and of its end: the count and the row's number then"""
+    entered: Entered
+    left: Left
+    times: Counter[bytes] = field(default_factory=Counter)
+    open: dict[bytes, list[Open]] = field(default_factory=dict)
+    waiting: dict[bytes, bytes] = field(default_factory=dict)   # {hart: its jump, whose target is its next row}
+    rows: int = 0
+
+    def read(self, texts: Iterable[bytes]) -> None:
+        for text in texts:
+            self.times.update(PCS.findall(text))
+            for hart in list(self.waiting):
+                self.arrive(text, hart, 0)
+            for found in JUMPS.finditer(text):
+                begin, end = text.rfind(b"\n", 0, found.start()) + 1, text.find(b"\n", found.start())
+                row = text[begin:len(text) if end < 0 else end]
+                if any(kind in row for kind in (*CALLS, *RETURNS)):
+                    hart = row[:row.index(b" ")]
+                    self.waiting[hart] = row
+                    self.arrive(text, hart, len(text) if end < 0 else end)
+            self.rows += text.count(b"\n")
+
+    def arrive(self, text: bytes, hart: bytes, after: int) -> None:
+        """The first row of a hart from a place of a chunk on is what its jump led to."""
+        at = text.find(b"\n" + hart + b" ", after)
+        if at < 0:
+            return
+        jump = self.waiting.pop(hart)
+        _, count, pc, _ = text[at + 1:at + 60].split(b" ", 3)
+        place = self.rows + text.count(b"\n", after, at) + (text.count(b"\n", 0, after) if after else 0)
+        source = int(jump.split(b" ", 3)[2], 16)
+        if any(kind in jump for kind in CALLS):
+            opened = Open(int(pc, 16), source, int(count), place)
+            self.open.setdefault(hart, []).append(opened)
+            self.entered(int(hart), opened)
+        else:
+            self.back(hart, int(pc, 16), int(count), place)
+
+    def back(self, hart: bytes, target: int, count: int, place: int) -> None:
+        calls = self.open.get(hart, [])
+        if any(each.call + 4 == target for each in calls):
+            ended: Optional[Open] = None
+            while ended is None or ended.call + 4 != target:
+                ended = calls.pop()
+                self.left(int(hart), ended, count, place)

@@ -1,0 +1,49 @@
+"""The format of lcov: how often each line and each function was done."""
+from __future__ import annotations
+
+import os
+from collections import Counter
+
+from ..addresses import code_of
+from ..elf import FUNCTION
+from .flow import Flow
+from .reading import Asked
+
+
+def done_times(asked: Asked) -> dict[int, int]:
+    """{address: how often it was done}; of code that wasn't, 0."""
+    flow = Flow(lambda _hart, _call: None, lambda _hart, _call, _count, _place: None)
+    flow.read(asked.chunks())
+    found = dict.fromkeys(code_of(asked.named), 0)
+    found.update((int(pc, 16), times) for pc, times in flow.times.items())
+    return found
+
+
+def lcov(asked: Asked) -> str:
+    """A line was done as often as the address of it that was done most."""
+    times = done_times(asked)
+    asked.places.fetch(times)
+    lines: dict[str, Counter[int]] = {}
+    for pc, count in times.items():
+        for frame in asked.places.frames(pc)[:1]:
+            if frame.line:
+                of_file = lines.setdefault(frame.path, Counter())
+                of_file[frame.line] = max(of_file[frame.line], count)
+    functions: dict[str, list[str]] = {}
+    for symbol in asked.named.functions:
+        frames = asked.places.frames(symbol.address)
+        if symbol.kind == FUNCTION and frames and frames[-1].line:
+            functions.setdefault(frames[-1].path, []).extend([
+                f"FN:{frames[-1].line},{symbol.name}", f"FNDA:{times.get(symbol.address, 0)},{symbol.name}"])
+    said = ["TN:"]
+    for path, counts in sorted(lines.items()):
+        said += [f"SF:{source_of(asked, path)}", *functions.get(path, [])]
+        said += [f"DA:{line},{count}" for line, count in sorted(counts.items())]
+        said += [f"LF:{len(counts)}", f"LH:{sum(count > 0 for count in counts.values())}", "end_of_record"]
+    return "\n".join(said) + "\n"
+
+
+def source_of(asked: Asked, path: str) -> str:
+    """The source's name: as the program was built, or beside the ELF file."""
+    beside = os.path.join(os.path.dirname(asked.named.name), os.path.basename(path))
+    return os.path.abspath(path if os.path.exists(path) or not os.path.exists(beside) else beside)
