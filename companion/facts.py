@@ -7,7 +7,7 @@ from . import program
 from .elf import Elf
 from .errors import NO_INTERVAL, REFUSED, CompanionError
 from .instruction import STORE
-from .log import At, Log, SystemCall
+from .log import WRITE_CALL, At, Log, SystemCall
 from .loops import Loop
 from .options import whole
 from .naming import NO_TOOL, places_of
@@ -18,7 +18,6 @@ from .trace import LOADS, Trace
 LAST_ROWS = 12
 LOOP_ROWS, MOST_LOADS = 300, 12         # what a hart did last, if it didn't fault
 MOST_EXITS = 12
-WRITE_CALL = 64
 
 
 class Byte(NamedTuple):

@@ -16,7 +16,8 @@ SIZES = {HEADER: 146, FIRST_LOAD: 10, SC_OK: 2, SC_FAILED: 2, EDGE: 19, END: 15}
 REASONS = {1: "length", 2: "call", 3: "exit", 4: "group", 5: "stopped", 6: "guard", 7: "limit",
            17: "Illegal", 18: "Breakpoint", 19: "FetchOutside", 20: "TargetMisaligned", 21: "LoadOutside",
            22: "LoadMisaligned", 23: "StoreOutside", 24: "StoreMisaligned", 25: "StoreReadOnly"}
-CALL, A1, A7, FAILED = "call", 11, 17, 1 << 31  # a call's reason and registers, and the least result of one that failed
+CALL, A1, A7 = "call", 11, 17                   # a call's reason and registers
+READ_CALL, WRITE_CALL, FAILED = 63, 64, 1 << 31  # calls, and the least result of one that failed
 LONGEST_CALL = 4096                             # bytes that a call moves at most
 MOST_HARTS = 16
 NO_END = ""                                     # the reason of an interval without an End

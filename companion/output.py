@@ -14,9 +14,8 @@ from .answers import put_answer
 from .calls import CallTree, entries_of
 from .chunks import chunks, parted, touching_any
 from .elf import Elf
-from .facts import WRITE_CALL
 from .instruction import A0
-from .log import Log, SystemCall
+from .log import READ_CALL, WRITE_CALL, Log, SystemCall
 from .memory import Memory, quoted
 from .naming import named_elf, places_of
 from .options import parse, whole
@@ -37,9 +36,8 @@ together from the rows of `joint`: bytes that no row loaded or stored, and that 
 as unknown. Companions show; the program proves."""
 FORM = "output LOG ELF [--names ELF] [--rows N] [--json]"
 MOST_ROWS, MOST_FRAMES, MOST_RANGES = 32000000, 4, 8
-READ_CALL = 63
 ASKED, SET = re.compile(rb" 00000073 ecall[^\n]*"), b"| a0="
-JUMPED = re.compile(rb" jalr? (\w+),(?:(\w{8})|-?\d+\((ra|t0)\))?")  # what it links, where it leads, if it is a return
+JUMPED = re.compile(rb" jalr? (\w+),(?:(\w{8})|-?\d+\((ra|t0)\))?")  # what it links, the place that it leads to, if it is a return
 LINKS, TOP = (b"ra", b"t0"), 1 << 32
 STREAMS = {1: "the output", 2: "err"}
 
@@ -182,7 +180,7 @@ def texts_of(log: Log, elf_name: str, most: int) -> Iterator[bytes]:
         here = text.count(b"\n")
         rows += here
         if rows > left:
-            yield parted(text, max(0, here - rows + left))[1]
+            yield text if rows - here >= left else parted(text, left - rows + here)[1]
 
 
 def numbered(log: Log) -> dict[SystemCall, int]:

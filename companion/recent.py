@@ -1,8 +1,8 @@
 """The end of a large log as a log of its own, since what tells of a crash is mostly among its last rows.
 
 How many rows an interval has is in its Header and its End, so what is read is decided before a row is asked for. The
-last records of a run, with the settings and the digest of its program, are a log (docs/FORMAT.md): the program's own
-`joint`, `races` and `list` read it, in a time that doesn't grow with the whole."""
+last records of a run are a log, too (docs/FORMAT.md). The program's own `joint`, `races` and `list` read it, in a time
+that doesn't grow with the whole."""
 from __future__ import annotations
 
 import contextlib

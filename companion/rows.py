@@ -14,18 +14,16 @@ from typing import AbstractSet, Callable, Dict, Iterable, Iterator, NamedTuple, 
 from . import streams
 from .chunks import OTHER_LINES, chunks, parted
 from .instruction import A0, A1, A7, AMO, CALL, JUMP, LOAD, STORE, Instruction
-from .log import At, Log
+from .log import FAILED, LONGEST_CALL, READ_CALL, WRITE_CALL, At, Log
 from .text import number
 from .trace import (CHANGED, FAULTS, KEEPS, LOADS, OFFSET, STORES, UNSTORED, Access, Fault, Hart, ReadCall, Tail, Trace,
                     WriteCall)
 
-READ_CALL, WRITE_CALL, FAILED = 63, 64, 1 << 31     # calls, and the least result of one that failed
-LONGEST_CALL = 4096         # bytes that a call moves at most
 # What a row does beside LOADS and STORES: it writes a register; it is a call, a return or a jump to a function; it is a
 # system call; it stores only if it succeeds.
 WRITES, GOES, ASKS, TRIES = 1, 2, 16, 32
-NEW = -1                    # stands for the number of an instruction that hasn't one
-NO_REGISTER = 32            # stands for the register of what writes none
+NEW = -1                    # in place of the number of an instruction that hasn't one
+NO_REGISTER = 32            # in place of the register of what writes none
 WORD = ~OFFSET
 SPECIAL, RESULT = re.compile(rb"[\x10-\x3f]"), re.compile(rb"\| \w+=(\w{8})")
 FAULT = b" | fault "
@@ -40,7 +38,7 @@ def of_shapes(bits: int) -> bytes:
 WENT, ACCESSED = of_shapes(GOES), of_shapes(LOADS | STORES)
 NO_ACCESS = bytes(shape for shape in range(256) if not ACCESSED[shape])
 BOTH = LOADS | STORES
-# Where a row tells its access and its value: the places from its end are the same for all rows of a shape.
+# A row tells its value so many letters before its end, which is the same for all rows of a shape.
 BEHIND = {0: 0, LOADS: 25, STORES: 26, BOTH: 51}    # letters behind a value
 RESULTS = [slice(-8 - behind, -behind or None) if shape & WRITES else None
            for shape in range(64) for behind in [BEHIND[shape & BOTH]]]
