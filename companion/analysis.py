@@ -3,22 +3,23 @@ from __future__ import annotations
 
 from typing import Sequence
 
+from . import streams
 from .calls import entries_of
 from .control import Control
 from .elf import Elf
-from .facts import Byte, Facts, asked_row, find_starts
+from .facts import Byte, Facts, Written, asked_row, find_starts, writer_of, written
 from .formatted import begin_at_argument
 from .history import NO_REGISTER, History
-from .log import Log
+from .log import At, Log
 from .naming import named_elf
 from .origins import origins
 from .races import Races
-from .recent import FIRST_ROWS, MORE_ROWS, Asked, LogFile, open_log
+from .recent import FIRST_ROWS, MORE_ROWS, LogFile, open_log
 from .recursion import find_recursion
-from .rows import Trace, read_trace
+from .rows import read_trace
 from .suspects import Ranking
+from .trace import Trace
 
-ALL_ROWS = 1 << 42
 MOST_RACES = 2000           # so many are asked for
 
 
@@ -31,7 +32,7 @@ class Analysis(Facts):
     origin                  what it took from before the rows"""
 
     def __init__(self, source: LogFile, log: Log, elf: Elf, named: Elf, trace: Trace, row: str = "",
-                 output: Byte | None = None, folders: Sequence[str] = ()) -> None:
+                 output: Written | None = None, folders: Sequence[str] = ()) -> None:
         super().__init__(log, elf, named, trace, row, output, folders)
         self.file = source
         if output:
@@ -43,7 +44,7 @@ class Analysis(Facts):
                                is_output=output is not None, hangs=self.hangs)
         self.races = Races(named, self.places)
         if log.harts > 1:
-            self.races.read(log.name, elf.name, MOST_RACES)
+            self.races.read(log.harts, log.name, elf.name, MOST_RACES)
         self.unordered = self.races.unordered()
         self.lines = self.history.lines(self.places)
         self.suspects = Ranking(self, self.history, self.unordered, recursion.suspects, loop).found
@@ -69,26 +70,34 @@ def leads_into(history: History, log: Log, more: Log) -> bool:
 def analysed(log_name: str, elf_name: str, names: str = "", row: str = "", rows: int = 0,
              output: Byte | None = None, folders: Sequence[str] = ()) -> Analysis:
     """Reads the end of a log, its rows and the names, and analyses them. `names` is a file with names, if ELF has none;
-    `folders` are those of --source.
-    `rows` says how many of the last rows are read; without it more if values near the fault come from before the first.
-    For a byte of the output all are, since writes are numbered from the first."""
+    `folders` are those of --source. `rows` says how many of the last rows are read, or of those before what is asked of;
+    without it more if values near the start come from before the first."""
     source = open_log(log_name)
     try:
         elf = Elf(elf_name)
-        named = named_elf(elf, names)
-        asked = Asked(asked_row(row).hart, asked_row(row).count) if row else None
-        entries = entries_of(named)
-        rows = ALL_ROWS if output else rows
-        log = source.end(rows or FIRST_ROWS, asked)
-        trace = read_trace(log, elf_name, entries, output.write if output else -1)
-        if log.unread and not rows and trace.last:
+        named, byte = named_elf(elf, names), written(source.whole(), output) if output else None
+        asked = asked_row(row) if row else At(byte.call.hart, byte.call.count) if byte else None
+        entries, most = entries_of(named), rows or FIRST_ROWS
+        log = source.end(most, asked)
+        trace = read_trace(log, elf_name, entries, 2 * most, asked)
+        if (log.unread or trace.passed) and not rows and trace.last:
             more = source.end(MORE_ROWS, asked)
-            if leads_into(History(trace, find_starts(log, trace, row)), log, more):
+            with streams.working("values from before are looked for"):
+                is_short = needs_more(trace, log, more, row, byte)
+            if is_short:
                 del trace                       # it is large
-                log, trace = more, read_trace(more, elf_name, entries, most=MORE_ROWS if more.unread and not row else 0)
+                log, trace = more, read_trace(more, elf_name, entries, MORE_ROWS, asked)
             else:
-                log = source.end(FIRST_ROWS, asked)
-        return Analysis(source, log, elf, named, trace, row, output, folders)
+                log = source.end(most, asked)
+        with streams.working("what is behind it is looked for"):
+            return Analysis(source, log, elf, named, trace, row, byte, folders)
     except BaseException:
         source.close()
         raise
+
+
+def needs_more(trace: Trace, log: Log, more: Log, row: str, byte: Written | None) -> bool:
+    """Whether values near the start come from before the rows."""
+    starts = [writer_of(trace, byte)] if byte else find_starts(log, trace, row)
+    unstored = byte and starts[0] == trace.row_of(byte.call.hart, byte.call.count)
+    return bool(unstored) or leads_into(History(trace, starts, is_output=byte is not None), log, more)

@@ -7,11 +7,11 @@ from __future__ import annotations
 
 import bisect
 from collections import Counter
-from typing import NamedTuple, Optional
+from typing import NamedTuple, Optional, Sequence
 
 from .elf import WRITABLE, Elf
 from .instruction import JUMP, RA
-from .rows import LOADS, STORES, Trace
+from .trace import LOADS, STORES, Trace
 
 LOWEST, NEAR, LARGEST = 4096, 1024, 1 << 16
 MOST_JUMPS = 500000         # so many of the latest calls and returns are looked at, which bounds the memory
@@ -58,7 +58,8 @@ class Blocks:
         givers = self.givers(found)
         self.collect(found, givers)
         # What a function that takes memory back leaves in its result's register is no memory that it gives out.
-        untrue = {taker for giver, taker in self.taker.items() if self.spread(giver) > self.spread(taker) > 0}
+        spread = Counter(giver for blocks in self.by_address.values() for giver in {block.giver for block in blocks})
+        untrue = {taker for giver, taker in self.taker.items() if spread[giver] > spread[taker] > 0}
         if untrue:
             givers -= untrue
             self.collect(found, givers)
@@ -76,10 +77,6 @@ class Blocks:
         self.addresses = sorted(self.by_address)
         self.collect_arguments()
         self.taker = self.takers()
-
-    def spread(self, giver: int) -> int:
-        """How many addresses a function gave out."""
-        return sum(any(block.giver == giver for block in blocks) for blocks in self.by_address.values())
 
     def add(self, block: Block) -> None:
         """A block replaces those that were given out within its call at the same address, as malloc's are in calloc."""
@@ -166,8 +163,8 @@ class Blocks:
         votes: dict[tuple[int, int], int] = {}
         for address, blocks in self.by_address.items():
             for first, second in zip(blocks, blocks[1:]):
-                for n, function in self.arguments.get(address, ()):
-                    if first.back < n < second.call and function != first.giver:
+                for _, function in self.calls_between(address, first.back, second.call):
+                    if function != first.giver:
                         key = first.giver, function
                         votes[key] = votes.get(key, 0) + 1
         found = {}
@@ -185,18 +182,22 @@ class Blocks:
             if before and before.call > block.call:
                 continue
             if before:
-                between = [call.function for call in self.arguments.get(block.address, ()) if before.back < call.row < block.call]
-                last.update((block.giver, function) for function in between[-1:])
+                between = self.calls_between(block.address, before.back, block.call)
+                last.update((block.giver, call.function) for call in between[-1:])
             latest[block.address] = block
         return {function for giver, _ in last for function in
                 (giver, max((times, taker) for (one, taker), times in last.items() if one == giver)[1])}
 
     def is_own(self, n: int) -> bool:
         """Whether a row is an allocator's own."""
-        node = self.trace.node_of(n)
-        if node not in self.own_nodes:
-            self.own_nodes[node] = any(self.leads.get(at) in self.own for at in self.trace.calls_at(n))
-        return self.own_nodes[node]
+        tree, node = self.trace.tree, self.trace.node_of(n)
+        passed: list[int] = []
+        while node and node not in self.own_nodes:
+            passed.append(node)
+            node = tree.parent[node]
+        for each in reversed(passed):
+            self.own_nodes[each] = self.leads.get(tree.call_pc[each]) in self.own or self.own_nodes.get(tree.parent[each], False)
+        return self.own_nodes.get(self.trace.node_of(n), False)
 
     def behind(self, row: int, address: int) -> Optional[Block]:
         """The block that a pointer came from, by the row that wrote the pointer and the address that it leads to."""
@@ -236,8 +237,8 @@ class Blocks:
 
     def is_out(self, address: int, giver: int, row: int) -> bool:
         """Whether a block of a giver is out at a row."""
-        blocks = [block for block in self.by_address[address] if block.back < row and block.giver == giver]
-        return bool(blocks) and not self.given_back(blocks[-1], blocks[-1].back, row)
+        latest = next((block for block in reversed(self.by_address[address]) if block.back < row and block.giver == giver), None)
+        return latest is not None and not self.given_back(latest, latest.back, row)
 
     def sources(self, n: int) -> list[int]:
         """The rows that a row's value comes from."""
@@ -251,4 +252,9 @@ class Blocks:
     def given_back(self, block: Block, low: int, high: int) -> list[int]:
         """The calls of the taker with a block's address between two rows."""
         taker = self.taker.get(block.giver)
-        return [n for n, function in self.arguments.get(block.address, ()) if function == taker and low < n < high]
+        return [n for n, function in self.calls_between(block.address, low, high) if function == taker]
+
+    def calls_between(self, address: int, low: int, high: int) -> Sequence[CallWith]:
+        """The calls with an address between two rows."""
+        calls = self.arguments.get(address, [])
+        return calls[bisect.bisect_left(calls, (low + 1,)):bisect.bisect_left(calls, (high,))]

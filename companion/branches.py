@@ -2,13 +2,14 @@
 from __future__ import annotations
 
 import math
+from array import array
 from collections import Counter
 from itertools import compress
 from typing import NamedTuple, Optional
 
 from .facts import Facts
 from .history import History
-from .loops import operands_of, rows_of
+from .loops import operands_of, pairs_of, rows_of
 from .lost import cut_behind
 from .suspect import Extra, Suspect
 from .text import number
@@ -129,8 +130,8 @@ class Ways:
         self.trace = facts.trace
         self.times: Counter[tuple[int, int]] = Counter()
         for hart in self.trace.last:
-            codes = list(compress(self.trace.pc, rows_of(self.trace, hart)))
-            self.times.update(zip(codes, codes[1:]))
+            codes = array("I", compress(self.trace.pc, rows_of(self.trace, hart)))
+            self.times.update(pairs_of(codes))
         self.all_times: Counter[int] = Counter()
         for (at, _), times in self.times.items():
             self.all_times[at] += times

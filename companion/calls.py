@@ -29,13 +29,13 @@ class Above(NamedTuple):
 
 
 class CallTree:
-    """parent, call_pc, depth: of each node."""
+    """parent, call_pc, depth, and the place of the outermost call: of each node."""
 
     def __init__(self, entries: AbstractSet[int] = frozenset()) -> None:
         """`entries` is where functions begin."""
         self.entries = entries
         self.tails: set[int] = set()            # the nodes of jumps
-        self.parent, self.call_pc, self.depth = array("I", [0]), array("I", [0]), array("I", [0])
+        self.parent, self.call_pc, self.depth, self.outermost = (array("I", [0]) for _ in range(4))
         self.child: dict[int, int] = {}         # {node above << 32 | place of the call: node}
 
     def called(self, node: int, pc: int) -> int:
@@ -47,6 +47,7 @@ class CallTree:
             self.parent.append(node)
             self.call_pc.append(pc)
             self.depth.append(self.depth[node] + 1)
+            self.outermost.append(self.outermost[node] if node else pc)
         return found
 
     def went(self, node: int, pc: int) -> int:
@@ -68,7 +69,4 @@ class CallTree:
         while node and len(found) < most:
             found.append(self.call_pc[node])
             node = self.parent[node]
-        more, first = self.depth[node], 0
-        while node:
-            first, node = self.call_pc[node], self.parent[node]
-        return Above(found, more, first)
+        return Above(found, self.depth[node], self.outermost[node])

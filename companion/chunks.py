@@ -4,7 +4,7 @@ A chunk holds whole rows and nothing else. Each begins with a newline, and nothi
 from __future__ import annotations
 
 import re
-from typing import Iterator, Pattern
+from typing import Iterable, Iterator, Pattern
 
 from .log import Log, is_fault
 from .program import Output
@@ -38,6 +38,11 @@ def chunks(log_name: str, elf_name: str, command: str = "joint", *words: str) ->
             out.finish()
 
 
+def check_program(log_name: str, elf_name: str) -> None:
+    """Refuses an ELF file that isn't the recorded one."""
+    next(chunks(log_name, elf_name), b"")
+
+
 def rows_between(log: Log, elf_name: str, hart: int, first: int, end: int) -> Iterator[bytes]:
     """The rows of a hart from one count up to another, as far as the log has them. The intervals that they are in are replayed, and
     no others."""
@@ -54,6 +59,13 @@ def last_rows(log: Log, elf_name: str, most: int) -> dict[int, bytes]:
     """{hart: so many of its last rows}"""
     behind = {hart: end.count + is_fault(end.reason) for hart, end in sorted(log.ends.items())}
     return {hart: b"".join(rows_between(log, elf_name, hart, end - most, end)) for hart, end in behind.items()}
+
+
+def parted(text: bytes, rows: int) -> tuple[bytes, bytes]:
+    """The first so many rows of a chunk, and the rest."""
+    ends = [found.start() for found in re.finditer(b"\n", text)] + [len(text)]
+    at = ends[min(rows, len(ends) - 1)]
+    return text[:at], text[at:]
 
 
 def count_of(text: bytes) -> int:
@@ -75,6 +87,12 @@ def touching(first: int, end: int, *kinds: bytes) -> Pattern[bytes]:
     """What rows have that access a word with a byte from an address up to another, by loads, stores or both."""
     words = hexadecimal(first & ~3, (end - 1) | 3)
     return re.compile(rb"\| (?:%s) %s=" % (b"|".join(kinds or (LOAD, STORE)), words))
+
+
+def touching_any(ranges: Iterable[tuple[int, int]]) -> Pattern[bytes]:
+    """The same of several ranges."""
+    words = [hexadecimal(first & ~3, (end - 1) | 3) for first, end in ranges]
+    return re.compile(rb"\| (?:load|store) (?:%s)=" % b"|".join(words) if words else rb"(?!)")
 
 
 def at(first: int, end: int) -> Pattern[bytes]:

@@ -8,7 +8,7 @@ from typing import Callable, Mapping, Optional
 
 from .elf import Elf
 from .instruction import BRANCH, JUMP, Instruction
-from .rows import LOADS, Trace
+from .trace import LOADS, Trace
 
 MOST_PLACES = 4000          # so many places are looked at for a way round
 MOST_ROWS = 2000            # so many rows are looked at for a branch

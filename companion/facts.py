@@ -1,19 +1,18 @@
 """All that is known of a crash: the rows, the names, and which rows a report begins with."""
 from __future__ import annotations
 
-from dataclasses import dataclass
 from typing import NamedTuple, Sequence
 
 from .elf import Elf
 from .errors import NO_INTERVAL, REFUSED, CompanionError
 from .instruction import STORE
-from .log import Log
+from .log import WRITE_CALL, At, Log, SystemCall
 from .loops import Loop
 from .options import whole
 from .naming import NO_TOOL, places_of
 from .places import Frame
-from .rows import LOADS, Trace
 from .text import clean
+from .trace import LOADS, Trace
 
 LAST_ROWS = 12
 LOOP_ROWS, MOST_LOADS = 300, 12         # what a hart did last, if it didn't fault
@@ -24,6 +23,13 @@ class Byte(NamedTuple):
     """A byte of the guest's output: of which of its writes, and which of that. Both count from 0."""
     write: int
     place: int
+
+
+class Written(NamedTuple):
+    """A byte of the guest's output, and the write that took it."""
+    write: int
+    place: int
+    call: SystemCall
 
 
 class StackFrame(NamedTuple):
@@ -53,7 +59,7 @@ class Facts:
     last     the last rows up to `start`
     notes    lines for the end of a report"""
 
-    def __init__(self, log: Log, elf: Elf, named: Elf, trace: Trace, row: str = "", output: Byte | None = None,
+    def __init__(self, log: Log, elf: Elf, named: Elf, trace: Trace, row: str = "", output: Written | None = None,
                  folders: Sequence[str] = ()) -> None:
         self.output = output
         self.log, self.elf, self.named, self.trace, self.asked = log, elf, named, trace, row
@@ -145,23 +151,22 @@ def limited(log: Log, trace: Trace) -> list[int]:
     return [hart for hart, end in sorted(log.ends.items()) if end.reason == "limit" and hart in trace.last]
 
 
-def writer_of(trace: Trace, byte: Byte) -> int:
-    """The store that gave a byte of the output, or else the row that wrote it."""
-    if byte.write >= len(trace.writes) or byte.place >= trace.writes[byte.write].size:
+def written(log: Log, byte: Byte) -> Written:
+    """The write that took a byte, by the log of the whole run."""
+    writes = [call for call in log.system_calls() if call.kind == WRITE_CALL]
+    if byte.write >= len(writes) or byte.place >= writes[byte.write].size:
         raise CompanionError(f"the log holds no byte {byte.place} of a write {byte.write}: `zelkuma output` lists them",
                              NO_INTERVAL)
-    place = trace.writes[byte.write].address + byte.place
-    writer = trace.written[place & ~3]
+    return Written(byte.write, byte.place, writes[byte.write])
+
+
+def writer_of(trace: Trace, byte: Written) -> int:
+    """The store that gave a byte of the output, or else the row that wrote it."""
+    row, place = trace.row_of(byte.call.hart, byte.call.count), byte.call.address + byte.place
+    writer = trace.writer_before(place & ~3, row)
     while writer and trace.code_of(writer).kind == STORE and not trace.mask(writer) >> (place & 3) & 1:
         writer = trace.dm[writer]
-    return writer or trace.writes[byte.write].row
-
-
-@dataclass(frozen=True)
-class At:
-    """An instruction: a hart and its count."""
-    hart: int
-    count: int
+    return writer or row
 
 
 def asked_row(row: str) -> At:

@@ -3,8 +3,8 @@ from __future__ import annotations
 
 from .elf import Elf
 from .instruction import AMO, LOAD, NAMES, OP_SYSTEM, SP, STORE
-from .rows import Fault, Trace
 from .text import as_text
+from .trace import Fault, Trace
 
 # Words that other processors know, and registers that words with this opcode access.
 PRIVILEGED = {0x30200073: "mret", 0x10200073: "sret", 0x10500073: "wfi"}

@@ -5,7 +5,7 @@ from __future__ import annotations
 
 from .facts import Facts
 from .instruction import ALU
-from .rows import LOADS, STORES
+from .trace import LOADS, STORES
 
 MOST_ROWS = 20000           # are looked at
 

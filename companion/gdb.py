@@ -18,13 +18,13 @@ from .bridge.server import Server
 from .bridge.session import Session, begin_session
 from .elf import Elf
 from .errors import UNREADABLE, CompanionError
-from .facts import At, asked_row
-from .log import Log
+from .facts import asked_row
+from .log import At, Log
 from .naming import named_elf
 from .options import parse, whole
 from .program import NOT_BUILT
 from .questions.debugger import PACKAGE, gdb_path
-from .recent import FIRST_ROWS, Asked, open_log
+from .recent import FIRST_ROWS, open_log
 from .text import number
 
 HELP = """zelkuma gdb LOG ELF [--run] [--names ELF] [--at HART:IC] [--rows N] [--port N] [--end] [--trace]
@@ -112,7 +112,7 @@ def main(words: list[str]) -> int:
         named_elf(elf, options.get("--names", ""))
         if "--run" in options:
             run_gdb(log_name, elf_name, options)
-        log = source.end(rows, Asked(at.hart, at.count) if at else None) if rows else source.whole()
+        log = source.end(rows, at) if rows else source.whole()
         if log.unread:
             streams.say(told_of_rows(log))
         session = opened.enter_context(closing(begin_session(log, elf_name)))

@@ -6,8 +6,8 @@ from typing import NamedTuple
 from .facts import Facts
 from .instruction import NAMES
 from .loops import Exit, Loop, Operand
-from .rows import STORES
 from .text import counted, number, short
+from .trace import STORES
 
 EXITS, STOPPED, WORDS = 4, 6, 6         # how many are told
 MORE_EXITS, MORE_STOPPED = 12, 20

@@ -10,7 +10,7 @@ from typing import NamedTuple, Optional, Sequence
 from .control import Control
 from .instruction import AMO, BRANCH, CALL, JUMP
 from .places import Places
-from .rows import FAULTS, LOADS, STORES, Trace
+from .trace import FAULTS, LOADS, STORES, Trace
 
 MOST_ROWS = 200000          # the search is cut off there: it keeps two entries a row
 ADDRESS, OUTPUT_ADDRESS = 12, 6
@@ -84,6 +84,8 @@ class History:
         starts are of a loop without end."""
         self.trace, self.start, self.most = trace, starts[0], most
         self.cost: dict[int, int] = {}
+        self.copied: dict[int, int] = {}        # {load: the first copied load behind it}
+        self.roots: dict[int, int] = {}
         self.parent: dict[int, Step] = {}
         self.far: dict[Pair, int] = {}
         self.before: list[int] = []
@@ -221,13 +223,17 @@ class History:
     def first_copied(self, load: int) -> int:
         """The load behind a load whose word was copied by its own instruction before, again and again: the first copy
         counts."""
-        trace = self.trace
-        while True:
+        trace, passed = self.trace, []
+        while load not in self.copied:
             found, rest = trace.writers(load)
             source = trace.d2[found[0]] if len(found) == 1 and not rest and trace.mask(found[0]) == 15 else 0
+            passed.append(load)
             if not source or trace.pc[source] != trace.pc[load] or not trace.flags[source] & LOADS:
-                return load
-            load = source
+                self.copied[load] = load
+            else:
+                load = source
+        self.copied.update((row, self.copied[load]) for row in passed)
+        return self.copied[load]
 
     def awaited(self, load: int, store: int, price: int) -> None:
         """What a hart waits for is stored by another one: the branch by which that one didn't store it again."""
@@ -260,8 +266,12 @@ class History:
 
     def root(self, row: int) -> int:
         """Which of the rows that the history begins with a row led to."""
-        while row in self.parent and self.parent[row].how != LOOP:
+        passed = []
+        while row in self.parent and self.parent[row].how != LOOP and row not in self.roots:
+            passed.append(row)
             row = self.parent[row].row
+        row = self.roots.get(row, row)
+        self.roots.update((each, row) for each in passed)
         return row
 
     def lines(self, places: Places) -> list[Line]:

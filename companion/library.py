@@ -11,7 +11,7 @@ from .bridge.goto import go_to_place
 from .bridge.memory import Memory
 from .bridge.session import Session, begin_session
 from .errors import NO_INTERVAL, CompanionError
-from .facts import At
+from .log import At
 from .instruction import NAMES
 from .log import is_fault
 from .questions.calls import Values, calls_of

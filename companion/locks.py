@@ -5,14 +5,14 @@ guards: that shows in what is held at their accesses."""
 from __future__ import annotations
 
 from collections import Counter
-from typing import Iterable, Mapping, NamedTuple
+from typing import Iterable, Mapping, NamedTuple, Sequence
 
 from .facts import Facts
 from .history import History
 from .instruction import AMO
-from .rows import STORES, Trace
 from .suspect import Extra, Suspect
 from .text import number
+from .trace import LOADS, STORES, Trace
 
 LEAST, RARE = 3, 3          # how often a guarded word is accessed with its lock at least, and how much rarer without
 UNLOCKED = 12
@@ -25,45 +25,53 @@ class Held(NamedTuple):
     locks: frozenset[int]
 
 
-def setting(trace: Trace) -> list[tuple[int, int, bool]]:
-    """The rows that set a word from 0 by an atomic instruction, or back to 0: with the word, and whether it was set."""
-    found, free = [], set()
-    for n, address in zip(trace.access_rows, trace.addresses):
-        if trace.code_of(n).kind == AMO:
-            told, stored = trace.load_of(n), trace.store_of(n)
-            if told and not stored:             # a store-conditional may follow
+class Setting(NamedTuple):
+    """A row that set a word from 0 by an atomic instruction, or back to 0."""
+    row: int
+    word: int
+    is_set: bool
+
+
+def setting(trace: Trace) -> list[Setting]:
+    """In the rows' order."""
+    found, free, stored = [], set(), iter(trace.stored)
+    is_atomic = [ins.kind == AMO for ins in trace.codes]
+    for n, address, value in zip(trace.access_rows, trace.addresses, trace.words):
+        kind = trace.flags[n] & (LOADS | STORES)
+        if kind == LOADS | STORES:
+            if next(stored) and not value:
+                found.append(Setting(n, address, True))
+        elif is_atomic[trace.pc[n]]:
+            if kind == STORES:
+                if value and address in free:
+                    found.append(Setting(n, address, True))
+            elif value:                         # a store-conditional may follow
                 free.discard(address)
-                if not told.value:
-                    free.add(address)
-            elif stored and stored.value and (not told.value if told else address in free):
-                found.append((n, address, True))
-    words = {address for _, address, _ in found}
-    for n, address in zip(trace.access_rows, trace.addresses):
-        if address in words and trace.flags[n] & STORES:
-            stored = trace.store_of(n)
-            if stored and not stored.value:
-                found.append((n, address, False))
+            else:
+                free.add(address)
+    words, stored = {each.word for each in found}, iter(trace.stored)
+    for n, address, value in zip(trace.access_rows, trace.addresses, trace.words):
+        kind = trace.flags[n] & (LOADS | STORES)
+        value = next(stored) if kind == LOADS | STORES else value
+        if not value and kind & STORES and address in words:
+            found.append(Setting(n, address, False))
     return sorted(found)
 
 
-def accesses(trace: Trace, words: Iterable[int]) -> dict[int, list[Held]]:
+def accesses(trace: Trace, words: Iterable[int], changes: Sequence[Setting]) -> dict[int, list[Held]]:
     """The accesses to some words."""
-    held: dict[int, set[int]] = {hart: set() for hart in trace.last}
-    changes = setting(trace)
+    held: dict[int, frozenset[int]] = dict.fromkeys(trace.last, frozenset())
     given_back = {(trace.hart[n], lock) for n, lock, is_set in changes if not is_set}
     found: dict[int, list[Held]] = {word: [] for word in words}
     at = 0
     for n, address in zip(trace.access_rows, trace.addresses):
-        hart = trace.hart[n]
-        while at < len(changes) and changes[at][0] <= n:
+        while at < len(changes) and changes[at].row <= n:
             row, lock, is_set = changes[at]
-            if is_set and (trace.hart[row], lock) in given_back:
-                held[trace.hart[row]].add(lock)
-            else:
-                held[trace.hart[row]].discard(lock)
+            hart = trace.hart[row]
+            held[hart] = held[hart] | {lock} if is_set and (hart, lock) in given_back else held[hart] - {lock}
             at += 1
         if address & ~3 in found:
-            found[address & ~3].append(Held(n, frozenset(held[hart])))
+            found[address & ~3].append(Held(n, held[trace.hart[n]]))
     return found
 
 
@@ -73,8 +81,8 @@ def unlocked(facts: Facts, history: History) -> list[Suspect]:
     if len(trace.last) < 2:
         return []
     nearest, found = history.words(), []
-    locks = {address for _, address, _ in setting(trace)}
-    for word, held in accesses(trace, set(nearest) - locks).items():
+    changes = setting(trace)
+    for word, held in accesses(trace, set(nearest) - {each.word for each in changes}, changes).items():
         lock, times = max(Counter(lock for each in held for lock in each.locks).items(), key=lambda item: item[1],
                           default=(word, 0))
         harts: set[int] = set()

@@ -16,6 +16,9 @@ SIZES = {HEADER: 146, FIRST_LOAD: 10, SC_OK: 2, SC_FAILED: 2, EDGE: 19, END: 15}
 REASONS = {1: "length", 2: "call", 3: "exit", 4: "group", 5: "stopped", 6: "guard", 7: "limit",
            17: "Illegal", 18: "Breakpoint", 19: "FetchOutside", 20: "TargetMisaligned", 21: "LoadOutside",
            22: "LoadMisaligned", 23: "StoreOutside", 24: "StoreMisaligned", 25: "StoreReadOnly"}
+CALL, A1, A7 = "call", 11, 17                   # a call's reason and registers
+READ_CALL, WRITE_CALL, FAILED = 63, 64, 1 << 31  # calls, and the least result of one that failed
+LONGEST_CALL = 4096                             # bytes that a call moves at most
 MOST_HARTS = 16
 NO_END = ""                                     # the reason of an interval without an End
 HEAD_1, HEAD_2, DIGEST, SEAL = 92, 136, 32, 48  # bytes before the records, of a digest, of what ends a block
@@ -43,6 +46,25 @@ class End:
     value: int
 
 
+@dataclass(frozen=True)
+class At:
+    """An instruction: a hart and its count."""
+    hart: int
+    count: int
+
+
+@dataclass(frozen=True)
+class SystemCall:
+    """A system call of a hart: its row's count, its kind, the address that it names, the bytes that it moved if it is a read
+    or a write, and the address of its code."""
+    hart: int
+    count: int
+    kind: int
+    address: int
+    size: int
+    pc: int
+
+
 class Edges(NamedTuple):
     """Columns, one entry for each Edge: the access of a hart at a count comes after that of its source."""
     counts: array[int]
@@ -68,6 +90,7 @@ class Log:
         self.name, self.bytes, self.shown, self.unread = name, len(data), shown or name, unread
         self.version = self.harts = self.length = self.limit = self.size = self.memory = self.dropped = 0
         self.intervals: list[Interval] = []
+        self.called: list[Interval] = []        # those that ended by a system call, in its order
         self.ends: dict[int, End] = {}
         self.records = 0
         self.edges = Edges(array("Q"), array("Q"), array("B"), array("B"))
@@ -109,6 +132,8 @@ class Log:
                 interval = opened.pop(hart, None)
                 if interval:                    # the Header of the log's first End can be lost
                     interval.end, interval.reason, interval.value = count, REASONS[reason], value
+                    if interval.reason == CALL:
+                        self.called.append(interval)
 
     def header(self, record: bytes) -> Interval:
         """A new interval."""
@@ -127,6 +152,15 @@ class Log:
         for interval in self.intervals:
             found.setdefault(interval.hart, interval)
         return found
+
+    def system_calls(self) -> Iterator[SystemCall]:
+        """Those after which a hart continued, in their order. What they were asked is in the registers that the next Header has."""
+        following = {(interval.hart, interval.number): interval.registers for interval in self.intervals}
+        for interval in self.called:
+            registers = following.get((interval.hart, interval.number + 1))
+            if registers and interval.value < FAILED:
+                yield SystemCall(interval.hart, interval.end - 1, registers[A7], registers[A1], min(interval.value, LONGEST_CALL),
+                                 registers[0] - 4)
 
 
 def runs_of(records: bytes) -> Iterator[bytes]:

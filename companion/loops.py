@@ -11,8 +11,9 @@ from typing import NamedTuple, Sequence
 
 from .control import load_behind, other_side
 from .instruction import BRANCH
-from .rows import STORES, Trace
+from .trace import STORES, Trace
 
+AT_ONCE = 1 << 18           # rows between which Ctrl-C is heard
 LONGER = 3                  # how many rounds a loop has at least
 NO_CODE = -1
 MOST_CUTS = 12              # how many sets of places are tried
@@ -57,10 +58,12 @@ class Loop:
         mine = rows_of(trace, hart)
         self.of_hart = array("I", compress(range(len(mine)), mine))
         self.codes = array("I", compress(trace.pc, mine))
-        self.latest = dict(zip(self.codes, range(len(self.codes))))    # {code: its last place among the hart's rows}
+        self.latest: dict[int, int] = {}        # {code: its last place among the hart's rows}
+        for begin in range(0, len(self.codes), AT_ONCE):
+            self.latest.update(zip(self.codes[begin:begin + AT_ONCE], range(begin, len(self.codes))))
         self.places, self.begin = self.find_places()
         stay = self.codes[self.begin:]
-        self.first, self.rows, self.times = self.of_hart[self.begin], len(stay), Counter(stay)
+        self.first, self.rows, self.times = self.of_hart[self.begin], len(stay), counted(stay)
         self.rounds = min((self.times[at] for at in self.places), default=0)
         self.exits = self.find_exits(stay)
         self.stores = self.find_stores()
@@ -88,7 +91,7 @@ class Loop:
     def find_exits(self, stay: Sequence[int]) -> list[Exit]:
         trace, where = self.trace, {self.trace.codes[at].pc for at in self.places}
         ways: dict[int, list[int]] = {}
-        for at, following in set(zip(stay, stay[1:])):
+        for at, following in set(pairs_of(stay)):
             if trace.codes[at].kind == BRANCH and at in self.places:
                 ways.setdefault(at, []).append(following)
         found = []
@@ -112,9 +115,24 @@ class Loop:
     def find_stopped(self) -> list[Stopped]:
         if not self.places:
             return []
-        times = Counter(self.codes)
+        times = counted(self.codes)
         return sorted((Stopped(self.of_hart[i], times[at]) for at, i in self.latest.items()
                        if at not in self.places and times[at] >= OFTEN), reverse=True)
+
+
+def pairs_of(codes: Sequence[int]) -> Counter[tuple[int, int]]:
+    """How often each code followed each."""
+    found: Counter[tuple[int, int]] = Counter()
+    for begin in range(0, len(codes), AT_ONCE):
+        found.update(zip(codes[begin:begin + AT_ONCE], codes[begin + 1:begin + 1 + AT_ONCE]))
+    return found
+
+
+def counted(codes: Sequence[int]) -> Counter[int]:
+    found: Counter[int] = Counter()
+    for begin in range(0, len(codes), AT_ONCE):
+        found.update(codes[begin:begin + AT_ONCE])
+    return found
 
 
 def rows_of(trace: Trace, hart: int) -> bytes:

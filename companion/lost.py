@@ -4,7 +4,7 @@ from __future__ import annotations
 from typing import Mapping, NamedTuple, Optional
 
 from .instruction import STORE, Instruction
-from .rows import LOADS, STORES, Trace
+from .trace import LOADS, STORES, Trace
 
 SMALL = 1 << 16             # how far below zero a difference may be
 MASKS = {(1 << width) - 1: width for width in range(4, 12)}

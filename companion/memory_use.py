@@ -11,8 +11,8 @@ from .facts import Facts
 from .history import History
 from .instruction import ALU, SP
 from .lost import cut_behind
-from .rows import LOADS, STORES
 from .suspect import Extra, Suspect
+from .trace import LOADS, STORES
 
 GIVEN_BACK, NEVER_WRITTEN, OVER_THE_END = 16, 14, 10
 CUT_BOUND = 8

@@ -9,15 +9,16 @@ from . import streams
 from .answers import LONGEST, place_of, put_answer
 from .elf import Elf, Symbol
 from .errors import CompanionError
-from .facts import At
 from .history import History
+from .log import At
 from .naming import named_elf, places_of
 from .options import parse, whole
 from .races import FENCED, ORDERED, TOO_MANY, Access, AccessPair, Group, Races
 from .recent import FIRST_ROWS, LogFile, open_log
-from .rows import Trace, read_trace
+from .rows import read_trace
 from .sources import source_folders
 from .text import counted, number
+from .trace import Trace
 
 HELP = """Groups the races of a log by the two places and the word, the likeliest cause of its fault first. Words of one object
 with the same places, as an array's, are told together.
@@ -169,10 +170,10 @@ def left_out(families: list[list[Group]], told: list[list[Group]]) -> list[str]:
 
 def judge(source: LogFile, elf_name: str, races: Races) -> Judged:
     """The groups in order; if a hart faulted, the chain behind its fault is followed in the last rows."""
-    log = source.end(FIRST_ROWS)
-    if not (log.faulted and races.groups):
+    log = source.end(FIRST_ROWS) if races.groups else None
+    if not log or not log.faulted:
         return Judged(races)
-    trace = read_trace(log, elf_name)
+    trace = read_trace(log, elf_name, most=2 * FIRST_ROWS)
     return Judged(races, trace, History(trace, [trace.fault.row])) if trace.fault else Judged(races)
 
 
@@ -199,7 +200,7 @@ def main(words: list[str]) -> int:
         source = opened.enter_context(closing(open_log(log_name)))
         elf = Elf(elf_name)
         named = named_elf(elf, given.get("--names", ""))
-        races = Races(named, opened.enter_context(closing(places_of(named, folders)))).read(log_name, elf_name, most)
+        races = Races(named, opened.enter_context(closing(places_of(named, folders)))).read(source.harts(), log_name, elf_name, most)
         if races.over:
             raise CompanionError(f"races: more than {most} pairs; --max takes up to 1000000", TOO_MANY)
         judged = judge(source, elf_name, races)

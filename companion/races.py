@@ -8,9 +8,10 @@ import bisect
 from array import array
 from typing import NamedTuple, Optional, Sequence
 
-from . import fences
+from . import fences, streams
+from .chunks import check_program
 from .elf import Elf
-from .facts import At
+from .log import At
 from .places import Places
 from .program import Output
 
@@ -100,12 +101,17 @@ class Races:
         self.total, self.over = 0, False
         self.groups: list[Group] = []
 
-    def read(self, log_name: str, elf_name: str, most: int) -> Races:
-        """Asks for at most so many pairs, and first for fewer, since a longer list takes the program longer."""
-        for step in [step for step in STEPS if step < most] + [most]:
-            self.over = not self.read_list(log_name, elf_name, step)
-            if not self.over:
-                break
+    def read(self, harts: int, log_name: str, elf_name: str, most: int) -> Races:
+        """Asks for at most so many pairs, and first for fewer, since a longer list takes the program longer. One hart alone has
+        none."""
+        if harts == 1:
+            check_program(log_name, elf_name)
+            return self
+        with streams.working("races are looked for"):
+            for step in [step for step in STEPS if step < most] + [most]:
+                self.over = not self.read_list(log_name, elf_name, step)
+                if not self.over:
+                    break
         self.groups = list(self.by_key.values())
         self.find_ordered()
         return self

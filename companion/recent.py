@@ -1,30 +1,25 @@
 """The end of a large log as a log of its own, since what tells of a crash is mostly among its last rows.
 
-A file of version 2 ends in blocks that are good by themselves. So its head and its last blocks are what `salvage` takes,
-and what that saves is a log. The program's own `joint`, `races` and `list` read it, in a time that doesn't grow with
-the whole."""
+How many rows an interval has is in its Header and its End, so what is read is decided before a row is asked for. The
+last records of a run are a log, too (docs/FORMAT.md). The program's own `joint`, `races` and `list` read it, in a time
+that doesn't grow with the whole."""
 from __future__ import annotations
 
 import contextlib
+import hashlib
 import mmap
 import os
 import struct
 import tempfile
-from typing import NamedTuple, Optional
+from typing import Iterator, Optional
 
 from . import program, streams
 from .errors import NO_INTERVAL, UNREADABLE, CompanionError
-from .log import END, FIRST_FAULT, HEAD_2, HEADER, SEAL, End, Log, changed, check, runs_of
+from .log import END, FIRST_FAULT, HEAD_2, HEADER, REASONS, SEAL, SIZES, At, End, Log, changed, check, runs_of
 
-VERSION_1, LARGEST_SMALL = 1, 1 << 20   # a file of version 1 that is larger is converted first
+VERSION_1, LARGEST_SMALL = 1, 1 << 20   # a file of version 1 that is larger isn't read whole
+SETTINGS, BLOCK = 92, 4096                      # bytes of a head up to its count of dropped records; of a block's records
 FIRST_ROWS, MORE_ROWS = 1000000, 2600000        # are read at first, and if values come from before them
-MOST_ROWS = 10000000                            # are read without being asked for, if a row is asked of
-
-
-class Asked(NamedTuple):
-    """A row that has to be among those that are read."""
-    hart: int
-    at: int
 
 
 class LogFile:
@@ -48,85 +43,98 @@ class LogFile:
                 raise CompanionError(f"no place for the end of {self.name}: {error.strerror or error}", UNREADABLE)
         return os.path.join(self.folder, name)
 
+    def harts(self) -> int:
+        with open(self.name, "rb") as file:
+            return int.from_bytes(file.read(16)[12:], "little")
+
     def whole(self) -> Log:
         with open(self.name, "rb") as file:
             return Log(self.name, file.read())
 
-    def end(self, rows: int, asked: Optional[Asked] = None) -> Log:
-        """The shortest end that holds so many rows and what else is needed, or the whole log if it is no longer."""
+    def end(self, rows: int, asked: Optional[At] = None) -> Log:
+        """The shortest end that holds so many rows and what else is needed, or the whole log if it is no longer. Of a row that
+        is asked of, so many rows before it are held."""
         try:
             return self.end_of_file(rows, asked)
         except (ValueError, IndexError, KeyError, struct.error):
             raise changed(self.name)
 
-    def end_of_file(self, rows: int, asked: Optional[Asked]) -> Log:
+    def end_of_file(self, rows: int, asked: Optional[At]) -> Log:
         with open(self.source, "rb") as file, mmap.mmap(file.fileno(), 0, access=mmap.ACCESS_READ) as data:
-            version, = struct.unpack_from("<I", data, 8)
-            if version == VERSION_1 and len(data) > LARGEST_SMALL:
-                program.output("convert", self.name, self.path("converted"))
+            if struct.unpack_from("<I", data, 8)[0] == VERSION_1:
+                if len(data) <= LARGEST_SMALL:
+                    log = self.whole()
+                    if log.rows() <= rows:
+                        return log
+                with streams.working("the log is converted"):
+                    program.output("convert", self.name, self.path("converted"))
                 self.source = self.path("converted")
                 return self.end_of_file(rows, asked)
-            start = HEAD_2 if version == VERSION_1 else self.start_of(data, rows, asked)
-            if start > HEAD_2:
-                with open(self.path("blocks"), "wb") as blocks:
-                    blocks.write(data[:HEAD_2])
-                    blocks.write(data[start:])
-        if start < HEAD_2:                      # no block ends so
-            raise changed(self.name)
-        if start == HEAD_2:
-            return self.whole()
-        program.output("salvage", self.path("blocks"), self.path("log"))
-        with open(self.path("log"), "rb") as file:
-            log = Log(self.path("log"), file.read(), self.name, start - HEAD_2)
-        log.ends = self.ends()                  # some may be further back
+            last = LastRecords(data, rows, asked)
+            if last.asked:
+                raise CompanionError(f"the log holds no row {last.asked.hart}:{last.asked.count}", NO_INTERVAL)
+            if not last.unread:
+                return self.whole()
+            sealed = b"".join(sealed_blocks(data[:SETTINGS], last.dropped, last.records()))
+        with open(self.path("log"), "wb") as kept:
+            kept.write(sealed)
+        log = Log(self.path("log"), sealed, self.name, last.unread)
+        log.ends = dict(sorted(last.last.items()))      # some may be further back
         return log
-
-    def start_of(self, data: mmap.mmap, rows: int, asked: Optional[Asked]) -> int:
-        """The place of the first block that is read."""
-        blocks = Blocks(data, rows, asked)
-        if asked and blocks.rows > max(MOST_ROWS, 2 * rows):
-            raise CompanionError(f"row {asked.hart}:{asked.at} is more than {MOST_ROWS} rows before the end: "
-                                 f"--rows {blocks.rows} reads them all", NO_INTERVAL)
-        return blocks.start
-
-    def ends(self) -> dict[int, End]:
-        """{hart: its last End} of the whole log."""
-        found: dict[int, End] = {}
-        for line in program.output("list", self.name).text.splitlines():
-            hart, _, _, count, reason, value = line.split(" ")
-            found[int(hart)] = End(int(count), reason, int(value, 16))
-        return found
 
 
 def open_log(name: str) -> LogFile:
     """A log that the program has checked."""
-    check(name)
+    with streams.working("the log is checked"):
+        check(name)
     return LogFile(name)
 
 
-class Blocks:
-    """The last blocks of a file, from the end back, until they hold so many rows, the last interval of each hart that
+class LastRecords:
+    """The last records of a file, from the end back, until they hold so many rows, the last interval of each hart that
     ended there, and the row that is asked of. Intervals can be long: once there are twice as many rows, those of the harts
     that faulted are enough.
 
-    start   where the first of these blocks begins"""
+    unread   how many bytes come before them; dropped: how many records
+    last     {hart: its last End}, wherever that is"""
 
-    def __init__(self, data: mmap.mmap, rows: int, asked: Optional[Asked]) -> None:
+    def __init__(self, data: mmap.mmap, rows: int, asked: Optional[At]) -> None:
         self.most, self.asked = rows, asked
-        self.rows = 0
+        self.rows = self.unread = self.dropped = 0
         self.ends: dict[int, int] = {}          # {hart: where its interval ends, whose Header comes further back}
         self.awaited: set[int] = set()          # harts whose last interval is still incomplete
         self.faulted: set[int] = set()
         self.seen: set[int] = set()
-        self.start = len(data)
-        while self.start > HEAD_2 and not self.is_enough():
-            size, = struct.unpack_from("<I", data, self.start - 36)
-            for record in reversed(list(runs_of(data[self.start - SEAL - size:self.start - SEAL]))):
-                self.take(record)
-            self.start -= size + SEAL
+        self.last: dict[int, End] = {}
+        self.pieces: list[bytes] = []
+        harts, end = struct.unpack_from("<I", data, 12)[0], len(data)
+        while end > HEAD_2 and not (self.unread and len(self.last) == harts):
+            before, _, size = struct.unpack_from("<QII", data, end - SEAL)
+            end -= SEAL + size
+            self.take_block(data[end:end + size], end - HEAD_2, before)
+
+    def records(self) -> bytes:
+        return b"".join(reversed(self.pieces))
+
+    def take_block(self, block: bytes, unread: int, before: int) -> None:
+        """Takes the records of a block, the last one first, while they are needed."""
+        runs, at = list(runs_of(block)), len(block)
+        while runs:
+            run = runs.pop()
+            at -= len(run)
+            if run[0] == END:
+                count, reason, value = struct.unpack_from("<QBI", run, 2)
+                self.last.setdefault(run[1], End(count, REASONS[reason], value))
+            if not self.unread:
+                self.take(run)
+                if run[0] == HEADER and self.is_enough():
+                    self.unread, self.dropped = unread + at, before + sum(len(one) // SIZES[one[0]] for one in runs)
+                    self.pieces.append(block[at:])
+        if not self.unread:
+            self.pieces.append(block)
 
     def is_enough(self) -> bool:
-        if self.asked or not self.seen or self.rows < self.most or self.awaited & self.faulted:
+        if self.asked or not self.last or self.rows < self.most or self.awaited & self.faulted:
             return False
         return not self.awaited or self.rows >= 2 * self.most
 
@@ -141,8 +149,36 @@ class Blocks:
                 if record[10] >= FIRST_FAULT:
                     self.faulted.add(hart)
         elif record[0] == HEADER and hart in self.ends:
-            begin, = struct.unpack_from("<Q", record, 10)
-            self.rows += self.ends.pop(hart) - begin
+            begin, end = struct.unpack_from("<Q", record, 10)[0], self.ends.pop(hart)
             self.awaited.discard(hart)
-            if self.asked and self.asked.hart == hart and begin <= self.asked.at:
-                self.asked = None
+            self.rows += end - begin
+            if self.asked and self.asked.hart == hart and begin <= self.asked.count <= end:
+                self.rows, self.asked = self.asked.count - begin, None
+                self.awaited = set()
+
+
+def sealed_blocks(settings: bytes, dropped: int, records: bytes) -> Iterator[bytes]:
+    """The file of version 2 of some records, in pieces."""
+    head = settings + struct.pack("<QI", dropped, len(records))
+    key, left = hashlib.sha256(head).digest(), len(records)
+    yield head + key
+    for block, count in blocks_of(records):
+        left -= len(block)
+        body = block + struct.pack("<QII", dropped, left, len(block))
+        yield body + hashlib.sha256(key + body).digest()
+        dropped += count
+
+
+def blocks_of(records: bytes) -> Iterator[tuple[bytes, int]]:
+    """The records of each block, and how many they are."""
+    block, count = b"", 0
+    for run in runs_of(records):
+        size = SIZES[run[0]]
+        while run:
+            fits = (BLOCK - len(block)) // size * size
+            block, count, run = block + run[:fits], count + len(run[:fits]) // size, run[fits:]
+            if run:
+                yield block, count
+                block, count = b"", 0
+    if block:
+        yield block, count

@@ -3,9 +3,9 @@ from __future__ import annotations
 
 from typing import NamedTuple
 
-from .rows import Trace
 from .suspect import Suspect
 from .text import number
+from .trace import Trace
 
 DEEP = 500                  # calls
 ASKED_FROM, ASKED_CALLS = 250, 64   # deeper than a sound program goes, and before the stack can have damaged anything

@@ -2,7 +2,7 @@
 from __future__ import annotations
 
 from .analysis import MOST_RACES, Analysis
-from .facts import Byte
+from .facts import Written
 from .fault import fault_words
 from .hang import hang_lines
 from .history import ADDRESS
@@ -67,13 +67,14 @@ def head_lines(facts: Analysis) -> list[str]:
     return said + [f"{verb} {facts.where(at)}{':  ' + source if source else ''}"]
 
 
-def output_lines(facts: Analysis, byte: Byte) -> list[str]:
+def output_lines(facts: Analysis, byte: Written) -> list[str]:
     """What was written, and who stored the byte."""
-    trace, call = facts.trace, facts.trace.writes[byte.write]
+    trace, call = facts.trace, byte.call
+    row = trace.row_of(call.hart, call.count)
     said = [f"Asked of byte {byte.place} of write {byte.write}, which took {counted(call.size, 'byte')} from {call.address:08x}",
-            f"hart {trace.hart[call.row]} wrote it at count {number(trace.count_of(call.row))} in {facts.where(call.row)}"]
-    if facts.stored == call.row:
-        return said + ["No row stored the byte: below is the write."]
+            f"hart {call.hart} wrote it at count {number(call.count)} in {facts.where(row)}"]
+    if facts.stored == row:
+        return said + [f"No row{' that was read' if facts.log.unread else ''} stored the byte: below is the write."]
     told = trace.store_of(facts.stored)
     place = call.address + byte.place & 3
     value = bytes([told.value >> 8 * place & 255]) if told else b""

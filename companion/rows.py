@@ -1,37 +1,47 @@
-"""The rows of `joint` as numbers: 22 bytes a row, 12 for each access to memory, 20 for each call or return, in arrays
-that are filled in one pass.
-
-Row numbers begin with 1; 0 is no row. Beside the arrays the reader keeps two entries for each word of memory
-that a row touched, and one for each pair of a load's and a store's code."""
+"""Fills a trace from chunks of text: most columns at once for all rows of a chunk, and row by row only what depends on
+the rows before."""
 from __future__ import annotations
 
-import bisect
-import itertools
+import re
+import sys
 import time
 from array import array
-from typing import AbstractSet, Callable, Iterable, Iterator, NamedTuple, Optional, Sequence, Tuple
+from binascii import unhexlify
+from itertools import compress, repeat
+from operator import ne
+from typing import AbstractSet, Callable, Dict, Iterable, Iterator, NamedTuple, Optional, Sequence
 
 from . import streams
-from .calls import CallTree
-from .instruction import A0, A1, A7, AMO, CALL, JUMP, LOAD, NAMES, SP, STORE, Instruction
-from .log import Log
-from .program import Output
+from .chunks import OTHER_LINES, chunks, parted
+from .instruction import A0, A1, A7, AMO, CALL, JUMP, LOAD, STORE, Instruction
+from .log import FAILED, LONGEST_CALL, READ_CALL, WRITE_CALL, At, Log
 from .text import number
+from .trace import (CHANGED, FAULTS, KEEPS, LOADS, OFFSET, STORES, UNSTORED, Access, Fault, Hart, ReadCall, Tail, Trace,
+                    WriteCall)
 
-# A row's flags. OFFSET: the byte of its word. UNSTORED: no row stored what it loads. CHANGED: a `read` call did since the
-# last row. KEEPS: an atomic one that stores what the word holds, as a lock's spinning does.
-OFFSET, LOADS, STORES, UNSTORED, CHANGED, FAULTS, KEEPS = 3, 4, 8, 16, 32, 64, 128
-STORE_BITS = 0xffffffff     # of a pair, those that tell its store
-MOST_WRITERS, WRITERS_CALLS = 20, 2     # stores to a word before one, and calls over each
-BESIDE = 64                 # how far from a word another is beside it
-READ_CALL, WRITE_CALL = b"0000003f", b"00000040"
-AT_ONCE = 1 << 12           # lines between two looks at the progress
+# What a row does beside LOADS and STORES: it writes a register; it is a call, a return or a jump to a function; it is a
+# system call; it stores only if it succeeds.
+WRITES, GOES, ASKS, TRIES = 1, 2, 16, 32
+NEW = -1                    # in place of the number of an instruction that hasn't one
+NO_REGISTER = 32            # in place of the register of what writes none
+WORD = ~OFFSET
+SPECIAL, RESULT = re.compile(rb"[\x10-\x3f]"), re.compile(rb"\| \w+=(\w{8})")
+FAULT = b" | fault "
+KEY, ZERO = 17, b"0" * 8    # letters of an address and a word; the value of what writes no register
 
 
-class Access(NamedTuple):
-    """What a row loaded or stored: where, and the whole word."""
-    address: int
-    value: int
+def of_shapes(bits: int) -> bytes:
+    """What `translate` needs to leave these bits of shapes."""
+    return bytes(shape & bits for shape in range(256))
+
+
+WENT, ACCESSED = of_shapes(GOES), of_shapes(LOADS | STORES)
+NO_ACCESS = bytes(shape for shape in range(256) if not ACCESSED[shape])
+BOTH = LOADS | STORES
+# A row tells its value so many letters before its end, which is the same for all rows of a shape.
+BEHIND = {0: 0, LOADS: 25, STORES: 26, BOTH: 51}    # letters behind a value
+RESULTS = [slice(-8 - behind, -behind or None) if shape & WRITES else None
+           for shape in range(64) for behind in [BEHIND[shape & BOTH]]]
 
 
 class Row(NamedTuple):
@@ -49,469 +59,267 @@ class Row(NamedTuple):
     fault: str
 
 
-class Hart:
-    """What is known of a hart while its rows are read. Of each register it has the row that wrote it, and its value. It has
-    the node of its calls, the counts at which its rows begin again after another hart's, and its calls and returns."""
-    __slots__ = ("number", "writers", "values", "last", "rows", "counts", "node", "jumps", "nodes", "is_cut")
-
-    def __init__(self, number: int, registers: Sequence[int], is_cut: bool) -> None:
-        self.number, self.last, self.node, self.is_cut = number, 0, 0, is_cut
-        self.writers = [0] * 32
-        self.values = [b"%08x" % (value if i else 0) for i, value in enumerate(registers)]
-        self.rows, self.counts = array("I"), array("Q")
-        self.jumps, self.nodes = array("I"), array("I")
-
-    def begins(self, n: int, count: bytes) -> Hart:
-        """Its rows begin again here."""
-        self.rows.append(n)
-        self.counts.append(int(count))
-        return self
+class Turn(NamedTuple):
+    """Rows of a hart that follow each other in a chunk, as places in it; the count of the first; the letters before their
+    addresses."""
+    hart: Hart
+    begin: int
+    end: int
+    first: int
+    letters: int
 
 
-class Fault(NamedTuple):
-    row: int
-    hart: int
-    name: str
-    value: int
-    instruction: Instruction
+class Codes(Dict[bytes, int]):
+    """{address and word: the number of the instruction}, and of each number its shape and the registers that it writes and
+    reads."""
+
+    def __init__(self, trace: Trace) -> None:
+        super().__init__()
+        self.trace = trace
+        self.shapes: list[int] = []
+        self.registers: list[tuple[int, int, int]] = []
+
+    def of(self, lines: Sequence[bytes], turns: Sequence[Turn]) -> list[int]:
+        found: list[int] = []
+        get: Callable[[bytes, int], int] = self.get
+        for _, begin, end, _, letters in turns:
+            keys = [line[letters:letters + KEY] for line in lines[begin:end]]
+            numbered = list(map(get, keys, repeat(NEW)))
+            if NEW in numbered:
+                for key, line in zip(keys, lines[begin:end]):
+                    if key not in self:
+                        self.add(key, line[letters:])
+                numbered = list(map(self.__getitem__, keys))
+            found += numbered
+        return found
+
+    def add(self, key: bytes, row: bytes) -> None:
+        ins = Instruction(len(self.trace.codes), row.partition(b" | ")[0])
+        self.trace.codes.append(ins)
+        shape = WRITES if ins.rd and (ins.kind != CALL or ins.name == "ecall") else 0
+        if ins.kind == JUMP and (ins.call or ins.ret or ins.leads in self.trace.tree.entries):
+            shape |= GOES
+        elif ins.kind == AMO:
+            shape |= STORES | TRIES if ins.name.startswith("sc.") else LOADS if ins.name.startswith("lr.") else BOTH
+        else:
+            shape |= {LOAD: LOADS, STORE: STORES, CALL: ASKS}.get(ins.kind, 0)
+        self.shapes.append(shape)
+        # A jump reads no second register. For a call and a return it is a0, which has an argument or a result.
+        self.registers.append((ins.rd or NO_REGISTER, ins.rs1, A0 if shape & GOES else ins.rs2))
+        self[key] = ins.at
 
 
-class ReadCall(NamedTuple):
-    """A `read` call that filled so many bytes at an address."""
-    row: int
-    hart: int
-    address: int
-    size: int
+class Reader:
+    """writer_of, held: of the address of a word the row that stored it last, and its value
+    start   the number of the chunk's first row"""
 
-
-class WriteCall(NamedTuple):
-    """A `write` call that took so many bytes from an address."""
-    row: int
-    address: int
-    size: int
-
-
-class Tail(NamedTuple):
-    """A jump to a function: its row and what a0 was."""
-    row: int
-    a0: int
-
-
-class Stores(NamedTuple):
-    """The stores that gave a load its bytes, latest first, and a mask of the bytes that no row stored."""
-    rows: list[int]
-    rest: int
-
-
-Handler = Callable[[int, Hart, Instruction, "list[bytes]"], Tuple[int, int]]
-
-
-class Trace:
-    """pc      each row's instruction, as a place in `codes`
-    hart, flags
-    d1, d2  the rows that wrote its first and second register; dm: the row that stored the word that it accesses
-    values  what it put into its register
-    pairs   {load's code << 32 | 1 + store's code, 0 if there is none: how many rows}
-    reads   the `read` calls; writes: the `write` calls
-    written of the write that is asked for, {address of a word: the row that stored it}
-    jumps   the rows of calls and returns; jump_a0: a0 there, which is an argument or a result; jump_writer: its writer
-    tails   of jumps to functions their row and a0
-    harts   {hart: what is known of it}, of those that have a row
-    last    {hart: its last row}; final: {hart: its registers at the end}
-    fault   or None; regs: the registers of its hart
-    rows    how many there are; seconds: how long it took to read them
-    passed  how many rows before them weren't kept"""
-
-    def __init__(self, log: Log, entries: AbstractSet[int] = frozenset(), output: int = -1, most: int = 0) -> None:
-        """`entries` is where functions begin, and `output` the number of the write that is asked for. With `most` not many
-        more rows than the last so many are kept."""
-        self.log, self.output = log, output
-        self.writes: list[WriteCall] = []
-        self.written: dict[int, int] = {}
-        self.code: dict[bytes, Instruction] = {}
-        self.codes: list[Instruction] = []
-        self.pc, self.hart, self.flags = array("I", [0]), array("B", [0]), array("B", [0])
-        self.d1, self.d2, self.dm = array("I", [0]), array("I", [0]), array("I", [0])
-        self.values = array("I", [0])
-        self.access_rows, self.addresses, self.words = array("I"), array("I"), array("I")
-        self.atomic_rows, self.stored = array("I"), array("I")  # of atomics that load and store: what they store
-        self.silent: set[int] = set()           # calls that put nothing into their register
-        self.jumps, self.jump_a0, self.jump_writer = array("I"), array("I"), array("I")
-        self.tails: list[Tail] = []
-        self.pairs: dict[int, int] = {}
-        self.reads: list[ReadCall] = []
-        self.began: dict[int, int] = {}         # {row of a loop's counter: what wrote the value that it began with}
-        self.fault: Optional[Fault] = None
-        self.regs: list[int] = []
-        self.tree = CallTree(entries)
-        self.stores_of: dict[int, dict[int, int]] = {}      # {a load's code: {a store's code: how many rows}}
-        self.writer_of: dict[int, int] = {}     # address of a word: its last writer's row
-        self.held: dict[int, bytes] = {}        # address of a word: its value
-        first = log.first_intervals()
-        self.harts: dict[int, Hart] = {}
-        for i in range(log.harts):
-            self.harts[i] = Hart(i, first[i].registers, first[i].start > 0) if i in first else Hart(i, (0,) * 32, False)
+    def __init__(self, trace: Trace) -> None:
+        self.trace, self.harts = trace, trace.harts
+        self.codes = Codes(trace)
+        self.numbers = {b"%-2d" % hart: hart for hart in trace.harts}
         self.latest: Optional[Hart] = None      # whose row was read last
-        self.rows, self.seconds, self.passed = 0, 0.0, 0
-        self.to_pass = max(0, log.rows() - most) if most else 0
+        self.writer_of: dict[int, int] = {}
+        self.held: dict[int, int] = {}
+        self.start = 0
 
-    def read(self, lines: Iterable[bytes]) -> None:
-        began, progress, total = time.time(), streams.Progress(), number(self.log.rows() - self.to_pass)
-        harts, left = {b"%d" % each: hart for each, hart in self.harts.items()}, iter(lines)
-        while self.passed < self.to_pass:
-            self.pass_rows(list(itertools.islice(left, min(AT_ONCE, self.to_pass - self.passed))), harts)
-            progress.tell(f"{number(self.passed)} rows are passed")
-        while self.read_rows(list(itertools.islice(left, AT_ONCE)), harts):
-            progress.tell(f"{number(len(self.pc) - 1)} of {total} rows are read")
-        progress.clear()
-        self.harts = {each: hart for each, hart in self.harts.items() if hart.last}
-        self.last = {each: hart.last for each, hart in self.harts.items()}
-        self.final = {each: [0] + [int(value[-8:], 16) for value in hart.values[1:]] for each, hart in self.harts.items()}
-        if self.fault:
-            self.regs = self.final[self.fault.hart]
-        self.writer_of, self.held = {}, {}
-        self.seconds, self.rows = time.time() - began, len(self.pc) - 1
+    def skip(self, text: bytes) -> None:
+        """Rows that aren't kept: only what they put into registers."""
+        lines = text[1:].split(b"\n")
+        turns = self.turns(lines, self.harts_of(lines))
+        codes = self.codes.of(lines, turns)
+        written = [self.codes.registers[code][0] for code in codes]
+        for turn in turns:
+            turn.hart.told.update(zip(written[turn.begin:turn.end], lines[turn.begin:turn.end]))
 
-    def pass_rows(self, lines: Sequence[bytes], harts: dict[bytes, Hart]) -> None:
-        """Reads rows that aren't kept: only what they put into registers."""
-        code = self.code
-        for line in lines:
-            parts = line[:-1].split(b" | ", 2)
-            words = parts[0].split(b" ", 2)
-            hart = harts.get(words[0])
-            if hart is not None:
-                self.passed += 1
-                hart.is_cut = True
-                ins = code.get(words[2]) or self.new_instruction(words[2])
-                if ins.rd and len(parts) > 1:
-                    hart.values[ins.rd] = parts[1]
-        if not lines:                           # the log has fewer than it says
-            self.passed = self.to_pass
+    def settle(self) -> None:
+        """The rows from here on are kept: what do the harts' registers hold?"""
+        for hart in self.harts.values():
+            for register, line in hart.told.items():
+                found = RESULT.search(line)
+                if found:
+                    hart.values[register] = int(found[1], 16)
 
-    def read_rows(self, lines: Sequence[bytes], harts: dict[bytes, Hart]) -> bool:
-        """The one loop over all rows: as short as it can be, since its speed is the reader's. It says whether more lines
-        may come."""
-        code, before, n, by_kind = self.code, self.latest, len(self.pc) - 1, self.handlers()
-        add_pc, add_hart, add_d1, add_d2 = self.pc.append, self.hart.append, self.d1.append, self.d2.append
-        add_dm, add_flags, add_value = self.dm.append, self.flags.append, self.values.append
-        for line in lines:
-            parts = line[:-1].split(b" | ")
-            words = parts[0].split(b" ", 2)
-            hart = harts.get(words[0])
-            if hart is None:
-                if words[0] == b"word":         # the words of memory come behind all rows
-                    return False
-                continue                        # the end of an interval
-            n += 1
-            if hart is not before:
-                before = hart.begins(n, words[1])
-            key = words[2]
-            ins = code.get(key) or self.new_instruction(key)
-            add_pc(ins.at)
-            add_hart(hart.number)
-            if b" | fault " in line:
-                self.fault_row(n, hart, ins, parts[-1])
+    def read(self, text: bytes) -> None:
+        trace, self.start, lines = self.trace, len(self.trace.pc), text[1:].split(b"\n")
+        harts = self.harts_of(lines)
+        turns = self.turns(lines, harts)
+        codes = self.codes.of(lines, turns)
+        shapes = bytearray(map(self.codes.shapes.__getitem__, codes))
+        alone = self.alone(text, lines, shapes)
+        rows = range(self.start, self.start + len(codes))
+        trace.hart.frombytes(harts)
+        trace.pc.extend(codes)
+        cuts = map(RESULTS.__getitem__, shapes)
+        trace.values.extend(numbers(line[cut] if cut else ZERO for line, cut in zip(lines, cuts)))
+        trace.flags.frombytes(shapes.translate(ACCESSED))
+        trace.dm.frombytes(bytes(trace.dm.itemsize * len(codes)))
+        self.link(turns, codes, alone)
+        for n in compress(rows, shapes.translate(WENT)):
+            self.go(n)
+        self.access(lines, shapes, rows)
+
+    def harts_of(self, lines: Sequence[bytes]) -> bytes:
+        """The hart of each row."""
+        if len(self.numbers) == 1:
+            return bytes(self.harts) * len(lines)
+        return bytes(map(self.numbers.__getitem__, [line[:2] for line in lines]))
+
+    def turns(self, lines: Sequence[bytes], harts: bytes) -> list[Turn]:
+        """The turns of a chunk. A turn is cut where its counts get a digit more."""
+        places = [0, *compress(range(1, len(harts)), map(ne, harts, harts[1:])), len(harts)]
+        found = []
+        for begin, end in zip(places, places[1:]):
+            hart = self.harts[harts[begin]]
+            while begin < end:
+                head = b"%d %d " % (hart.number, hart.count)
+                size = min(end - begin, 10 ** len(str(hart.count)) - hart.count)
+                if not lines[begin + size - 1].startswith(b"%d %d " % (hart.number, hart.count + size - 1)):
+                    hart.count, size = int(lines[begin].split(b" ", 2)[1]), 1       # rows before it are left out
+                    head = b"%d %d " % (hart.number, hart.count)
+                found.append(Turn(hart, begin, begin + size, hart.count, len(head)))
+                begin, hart.count = begin + size, hart.count + size
+        return found
+
+    def alone(self, text: bytes, lines: Sequence[bytes], shapes: bytearray) -> dict[int, list[bytes]]:
+        """{place: what the row tells} of faults and system calls. Shapes are corrected: of these if they write no register,
+        and of store-conditionals that failed."""
+        found: dict[int, list[bytes]] = {}
+        at = text.find(FAULT)
+        while at >= 0:
+            place = text.count(b"\n", 0, at) - 1
+            shapes[place], found[place] = 0, lines[place].split(FAULT)[1].split(b" ")
+            at = text.find(FAULT, at + 1)
+        for place in [each.start() for each in SPECIAL.finditer(shapes)]:
+            if shapes[place] & TRIES:
+                shapes[place] &= ~0 if b"| store " in lines[place] else ~STORES
                 continue
-            add_d1(hart.writers[ins.rs1])
-            add_d2(hart.writers[ins.rs2])
-            handler = by_kind[ins.kind]
-            if handler:
-                writer, flag = handler(n, hart, ins, parts)
-                add_dm(writer)
-                add_flags(flag)
-            else:
-                add_dm(0)
-                add_flags(0)
-            if ins.rd and len(parts) > 1:
-                hart.writers[ins.rd] = n
-                told = hart.values[ins.rd] = parts[1]
-                add_value(int(told[-8:], 16))
-            else:
-                add_value(0)
-            hart.last = n
-        self.latest = before
-        return bool(lines)
+            found[place] = []
+            if b"|" not in lines[place]:
+                shapes[place] &= ~WRITES
+                self.trace.silent.add(self.start + place)
+        return dict(sorted(found.items()))
 
-    def handlers(self) -> list[Optional[Handler]]:
-        """What each kind of instruction does beside its registers: a function that gives dm and flags, or None."""
-        known: dict[int, Handler] = {LOAD: self.load, STORE: self.store, AMO: self.atomic, CALL: self.system_call,
-                                     JUMP: self.jump}
-        return [known.get(kind) for kind in range(8)]
+    def link(self, turns: Sequence[Turn], codes: Sequence[int], alone: dict[int, list[bytes]]) -> None:
+        """Fills d1 and d2: of each row the rows that wrote its registers."""
+        places = iter([*alone, len(codes)])
+        place = next(places)
+        for turn in turns:
+            hart, at = turn.hart, turn.begin
+            if hart is not self.latest:
+                self.latest = hart
+                hart.begins(self.start + at, turn.first)
+            while place < turn.end:
+                self.link_rows(hart, codes[at:place], self.start + at)
+                self.link_alone(hart, self.start + place, alone[place])
+                at, place = place + 1, next(places)
+            self.link_rows(hart, codes[at:turn.end], self.start + at)
+            hart.last = self.start + turn.end - 1
 
-    def new_instruction(self, key: bytes) -> Instruction:
-        found = self.code[key] = Instruction(len(self.codes), key)
-        self.codes.append(found)
-        return found
+    def link_rows(self, hart: Hart, codes: Sequence[int], n: int) -> None:
+        """The one loop over all rows."""
+        add_d1, add_d2, writers = self.trace.d1.append, self.trace.d2.append, hart.writers
+        for register, first, second in map(self.codes.registers.__getitem__, codes):
+            add_d1(writers[first])
+            add_d2(writers[second])
+            writers[register] = n
+            n += 1
 
-    def accesses(self, n: int, address: int, value: bytes) -> None:
-        self.access_rows.append(n)
-        self.addresses.append(address)
-        self.words.append(int(value, 16))
+    def link_alone(self, hart: Hart, n: int, fault: list[bytes]) -> None:
+        """A row that faulted, or else a system call."""
+        trace, writers = self.trace, hart.writers
+        ins = trace.code_of(n)
+        if not fault:
+            result = trace.values[n]
+            trace.d1.append(writers[ins.rs1])
+            trace.d2.append(writers[ins.rs2])
+            if n not in trace.silent:
+                if result < FAILED:
+                    self.system_call(hart, n, min(result, LONGEST_CALL))
+                writers[A0] = n
+            return
+        name = fault[0].decode()
+        before = n - 1 if trace.hart[n - 1] == hart.number else hart.last
+        trace.d1.append(trace.d1[before] if name in ("FetchOutside", "Illegal") and before else writers[ins.rs1])
+        trace.d2.append(0)
+        trace.flags[n] = FAULTS
+        trace.fault = Fault(n, hart.number, name, int(fault[1], 16), ins)
 
-    def loaded(self, word: int, value: bytes, ins: Instruction) -> tuple[int, int]:
-        """The row that stored a word that is loaded, and the flags of it."""
-        writer, flag = self.writer_of.get(word, 0), LOADS
-        if self.held.get(word) != value:
-            if word in self.held:               # changed, and no row did it: a `read` call
-                flag |= CHANGED
-            writer = self.writer_of[word] = 0
-            self.held[word] = value
-        if not writer:
-            flag |= UNSTORED
-        pair = ins.at << 32 | (self.pc[writer] + 1 if writer else 0)
-        self.pairs[pair] = self.pairs.get(pair, 0) + 1
-        return writer, flag
+    def system_call(self, hart: Hart, n: int, size: int) -> None:
+        kind, address = (self.value(hart, hart.writers[register], register) for register in (A7, A1))
+        if kind == READ_CALL:
+            self.trace.reads.append(ReadCall(n, hart.number, address, size))
+        elif kind == WRITE_CALL:
+            self.trace.writes.append(WriteCall(n, address, size))
 
-    def load(self, n: int, _hart: Hart, ins: Instruction, parts: list[bytes]) -> tuple[int, int]:
-        told = parts[-1]
-        address = int(told[5:13], 16)
-        self.accesses(n, address, told[14:])
-        writer, flag = self.loaded(address & ~3, told[14:], ins)
-        return writer, flag | address & OFFSET
+    def value(self, hart: Hart, writer: int, register: int) -> int:
+        """What a register holds, by the row that wrote it."""
+        return self.trace.values[writer] if writer else hart.values[register]
 
-    def store(self, n: int, _hart: Hart, _ins: Instruction, parts: list[bytes]) -> tuple[int, int]:
-        told = parts[-1]
-        address = int(told[6:14], 16)
-        word = address & ~3
-        self.accesses(n, address, told[15:])
-        writer = self.writer_of.get(word, 0)
-        self.writer_of[word], self.held[word] = n, told[15:]
-        return writer, STORES | address & OFFSET
-
-    def atomic(self, n: int, _hart: Hart, ins: Instruction, parts: list[bytes]) -> tuple[int, int]:
-        """A load, a store, both, or neither: a store-conditional that failed."""
-        writer = flag = 0
-        for told in parts[1:]:
-            if told[:5] == b"load ":
-                word = int(told[5:13], 16)
-                self.accesses(n, word, told[14:])
-                writer, flag = self.loaded(word, told[14:], ins)
-            elif told[:6] == b"store ":
-                word = int(told[6:14], 16)
-                if flag & LOADS:
-                    self.atomic_rows.append(n)
-                    self.stored.append(int(told[15:], 16))
-                else:
-                    writer = self.writer_of.get(word, 0)
-                    self.accesses(n, word, told[15:])
-                flag |= STORES | (KEEPS if self.held.get(word) == told[15:] else 0)
-                self.writer_of[word], self.held[word] = n, told[15:]
-        return writer, flag
-
-    def system_call(self, n: int, hart: Hart, _ins: Instruction, parts: list[bytes]) -> tuple[int, int]:
-        values = hart.values
-        if len(parts) == 1:
-            self.silent.add(n)
-        elif values[A7][-8:] == READ_CALL and parts[1][-8:] < b"80000000":
-            self.reads.append(ReadCall(n, hart.number, int(values[A1][-8:], 16), int(parts[1][-8:], 16)))
-        elif values[A7][-8:] == WRITE_CALL and parts[1][-8:] < b"80000000":
-            self.write_call(WriteCall(n, int(values[A1][-8:], 16), int(parts[1][-8:], 16)))
-        return 0, 0
-
-    def write_call(self, call: WriteCall) -> None:
-        if len(self.writes) == self.output:
-            self.written = {word: self.writer_of.get(word, 0) for word in range(call.address & ~3, call.address + call.size, 4)}
-        self.writes.append(call)
-
-    def jump(self, n: int, hart: Hart, ins: Instruction, _parts: list[bytes]) -> tuple[int, int]:
+    def go(self, n: int) -> None:
+        """A call, a return, or a jump to a function."""
+        trace = self.trace
+        ins, hart, tree = trace.code_of(n), self.harts[trace.hart[n]], trace.tree
+        writer, trace.d2[n] = trace.d2[n], 0
+        a0 = self.value(hart, writer, A0)
         if ins.call or ins.ret:
-            self.jumps.append(n)
-            self.jump_a0.append(int(hart.values[A0][-8:], 16))
-            self.jump_writer.append(hart.writers[A0])
-            if ins.call:
-                hart.node = self.tree.called(hart.node, ins.pc)
-            else:
-                hart.node = self.tree.returned(hart.node, int(hart.values[ins.rs1][-8:], 16))
-            hart.jumps.append(n)
-            hart.nodes.append(hart.node)
-        elif ins.leads in self.tree.entries:
-            hart.node = self.tree.went(hart.node, ins.pc)
-            self.tails.append(Tail(n, int(hart.values[A0][-8:], 16)))
-            hart.jumps.append(n)
-            hart.nodes.append(hart.node)
-        return 0, 0
+            trace.jumps.append(n)
+            trace.jump_a0.append(a0)
+            trace.jump_writer.append(writer)
+            hart.node = (tree.called(hart.node, ins.pc) if ins.call else
+                         tree.returned(hart.node, self.value(hart, trace.d1[n], ins.rs1)))
+        else:
+            hart.node = tree.went(hart.node, ins.pc)
+            trace.tails.append(Tail(n, a0))
+        hart.jumps.append(n)
+        hart.nodes.append(hart.node)
 
-    def fault_row(self, n: int, hart: Hart, ins: Instruction, told: bytes) -> None:
-        name, value = told.split(b" ")[1:3]
-        source = hart.writers[ins.rs1]
-        if name in (b"FetchOutside", b"Illegal") and hart.last:
-            source = self.d1[hart.last]         # where the jump before took its target from
-        self.d1.append(source)
-        for column in (self.d2, self.dm, self.values):
-            column.append(0)
-        self.flags.append(FAULTS)
-        self.fault = Fault(n, hart.number, name.decode(), int(value, 16), ins)
-        hart.last = n
+    def access(self, lines: Sequence[bytes], shapes: bytearray, rows: Sequence[int]) -> None:
+        """Fills the columns of accesses, and tells each who stored its word."""
+        trace, kinds = self.trace, shapes.translate(ACCESSED, NO_ACCESS)
+        mine = list(compress(lines, shapes.translate(ACCESSED)))
+        which = array("I", compress(rows, shapes.translate(ACCESSED)))
+        both = [n for n, kind in zip(which, kinds) if kind == BOTH] if BOTH in kinds else []
+        stored = numbers(line[-8:] for line, kind in zip(mine, kinds) if kind == BOTH) if both else array("I")
+        trace.atomic_rows.extend(both)
+        trace.stored.extend(stored)
+        told = numbers([line[-43:-26] if kind == BOTH else line[-17:] for line, kind in zip(mine, kinds)] if both else
+                       [line[-17:] for line in mine])
+        trace.access_rows.extend(which)
+        trace.addresses.extend(told[::2])
+        trace.words.extend(told[1::2])
+        self.follow(which, kinds, told, iter(stored))
 
-    # What is asked of the rows
+    def follow(self, which: Iterable[int], kinds: bytes, told: Sequence[int], stored: Iterator[int]) -> None:
+        writer_of, held, dm, flags = self.writer_of, self.held, self.trace.dm, self.trace.flags
+        for n, kind, address, value in zip(which, kinds, told[::2], told[1::2]):
+            word, flag = address & WORD, address & OFFSET
+            writer = writer_of.get(word, 0)
+            if kind != STORES:
+                if held.get(word) != value:
+                    if word in held:            # changed, and no row did it: a `read` call
+                        flag |= CHANGED
+                    writer = writer_of[word] = 0
+                    held[word] = value
+                if not writer:
+                    flag |= UNSTORED
+                if kind == BOTH:
+                    value = next(stored)
+                    if held[word] == value:
+                        flag |= KEEPS
+            dm[n] = writer
+            if flag:
+                flags[n] |= flag
+            if kind != LOADS:
+                writer_of[word], held[word] = n, value
 
-    def count_of(self, n: int) -> int:
-        """The hart's count at a row."""
-        hart = self.harts[self.hart[n]]
-        at = bisect.bisect_right(hart.rows, n) - 1
-        return hart.counts[at] + n - hart.rows[at]
 
-    def row_of(self, of: int, count: int) -> int:
-        """The row of a hart's count, or 0 if the log has none."""
-        hart = self.harts.get(of)
-        at = bisect.bisect_right(hart.counts, count) - 1 if hart else -1
-        if at < 0 or not hart:
-            return 0
-        n = hart.rows[at] + count - hart.counts[at]
-        return n if n <= hart.last and self.hart[n] == of else 0
-
-    def jump_at(self, n: int) -> int:
-        """Which of the jumps a row is."""
-        return bisect.bisect_left(self.jumps, n)
-
-    def code_of(self, n: int) -> Instruction:
-        return self.codes[self.pc[n]]
-
-    def node_of(self, n: int) -> int:
-        """The node of the calls that a row is in."""
-        hart = self.harts[self.hart[n]]
-        at = bisect.bisect_left(hart.jumps, n) - 1
-        return hart.nodes[at] if at >= 0 else 0
-
-    def is_cut(self, n: int) -> bool:
-        """Whether a row's hart had calls before its first row, which nothing tells."""
-        return self.harts[self.hart[n]].is_cut
-
-    def access(self, n: int) -> Access:
-        """What a row loaded, or else stored."""
-        at = bisect.bisect_left(self.access_rows, n)
-        return Access(self.addresses[at], self.words[at])
-
-    def load_of(self, n: int) -> Optional[Access]:
-        return self.access(n) if self.flags[n] & LOADS else None
-
-    def store_of(self, n: int) -> Optional[Access]:
-        if not self.flags[n] & STORES:
-            return None
-        found = self.access(n)
-        if self.flags[n] & LOADS:
-            found = found._replace(value=self.stored[bisect.bisect_left(self.atomic_rows, n)])
-        return found
-
-    def last_store(self, address: int, before: int = 0) -> int:
-        """The latest row that stored to a word, of those before a row or of all; 0 if none did."""
-        at = bisect.bisect_left(self.access_rows, before) if before else len(self.access_rows)
-        while at > 0:
-            at -= 1
-            if self.addresses[at] & ~3 == address & ~3 and self.flags[self.access_rows[at]] & STORES:
-                return self.access_rows[at]
-        return 0
-
-    def stores_of_value(self, value: int, after: int, before: int) -> list[int]:
-        """The rows between two others after whose stores a word held a value."""
-        low, high = (bisect.bisect_left(self.access_rows, n) for n in (after + 1, before))
-        rows = zip(self.access_rows[low:high], self.words[low:high])
-        return [n for n, word in rows if word == value and self.flags[n] & STORES]
-
-    def givers(self, load: int) -> dict[int, int]:
-        """The codes of the stores from which a load's instruction got its words, each with how often."""
-        if not self.stores_of:
-            for pair, times in self.pairs.items():
-                stores = self.stores_of.setdefault(pair >> 32, {})
-                if pair & STORE_BITS:
-                    stores[(pair & STORE_BITS) - 1] = times
-        return self.stores_of.get(self.pc[load], {})
-
-    def calls_at(self, n: int) -> list[int]:
-        """The places of all calls that a row is in, innermost first."""
-        return self.tree.calls(self.node_of(n), len(self.tree.depth)).calls
-
-    def result_of(self, n: int) -> Optional[int]:
-        """What a row put into its register, or None."""
-        has_result = n and self.code_of(n).rd and not self.flags[n] & FAULTS and n not in self.silent
-        return self.values[n] if has_result else None
-
-    def text(self, n: int) -> str:
-        """A row as `joint` prints it."""
-        ins = self.code_of(n)
-        said = f"{self.hart[n]} {self.count_of(n)} {ins.row}"
-        if self.flags[n] & FAULTS and self.fault:
-            return f"{said} | fault {self.fault.name} {self.fault.value:08x}"
-        result, load, store = self.result_of(n), self.load_of(n), self.store_of(n)
-        if result is not None:
-            said += f" | {NAMES[ins.rd]}={result:08x}"
-        if load:
-            said += f" | load {load.address:08x}={load.value:08x}"
-        if store:
-            said += f" | store {store.address:08x}={store.value:08x}"
-        return said
-
-    def before_counting(self, n: int) -> int:
-        """The row that wrote a row's first register. The rounds of a loop that adds a constant to it are one step: what
-        counts is the value that it began with."""
-        source, passed = self.d1[n], []
-        if not self.code_of(n).counts:
-            return source
-        while source and self.pc[source] == self.pc[n]:
-            if source in self.began:
-                source = self.began[source]
-                break
-            passed.append(source)
-            source = self.d1[source]
-        self.began.update((row, source) for row in passed)
-        return source
-
-    def last_rows(self, n: int, most: int) -> list[int]:
-        """The latest rows of a row's hart up to it, in their order."""
-        hart = self.hart[n]
-        found: list[int] = []
-        while n and len(found) < most:
-            if self.hart[n] == hart:
-                found.append(n)
-            n -= 1
-        return found[::-1]
-
-    def mask(self, n: int) -> int:
-        """Which bytes of its word a row accesses."""
-        return ((1 << self.code_of(n).width) - 1) << (self.flags[n] & OFFSET) & 15
-
-    def writers(self, n: int) -> Stores:
-        need, writer = self.mask(n), self.dm[n]
-        found: list[int] = []
-        while need and writer:
-            here = self.mask(writer) if self.code_of(writer).kind == STORE else 15
-            if here & need:
-                found.append(writer)
-                need &= ~here
-            writer = self.dm[writer]
-        return Stores(found, need)
-
-    def beside(self, load: int) -> list[int]:
-        """The stores by which the same instruction got other words, of the nearest word on each side of a load's."""
-        codes = {(pair & 0xffffffff) - 1 for pair in self.pairs if pair >> 32 == self.pc[load]}
-        place, before, after = self.access(load).address, (0, 0), (1 << 32, 0)
-        for n, address in zip(self.access_rows, self.addresses):
-            if self.pc[n] in codes and self.flags[n] & STORES and n < load:
-                if before[0] <= address < place:
-                    before = address, n
-                elif place < address <= after[0]:
-                    after = address, n
-        return [n for address, n in (before, after) if n and abs(address - place) <= BESIDE]
-
-    def changed_by(self, store: int) -> int:
-        """The row that gave a word its value: a store that kept it is passed. 0 if that is before all rows."""
-        while self.flags[store] & KEEPS:
-            store = self.dm[store]
-        return store
-
-    def storing_places(self, store: int) -> set[int]:
-        """The places that stored a store's word up to it, and those of the innermost calls over them."""
-        found: set[int] = set()
-        for _ in range(MOST_WRITERS):
-            if store:
-                found.update([self.code_of(store).pc] + self.calls_at(store)[:WRITERS_CALLS])
-                store = self.dm[store]
-        return found
-
-    def is_spill(self, load: int, store: int) -> bool:
-        """Whether a load takes back the register that a store put aside on the stack."""
-        taken, put = self.code_of(load), self.code_of(store)
-        return taken.rs1 == put.rs1 == SP and taken.kind == LOAD and taken.rd == put.rs2 and self.hart[load] == self.hart[store]
+def numbers(told: Iterable[bytes]) -> array[int]:
+    """Numbers of eight digits."""
+    found = array("I")
+    found.frombytes(unhexlify(b"".join(told).replace(b"=", b"")))
+    if sys.byteorder == "little":
+        found.byteswap()
+    return found
 
 
 def parse_row(line: bytes) -> Optional[Row]:
@@ -539,16 +347,65 @@ def parse_row(line: bytes) -> Optional[Row]:
 
 def rows_of(log_name: str, elf_name: str) -> Iterator[Row]:
     """Each row of a log, in the order of `joint`. Nothing is kept, so a log may be large."""
-    with Output("joint", log_name, elf_name) as lines:
-        for line in lines:
+    for text in chunks(log_name, elf_name):
+        for line in text[1:].split(b"\n"):
             row = parse_row(line)
             if row:
                 yield row
 
 
-def read_trace(log: Log, elf_name: str, entries: AbstractSet[int] = frozenset(), output: int = -1, most: int = 0) -> Trace:
-    """The rows of a log: all, or with `most` about the last so many."""
-    trace = Trace(log, entries, output, most)
-    with Output("joint", log.name, elf_name) as lines:
-        trace.read(lines)
+def read_trace(log: Log, elf_name: str, entries: AbstractSet[int] = frozenset(), most: int = 0,
+               asked: Optional[At] = None) -> Trace:
+    """The rows of a log: all, or with `most` about the last so many; of a row that is asked of, the last up to it."""
+    trace, began = Trace(log, entries), time.monotonic()
+    rows, end = log.rows(), b""
+    if asked and most and rows > most:
+        rows, end = rows_before(log, elf_name, asked), head_of(asked)
+    trace.passed = left = max(0, rows - most) if most else 0
+    reader, progress, total = Reader(trace), streams.Progress(), number(rows - left)
+    for text in chunks(log.name, elf_name):
+        if left:
+            passed, text = parted(text, left)
+            reader.skip(passed)
+            left -= passed.count(b"\n")
+            if not left:
+                reader.settle()
+            progress.tell(f"{number(trace.passed - left)} rows are passed")
+        last = text.find(end) if end else -1
+        if text:
+            reader.read(text if last < 0 else parted(text, text.count(b"\n", 0, last) + 1)[0])
+            progress.tell(f"{number(len(trace.pc) - 1)} of {total} rows are read")
+        if last >= 0:
+            break
+    progress.clear()
+    trace.finish(time.monotonic() - began)
     return trace
+
+
+def trace_of(log: Log, text: bytes) -> Trace:
+    """The rows that a text of `joint` or `replay` has. Some may be left out."""
+    trace = Trace(log)
+    rows = OTHER_LINES.sub(b"", b"\n" + text.rstrip(b"\n"))
+    if rows.strip(b"\n"):
+        Reader(trace).read(rows)
+    trace.finish(0.0)
+    return trace
+
+
+def rows_before(log: Log, elf_name: str, asked: At) -> int:
+    """How many rows come before one."""
+    rows, progress = 0, streams.Progress()
+    for text in chunks(log.name, elf_name):
+        at = text.find(head_of(asked))
+        if at >= 0:
+            rows += text.count(b"\n", 0, at)
+            break
+        rows += text.count(b"\n")
+        progress.tell(f"{number(rows)} rows are passed")
+    progress.clear()
+    return rows
+
+
+def head_of(at: At) -> bytes:
+    """What a row begins with."""
+    return b"\n%d %d " % (at.hart, at.count)

@@ -16,7 +16,8 @@ from .log import End, Log, is_fault
 from .loops import Loop
 from .program import Output
 from .recording import FAULT, LIMIT
-from .rows import Trace
+from .rows import trace_of
+from .trace import Trace
 
 CALLS_ROWS = 100000         # so many of a hart's last rows are read for its calls, as whole intervals
 STAY_ROWS = 200000          # and for how long it is in its loop
@@ -131,8 +132,7 @@ class Ends:
         """The words for which a hart waits, and how many of its last turns are in its loop."""
         text, _ = self.last_text(log, hart, STAY_ROWS)
         for most in LOOP_ROWS:
-            trace = Trace(log)
-            trace.read(text[-most * LONGEST_ROW:].splitlines(True)[-most:])
+            trace = trace_of(log, b"".join(text[-most * LONGEST_ROW:].splitlines(True)[-most:]))
             loop = Loop(trace, hart)
             if loop.places:
                 break

@@ -18,8 +18,7 @@ from .errors import NO_INTERVAL, CompanionError
 from .facts import Byte
 from .log import Log
 from .naming import places_of
-from .output import Reader
-from .program import Output
+from .output import MOST_ROWS, numbered, writes_of
 from .same_end import Ends, Recording, Waiting, log_of
 from .saving import Target
 from .search import Search
@@ -101,11 +100,10 @@ class Signals:
 def offset_of(log: Log, elf: Elf, byte: Byte) -> int:
     """How many bytes of the output come before one."""
     before = 0
-    with Output("joint", log.name, elf.name) as lines:
-        for place, write in enumerate(Reader(log, elf, CallTree()).writes(lines)):
-            if place == byte.write and write.stream == 1 and byte.place < len(write.data):
-                return before + byte.place
-            before += len(write.data) if write.stream == 1 else 0
+    for write in writes_of(log, elf, CallTree(), numbered(log), MOST_ROWS):
+        if write.number == byte.write and write.stream == 1 and byte.place < len(write.data):
+            return before + byte.place
+        before += len(write.data) if write.stream == 1 else 0
     raise CompanionError(f"the log holds no byte {byte.place} of a write {byte.write} to the output: `zelkuma output` lists them",
                          NO_INTERVAL)
 

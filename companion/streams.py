@@ -12,7 +12,7 @@ from typing import Any, Iterator
 from .errors import UNWRITABLE, CompanionError
 
 STOPS = signal.SIGINT, signal.SIGTERM, signal.SIGHUP        # Ctrl-C, `kill`, the end of the terminal
-PAUSE = 0.2                 # seconds between two lines of progress
+PAUSE, SILENCE = 0.2, 1.0   # seconds between two lines of progress, and before the first
 
 
 def prepare() -> None:
@@ -56,6 +56,23 @@ def tell(line: str) -> None:
 def draw(text: str) -> None:
     """One line on a terminal, over the one before."""
     show(f"\r{text}\x1b[K")
+
+
+@contextlib.contextmanager
+def working(text: str) -> Iterator[None]:
+    """What takes more than a second is told on a terminal while it lasts, and for how long it does."""
+    progress, began = Progress(), time.monotonic()
+    if not progress.is_shown:
+        yield
+        return
+    before = signal.signal(signal.SIGALRM, lambda *_: progress.tell(f"{text}: {time.monotonic() - began:.0f} s"))
+    signal.setitimer(signal.ITIMER_REAL, SILENCE, PAUSE)
+    try:
+        yield
+    finally:
+        signal.setitimer(signal.ITIMER_REAL, 0)
+        signal.signal(signal.SIGALRM, before)
+        progress.clear()
 
 
 class Progress:

@@ -13,14 +13,15 @@ import math
 from typing import AbstractSet, Sequence
 
 from .branches import branch_suspects, exit_suspects
-from .facts import At, Facts
+from .facts import Facts
 from .history import ADDRESS, History, Pair
 from .instruction import AMO, SP, STORE
 from .locks import circle, unlocked
+from .log import At
 from .memory_use import MemoryUse
-from .rows import LOADS
 from .suspect import Extra, Suspect, rank
 from .text import counted, number
+from .trace import LOADS
 from .unread import failed_stores, unset
 
 OTHER_HART, NARROW, RACE, OTHER_FUNCTION, RARITY = 8, 12, 6, 3, 5

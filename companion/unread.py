@@ -7,7 +7,7 @@ from collections import Counter
 from .facts import Facts
 from .history import History
 from .instruction import ALU, SP
-from .rows import LOADS, STORES, Trace
+from .trace import LOADS, STORES, Trace
 from .suspect import Extra, Suspect
 from .text import counted
 

@@ -88,7 +88,7 @@ class View:
             self.read_races()
 
     def read_races(self) -> None:
-        races = self.races = Races(self.crash.named, self.places).read(self.log.name, self.crash.elf.name, RACES_ASKED)
+        races = self.races = Races(self.crash.named, self.places).read(self.log.harts, self.log.name, self.crash.elf.name, RACES_ASKED)
         if races.over:
             self.races_note = f"There are more than {number(RACES_ASKED)} races, so none is drawn; zelkuma race groups them."
             return

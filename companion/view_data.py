@@ -5,8 +5,8 @@ from typing import NamedTuple, Union
 
 from .log import NO_END, Log
 from .places import Places
-from .rows import Trace
 from .text import clean
+from .trace import Trace
 
 EDGES = 6000            # in the page at most: a half of them evenly over all rows, the other half at the end
 EDGE_STEPS = 1500       # the even half takes its Edges from so many equal parts of the rows

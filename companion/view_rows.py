@@ -1,7 +1,6 @@
 """The rows that a page holds: around all that can be clicked, while there is room."""
 from __future__ import annotations
 
-from array import array
 from dataclasses import dataclass, field
 from typing import Iterable, NamedTuple, Sequence
 
@@ -39,7 +38,6 @@ class PageRows:
         self.windows: list[Window] = []
         self.nodes, self.top_known = [Node(0, 0)], {0: 0}
         self.node_known: dict[Node, int] = {}
-        self.outermost = array("I", [0])
 
     def around(self, row: int, back: int, ahead: int) -> None:
         """Wants a row, and some before and behind it of its hart."""
@@ -117,10 +115,7 @@ class PageRows:
     def cut_node(self, node: int) -> int:
         """The page's number of a node whose calls are left out, but for the outermost one."""
         tree = self.trace.tree
-        for each in range(len(self.outermost), len(tree.parent)):   # a call's number is over that of the call around it
-            above = tree.parent[each]
-            self.outermost.append(self.outermost[above] if above else each)
-        top = self.add_node(0, self.page.place(tree.call_pc[self.outermost[node]]))
+        top = self.add_node(0, self.page.place(tree.outermost[node]))
         return self.add_node(top, 1 - tree.depth[node]) if tree.depth[node] > 1 else top
 
     def add_node(self, outer: int, place: int) -> int:

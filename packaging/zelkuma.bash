@@ -85,6 +85,7 @@ triage --json FILE
 triage --junit FILE
 triage --html FILE
 output --names ELF
+output --rows N
 output --json
 seeds -j N
 seeds --until STATUS

@@ -2,7 +2,7 @@
 from __future__ import annotations
 
 from ..errors import NO_INTERVAL, CompanionError
-from ..facts import At
+from ..log import At
 from .lines import Pattern
 from .session import MOST, Session
 

@@ -6,7 +6,8 @@ from typing import Callable, Optional
 
 from . import target
 from ..errors import CompanionError
-from ..facts import At, asked_row
+from ..facts import asked_row
+from ..log import At
 from .fills import Fills
 from .goto import go_to_place
 from .memory import Memory

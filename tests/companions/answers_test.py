@@ -69,9 +69,10 @@ class AnswersTest(case.Case):
     def test_output(self):
         log, elf = self.record("word_count", "--seed", "1"), self.elf("word_count")
         found, text = self.answer("output", log, elf), self.says("output", log, elf)
-        self.assertEqual(set(found), {"writes", "dropped_records"})
+        self.assertEqual(set(found), {"writes", "writes_before", "dropped_records"})
         self.assertGreater(len(found["writes"]), 0)
         for number, write in enumerate(found["writes"]):
+            self.assertEqual(write["number"], number)
             self.assertIn(f"{number:>3}. {len(write['bytes'])} byte", text)
             self.assertIn(write["row"], text)
 

@@ -9,7 +9,8 @@ import common
 
 from companion import recent
 from companion.analysis import analysed
-from companion.recent import Asked, LogFile
+from companion.log import At
+from companion.recent import LogFile
 from companion.rows import read_trace
 
 SMALL = ("--seed", "1", "--sets", "1", "--ways", "1", "--line", "1", "--interval", "200")    # many records in few rows
@@ -48,7 +49,7 @@ class RecentTest(case.Case):
     def test_a_row_that_is_asked_of_is_among_them(self):
         log, elf = self.record("wild_store", *SMALL), self.elf("wild_store")
         with closing(LogFile(log)) as source:
-            trace = read_trace(source.end(500, Asked(0, 10000)), elf)
+            trace = read_trace(source.end(500, At(0, 10000)), elf)
             self.assertGreater(trace.row_of(0, 10000), 0)
             self.assertEqual(trace.row_of(0, 2000), 0)
 
