@@ -6,6 +6,7 @@ import os
 import signal
 from typing import Callable
 
+from .children import fork
 from .errors import CompanionError
 
 FAILED = 1
@@ -15,7 +16,7 @@ class Forked:
     """Such a process. The text that its function gives goes into a file, as does the line of what it refuses."""
 
     def __init__(self, work: Callable[[], str], said: str, err: str) -> None:
-        self.pid = os.fork()
+        self.pid = fork()
         if not self.pid:
             self.run(work, said, err)
 
@@ -24,7 +25,6 @@ class Forked:
         """The new process. Nothing of the old one is done again in it, whatever happens."""
         status = FAILED
         try:
-            signal.signal(signal.SIGINT, signal.SIG_DFL)
             write(said, work())
             status = 0
         except CompanionError as error:
