@@ -33,6 +33,22 @@ def lead_group() -> None:
     leads_group = True
 
 
+def follow(parent: int) -> None:
+    """Of a new process: signals end it, and so does the end of the one that started it."""
+    on_interrupt(signal.SIG_DFL)
+    tie(parent)
+
+
+def fork() -> int:
+    """As os.fork; the new process is as one of `start`."""
+    parent = os.getpid()
+    with uninterrupted():
+        process = os.fork()
+        if not process:
+            follow(parent)
+    return process
+
+
 def start(words: Sequence[str], **streams: Any) -> subprocess.Popen[bytes]:
     """A process that the system kills when this one ends, also if this one is killed. Signals wait until it is known here."""
     if leads_group:
@@ -40,9 +56,8 @@ def start(words: Sequence[str], **streams: Any) -> subprocess.Popen[bytes]:
     parent = os.getpid()
 
     def prepare() -> None:
-        on_interrupt(signal.SIG_DFL)            # this process's own handling isn't for the copy of it
+        follow(parent)
         signal.pthread_sigmask(signal.SIG_SETMASK, before)
-        tie(parent)
 
     with uninterrupted() as before:
         return subprocess.Popen(words, preexec_fn=prepare, **streams)

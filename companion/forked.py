@@ -2,11 +2,9 @@
 from __future__ import annotations
 
 import os
-import signal
 from typing import Callable
 
-from . import streams
-from .children import Process, tie
+from .children import Process, fork
 from .errors import CompanionError
 
 FAILED = 1
@@ -16,14 +14,9 @@ class Forked(Process):
     """Such a process. The text that its function gives goes into a file, as does the line of what it refuses."""
 
     def __init__(self, work: Callable[[], str], said: str, err: str) -> None:
-        parent = os.getpid()
-        with streams.uninterrupted() as before:
-            super().__init__(os.fork())
-            if not self.pid:
-                streams.on_interrupt(signal.SIG_DFL)
-                signal.pthread_sigmask(signal.SIG_SETMASK, before)
-                tie(parent)
-                self.run(work, said, err)
+        super().__init__(fork())
+        if not self.pid:
+            self.run(work, said, err)
 
     @staticmethod
     def run(work: Callable[[], str], said: str, err: str) -> None:

@@ -9,12 +9,12 @@ fails() { # TEXT
 }
 
 # Runs words, and tries the status that they end with. What they write is in out and err. If path is set, it is their
-# PATH, and if calls is, that file is emptied first.
+# PATH, and if calls is, that file is emptied first. `terminal` can have words that make err a terminal.
 runs() { # STATUS WORD..
     local wanted=$1 status=0
     shift
     [ -z "${calls-}" ] || : >"$calls"
-    PATH=${path-$PATH} "$@" >"$work/out" 2>"$work/err" </dev/null || status=$?
+    PATH=${path-$PATH} ${terminal[@]+"${terminal[@]}"} "$@" >"$work/out" 2>"$work/err" </dev/null || status=$?
     [ "$status" -eq "$wanted" ] || fails "status $status of '$*', and not $wanted"
 }
 

@@ -9,7 +9,7 @@ cat >"$shipped" <<'END'
 #!/usr/bin/env bash
 PATH=$SYSTEM
 case $1 in
-list) printf "${INTERVALS-}" && exit ;;
+list) sed 1d "$2" && exit ;;
 joint) cat && exit 12 ;;
 esac
 echo "began $$" >>"$RT_CALLS"
@@ -17,7 +17,7 @@ echo "began $$" >>"$RT_CALLS"
 [ -z "${UNTIL-}" ] || until [ -e "$UNTIL" ]; do sleep 0.05; done
 [ -z "${KILLED-}" ] || kill -s "$KILLED" $$
 [ -z "${WAITS-}" ] || sleep "$WAITS"
-[ "$1" != record ] || printf BUGNETLG >"${@: -2:1}"
+[ "$1" != record ] || printf "BUGNETLG\n${INTERVALS-}" >"$3"
 printf '<%s>' "$@"
 echo
 echo "a line of err" >&2
@@ -26,6 +26,8 @@ END
 chmod +x "$shipped"
 export SYSTEM=$without
 began='until grep -q ^began "$RT_CALLS"; do sleep 0.05; done'
+
+err_is_terminal
 
 what="words and statuses"
 export STATUS
@@ -69,7 +71,7 @@ hasnt err zelkuma
 # Runs a call in the background, sends it a signal once the program has begun, and says so if the program stays.
 signals() { # SIGNAL WORD..
     # (a call in the background would not hear INT, but for -m)
-    bash -c "set -m; \"\${@:2}\" & $began; kill -s \$1 \$!; wait \$!; status=\$?
+    "${at_terminal[@]}" bash -c "set -m; \"\${@:2}\" & $began; kill -s \$1 \$!; wait \$!; status=\$?
         for try in {1..400}; do
             grep -q '^State:.[^Z]' /proc/\$(sed -n 's/^began //p' \"\$RT_CALLS\")/status || exit \$status
             sleep 0.05
@@ -79,6 +81,7 @@ signals() { # SIGNAL WORD..
 }
 
 what="signals"
+at_terminal=("${terminal[@]}") terminal=()
 export SLEEPS=100
 for signal in HUP INT QUIT TERM USR1 ALRM; do
     runs $((128 + $(kill -l "$signal"))) signals "$signal" "$zelkuma" list2 LOG
@@ -90,12 +93,14 @@ runs 137 signals KILL "$zelkuma" list2 LOG
 hasnt out alive
 rm "$work/few/setpriv"
 SLEEPS=
+terminal=("${at_terminal[@]}")
 for signal in SEGV ABRT KILL; do
     KILLED=$signal runs $((128 + $(kill -l "$signal"))) bash -c '"$0" list2 LOG; exit $?' "$zelkuma"
     hasnt err "^zelkuma: "
     hasnt err tools/launcher # where bash tells of a child that was killed
 done
 
+terminal=()
 what="nobody who reads advice"
 runs 0 bash -c '"$0" list2 LOG 2>/dev/null & wait $!; grep -qx "began $!" "$RT_CALLS"' "$zelkuma"
 

@@ -10,6 +10,8 @@ chmod -R a+rX "$work"
 cd "$work/here" || exit 1
 cp "$top/examples/counter.elf" ELF
 
+err_is_terminal
+
 # Of an answer each line has to be there: the program's, then that of the script.
 says() { # LINE..
     [ "$(cat "$work/err")" = "$(printf '%s\n' "$@")" ] || fails "err isn't: $*"
@@ -74,8 +76,7 @@ refuses 3 "BOOK can't be saved: its name is empty" record ELF LOG ''
 refuses 3 "LOG can't be saved: its name has more than 255 bytes" record ELF "x$long" BOOK
 refuses 3 "BOOK can't be saved: its name has more than 255 bytes" record ELF LOG "folder/x$long"
 refuses 3 "LOG can't be saved: its name has more than 255 bytes" record ELF "${long:0:200}äöüäöüäöüäöüäöüäöüäöüäöüäöüäöü" BOOK
-chmod a-w folder
-touch folder/old kept && chmod a-w folder/old kept
+touch folder/old kept && chmod a-w folder/old kept folder
 if [ ! -w folder ]; then
     refuses 3 "LOG can't be saved as 'folder/LOG': the folder 'folder/' can't be written to" record ELF folder/LOG BOOK
     refuses 3 "LOG can't be saved: 'kept' may not be written" record ELF kept BOOK
@@ -87,6 +88,7 @@ else
     runs 3 "${as_another[@]}" "$zelkuma" record ELF LOG kept
     says "zelkuma: LOG can't be saved: 'LOG' may not be written"
 fi
+chmod u+w folder
 
 what="files that would be lost"
 ln ELF linked && ln -s "$PWD/ELF" folder/symbolic && cp ELF other && cp 2K input
@@ -361,6 +363,15 @@ runs 20 "$zelkuma" races LOG ELF 1
 has err "^zelkuma: give a greater MAX, up to 1000000"
 runs 0 "$zelkuma" demo 7
 [ ! -s "$work/err" ] || fails "err isn't empty"
+
+what="err that is no terminal"
+terminal=()
+for words in "list" "list ELF" "record 2K LOG BOOK" "replay LOG ELF 0 99"; do
+    # shellcheck disable=SC2086
+    runs "$("$program" $words >/dev/null 2>"$work/wanted"; echo $?)" "$zelkuma" $words
+    equals "$work/wanted" "$work/err"
+done
+err_is_terminal
 
 what="a reader who ends early"
 records ELF LOG BOOK

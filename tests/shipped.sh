@@ -119,12 +119,14 @@ printf '\x7fELF\x02\x01\x01%057d' 0 >foreign-126
 printf '#!/nowhere/sh\n' >foreign-127
 printf '#!/bin/sh\nexit 1\n' >foreign-1
 printf '#!/bin/sh\nkill -s ILL $$\n' >foreign-132
+err_is_terminal
 for name in foreign-*; do
     chmod +x "$name"
     ZELKUMA_PROGRAM=$name runs "${name#foreign-}" bash -c '"$0" list LOG; exit $?' "$zelkuma"
     has err "^zelkuma: './$name' can't run here: it is for Linux on x86-64-v2 with glibc 2.34 or later; see 'zelkuma build --help'$"
     [ "$(grep -c ^zelkuma: "$work/err")" -eq 1 ] || fails "it says more"
 done
+terminal=()
 
 what="what it says of itself"
 path=$PATH

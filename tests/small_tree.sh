@@ -100,6 +100,13 @@ cd "$work" || exit 1
 
 has() { grep -q -- "$2" "$work/$1" || fails "no '$2' in $1"; }
 hasnt() { ! grep -q -- "$2" "$work/$1" || fails "'$2' in $1"; }
+# From here on err of what runs is a terminal.
+err_is_terminal() {
+    local python
+    python=$(python3 -c 'import sys; print(sys.executable)' 2>/dev/null) || end_skipped "python3 isn't here, and err can be no terminal"
+    terminal=("$python" "$top/tests/terminal.py" --err "$work/err")
+}
+
 # Calls the script with these commands of the system alone; sets `zelkuma`.
 only() { # NAME..
     local name

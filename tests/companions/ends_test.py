@@ -10,9 +10,9 @@ import time
 sys.path.insert(0, os.path.join(os.path.dirname(os.path.abspath(__file__)), "gdb"))
 
 import cases
-from common import COMPANION, EXAMPLES, companion
+from common import COMPANION, EXAMPLES, PROGRAM, companion
 
-TABLE, COUNTER = (os.path.join(EXAMPLES, name + ".elf") for name in ("table", "counter"))
+HAND_OVER = os.path.join(EXAMPLES, "hand_over.elf")
 BOUND = 60                  # seconds after which a call hangs
 STATUSES = {signal.SIGINT: 130, signal.SIGTERM: 143, signal.SIGHUP: 129}
 
@@ -99,6 +99,24 @@ def case_who_is_killed_takes_its_processes_along(recordings):
         process.communicate(timeout=BOUND)
         awaits(lambda: not any(map(is_running, began)))
         assert began
+
+
+def case_what_searches_for_a_place_ends_too(recordings):
+    """A process of `seeds` that has one of its own."""
+    calls = Calls(recordings, "place")
+    calls.program(f'[ "$1" != record ] || exec {PROGRAM} "$@"')
+    process = calls.start("seeds", "-j1", "--only", "seeds", "3", "3", "--", "--harts", "2", HAND_OVER, calls.new, calls.new + "2")
+    began = []
+
+    def has_begun():
+        began[:] = children(process.pid)
+        began.extend(each for child in list(began) if is_running(child) for each in children(child))
+        return len(began) > 1
+
+    awaits(has_begun)
+    process.kill()
+    process.communicate(timeout=BOUND)
+    awaits(lambda: not any(map(is_running, began)))
 
 
 def case_the_tool_for_lines_ends_too(recordings):

@@ -1,4 +1,4 @@
-# Runs the program, and gives advice after it if it refuses or fails. What the program prints and its status stay its
+# Runs the program, and if err is a terminal gives advice after it if it refuses or fails. What the program prints and its status stay its
 # own. Read by the script zelkuma, which has set `top` and `program`.
 
 . "$top/tools/launcher/words.sh"
@@ -55,14 +55,14 @@ run() { # WORD..
         read_words
         [ -n "$complaint" ] || { check_schedule && check_targets; }
     fi
-    # without a reader of err no advice can be read
-    [ ! /dev/fd/2 -ef /dev/null ] || exec "$program" "${words[@]}"
+    # who reads err elsewhere wants the program's own lines
+    [ -t 2 ] || exec "$program" "${words[@]}"
     for signal in HUP INT QUIT TERM USR1 USR2 ALRM; do
         # shellcheck disable=SC2064 # it is this signal
         trap "pass_on $signal" "$signal"
     done
     # a terminal waits for what may take long: a recording, or a replay into a file
-    if [[ -t 2 && ${TERM:-dumb} != dumb && ($1 == record || ($1 == @(replay|joint) && -f /dev/fd/1)) ]] && hash cat 2>/dev/null; then
+    if [[ ${TERM:-dumb} != dumb && ($1 == record || ($1 == @(replay|joint) && -f /dev/fd/1)) ]] && hash cat 2>/dev/null; then
         . "$top/tools/launcher/progress.sh"
         start_shown "${words[@]}"
     else
