@@ -108,7 +108,8 @@ class Tries:
 
     def judged_in_order(self, candidates: Iterable[Pieces], most: tuple[int, int]) -> Generator[Optional[Pieces], None, None]:
         """Of each candidate its turns, or None."""
-        left, ended, at = iter(candidates), dict[int, Try](), self.started
+        ended: dict[int, Try] = {}
+        left, at = iter(candidates), self.started
         try:
             while not self.is_ended():
                 self.start(left, at + self.jobs * AHEAD)
