@@ -17,7 +17,7 @@ echo "began $$" >>"$RT_CALLS"
 [ -z "${UNTIL-}" ] || until [ -e "$UNTIL" ]; do sleep 0.05; done
 [ -z "${KILLED-}" ] || kill -s "$KILLED" $$
 [ -z "${WAITS-}" ] || sleep "$WAITS"
-[ "$1" != record ] || printf "BUGNETLG\n${INTERVALS-}" >"$3"
+[ "$1" != record ] || printf "BUGNETLG\n${INTERVALS-}" >"${@: -2:1}"
 printf '<%s>' "$@"
 echo
 echo "a line of err" >&2
@@ -61,7 +61,7 @@ STATUS=10 runs 10 "$zelkuma" record --format=2 ELF LOG BOOK
 hasnt err zelkuma
 INTERVALS='0 0 0 9 call 00000009\n1 0 0 9 LoadOutside 00000000\n'
 STATUS=10 runs 10 "$zelkuma" record ELF LOG BOOK
-hasnt err zelkuma
+has err "^zelkuma: note: LOG holds the crash; with --format 2 it always does"
 INTERVALS=
 STATUS=11 runs 11 "$zelkuma" record ELF LOG BOOK
 has err "^zelkuma: note: LOG doesn't hold any interval; recorded with --format 2 it does"
