@@ -32,12 +32,12 @@ PAGES = {
     "docs/GDB.md": 1500,
     "docs/GUIDE.md": 7000,
     "docs/INTERNALS.md": 3600,
-    "docs/JSON.md": 1050,
+    "docs/JSON.md": 1100,
     "docs/PROOF.md": 3050,
     "docs/PYTHON.md": 560,
     "docs/SHRINK.md": 700,
     "docs/VIEW.md": 1300,
-    "docs/WHY.md": 1750,
+    "docs/WHY.md": 1800,
 }
 
 # What "where" may follow: a place, or a verb that asks for one.

@@ -36,8 +36,8 @@ advise_on_log() {
     esac
 }
 
-# Says if the log of a run that ended in a fault (10) or at the limit (11) is of no use, and at a terminal of any crash that
-# such a log would have been sure to keep in format 2.
+# Says if the log of a run that ended in a fault (10) or at the limit (11) is of no use. At a terminal it says of any crash
+# in format 1 that format 2 always keeps it.
 advise_on_recording() { # STATUS
     local lost="the interval of the fault" reason
     [ -f "${names[1]}" ] || return 0
