@@ -113,6 +113,8 @@ class Log:
             size, = struct.unpack_from("<I", data, end - 36)
             pieces.append(data[end - SEAL - size:end - SEAL])
             end -= size + SEAL
+        if end < HEAD_2:
+            raise IndexError(end)               # no block begins there
         return b"".join(reversed(pieces))
 
     def read_records(self, records: bytes) -> None:

@@ -112,6 +112,8 @@ class LastRecords:
             before, _, size = struct.unpack_from("<QII", data, end - SEAL)
             end -= SEAL + size
             self.take_block(data[end:end + size], end - HEAD_2, before)
+        if end < HEAD_2:
+            raise IndexError(end)               # no block begins there
 
     def records(self) -> bytes:
         return b"".join(reversed(self.pieces))

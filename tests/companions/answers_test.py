@@ -81,8 +81,8 @@ class AnswersTest(case.Case):
         found = json.loads(self.says("seeds", "--json", "--only", "seeds", "1", "9", *words))
         self.assertEqual((found["answer"], found["seed"], found["from"], found["to"]), ("seeds", 3, 1, 9))
         self.assertEqual(set(found), {"answer", "version", "zelkuma", "kind", "number", "seed", "command", "status", "from", "to", "tried",
-                                      "endings"})
-        self.assertEqual(found["endings"][0], {"status": 0, "place": "-", "count": 2, "kind": "seed", "number": 1})
+                                      "part", "parts", "shrunk", "endings"})
+        self.assertEqual(found["endings"][0], {"status": 0, "place": "-", "count": 2, "kind": "seed", "number": 1, "files": []})
         self.assertEqual((found["kind"], found["number"], found["tried"], len(found["endings"])), ("seed", 3, 3, 2))
         self.assertIn(" --seed=3 ", found["command"])
         drawn = json.loads(self.says("seeds", "--json", "--only", "bursts", "--until", "0", "1", "9", *words))
@@ -118,9 +118,9 @@ class PythonTest(case.Case):
         self.needs_addr2line()
         log, _ = self.crash("use_after_free")
         with open(os.path.join(common.TOP, "docs", "PYTHON.md"), encoding="utf-8") as file:
-            script = re.search(r"<<'END'\n(.*?)^END$", file.read(), re.S | re.M).group(1)
+            script = re.findall(r"<<'END'\n(.*?)^END$", file.read(), re.S | re.M)[-1]
         done = subprocess.run([sys.executable, "-c", script.replace("/tmp/LOG", log)], cwd=common.TOP, stdout=subprocess.PIPE,
-                              env=dict(os.environ, PYTHONPATH=common.TOP), check=False)
+                              env=dict(os.environ, PYTHONPATH=os.path.join(common.TOP, "python")), check=False)
         self.assertRegex(done.stdout.decode(), r"\A\d+ stores\n0 \d+ 000103f4 .* in note use_after_free.c:40\ncalled from "
                                                r"\['_start start.S:16'\]\n\Z")
 
