@@ -184,7 +184,7 @@ def case_one_of_each_ending(recordings):
         known = found
     log, _ = recordings.example("hand_over", "--harts", "2", "--seed", str(CRASHES))
     assert known[f"seed-{CRASHES}.log"] == content(log)
-    folder = Folder(recordings, "lean")
+    folder = Folder(recordings, "in_threads")
     done = seeds("--only", "seeds", "--all", folder.path, "1", "3", "--", "--lean", "--harts", "2", HAND_OVER)
     assert done[0] == 0 and folder.names() == ["seed-1.log", f"seed-{CRASHES}.log"], done
 
