@@ -116,8 +116,8 @@ read_only='mount -t tmpfs other other && touch other/LOG && echo old >apart && m
     { "$0" record --seed 1 --harts 2 --limit 2000 ELF other/LOG BOOK 2>err || true; } && cmp plain apart'
 # The file beside may be read by its owner alone, until it is whole. Without /proc the program meets the limit of the system,
 # which ends it in the middle of the save.
-beside='mount -t tmpfs other other && cp ELF plain other && cd other && chmod 644 plain && mount -t tmpfs proc /proc && ulimit -S -f 1 &&
-    { "$0" record --seed 1 --harts 2 --limit 2000 ELF plain BOOK 2>err; [ $? -gt 128 ]; } && [ "$(stat -c %a .zelkuma-save-*)" = 600 ]'
+beside='mount -t tmpfs other other && cp ELF plain other && cd other && chmod 644 plain && mount -t tmpfs proc /proc &&
+    { (ulimit -S -f 1 && exec "$0" record --seed 1 --harts 2 --limit 2000 ELF plain BOOK 2>err); [ $? -gt 128 ]; } && [ "$(stat -c %a .zelkuma-save-*)" = 600 ]'
 if unshare -rm true 2>/dev/null; then
     is_so "a full disk leaves the old log" unshare -rm bash -c "$in_full" "$program"
     is_so "a mounted file is written in place" unshare -rm bash -c "$in_place" "$program"
