@@ -15,7 +15,7 @@ python=$(type -P python3) || skips "calls of companions: python3 isn't here"
 # Sources of which to lay: with a companion that tells how it was called, and with what isn't to be laid.
 sources=$work/sources
 mkdir -p "$sources/release" "$sources/companion/__pycache__"
-cp -r "$top/"{zelkuma,crates.txt,tools,packaging,companion} "$sources"
+cp -r "$top/"{zelkuma,crates.txt,tools,packaging,companion,python} "$sources"
 cp "$top/VERSION" "$sources"
 cp "$top/release/"{STAMP,COMMIT} "$sources/release"
 cp "$program" "$sources/release/zelkuma-x86_64-linux"

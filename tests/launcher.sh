@@ -49,10 +49,10 @@ runs 2 "$zelkuma" record --limit 1G --memory 1G ELF LOG BOOK
 has err "bugnet: setting memory 1073741824"
 runs 2 "$zelkuma" record --memory 1024M --limit 1073741824K ELF LOG BOOK
 has err "bugnet: setting memory 1073741824"
-while read -r word wanted; do
+while read -r word number; do
     [[ $word != "#" ]] || continue
     read=$(. "$top/tools/launcher/words.sh" && to_decimal "$word" && is_number "$decimal" 0 18446744073709551615 && echo "$decimal" || echo -)
-    [ "$read" = "$wanted" ] || fails "$word is read as $read, and not as $wanted"
+    [ "$read" = "$number" ] || fails "$word is read as $read, and not as $number"
 done <"$top/tests/numbers.txt"
 for word in 2k 1T ''; do
     runs 2 "$zelkuma" record --limit "$word" ELF LOG BOOK

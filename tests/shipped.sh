@@ -139,7 +139,7 @@ has out "^kit unknown"
 runs 0 "$zelkuma" --version
 has out "^program unknown"
 if type -P git >/dev/null; then
-    cp -r "$top/"{companion,.gitattributes} "$tree"
+    cp -r "$top/"{companion,python,.gitattributes} "$tree"
     (cd "$tree" && git init -q . && git add -A && git -c user.name=a -c user.email=a@b.c commit -qm a) >/dev/null 2>&1
     runs 0 "$tree/zelkuma" --version
     has out "^commit [0-9a-f]*$"
