@@ -74,7 +74,7 @@ done < <(read_table commands | awk -F '\t' '$2 == "entry" { print $3 }' && print
 runs 0 "$top/zelkuma" record --help LOG
 has out "  --seed N "
 runs 2 "$top/zelkuma" recor --help
-has err '^bugnet: words refused$'
+has err 'bugnet: words refused'
 [ -z "$(awk 'length > 100' "$top/tools/help/each.txt")" ] || fails "a line has more than 100 characters"
 
 what="the program's commands"
