@@ -17,7 +17,7 @@ SMALL = "use_after_free null_route overrun_path freed_frame race_ring stack_digi
 LOGS, RUNS, LARGE, PROCESSORS = 500, 400, 8, 4
 TIMED = """import resource, sys
 sys.path.insert(0, sys.argv.pop(1))
-from companion import seeds
+from companion.orders import seeds
 try:
     seeds.main(sys.argv[1:])
 finally:

@@ -18,7 +18,7 @@ if __name__ == "__main__":
     if not __package__:                         # a folder was called: its modules are found from the one around it
         sys.path[0] = os.path.dirname(os.path.dirname(os.path.abspath(__file__)))
     try:
-        call = importlib.import_module((__package__ or "companion") + ".call")
+        words = importlib.import_module((__package__ or "companion") + ".call.words")
     except OSError as error:                    # no file can be opened
         sys.exit(f"zelkuma: {error}")
-    call.main(sys.argv[1:])
+    words.main(sys.argv[1:])

@@ -6,21 +6,20 @@ from contextlib import closing
 from dataclasses import dataclass
 from typing import Any, Iterator, List, NamedTuple, Optional
 
-from .bridge.fills import Fills
-from .bridge.goto import go_to_place
-from .bridge.memory import Memory
-from .bridge.session import Session, begin_session
-from .errors import NO_INTERVAL, CompanionError
-from .log import At
-from .instruction import NAMES
-from .log import is_fault
+from .call.errors import NO_INTERVAL, CompanionError
+from .gdb.fills import Fills
+from .gdb.goto import go_to_place
+from .gdb.memory import Memory
+from .gdb.session import Session, begin_session
 from .questions.calls import Values, calls_of
 from .questions.functions import function_of
 from .questions.history import history_of, value_of
 from .questions.reading import Asked, asked_of
 from .questions.types import python_value
 from .questions.variables import variable_of
-from .rows import Row, rows_of
+from .recording.instruction import NAMES
+from .recording.log import At, is_fault
+from .recording.rows import Row, rows_of
 
 EVERY = 1 << 40
 

@@ -11,7 +11,7 @@ import struct
 import sys
 
 sys.path.insert(0, os.path.dirname(os.path.dirname(os.path.abspath(__file__))))
-from companion.log import REASONS, SIZES
+from companion.recording.log import REASONS, SIZES
 
 FIELDS = ((1, 1, 16), (2, 1, 10**7), (3, 1, 2**40), (4, 16384, 2**28), (5, 65536, 2**26),
           (6, 1, 1024), (7, 1, 16), (8, 1, 16), (10, 1, 2), (11, 0, 4096), (12, 0, 16))

@@ -4,7 +4,7 @@
 # processors. Each says what it skips, and why. The last line is 'N passed, N failed, N skipped'.
 set -u
 top=$(cd "$(dirname "$0")/.." && pwd)
-program=${1:-$(cd "$top" && python3 -B -c 'from companion import program; print(program.path())' 2>/dev/null)}
+program=${1:-$(cd "$top" && python3 -B -c 'from companion.call import program; print(program.path())' 2>/dev/null)}
 [ -x "$program" ] || { echo "companions: there is no program ${program:-in this repository}" >&2; exit 1; }
 ZELKUMA_PROGRAM=$(readlink -f "$program")
 export ZELKUMA_PROGRAM

@@ -104,7 +104,7 @@ what="the words of the companions"
 : >"$work/err"
 if [ -d "$top/companion" ]; then
     while read -r form; do
-        grep -sqxF "FORM = \"$form\"" "$top"/companion/{,questions/}"${form%% *}.py" || fails "${form%% *}.py has another FORM than '$form'"
+        grep -sqxF "FORM = \"$form\"" "$top"/companion/*/"${form%% *}.py" || fails "${form%% *}.py has another FORM than '$form'"
     done < <(read_table companions | awk -F '\t' '$2 == "entry" { print $3 }')
 else
     skips "the words of the companions, which aren't here"

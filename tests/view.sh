@@ -6,7 +6,7 @@
 # Without Chromium, or without the compiler that gives the example its names, nothing is made.
 set -eu
 top=$(cd "$(dirname "$0")/.." && pwd)
-ZELKUMA_PROGRAM=${1:-${ZELKUMA_PROGRAM:-$(cd "$top" && python3 -B -c 'from companion import program; print(program.path())')}}
+ZELKUMA_PROGRAM=${1:-${ZELKUMA_PROGRAM:-$(cd "$top" && python3 -B -c 'from companion.call import program; print(program.path())')}}
 export ZELKUMA_PROGRAM
 picture=${2:-$top/docs/view.png}
 folder=${3:-}

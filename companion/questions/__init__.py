@@ -9,4 +9,6 @@
     words                   the words of memory of a variable, and what rows tell of them
     variables, types        what a NAME is, and its values as its type writes them
     debugger, inside_gdb    asks gdb of names; what runs inside of gdb
-    reading                 the end of a log that is read, and what of it is left out"""
+    reading                 the end of a log that is read, and what of it is left out
+
+May use: call, recording."""

@@ -5,7 +5,7 @@ import os
 from collections import Counter
 from typing import NamedTuple
 
-from ..places import Frame
+from ..recording.places import Frame
 from .flow import Flow, Open
 from .reading import Asked
 

@@ -7,13 +7,13 @@ from collections import deque
 from dataclasses import dataclass, field
 from typing import Any, Callable, Deque, Iterable, Iterator, Optional, Union
 
-from .. import streams
-from ..answers import place_of, put_answer
-from ..errors import REFUSED, CompanionError
-from ..instruction import JUMP, Instruction
-from ..options import parse, whole
-from ..places import Frame
-from ..text import clean, columns, counted, number
+from ..call import streams
+from ..call.errors import REFUSED, CompanionError
+from ..call.options import parse, whole
+from ..call.text import clean, columns, counted, number
+from ..recording.answers import place_of, put_answer
+from ..recording.instruction import JUMP, Instruction
+from ..recording.places import Frame
 from .functions import PAIR, PLAIN, WORD, Begin, Function, function_of
 from .reading import Asked, asked_of
 from .registers import Registers

@@ -5,13 +5,13 @@ import contextlib
 from dataclasses import dataclass
 from typing import Any, Iterable, Optional
 
-from .. import streams
-from ..answers import place_of, put_answer
-from ..chunks import STORE, rows_between, rows_with, touching
-from ..errors import NO_INTERVAL, CompanionError
-from ..instruction import NAMES, Instruction
-from ..options import parse, whole
-from ..text import counted, number
+from ..call import streams
+from ..call.errors import NO_INTERVAL, CompanionError
+from ..call.options import parse, whole
+from ..call.text import counted, number
+from ..recording.answers import place_of, put_answer
+from ..recording.chunks import STORE, rows_between, rows_with, touching
+from ..recording.instruction import NAMES, Instruction
 from .paths import Path, paths_of
 from .reading import HIGHEST, Asked, asked_of
 

@@ -8,8 +8,8 @@ import shutil
 import subprocess
 from typing import Any, Optional
 
-from .. import streams
-from ..elf import Elf
+from ..call import streams
+from ..recording.elf import Elf
 
 GDBS = ("gdb-multiarch", "riscv64-unknown-elf-gdb", "riscv32-unknown-elf-gdb")
 PACKAGE = "gdb-multiarch"

@@ -3,11 +3,11 @@ from __future__ import annotations
 
 from typing import Callable, Dict
 
-from .. import streams
-from ..errors import REFUSED, CompanionError
-from ..options import parse
-from ..saving import Kind, target
-from ..text import number
+from ..call import streams
+from ..call.errors import REFUSED, CompanionError
+from ..call.options import parse
+from ..call.saving import Kind, target
+from ..call.text import number
 from .callgrind import callgrind
 from .lcov import lcov
 from .perfetto import perfetto

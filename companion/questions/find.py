@@ -5,13 +5,13 @@ import re
 from dataclasses import dataclass, field
 from typing import Any, Iterable
 
-from .. import streams
-from ..answers import LONGEST, place_of, put_answer
-from ..chunks import rows_with
-from ..elf import Elf
-from ..errors import MISSING, REFUSED, CompanionError
-from ..options import parse
-from ..text import clean, columns, counted, number
+from ..call import streams
+from ..call.errors import MISSING, REFUSED, CompanionError
+from ..call.options import parse
+from ..call.text import clean, columns, counted, number
+from ..recording.answers import LONGEST, place_of, put_answer
+from ..recording.chunks import rows_with
+from ..recording.elf import Elf
 from .reading import Asked, asked_of
 from .variables import ADDRESS, not_found, symbol_of
 

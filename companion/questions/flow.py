@@ -6,7 +6,7 @@ from collections import Counter
 from dataclasses import dataclass, field
 from typing import Callable, Iterable, Optional
 
-from ..chunks import JUMPS
+from ..recording.chunks import JUMPS
 from .window import CALLS, RETURNS
 
 PCS = re.compile(rb"\n\d+ \d+ (\w{8}) ")

@@ -4,8 +4,8 @@ from __future__ import annotations
 from dataclasses import dataclass
 from typing import Any, NamedTuple, Optional
 
-from ..elf import FUNCTION, Elf
-from ..errors import MISSING, CompanionError
+from ..call.errors import MISSING, CompanionError
+from ..recording.elf import FUNCTION, Elf
 from .debugger import ask_gdb
 from .types import Type
 from .variables import ADDRESS, PART, not_found

@@ -6,12 +6,12 @@ from collections import deque
 from dataclasses import dataclass
 from typing import Any, Deque, Iterable, Optional
 
-from .. import streams
-from ..answers import place_of, put_answer
-from ..instruction import STORE, Instruction
-from ..memory import Bytes, words_of
-from ..options import parse, whole
-from ..text import columns, counted, number
+from ..call import streams
+from ..call.options import parse, whole
+from ..call.text import columns, counted, number
+from ..recording.answers import place_of, put_answer
+from ..recording.instruction import STORE, Instruction
+from ..recording.memory import Bytes, words_of
 from .reading import Asked, asked_of
 from .types import Leaf, leaves, value_text
 from .variables import Variable, variable_of

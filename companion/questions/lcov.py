@@ -4,8 +4,8 @@ from __future__ import annotations
 import os
 from collections import Counter
 
-from ..addresses import code_of
-from ..elf import FUNCTION
+from ..recording.addresses import code_of
+from ..recording.elf import FUNCTION
 from .flow import Flow
 from .reading import Asked
 

@@ -6,7 +6,7 @@ import re
 from array import array
 from typing import Any, Iterable, Iterator
 
-from ..log import is_fault
+from ..recording.log import is_fault
 from .flow import Flow, Open
 from .reading import Asked
 

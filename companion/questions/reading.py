@@ -5,15 +5,15 @@ import contextlib
 from contextlib import closing
 from typing import Iterator, Mapping, NamedTuple
 
-from ..chunks import chunks
-from ..elf import Elf, last_before
-from ..log import Log
-from ..naming import named_elf, places_of
-from ..options import whole
-from ..places import Places
-from ..ready import ready
-from ..recent import open_log
-from ..text import number
+from ..call.options import whole
+from ..call.text import number
+from ..recording.chunks import chunks
+from ..recording.elf import Elf, last_before
+from ..recording.log import Log
+from ..recording.naming import named_elf, places_of
+from ..recording.places import Places
+from ..recording.ready import ready
+from ..recording.recent import open_log
 
 MOST_ROWS = 80000000        # are read without --rows
 HIGHEST = 1 << 41

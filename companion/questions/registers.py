@@ -5,8 +5,8 @@ import bisect
 import re
 from typing import Optional
 
-from ..instruction import NAMES
-from ..log import Interval, Log
+from ..recording.instruction import NAMES
+from ..recording.log import Interval, Log
 from .window import Window
 
 LONGEST_ROW = 100           # bytes, about

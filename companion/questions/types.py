@@ -4,7 +4,7 @@ from __future__ import annotations
 import struct
 from typing import Any, Callable, Dict, Iterator, NamedTuple, Optional
 
-from ..memory import Bytes
+from ..recording.memory import Bytes
 
 Type = Dict[str, Any]
 TOLD_IN_HEX = 1 << 16       # numbers from here on are told in hexadecimal too

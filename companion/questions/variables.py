@@ -6,9 +6,9 @@ import os
 import re
 from typing import NamedTuple, Optional
 
-from ..elf import FUNCTION, Elf, Symbol
-from ..errors import MISSING, REFUSED, CompanionError
-from ..text import clean, counted
+from ..call.errors import MISSING, REFUSED, CompanionError
+from ..call.text import clean, counted
+from ..recording.elf import FUNCTION, Elf, Symbol
 from .debugger import ask_gdb
 from .types import Type, words_type
 

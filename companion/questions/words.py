@@ -5,10 +5,10 @@ from collections import deque
 from dataclasses import dataclass
 from typing import Deque, Iterator, NamedTuple, Optional
 
-from ..chunks import LOAD, STORE, touching
-from ..instruction import A7, A1
-from ..log import Interval, Log
-from ..memory import Bytes, words_of
+from ..recording.chunks import LOAD, STORE, touching
+from ..recording.instruction import A7, A1
+from ..recording.log import Interval, Log
+from ..recording.memory import Bytes, words_of
 from .reading import Asked
 from .variables import Variable
 

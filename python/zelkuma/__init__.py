@@ -5,6 +5,7 @@ import os
 # The modules are those of the folder companion/, which the launcher runs.
 __path__ = [os.path.join(os.path.dirname(os.path.dirname(os.path.dirname(os.path.abspath(__file__)))), "companion")]
 
-from .library import Recording      # noqa: E402
+from .call.errors import CompanionError      # noqa: E402
+from .library import Recording              # noqa: E402
 
-__all__ = ["Recording"]
+__all__ = ["CompanionError", "Recording"]

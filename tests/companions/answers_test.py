@@ -9,8 +9,8 @@ sys.path.insert(0, os.path.join(os.path.dirname(os.path.abspath(__file__)), "lib
 import case
 import common
 
-from companion.log import read_log
-from companion.rows import parse_row, read_trace, rows_of
+from companion.recording.log import read_log
+from companion.recording.rows import parse_row, read_trace, rows_of
 
 
 def documented(word):

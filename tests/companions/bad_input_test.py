@@ -12,10 +12,10 @@ sys.path.insert(0, os.path.join(os.path.dirname(os.path.abspath(__file__)), "lib
 import case
 from common import COMPANION, CRASHES, PROGRAM, companion, example, path
 # common lets the package be found
-from companion.elf import Elf
-from companion.errors import CompanionError
-from companion.log import EDGE, HEADER, SIZES
-from companion.places import Places
+from companion.recording.elf import Elf
+from companion.call.errors import CompanionError
+from companion.recording.log import EDGE, HEADER, SIZES
+from companion.recording.places import Places
 
 HEAD = 92                                       # the bytes before the records in a log of version 1
 

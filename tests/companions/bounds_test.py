@@ -11,11 +11,12 @@ from gdb.recordings import A0, A1, A2, A7, ECALL, T0, addi, load, lui
 sys.path.insert(0, os.path.join(common.TOP, "tests", "hostile"))
 import forge
 
-from companion import analysis, recent
-from companion.analysis import analysed
-from companion.log import At
-from companion.recent import LogFile
-from companion.rows import read_trace
+from companion.why import analysis
+from companion.recording import recent
+from companion.why.analysis import analysed
+from companion.recording.log import At
+from companion.recording.recent import LogFile
+from companion.recording.rows import read_trace
 
 CODE = 0x10054                  # the first address of a forged program
 FOREVER = 0x6f                  # jal zero,0

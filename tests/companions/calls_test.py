@@ -8,7 +8,7 @@ sys.path.insert(0, os.path.join(os.path.dirname(os.path.abspath(__file__)), "lib
 import case
 import common
 
-from companion.elf import Elf
+from companion.recording.elf import Elf
 from companion.questions import calls, debugger
 from companion.questions.functions import parameters_of
 from companion.questions.reading import asked_of

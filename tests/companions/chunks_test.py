@@ -8,9 +8,9 @@ sys.path.insert(0, os.path.join(os.path.dirname(os.path.abspath(__file__)), "lib
 import case
 import common
 
-from companion import chunks
-from companion.errors import CompanionError
-from companion.log import read_log
+from companion.recording import chunks
+from companion.call.errors import CompanionError
+from companion.recording.log import read_log
 
 TURNS = ("--seed", "1", "--harts", "4", "--limit", "3000", "--interval", "700")
 

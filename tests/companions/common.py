@@ -12,7 +12,7 @@ HERE = os.path.dirname(os.path.abspath(__file__))
 TOP = os.path.dirname(os.path.dirname(HERE))
 COMPANION = os.path.join(TOP, "companion")
 sys.path.insert(0, TOP)
-from companion.program import path as program_path      # noqa: E402
+from companion.call.program import path as program_path      # noqa: E402
 PROGRAM = program_path()
 EXAMPLES = os.path.join(TOP, "examples")
 CRASHES = os.path.join(TOP, "tests", "crashes")

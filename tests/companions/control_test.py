@@ -8,10 +8,10 @@ import common
 from gdb.recordings import (A0, DATA, EXIT, T0, T1, T2, addi, branch_unless_equal, elf_of, jump_to, load, lui, pc_of,
                             store)
 
-from companion.control import Control, other_side
-from companion.elf import Elf
-from companion.log import read_log
-from companion.rows import read_trace
+from companion.why.control import Control, other_side
+from companion.recording.elf import Elf
+from companion.recording.log import read_log
+from companion.recording.rows import read_trace
 
 RA = 1
 # T0 is the data's address. Each place is told by its number; the words after `#` are what the test asks of it.

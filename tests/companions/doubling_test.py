@@ -12,7 +12,7 @@ import common
 from gdb.recordings import (A0, A1, A2, A7, DATA, ECALL, T0, T1, T2, addi, atomic, branch_unless_equal, elf_of, immediate,
                             jump_to, load, lui, store)
 
-from companion import call
+from companion.call import words as call
 
 SP, RA, S0, S1, ROUNDS = 2, 1, 8, 9, 28
 LEAST, MOST = 0.05, 3           # seconds that are told from none, and how much longer twice the rows may take

@@ -8,7 +8,7 @@ sys.path.insert(0, os.path.join(os.path.dirname(os.path.abspath(__file__)), "lib
 import case
 import common
 
-from companion.elf import Elf
+from companion.recording.elf import Elf
 from companion.questions import find
 from companion.questions.reading import asked_of
 

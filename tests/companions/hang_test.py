@@ -7,7 +7,7 @@ sys.path.insert(0, os.path.join(os.path.dirname(os.path.abspath(__file__)), "lib
 import case
 import common
 
-from companion.analysis import analysed
+from companion.why.analysis import analysed
 
 HANGS = "hang_width", "hang_wakeup", "hang", "lock_left_held"
 

@@ -9,7 +9,7 @@ import case
 import common
 
 from companion import Recording
-from companion.errors import CompanionError
+from companion.call.errors import CompanionError
 from companion.questions import debugger
 from companion.questions.types import python_value
 

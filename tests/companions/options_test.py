@@ -7,8 +7,8 @@ sys.path.insert(0, os.path.join(os.path.dirname(os.path.abspath(__file__)), "lib
 import case
 import common
 
-from companion.errors import CompanionError
-from companion.options import whole
+from companion.call.errors import CompanionError
+from companion.call.options import whole
 
 
 class NumbersTest(unittest.TestCase):

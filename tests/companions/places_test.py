@@ -8,8 +8,8 @@ import case
 import common
 import hostile
 
-from companion import places
-from companion.elf import Elf
+from companion.recording import places
+from companion.recording.elf import Elf
 
 NAME = "other_harts"
 FORGED = ("two\nlines", "0xffffffff", "a\n0xfffffff", "a\nb.c:5\nc", "\n\n\n")    # at most as long as NAME

@@ -9,7 +9,7 @@ import common
 
 import forged
 
-from companion import fences, races
+from companion.recording import fences, races
 
 LOAD, STORE, ADD, BRANCH = 0x0007a703, 0x00e7a023, 0x00000013, 0xfef6fce3       # lw, sw, addi, bgeu
 FENCE_ALL, FENCE_RELEASE, FENCE_WRITES = 0x0ff0000f, 0x0310000f, 0x0110000f      # iorw,iorw; rw,w; w,w

@@ -7,11 +7,11 @@ sys.path.insert(0, os.path.join(os.path.dirname(os.path.abspath(__file__)), "lib
 import case
 import common
 
-from companion import recent
-from companion.analysis import analysed
-from companion.log import At
-from companion.recent import LogFile
-from companion.rows import read_trace
+from companion.recording import recent
+from companion.why.analysis import analysed
+from companion.recording.log import At
+from companion.recording.recent import LogFile
+from companion.recording.rows import read_trace
 
 SMALL = ("--seed", "1", "--sets", "1", "--ways", "1", "--line", "1", "--interval", "200")    # many records in few rows
 
@@ -20,7 +20,7 @@ class RecentTest(case.Case):
     def small_steps(self, first, more):
         """Logs count as large from so few rows on."""
         for name, value in (("FIRST_ROWS", first), ("MORE_ROWS", more)):
-            for module in (recent, sys.modules["companion.analysis"]):
+            for module in (recent, sys.modules["companion.why.analysis"]):
                 self.addCleanup(setattr, module, name, getattr(module, name))
                 setattr(module, name, value)
 

@@ -15,7 +15,7 @@ import case
 import common
 from bad_input_test import stuck_log
 from common import COMPANION, CRASHES, PROGRAM, TOP, companion, path
-from companion import triage_pool, triage_work
+from companion.triage import pool as triage_pool, work as triage_work
 
 USED, FREED, LARGE = "use_after_free", "double_free", "libc_scale"      # the log of the last has several blocks
 

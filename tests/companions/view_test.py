@@ -14,8 +14,8 @@ import common
 import forged
 import hostile
 
-from companion import log as logs
-from companion import view_data
+from companion.recording import log as logs
+from companion.view import data as view_data
 
 
 class Reader(html.parser.HTMLParser):

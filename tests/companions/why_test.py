@@ -9,7 +9,7 @@ import sys
 sys.path.insert(0, os.path.join(os.path.dirname(os.path.abspath(__file__)), "lib"))
 import case
 from common import TOP, companion, example, output, path, record
-from companion.analysis import analysed         # common lets the package be found
+from companion.why.analysis import analysed         # common lets the package be found
 
 
 def suspects(text):

@@ -13,9 +13,9 @@ import sys
 HERE = os.path.dirname(os.path.abspath(__file__))
 sys.path[:0] = [os.path.join(HERE, "..", ".."), os.path.join(HERE, "..", "companions")]
 from common import crashes, record                  # noqa: E402
-from companion import analysis, branches, facts, locks, memory_use, report, suspects       # noqa: E402
-from companion.history import History               # noqa: E402
-from companion.places import Places                 # noqa: E402
+from companion.why import analysis, branches, facts, locks, memory_use, report, suspects       # noqa: E402
+from companion.why.history import History               # noqa: E402
+from companion.recording.places import Places                 # noqa: E402
 from why_crashes import FIRST, rank_of              # noqa: E402
 
 AT_ONCE = 2

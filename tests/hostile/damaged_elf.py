@@ -19,7 +19,7 @@ import time
 
 TOP = os.path.dirname(os.path.dirname(os.path.dirname(os.path.realpath(__file__))))
 sys.path.insert(0, TOP)
-from companion import call, program             # noqa: E402
+from companion.call import words as call, program             # noqa: E402
 
 PROGRAMS = ("use_after_free", "race_ring", "hang", "overrun", "double_free", "lost_terminator")
 SECONDS, MEMORY = 30, 1 << 30

@@ -309,7 +309,7 @@ def listed(top: pathlib.Path) -> str:
     names = ["VERSION", "release/COMMIT", "release/STAMP", *(f"tools/{name}" for name in (
         "files.txt", "install.sh", "say.sh", "version.sh", "help/each.txt", "help/page.txt", "help/words.sh"))]
     found = [*top.glob("tools/launcher/*.sh"), *(
-        file for ending in ("py", "html", "js", "css", "typed") for folder in ("companion", "companion/*", "python/zelkuma")
+        file for ending in ("py", "html", "js", "css", "typed") for folder in ("companion", "companion/*", "companion/view/page", "python/zelkuma")
         for file in top.glob(f"{folder}/*.{ending}"))]
     return "".join(f"{name}\n" for name in sorted([*names, *(str(file.relative_to(top)) for file in found)]))
 

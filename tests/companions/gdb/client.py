@@ -8,7 +8,7 @@ import sys
 from common import COMPANION, TOP
 
 # The same session with less room for commands than the program has.
-SMALL_ROOM = ("import sys; sys.path.insert(0, %r); from companion import gdb; from companion.bridge import process; "
+SMALL_ROOM = ("import sys; sys.path.insert(0, %r); from companion.gdb import gdb, process; "
               "process.FULL = %d; sys.exit(gdb.main(sys.argv[1:]))")
 
 

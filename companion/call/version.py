@@ -1,0 +1,17 @@
+"""The version of Zelkuma that a page or an answer was made by."""
+from __future__ import annotations
+
+import functools
+import os
+
+from . import PACKAGE
+
+
+@functools.lru_cache(maxsize=None)
+def version() -> str:
+    """What the file VERSION beside the package says, "unknown" without it."""
+    try:
+        with open(os.path.join(os.path.dirname(PACKAGE), "VERSION"), encoding="ascii") as file:
+            return file.read().strip()
+    except (OSError, ValueError):
+        return "unknown"

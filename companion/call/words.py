@@ -1,0 +1,102 @@
+"""The words of the companions, and how a call ends: each way to fail is one line and a status."""
+from __future__ import annotations
+
+import importlib
+import os
+import signal
+import sys
+
+from . import streams
+from .errors import MISSING, NO_MEMORY, REFUSED, UNREADABLE, UNWRITABLE, CompanionError
+
+HELP = """The companions: they show what the proved program says, in names, lines and pictures.
+
+    python3 companion WORD ..          (by the launcher: zelkuma WORD ..)
+
+Companions show; the program proves. `python3 companion WORD --help` tells each word."""
+# Of each part its words. The module of a word has its name, HELP, and main(words), which gives the exit status.
+PARTS = {
+    "recording": {"names": "puts function and line behind each row"},
+    "why": {"why": "explains a crash", "output": "lists what the guest wrote"},
+    "orders": {
+        "race": "groups the races of a log",
+        "seeds": "searches for turns by which a program crashes",
+        "shrink": "finds the shortest order of harts that still crashes",
+        "again": "makes a recording again, with a larger log",
+    },
+    "view": {"view": "draws a log as one page"},
+    "gdb": {"gdb": "lets gdb attach to a log"},
+    "triage": {"bucket": "sorts logs by the cause of their end", "triage": "sorts the logs of folders into one table"},
+    "questions": {
+        "history": "lists what stored to a variable",
+        "calls": "lists the calls of a function",
+        "find": "lists the places at which a value occurs",
+        "compare": "compares two logs of one program",
+        "export": "saves what a recording did for other tools",
+    },
+}
+WORDS = {word: (part, what) for part, words in PARTS.items() for word, what in words.items()}
+BROKEN = 1                  # a fault of the companion itself
+
+
+def usage() -> str:
+    return HELP + "\n\n" + "".join(f"    {word:<7} {what}\n" for word, (_, what) in WORDS.items())
+
+
+def run(words: list[str]) -> int:
+    if not words or words[0] in ("-h", "--help", "help"):
+        streams.put(usage())
+        return 0 if words else REFUSED
+    if words[0] not in WORDS:
+        raise CompanionError(f"no companion is called {words[0]!r}: {', '.join(WORDS)}", REFUSED)
+    module = importlib.import_module(f"..{WORDS[words[0]][0]}.{words[0]}", __package__)
+    if words[1:] in (["-h"], ["--help"]):
+        streams.put(module.HELP + "\n")
+        return 0
+    status: int = module.main(words[1:])
+    return status
+
+
+def guarded(words: list[str]) -> int:
+    """Runs a word; every way to fail is one line and a status."""
+    try:
+        return run(words)
+    except CompanionError as error:
+        streams.say(error)
+        return error.status
+    except KeyboardInterrupt as stop:
+        return streams.interrupted(stop)
+    except BrokenPipeError:
+        return UNWRITABLE
+    except MemoryError:
+        streams.say("out of memory")
+        return NO_MEMORY
+    except FileNotFoundError as error:
+        streams.say(f"missing: {error.filename or error.strerror}")
+        return MISSING
+    except OSError as error:
+        streams.say(f"{error.filename or 'a file'}: {error.strerror or error}")
+        return UNREADABLE
+    except Exception as error:                  # the last resort: a line for the user, the traceback on demand
+        if os.environ.get("ZELKUMA_TRACEBACK"):
+            raise
+        streams.say(f"{words[0]} failed inside ({type(error).__name__}: {error}); ZELKUMA_TRACEBACK=1 shows where")
+        return BROKEN
+
+
+def main(words: list[str]) -> None:
+    """Ends the process with the status of a word."""
+    streams.prepare()
+    try:
+        streams.on_interrupt(streams.interrupt)
+        status = guarded(words)
+        streams.on_interrupt(signal.SIG_IGN)
+    except KeyboardInterrupt as stop:           # it came while another way to fail was told
+        status = streams.interrupted(stop)
+    streams.give_up()
+    sys.exit(status)
+
+
+def console() -> None:
+    """The command zelkuma-companion of the package."""
+    main(sys.argv[1:])

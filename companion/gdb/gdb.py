@@ -1,0 +1,124 @@
+"""Lets gdb attach to a log."""
+from __future__ import annotations
+
+import contextlib
+import os
+import shlex
+import socket
+import sys
+from contextlib import closing
+from typing import Mapping, NoReturn, Optional
+
+from ..call import streams
+from ..call.errors import UNREADABLE, CompanionError
+from ..call.options import parse, whole
+from ..call.program import NOT_BUILT
+from ..call.text import number
+from ..questions.debugger import PACKAGE, gdb_path
+from ..recording.elf import Elf
+from ..recording.log import At, Log
+from ..recording.naming import named_elf
+from ..recording.recent import FIRST_ROWS, open_log
+from ..why.facts import asked_row
+from .fills import Fills
+from .memory import Memory
+from .packets import PacketStream
+from .questions import Questions
+from .server import Server
+from .session import Session, begin_session
+
+HELP = """zelkuma gdb LOG ELF [--run] [--names ELF] [--at HART:IC] [--rows N] [--port N] [--end] [--trace]
+
+Lets gdb attach to a recording: harts are threads, and it goes forward and back. With --run it starts gdb itself, at the end of
+the log; else gdb starts it:
+
+    gdb-multiarch NAMES -ex 'target remote | zelkuma gdb LOG ELF'
+
+NAMES is the same program with its symbols and lines; ELF is the very file that was recorded, and may
+serve as both. The session begins where the log does; `continue` goes to the crash, and there
+`watch` and `reverse-continue` to the store behind it.
+
+    --run      starts gdb-multiarch, or what $ZELKUMA_GDB names; `run` starts again at the beginning
+    --names    the same program with names and lines, if ELF was stripped
+    --at       begins at a place
+    --rows N   loads the last N rows alone; with --run a million, unless it is given
+    --port N   waits on port N of this machine for one connection (`target remote :N`), and says so;
+               0 takes a free port
+    --end      begins where the log ends, which is where the program crashed
+    --trace    writes gdb's packets to err
+
+Companions show; the program proves. What gdb shows is what `debug` says of the log, and ELF of memory that
+nothing touched."""
+FORM = "gdb LOG ELF [--run] [--names ELF] [--at HART:IC] [--rows N] [--port N] [--end] [--trace]"
+OPTIONS = {"--run": False, "--names": True, "--at": True, "--rows": True, "--port": True, "--end": False, "--trace": False}
+HIGHEST = 1 << 41
+SETTINGS = [word for said in ("debuginfod enabled off", "architecture riscv:rv32", "remotetimeout 60", "confirm off",
+                                                   "auto-connect-native-target off")
+            for word in ("-iex", f"set {said}")]
+LOOPBACK = "127.0.0.1"
+
+
+def wait_for_gdb(port: int) -> socket.socket:
+    """The one connection that is taken."""
+    try:
+        with socket.create_server((LOOPBACK, port), backlog=1) as server:
+            streams.tell(f"port {server.getsockname()[1]}")
+            peer, _ = server.accept()
+    except OSError as error:
+        raise CompanionError(f"port {port}: {error.strerror}", UNREADABLE)
+    peer.setsockopt(socket.IPPROTO_TCP, socket.TCP_NODELAY, 1)  # each answer is waited for
+    return peer
+
+
+def begin_server(log: Log, elf: Elf, session: Session, stream: PacketStream, questions: Questions) -> Server:
+    fills = Fills(session.steps, log)
+    return Server(session, Memory(log, elf, session, fills), fills, stream, questions)
+
+
+def serve(server: Server, at_end: bool, place: Optional[At]) -> None:
+    try:
+        server.begin(at_end, place)
+        server.serve()
+    except (EOFError, ConnectionError):         # gdb has left
+        pass
+
+
+def told_of_rows(log: Log) -> str:
+    """How far back the rows that are loaded lead."""
+    first = ", ".join(f"hart {hart} from count {number(each.start)}" for hart, each in sorted(log.first_intervals().items()))
+    return f"the last {number(log.rows())} rows are loaded, {first}; --rows N loads more"
+
+
+def run_gdb(log_name: str, elf_name: str, options: Mapping[str, str]) -> NoReturn:
+    """Becomes gdb, which starts the bridge. It begins at the end of the log, unless it is asked for a place."""
+    gdb, here = gdb_path(), os.path.dirname(os.path.abspath(__file__))
+    if not gdb:
+        raise CompanionError(f"no gdb is here; Debian has it in {PACKAGE}", NOT_BUILT)
+    place = ["--at", options["--at"]] if "--at" in options else ["--end"]
+    names = ["--names", options["--names"]] if "--names" in options else []
+    bridge = [sys.executable, os.path.dirname(here), "gdb", *place, *names, "--rows", options.get("--rows", str(FIRST_ROWS)), "--", log_name, elf_name]
+    words = [gdb, "-q", *SETTINGS, "-x", os.path.join(here, "inside_gdb.py"), "-ex",
+             "target extended-remote | " + shlex.join(bridge), "--", options.get("--names", elf_name)]
+    os.execvp(gdb, words)
+
+
+def main(words: list[str]) -> int:
+    (log_name, elf_name), options = parse(words, OPTIONS, 2, FORM)
+    port = whole(options["--port"], 0, 65535, "--port") if "--port" in options else None
+    rows = whole(options["--rows"], 1, HIGHEST, "--rows") if "--rows" in options else 0
+    at = asked_row(options["--at"]) if "--at" in options else None
+    with contextlib.ExitStack() as opened:
+        source, elf = opened.enter_context(closing(open_log(log_name))), Elf(elf_name)
+        named_elf(elf, options.get("--names", ""))
+        if "--run" in options:
+            run_gdb(log_name, elf_name, options)
+        log = source.end(rows, at) if rows else source.whole()
+        if log.unread:
+            streams.say(told_of_rows(log))
+        session = opened.enter_context(closing(begin_session(log, elf_name)))
+        peer = opened.enter_context(wait_for_gdb(port)) if port is not None else None
+        ends = (peer.fileno(),) * 2 if peer else (sys.stdin.fileno(), sys.stdout.fileno())
+        stream = PacketStream(*ends, "--trace" in options)
+        serve(begin_server(log, elf, session, stream, Questions(log_name, elf_name, options.get("--names", ""))),
+              "--end" in options, at)
+    return 0

@@ -1,0 +1,93 @@
+"""Memory as it is known at a place of the session.
+
+A byte is known in one of four cases, tried in this order:
+
+1. It lies in a read-only segment: no run can change it.
+2. A row so far loaded or stored its word, and no `read` call has filled the word since: `debug` tells it.
+3. The log has dropped nothing, and no row so far touched the word, nor did a `read` call fill a byte
+   of it. Then it is what it was at the start: the ELF's bytes, or 0 outside of the segments.
+4. All harts have a state, and of the known steps ahead the first that touches its word loads it: then
+   the word has that value already.
+
+Case 3 needs the whole past, so it holds for no log that has dropped records. Case 4 needs all steps in
+between, so no hart may be in an interval that the log has lost. All else is unknown.
+"""
+from __future__ import annotations
+
+import bisect
+import struct
+from typing import Optional
+
+from ..recording.elf import Elf
+from ..recording.log import Log
+from .fills import Fills
+from .future import Future
+from .session import Session
+
+LOWEST = 4096  # no address below is mapped
+BATCH = 256  # words asked for at once
+
+
+class Memory:
+    """Reads memory for gdb, which takes what is known from an address on."""
+
+    def __init__(self, log: Log, elf: Elf, session: Session, fills: Fills) -> None:
+        self.session, self.elf, self.fills = session, elf, fills
+        self.size, self.is_whole = log.memory, log.dropped == 0
+        self.future = Future(session.steps, fills)
+        self.borders = sorted({border for part in elf.parts for border in (part.address, part.address + part.size)})
+
+    def is_mapped(self, address: int) -> bool:
+        return LOWEST <= address < self.size
+
+    def first_word(self, address: int) -> Optional[int]:
+        """A word's value at the start, if it is still that, else None."""
+        if not self.is_whole or not self.is_mapped(address):
+            return None
+        if self.fills.find(address, 4, 0, self.session.at) is not None:
+            return None
+        # A segment can end within a word; the bytes behind it are 0.
+        body = b"".join(self.elf.bytes_at(address + i, 1) or b"\0" for i in range(4))
+        return int.from_bytes(body, "little")
+
+    def later_word(self, address: int) -> Optional[int]:
+        """A word's value as the steps ahead tell it, else None."""
+        return self.future.word(address, self.session.at) if self.session.all_have_states() else None
+
+    def words(self, first: int, count: int) -> list[int]:
+        """Words from an aligned address on, up to the first that isn't known."""
+        found: list[int] = []
+        while len(found) < count:
+            wanted = min(BATCH, count - len(found))
+            addresses = [first + 4 * (len(found) + i) for i in range(wanted)]
+            for address, value in zip(addresses, self.session.words(addresses)):
+                value = self.first_word(address) if value is None else value
+                value = self.later_word(address) if value is None else value
+                if value is None:
+                    return found
+                found.append(value)
+        return found
+
+    def changeable_bytes(self, address: int, length: int) -> bytes:
+        """Bytes outside of the read-only segments."""
+        found = self.words(address & ~3, ((address & 3) + length + 3) >> 2)
+        return struct.pack(f"<{len(found)}I", *found)[address & 3:][:length]
+
+    def next_border(self, address: int, end: int) -> int:
+        """The end of the segment that holds an address, or the beginning of the next one."""
+        at = bisect.bisect_right(self.borders, address)
+        return min([end] + self.borders[at:at + 1])
+
+    def read(self, address: int, length: int) -> bytes:
+        """As many bytes as are known from an address on, at most so many."""
+        got, end = b"", min(address + length, 1 << 32)
+        while address + len(got) < end:
+            at = address + len(got)
+            limit = self.next_border(at, end)
+            piece = self.elf.read_only_bytes(at, limit - at)
+            if piece is None:
+                piece = self.changeable_bytes(at, limit - at)
+            got += piece
+            if len(piece) < limit - at:
+                break
+        return got

@@ -1,0 +1,95 @@
+"""Packets of gdb's remote serial protocol, over two file descriptors.
+
+A packet is `$BODY#CC`, with the sum of the body's bytes in two hexadecimal digits. Until gdb asks
+for no acknowledgements, each packet is answered by `+`, or by `-` if its sum is wrong. A single
+byte 03 outside of packets asks for an interruption.
+"""
+from __future__ import annotations
+
+import os
+import re
+import select
+
+from ..call import streams
+from ..call.errors import UNWRITABLE, CompanionError
+
+LONGEST = 1 << 16  # more bytes than that without an end are no packet of gdb: PACKET_SIZE is less
+PACKET_SIZE = 0x4000
+
+
+def checksum(body: bytes) -> bytes:
+    return b"%02x" % (sum(body) & 255)
+
+
+class PacketStream:
+    """Receives and sends packets."""
+
+    def __init__(self, source: int, sink: int, traced: bool = False) -> None:
+        self.source, self.sink, self.traced = source, sink, traced
+        self.data = bytearray()
+        self.acknowledges = True
+
+    def fill(self) -> None:
+        piece = os.read(self.source, 1 << 16)
+        if not piece:
+            raise EOFError
+        self.data += piece
+
+    def write(self, data: bytes) -> None:
+        while data:
+            try:
+                data = data[os.write(self.sink, data):]
+            except ConnectionError:
+                raise
+            except OSError as error:
+                raise CompanionError(f"the output takes no more: {error.strerror}", UNWRITABLE)
+
+    def trace(self, arrow: str, text: str) -> None:
+        if self.traced:
+            streams.tell(f"{arrow} {text[:300]}")
+
+    def next_frame(self) -> tuple[bytes, bytes]:
+        """A packet's body and its two digits; skips what stands before it."""
+        while True:
+            begin = self.data.find(b"$")
+            if begin < 0:
+                self.data.clear()
+            else:
+                del self.data[:begin]
+                end = self.data.find(b"#")
+                if 0 <= end <= len(self.data) - 3:
+                    body, digits = bytes(self.data[1:end]), bytes(self.data[end + 1:end + 3])
+                    del self.data[:end + 3]
+                    return body, digits
+                if len(self.data) > LONGEST:
+                    self.data.clear()
+            self.fill()
+
+    def receive(self) -> str:
+        """The next packet's text. EOFError says that gdb has left."""
+        while True:
+            body, digits = self.next_frame()
+            good = digits.lower() == checksum(body)
+            if self.acknowledges:
+                self.write(b"+" if good else b"-")
+            if good:
+                text = body.decode("latin-1")
+                self.trace("<-", text)
+                return text
+
+    def send(self, text: str) -> None:
+        self.trace("->", text)
+        body = re.sub(rb"[$#}*]", lambda found: b"}" + bytes([found[0][0] ^ 32]),
+                      text.encode("latin-1", "replace"))
+        self.write(b"$" + body + b"#" + checksum(body))
+
+    def is_interrupted(self) -> bool:
+        """Whether gdb has asked for an interruption; takes the request. It doesn't wait."""
+        if select.select([self.source], [], [], 0)[0]:
+            self.fill()
+        while self.data[:1] in (b"+", b"-"):
+            del self.data[:1]
+        if self.data[:1] != b"\x03":
+            return False
+        del self.data[:1]
+        return True

@@ -1,0 +1,249 @@
+"""Answers gdb's packets, one by one."""
+from __future__ import annotations
+
+import re
+from typing import Callable, Optional
+
+from ..call.errors import CompanionError
+from ..recording.log import At
+from ..why.facts import asked_row
+from . import target
+from .fills import Fills
+from .goto import go_to_place
+from .memory import Memory
+from .motion import Motion, Stop
+from .packets import PACKET_SIZE, PacketStream
+from .points import Points
+from .questions import WORDS, Questions
+from .session import Session
+from .threads import Threads
+
+REFUSED, UNREADABLE, OK = "E01", "E0e", "OK"
+UNSUPPORTED = ""  # the protocol's answer to a packet that isn't known
+FEATURES = (f"PacketSize={PACKET_SIZE:x};qXfer:features:read+;ReverseStep+;ReverseContinue+;"
+            "QStartNoAckMode+;vContSupported+")
+MOST_BYTES = PACKET_SIZE // 4  # of memory in an answer, each two digits
+MOST_ROWS = 100
+MONITOR_HELP = ("monitor where: the next count and address of each hart\n"
+                "monitor rows N: the last N rows\n"
+                "monitor at: how many steps lead here\n"
+                "monitor goto HART:COUNT: goes there\n" + "".join(f"{said}\n" for said in WORDS.values()))
+PIECE = PACKET_SIZE // 4  # bytes of a long answer to `monitor` that go at once
+
+
+def number_of(text: str) -> int:
+    if not re.fullmatch("[0-9a-fA-F]+", text):  # int() takes signs and underscores too
+        raise ValueError(text)
+    return int(text, 16)
+
+
+def numbers_of(text: str) -> tuple[int, int]:
+    """Two numbers with a comma between them."""
+    first, second = text.split(",")
+    return number_of(first), number_of(second)
+
+
+class Server:
+    """One session with gdb."""
+
+    def __init__(self, session: Session, memory: Memory, fills: Fills, stream: PacketStream, questions: Questions) -> None:
+        self.session, self.memory, self.stream, self.questions = session, memory, stream, questions
+        self.points = Points(session.steps, fills)
+        self.motion = Motion(session, self.points, stream.is_interrupted)
+        self.threads = Threads(session)
+        self.last_stop, self.is_extended = "", False
+        self.moved = ""     # the hart that `monitor goto` went to, until gdb has asked for it
+        self.whole, self.begun = self.packets(), self.packets_with_more()
+
+    def packets(self) -> dict[str, Callable[[], str]]:
+        """What answers packets that are one word."""
+        threads, motion = self.threads, self.motion
+        return {
+            "?": lambda: self.last_stop,
+            "g": self.registers,
+            "qC": lambda: f"QC{threads.shown + 1:x}",
+            "qfThreadInfo": lambda: "m" + threads.listed(),
+            "qsThreadInfo": lambda: "l",
+            "qAttached": lambda: "1",
+            "vCont?": lambda: "vCont;c;C;s;S;r",
+            "!": self.extend,
+            "s": lambda: self.stopped(motion.step(*threads.moving())),
+            "c": lambda: self.stopped(motion.go(*threads.moving())),
+            "bs": lambda: self.stopped(motion.step_back(*threads.moving())),
+            "bc": lambda: self.stopped(motion.go_back(threads.moving()[0])),
+        }
+
+    def packets_with_more(self) -> dict[str, Callable[[str], str]]:
+        """What answers packets that begin so; it is given the rest. Signals to pass on are ignored."""
+        whole = self.packets()
+        return {
+            "qSupported": lambda _: FEATURES,
+            "qXfer:features:read:target.xml:": self.description,
+            "qThreadExtraInfo,": self.about_thread,
+            "qRcmd,": self.monitor,
+            "vCont;": self.resume,
+            "vRun;": lambda _: self.run_again(),
+            "p": self.register,
+            "m": self.read_memory,
+            "H": self.choose_thread,
+            "T": self.is_alive,
+            "Z": lambda text: self.change_point(True, text),
+            "z": lambda text: self.change_point(False, text),
+            "S": lambda _: whole["s"](),
+            "C": lambda _: whole["c"](),
+            # A recorded run can't be changed.
+            "G": lambda _: REFUSED, "P": lambda _: REFUSED, "M": lambda _: REFUSED, "X": lambda _: REFUSED,
+        }
+
+    # What is asked
+
+    def extend(self) -> str:
+        """gdb stays connected when its program ends, and can run it again."""
+        self.is_extended = True
+        return OK
+
+    def description(self, text: str) -> str:
+        offset, length = numbers_of(text)
+        piece = target.DESCRIPTION[offset:offset + length]
+        return ("m" if offset + length < len(target.DESCRIPTION) else "l") + piece
+
+    def registers(self) -> str:
+        values = self.session.registers(self.threads.shown)
+        return target.words_in_hex(values) if values else target.unknown_in_hex(len(target.REGISTERS))
+
+    def register(self, text: str) -> str:
+        number, values = number_of(text), self.session.registers(self.threads.shown)
+        if number >= len(target.REGISTERS):
+            return REFUSED
+        return target.words_in_hex([values[number]]) if values else target.unknown_in_hex(1)
+
+    def read_memory(self, text: str) -> str:
+        address, length = numbers_of(text)
+        found = self.memory.read(address, min(length, MOST_BYTES))
+        return found.hex() if found or not length else UNREADABLE
+
+    def about_thread(self, text: str) -> str:
+        hart = self.threads.hart_of(text)
+        return REFUSED if hart is None else self.threads.about(hart).encode().hex()
+
+    def choose_thread(self, text: str) -> str:
+        self.threads.choose(text)
+        return OK
+
+    def is_alive(self, text: str) -> str:
+        return REFUSED if self.threads.hart_of(text) is None else OK
+
+    def change_point(self, is_set: bool, text: str) -> str:
+        kind, place = text.split(";")[0].split(",", 1)
+        return OK if self.points.change(is_set, kind, *numbers_of(place)) else UNSUPPORTED
+
+    def monitor(self, text: str) -> str:
+        words = bytes.fromhex(text).decode().split()
+        if words == ["moved"]:
+            said, self.moved = self.moved, ""
+        elif len(words) == 2 and words[0] == "goto":
+            said = self.goto(words[1])
+        elif words and words[0] in WORDS:
+            said = self.questions.answer(words[0], words[1:])
+        else:
+            said = self.monitor_session(words)
+        told = said.encode()
+        for at in range(0, len(told) - PIECE, PIECE):
+            self.stream.send("O" + told[at:at + PIECE].hex())
+        return told[(max(0, len(told) - 1)) // PIECE * PIECE:].hex() or OK
+
+    def goto(self, text: str) -> str:
+        try:
+            place = asked_row(text)
+            go_to_place(self.session, place)
+        except CompanionError as error:
+            return f"{error}\n"
+        self.motion.told, self.threads.shown, self.moved = None, place.hart, str(place.hart)
+        return f"at {text}\n" if self.is_extended else f"at {text}; type: maintenance flush register-cache\n"
+
+    def monitor_session(self, words: list[str]) -> str:
+        """What the session itself tells."""
+        if words == ["where"]:
+            said = self.session.where()
+        elif words == ["at"]:
+            said = f"at {self.session.at} of {self.session.steps.count} known\n"
+        elif len(words) == 2 and words[0] == "rows" and words[1].isdecimal():
+            first = max(0, self.session.at - min(int(words[1]), MOST_ROWS))
+            said = "".join(self.session.steps.lines.line(place).decode() + "\n"
+                           for place in range(first, self.session.at))
+        else:
+            said = MONITOR_HELP
+        return said
+
+    # What moves
+
+    def stopped(self, stop: Stop) -> str:
+        """What gdb is told of a stop; its thread is then the one that is shown."""
+        hart = stop.hart if self.session.pc(stop.hart) is not None else self.motion.first_hart()
+        self.threads.shown = hart
+        pc = self.session.pc(hart)
+        place = "" if pc is None else f"20:{target.words_in_hex([pc])};"  # register 32
+        self.last_stop = f"T{stop.signal:02x}{stop.detail}{place}thread:{hart + 1:x};"
+        return self.last_stop
+
+    def resume(self, text: str) -> str:
+        """Does the first action that steps or continues."""
+        actions = [action.partition(":") for action in text.split(";")]
+        alone = not any(word[:1] in ("c", "C") and self.threads.hart_of(thread) is None
+                        for word, _, thread in actions)
+        for word, _, thread in actions:
+            named = self.threads.hart_of(thread)
+            hart = self.threads.shown if named is None else named
+            if word[:1] in ("s", "S"):
+                return self.stopped(self.motion.step(hart, alone))
+            if word[:1] == "r":
+                low, high = numbers_of(word[1:])
+                return self.stopped(self.motion.step(hart, alone, low, high))
+            if word[:1] in ("c", "C"):
+                return self.stopped(self.motion.go(hart, alone))
+        return UNSUPPORTED
+
+    def answer(self, packet: str) -> str:
+        """The answer to a packet."""
+        try:
+            if packet in self.whole:
+                return self.whole[packet]()
+            for begin, answer in self.begun.items():
+                if packet.startswith(begin):
+                    return answer(packet[len(begin):])
+        except (ValueError, IndexError):  # no packet of gdb
+            return REFUSED
+        return UNSUPPORTED
+
+    def begin(self, at_end: bool, place: Optional[At]) -> None:
+        """Goes to the beginning of the log, to its end or to a place."""
+        self.stopped(self.motion.begin())
+        if place:
+            go_to_place(self.session, place)
+            self.stopped(Stop(place.hart))
+        elif at_end:
+            self.stopped(self.motion.go(self.threads.shown, False))
+
+    def run_again(self) -> str:
+        """gdb's `run`: from the beginning."""
+        self.session.go_to(self.motion.base)
+        self.motion.told = None
+        return self.stopped(Stop(self.motion.first_hart()))
+
+    def serve(self) -> None:
+        """Answers packets until gdb leaves."""
+        while True:
+            packet = self.stream.receive()
+            if packet[:1] == "k" and not self.is_extended:
+                return
+            if packet[:1] == "k":               # gdb's `run` kills what runs
+                continue
+            if packet[:1] == "D":
+                self.stream.send(OK)
+                return
+            if packet == "QStartNoAckMode":
+                self.stream.send(OK)
+                self.stream.acknowledges = False
+                continue
+            self.session.rest()
+            self.stream.send(self.answer(packet))

@@ -1,0 +1,135 @@
+"""Makes a recording again from its list of turns, with a larger log or other intervals."""
+from __future__ import annotations
+
+import os
+import struct
+from typing import Mapping, Sequence
+
+from ..call import program, streams
+from ..call.errors import BAD_LOG, UNREADABLE, CompanionError
+from ..call.files import check_regular
+from ..call.options import parse, whole
+from ..call.saving import LOG, TURNS, Target, target
+from ..call.text import counted, number
+from .record import ENDS, Child, last_line
+
+HELP = """zelkuma again LOG ELF BOOK NEWLOG [--input FILE] [--log-size N] [--interval N]
+
+Makes a recording again by the turns of BOOK, also one of harts in threads, and saves it as NEWLOG.
+
+    zelkuma again LOG buffers.elf BOOK NEWLOG --log-size 64M
+
+First `audit` has to agree that LOG is the recording of BOOK's turns. NEWLOG has LOG's settings but for those that are
+given; an input that was recorded is needed again. The summary of the new recording is printed, and then:
+
+    turns: ..        whether its list of turns is BOOK. Full intervals end turns, and with format 2 guards do. So if
+                     they come elsewhere, the turns can be others: these are saved as NEWLOG.book
+    ends: ..         whether each hart ended as in LOG: its count, reason and value. If not, it is another run, and
+                     the status is 16
+
+    --input FILE     what the program read
+    --log-size N     how many bytes of records are kept; N may end in K, M or G
+    --interval N     how many instructions an interval has
+
+Companions show; the program proves. `audit NEWLOG ELF BOOK` tells whether NEWLOG is the recording of its turns."""
+FORM = "again LOG ELF BOOK NEWLOG [--input FILE] [--log-size N] [--interval N]"
+DIFFERS, NO_WHOLE_RUN = 16, 17          # statuses of audit; the first is that of another run here, too
+LARGEST = 2**64 - 1                     # the program knows the ranges of its settings
+
+
+def settings_of(name: str) -> dict[str, str]:
+    """The settings of `record` by which a log was made, from its head (docs/FORMAT.md)."""
+    with open(name, "rb") as file:
+        head = file.read(60)
+    try:
+        version, harts, interval, limit, size, memory, sets, ways, line = struct.unpack_from("<IIIQIIIII", head, 8)
+        sets2, ways2 = struct.unpack_from("<II", head, 52) if version == 2 else (0, 0)
+    except struct.error:
+        raise CompanionError(f"log: {name} changed while it was read", BAD_LOG)
+    found = {"--format": version, "--harts": harts, "--interval": interval, "--limit": limit, "--log-size": size,
+             "--memory": memory, "--sets": sets, "--ways": ways, "--line": line}
+    found.update({"--sets2": sets2, "--ways2": ways2} if sets2 else {})
+    return {option: str(value) for option, value in found.items()}
+
+
+def check_book(log: str, elf: str, book: str, source: Sequence[str]) -> None:
+    """Refuses unless LOG is the recording of BOOK's turns."""
+    try:
+        program.output("audit", log, elf, book, options=source)
+    except CompanionError as error:
+        if error.status == DIFFERS:
+            raise CompanionError(f"LOG isn't the recording of BOOK's turns ({error}): BOOK is of another run, or the input "
+                                 f"isn't that of the recording", DIFFERS)
+        if error.status == NO_WHOLE_RUN:
+            raise CompanionError(f"BOOK is no list of turns of a whole run of ELF ({error})", NO_WHOLE_RUN)
+        raise
+
+
+def record(options: Mapping[str, str], elf: str, book: str, folder: str) -> tuple[str, str, str]:
+    """A recording by BOOK's turns, in a folder: its log, its list of turns and its summary."""
+    log, new_book, said = (os.path.join(folder, name) for name in ("log", "book", "said"))
+    words = [program.path(), "record", *(f"{name}={value}" for name, value in options.items()), "--", elf, log, new_book]
+    child = Child(words, os.devnull, said, f"book:{book}")
+    try:
+        status = child.process.wait()
+    finally:
+        child.process.kill()
+        child.process.wait()
+    if status not in ENDS:
+        why = last_line(said).split(": ", 1)[-1] or f"the recording ended with {status}"
+        raise CompanionError(why, status if status > 0 else UNREADABLE)
+    return log, new_book, last_line(said)
+
+
+def first_difference(one: str, other: str) -> int:
+    """The first turn that differs between two lists, or -1."""
+    with open(one, "rb") as first, open(other, "rb") as second:
+        turns, others = first.read(), second.read()
+    if turns == others:
+        return -1
+    return next((at for at, pair in enumerate(zip(turns, others)) if pair[0] != pair[1]), min(len(turns), len(others)))
+
+
+def ends_of(log: str) -> dict[str, str]:
+    """The count, reason and value with which each hart ended that a log has an interval of."""
+    lines = [line.split(" ", 3) for line in program.output("list", log).text.splitlines()]
+    return {hart: end for hart, _, _, end in lines}
+
+
+def tell_turns(book: str, new_book: str, new_list: Target) -> None:
+    """Says whether both lists are the same, and saves the new one if not."""
+    at = first_difference(book, new_book)
+    if at < 0:
+        streams.put(f"turns: the {counted(os.path.getsize(book), 'turn')} of BOOK\n")
+        return
+    new_list.take(new_book)
+    streams.put(f"turns: not those of BOOK from turn {number(at)} on; they are saved as {new_list.path}\n")
+
+
+def tell_ends(log: str, new_log: str) -> int:
+    """Says whether the harts ended alike: the status. A log can have lost a hart."""
+    old, new = ends_of(log), ends_of(new_log)
+    others = sorted(hart for hart, end in old.items() if hart in new and new[hart] != end)
+    if not others:
+        streams.put("ends: those of LOG\n")
+        return 0
+    hart = others[0]
+    streams.put(f"ends: not those of LOG: hart {hart} ended with {new[hart]}, and in LOG with {old[hart]}\n")
+    return DIFFERS
+
+
+def main(words: list[str]) -> int:
+    (log, elf, book, output), given = parse(words, {"--input": True, "--log-size": True, "--interval": True}, 4, FORM)
+    numbers = {name: str(whole(given[name], 1, LARGEST, name)) for name in ("--log-size", "--interval") if name in given}
+    source = {"--input": given["--input"]} if "--input" in given else {}
+    read = log, elf, book, *source.values()
+    check_regular(*read)
+    new_log, new_list = target(output, LOG, read), target(output + ".book", TURNS, [*read, output])
+    check_book(log, elf, book, [f"--input={name}" for name in source.values()])
+    options = {**settings_of(log), **source, **numbers}
+    with new_log.scratch() as folder:
+        made, new_book, summary = record(options, elf, book, folder)
+        new_log.take(made)
+        streams.put(summary + "\n")
+        tell_turns(book, new_book, new_list)
+    return tell_ends(log, new_log.path)

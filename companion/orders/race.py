@@ -1,0 +1,211 @@
+"""Groups the races of a log."""
+from __future__ import annotations
+
+import contextlib
+from contextlib import closing
+from typing import Any, Optional
+
+from ..call import streams
+from ..call.errors import CompanionError
+from ..call.options import parse, whole
+from ..call.text import counted, number
+from ..recording.answers import LONGEST, place_of, put_answer
+from ..recording.elf import Elf, Symbol
+from ..recording.log import At
+from ..recording.naming import named_elf, places_of
+from ..recording.races import FENCED, ORDERED, TOO_MANY, Access, AccessPair, Group, Races
+from ..recording.recent import FIRST_ROWS, LogFile, open_log
+from ..recording.rows import read_trace
+from ..recording.sources import source_folders
+from ..recording.trace import Trace
+from ..why.history import History
+
+HELP = """Groups the races of a log by the two places and the word, the likeliest cause of its fault first. Words of one object
+with the same places, as an array's, are told together.
+
+    zelkuma race LOG ELF [--names ELF] [--source DIR] [--max N] [--more] [--json]
+
+--names   the program with its names and lines, if ELF was stripped
+--source  shows sources below this folder too, not only below ELF's and the current one; may be given several times
+--max     how many pairs are asked for at most, 1 to 1000000 (200000 without it)
+--more    tells all groups; without it the first twelve
+--json    prints one JSON object in place of the text (docs/JSON.md)
+
+First come groups on the chain of values behind the fault, then those in the function that faulted, then the others;
+behind them groups that fences order if they are meant so, and last the fenced accesses themselves: loads and stores
+beside a `fence`, as GCC writes acquire and release. That order and the grouping are this command's own judgement.
+The exact list is that of `zelkuma races`: pairs of accesses that no atomic instruction orders."""
+FORM = "race LOG ELF [--names ELF] [--source DIR] [--max N] [--more] [--json]"
+OPTIONS = {"--names": True, "--source": True, "--max": True, "--more": False, "--json": False}
+FAR = 1 << 20                                # what a row costs that isn't on the chain
+MOST, GROUPS_TOLD, BRIEF_TOLD = 200000, 12, 6
+KINDS = ("", ORDERED, FENCED)                # in the order in which groups are told
+ON_CHAIN, CHAIN_WORD, IN_FAULT, OTHER = range(4)
+HEADS = {ORDERED: "ORDERED BY FENCES: these pairs are ordered if the fenced accesses below are meant as acquire and release",
+         FENCED: "FENCED: both accesses stand beside a fence, as GCC writes acquire and release"}
+RANK_WORDS = {ON_CHAIN: "on the chain of values behind the fault", CHAIN_WORD: "touches a word of that chain",
+              IN_FAULT: "in the function that faulted", OTHER: ""}
+
+
+class Judged:
+    """The groups of a log in the order in which they are told, and why each has its place.
+
+    A family is the groups of one object's words that have the same places. It is told as one group."""
+
+    def __init__(self, races: Races, trace: Optional[Trace] = None, history: Optional[History] = None) -> None:
+        """`history` is of the rows behind the fault, or None if no hart faulted."""
+        self.races, self.trace = races, trace
+        self.chain: dict[int, int] = {}
+        self.fault_function = ""
+        if trace and history:
+            self.chain = {row: cost for row, cost in history.cost.items() if row not in history.decided}
+            self.fault_function = races.places.function(trace.code_of(history.start).pc)
+        self.costs: list[Optional[int]] = [None] * len(races.groups)
+        self.words: dict[int, int] = {}
+        self.follow_chain()
+        self.groups = sorted(races.groups, key=self.key)
+
+    def follow_chain(self) -> None:
+        """The least cost of a pair with a row on the chain, for each group and each word."""
+        if not self.chain:
+            return
+        for hart, count, other, other_count, at, _ in zip(*self.races.pairs):
+            cost = self.cost(At(hart, count)) + self.cost(At(other, other_count))
+            if cost < 2 * FAR:
+                word, least = self.races.groups[at].word, self.costs[at]
+                self.costs[at] = cost if least is None else min(cost, least)
+                self.words[word] = min(cost, self.words.get(word, cost))
+
+    def cost(self, access: At) -> int:
+        """How far a row is from the fault. A pair with both rows on the chain comes before one with
+        one: there the load got what the other access stored."""
+        return self.chain.get(self.trace.row_of(access.hart, access.count), FAR) if self.trace else FAR
+
+    def rank(self, group: Group) -> int:
+        if self.costs[group.number] is not None:
+            return ON_CHAIN
+        if group.word in self.words:
+            return CHAIN_WORD
+        functions = {self.races.places.function(access.pc) for access in group.first[0]}
+        return IN_FAULT if self.fault_function in functions else OTHER
+
+    def key(self, group: Group) -> tuple[int, ...]:
+        cost = self.costs[group.number]
+        return (KINDS.index(group.kind), self.rank(group), 0 if cost is None else cost,
+                self.words.get(group.word, 0), -group.pairs, group.number)
+
+    def pair(self, group: Group) -> AccessPair:
+        """The pair that tells most of a group: of those that are kept the one nearest to the fault on its chain."""
+        if not self.chain:
+            return group.first[0]
+        return min(group.first, key=lambda pair: sum(self.cost(access.at()) for access in pair))
+
+    def families(self) -> list[list[Group]]:
+        found: dict[tuple[str, Symbol | int, str, str], list[Group]] = {}
+        for group in self.groups:
+            holder = self.races.named.object_at(group.word) or group.word
+            found.setdefault((group.kind, holder, group.places[0], group.places[1]), []).append(group)
+        return list(found.values())
+
+    def reason(self, group: Group) -> str:
+        return ", ".join(word for word in (RANK_WORDS[self.rank(group)], group.kind) if word)
+
+
+def family_lines(races: Races, family: list[Group], place: int, judged: Judged) -> list[str]:
+    """A family with a pair of its first group."""
+    reason = judged.reason(family[0])
+    said = [f"{place:2}. {counted(pairs_of(family), 'pair')} on {family_word(races, family)}"
+            f"{f'   ({reason})' if reason else ''}"]
+    for access in judged.pair(family[0]):
+        source = races.places.source(access.pc)
+        said.append(f"      hart {access.hart} {access.verb()} in {races.places.where(access.pc)}"
+                    f"{'   ' + source if source else ''}")
+        said.append("        " + access.row)
+    return said
+
+
+def pairs_of(family: list[Group]) -> int:
+    return sum(group.pairs for group in family)
+
+
+def family_word(races: Races, family: list[Group]) -> str:
+    """NAME+OFFSET (ADDRESS) of the first word, and how many more there are."""
+    word = family[0].word
+    name = races.named.data_name(word)
+    said = f"{name} ({word:08x})" if name else f"{word:08x}"
+    return said + (f" and {counted(len(family) - 1, 'more word')}" if len(family) > 1 else "")
+
+
+def brief_line(races: Races, family: list[Group]) -> str:
+    one, other = family[0].places
+    return f"    {number(pairs_of(family)):>7}  {family_word(races, family):<28} {one}  and  {other}"
+
+
+def report(races: Races, judged: Judged, more: bool) -> list[str]:
+    """All that is printed, as lines."""
+    families: dict[str, list[list[Group]]] = {kind: [] for kind in KINDS}
+    for family in judged.families():
+        families[family[0].kind].append(family)
+    total = sum(map(len, families.values()))
+    lines = [f"RACES: {counted(races.total, 'pair')} in {counted(total, 'group')}. Grouping and order are this command's "
+             "own judgement; zelkuma races lists each."]
+    told = families[""] if more else families[""][:GROUPS_TOLD]
+    for place, family in enumerate(told, 1):
+        lines += family_lines(races, family, place, judged)
+    if total and not told:
+        lines.append("  none but those below")
+    lines += left_out(families[""], told)
+    for kind in KINDS[1:]:
+        if families[kind]:
+            told = families[kind] if more else families[kind][:BRIEF_TOLD]
+            lines.append(f"{HEADS[kind]} ({counted(sum(map(pairs_of, families[kind])), 'pair')})")
+            lines += [brief_line(races, family) for family in told] + left_out(families[kind], told)
+    return lines + races.places.trouble()
+
+
+def left_out(families: list[list[Group]], told: list[list[Group]]) -> list[str]:
+    rest = len(families) - len(told)
+    return [f"    .. {counted(rest, 'more group')} (--more) .."] if rest else []
+
+
+def judge(source: LogFile, elf_name: str, races: Races) -> Judged:
+    """The groups in order; if a hart faulted, the chain behind its fault is followed in the last rows."""
+    log = source.end(FIRST_ROWS) if races.groups else None
+    if not log or not log.faulted:
+        return Judged(races)
+    trace = read_trace(log, elf_name, most=2 * FIRST_ROWS)
+    return Judged(races, trace, History(trace, [trace.fault.row])) if trace.fault else Judged(races)
+
+
+def race_answer(races: Races, judged: Judged) -> dict[str, Any]:
+    return {"pairs": races.total, "groups": [family_answer(races, judged, family) for family in judged.families()]}
+
+
+def family_answer(races: Races, judged: Judged, family: list[Group]) -> dict[str, Any]:
+    one, other = judged.pair(family[0])
+    return {"pairs": pairs_of(family), "words": [f"{group.word:08x}" for group in family[:LONGEST]],
+            "name": family_word(races, family), "kind": family[0].kind, "judged": judged.reason(family[0]),
+            "one": access_answer(races, one), "other": access_answer(races, other)}
+
+
+def access_answer(races: Races, access: Access) -> dict[str, Any]:
+    return {"hart": access.hart, "count": access.count, "did": access.verb(), "row": access.row,
+            "place": place_of(races.places, access.pc)}
+
+
+def main(words: list[str]) -> int:
+    (log_name, elf_name), given = parse(words, OPTIONS, 2, FORM)
+    most, folders = whole(given.get("--max", str(MOST)), 1, 1000000, "--max"), source_folders(given)
+    with contextlib.ExitStack() as opened:
+        source = opened.enter_context(closing(open_log(log_name)))
+        elf = Elf(elf_name)
+        named = named_elf(elf, given.get("--names", ""))
+        races = Races(named, opened.enter_context(closing(places_of(named, folders)))).read(source.harts(), log_name, elf_name, most)
+        if races.over:
+            raise CompanionError(f"races: more than {most} pairs; --max takes up to 1000000", TOO_MANY)
+        judged = judge(source, elf_name, races)
+        if "--json" in given:
+            put_answer("race", **race_answer(races, judged))
+        else:
+            streams.put("\n".join(report(races, judged, "--more" in given)) + "\n")
+    return 0

@@ -1,0 +1,132 @@
+"""Recordings that a companion makes: the words of `record`, the turns that a recording takes, and its command."""
+from __future__ import annotations
+
+import contextlib
+import os
+import shlex
+import signal
+import subprocess
+import tempfile
+from enum import IntEnum
+from typing import Mapping, NamedTuple, Sequence
+
+from ..call import program
+from ..call.children import start
+from ..call.errors import REFUSED, CompanionError
+from ..call.files import check_regular
+from ..call.options import decimal, parse
+from ..call.saving import LOG, TURNS, Target, target
+
+RECORD_FORM = "[OPTION..] ELF LOG BOOK, as for record, but for --seed"
+ELF_FORM = "[OPTION..] ELF, as for record, but for --seed; with --all no LOG and BOOK are named"
+NUMBERS = "--format --harts --interval --limit --log-size --memory --sets --ways --line --sets2 --ways2".split()
+RECORD_OPTIONS = {"--lean": False, "--seed": True, "--input": True, **{name: True for name in NUMBERS}}
+SCHEDULE = "ZELKUMA_SCHEDULE"   # the name in the environment of the turns that a recording without a seed takes
+ENDS = DONE, FAULT, LIMIT = 0, 10, 11   # the statuses of recordings that were made
+
+
+class Kind(IntEnum):
+    """What determines the turns of a recording."""
+    SEED, BURSTS, SLEEPER, THREADS = range(4)
+
+
+class Plan(NamedTuple):
+    """A number, and how turns are drawn from it; of a recording in threads it only counts. Plans are tried in order."""
+    number: int
+    kind: Kind
+
+    def __str__(self) -> str:
+        return f"{self.kind.name.lower()} {self.number}"
+
+    def options(self) -> list[str]:
+        return [f"--seed={self.number}"] if self.kind is Kind.SEED else []
+
+    def schedule(self) -> str:
+        return f"{self.kind.name.lower()}:{self.number}" if self.kind in (Kind.BURSTS, Kind.SLEEPER) else ""
+
+
+class RecordWords:
+    """What the words of `record` name.
+
+    names    ELF, LOG, BOOK as they were given
+    folder   in which one LOG and BOOK of each ending is saved, if the words name none
+    is_lean  whether no BOOK is saved"""
+
+    def __init__(self, words: Sequence[str], folder: str = "") -> None:
+        self.names, options = parse(words, RECORD_OPTIONS, 1 if folder else range(2, 4), ELF_FORM if folder else RECORD_FORM)
+        self.folder, self.is_lean = folder, "--lean" in options
+        if "--seed" in options:
+            raise CompanionError("the seeds are FROM to TO, so --seed can't be given", REFUSED)
+        if len(self.names) == 2 and not self.is_lean:
+            raise CompanionError("the words of record have no BOOK", REFUSED)
+        self.elf, *self.outputs = self.names
+        self.options, self.read = options_of(options), (self.elf, options.get("--input", ""))
+        check_regular(*self.read)
+        self.named_targets = self.saved(self.outputs)
+
+    def saved(self, names: Sequence[str]) -> list[Target]:
+        """LOG and BOOK of these names."""
+        return [target(name, kind, [*self.read, *names[:at]]) for at, (name, kind) in enumerate(zip(names, (LOG, TURNS)))]
+
+    def outputs_of(self, plan: Plan) -> list[str]:
+        """The names of LOG and BOOK in the end."""
+        made = os.path.join(self.folder, str(plan).replace(" ", "-"))
+        return [made + ".log", made + ".book"] if self.folder else self.outputs
+
+    def targets(self, plan: Plan) -> list[Target]:
+        return self.saved(self.outputs_of(plan)) if self.folder else self.named_targets
+
+    def scratch(self) -> list[tempfile.TemporaryDirectory[str]]:
+        """A folder for trials beside each output."""
+        targets = self.named_targets or self.targets(Plan(0, Kind.SEED))
+        return [target.scratch() for target in targets]
+
+    def command(self, plan: Plan, outputs: Sequence[str]) -> list[str]:
+        return [program.path(), "record", *self.options, *plan.options(), "--", self.elf, *outputs]
+
+    def shown(self, plan: Plan) -> str:
+        """What to type for the same recording. One in threads has its turns from BOOK, and so leaves it alone."""
+        names, schedule = self.outputs_of(plan), plan.schedule()
+        if plan.kind is Kind.THREADS:
+            schedule = f"book:{names[1]}"
+            names = [name + ".again" for name in names]
+        names = [self.elf, *names]
+        words = ["zelkuma", "record", *self.options, *plan.options()]
+        words += ["--"] * any(name.startswith("-") for name in names) + names
+        return " ".join([f"{SCHEDULE}={shlex.quote(schedule)}"] * bool(schedule) + [shlex.quote(word) for word in words])
+
+
+def options_of(options: Mapping[str, str]) -> list[str]:
+    """The options of `record` as words, with numbers in decimal."""
+    return [f"{name}={decimal(value) if name in NUMBERS else value}" if RECORD_OPTIONS[name] else name
+            for name, value in options.items()]
+
+
+def environment(schedule: str) -> dict[str, str]:
+    """That of a recording with these turns. Without them its harts run in threads, whatever is set for this process."""
+    found = {name: value for name, value in os.environ.items() if name != SCHEDULE}
+    return dict(found, **{SCHEDULE: schedule}) if schedule else found
+
+
+class Child:
+    """A process whose output and err go into files."""
+
+    def __init__(self, words: Sequence[str], said: str, err: str, schedule: str = "") -> None:
+        self.said, self.err = said, err
+        with open(said, "wb") as out, open(err, "wb") as errors:
+            self.process = start(words, stdin=subprocess.DEVNULL, stdout=out, stderr=errors, env=environment(schedule))
+
+    def end(self, status: int) -> int:
+        """Takes the status that the system tells of the process."""
+        self.process.returncode = os.WEXITSTATUS(status) if os.WIFEXITED(status) else -os.WTERMSIG(status)
+        return self.process.returncode
+
+    def kill(self) -> None:
+        """Ends it, if it hasn't ended. Popen's own kill would take its status, which `os.wait` waits for."""
+        with contextlib.suppress(ProcessLookupError):
+            os.kill(self.process.pid, signal.SIGKILL)
+
+
+def last_line(name: str) -> str:
+    with open(name, "rb") as file:
+        return file.read().decode("utf-8", "replace").strip().split("\n")[-1]

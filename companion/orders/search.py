@@ -1,0 +1,111 @@
+"""The search for the shortest list of turns by which a program ends as its recording did."""
+from __future__ import annotations
+
+from typing import Callable, Iterator
+
+from ..recording.turns import Pieces, pieces_of, size_of, turns_of
+from . import moves
+from .moves import Move
+from .same_end import Recording, Waiting
+from .tries import ANY, Tries
+from .windows import Window, windows_of
+
+MORE_COUNTS = 10000         # a hart may do twice as many instructions as in the recording, and so many more
+LEAST_LIMIT = 1000          # to which the limit of a run that hangs is lowered
+
+
+class Search:
+    """best    the shortest list so far; of a run that hangs only up to where all of its harts wait, until it is done
+    recorded, recorded_pieces, recorded_turns   of the recording
+    core    its pieces that matter: behind them harts wait for ever"""
+
+    def __init__(self, tries: Tries, recorded: Recording) -> None:
+        self.tries, self.best = tries, pieces_of(recorded.turns())
+        self.limit = int(tries.options["--limit"])
+        self.recorded_pieces, self.recorded_turns = size_of(self.best)
+        self.core = self.recorded = self.best
+        self.windows: list[Window] = []
+        tries.want(recorded)
+
+    def run(self) -> None:
+        if isinstance(self.tries.exact, Waiting):
+            self.lower_limit()
+            self.leave_waiting()
+        else:
+            self.tries.options["--limit"] = str(min(self.limit, 2 * self.tries.most_counts + MORE_COUNTS))
+        self.group()
+        while True:
+            if self.tries.leaves_rest:
+                self.lower_limit()              # a shorter list needs less
+            if not self.drop() | self.follow(moves.moved) | self.follow(moves.shorter):
+                break
+        self.core = self.best
+        self.windows = windows_of(self.tries, self.best)
+        self.tries.options["--limit"] = str(self.limit)
+        if self.tries.leaves_rest:
+            self.tries.leaves_rest = False
+            self.end_waiting()
+
+    def follow(self, near: Callable[[Pieces, int], Iterator[Move]]) -> bool:
+        """Takes each move that holds, and continues from its place. Whether there was one."""
+        begin, has_moved = 0, False
+        while True:
+            places: list[int] = []
+
+            def candidates() -> Iterator[Pieces]:
+                for move in near(self.best, begin):
+                    places.append(move.at)
+                    yield move.pieces
+
+            held = self.tries.first(candidates(), size_of(self.best))
+            if held is None:
+                return has_moved
+            self.best, begin, has_moved = held.pieces, places[held.number], True
+
+    def group(self) -> None:
+        width = len(self.best)
+        while width > 2:
+            self.follow(lambda pieces, begin: moves.grouped(pieces, width, begin))
+            width = width * 2 // 3
+
+    def drop(self) -> bool:
+        width, has_moved = len(self.best) // 2, False
+        while width:
+            has_moved |= self.follow(lambda pieces, begin: moves.without(pieces, width, begin))
+            width //= 2
+        return has_moved
+
+    def lower_limit(self) -> None:
+        """Harts that wait for ever wait under a lower limit as well, and a try is done sooner. Others may come to it too."""
+        if isinstance(self.tries.exact, Waiting):
+            self.tries.ends.waiting = set(self.tries.exact.words)
+        limit = int(self.tries.options["--limit"])
+        while limit > LEAST_LIMIT:
+            self.tries.options["--limit"] = str(limit // 2)
+            held = self.tries.first([self.best], ANY)
+            if held is None:
+                break
+            limit, self.best = limit // 2, held.pieces
+        self.tries.options["--limit"] = str(min(self.limit, 2 * limit))
+        held = self.tries.first([self.best], ANY)
+        if held is not None:
+            self.best = held.pieces
+
+    def leave_waiting(self) -> None:
+        """From where all of these harts wait, the turns are those of seed 0, by which none of them waits too short."""
+        turns = turns_of(self.best)
+        found = self.tries.exact_of_last
+        self.tries.leaves_rest = True
+        if isinstance(found, Waiting):
+            self.best = pieces_of(turns[:found.begin(turns)])
+
+    def end_waiting(self) -> None:
+        """The whole list: where the harts wait, one after the other."""
+        known, self.tries.ends.waiting = self.best, None
+        made = self.tries.record(known)
+        if not self.tries.is_wanted(made):      # other harts come to the limit as well
+            self.best = self.core = self.recorded
+            self.windows = []
+            return
+        self.best = pieces_of(made.turns())
+        self.follow(lambda pieces, begin: moves.rest_grouped(pieces, known) if not begin else iter(()))

@@ -1,0 +1,205 @@
+"""Searches for turns by which a program ends as wanted."""
+from __future__ import annotations
+
+import os
+import signal
+from typing import Mapping, Optional, Sequence
+
+from ..call import streams
+from ..call.errors import REFUSED, CompanionError
+from ..call.options import parse, whole
+from ..call.text import number
+from ..recording.answers import LONGEST, put_answer
+from ..recording.elf import Elf
+from .again import settings_of
+from .record import ENDS, FAULT, LIMIT, Kind, Plan, RecordWords
+from .shrinking import Asked, Shrunk, shrink
+from .trials import MOST_KEPT, Count, Ending, Numbers, Search
+
+HELP = """zelkuma seeds [-j N] [--until STATUS] [--only KIND,..] [--all DIR] [--part K/N] [--shrink] [--json] FROM TO -- RECORD-WORDS
+
+Records a program by one order of turns after another, on all processors, until a run ends as wanted.
+
+    zelkuma seeds 1 1000 -- --harts 4 buffers.elf LOG BOOK
+
+RECORD-WORDS are those of `record` but for --seed. Of each number from FROM to TO all kinds of turns are tried:
+
+    seeds            a hart is drawn for each turn
+    bursts           one hart keeps its turns for a while, then another is drawn
+    sleepers         one hart takes no turn for a while
+    threads          no number draws them: the harts run side by side
+
+LOG and BOOK are those of the first run that ends with STATUS; if a number draws its turns, no lower one does.
+Its kind and number are printed, and the command that makes it again. A table tells how the runs up to it ended: status,
+count, the first of them, and of a fault the line of `bucket`. If none ends so, nothing is saved, and the status is 22.
+Ctrl-C (or TERM, HUP) ends the search: the table is printed, what was found is kept, and the status is 130 (143, 129).
+
+    -j N             so many recordings at a time; without it, as many as there are processors
+    --until STATUS   0 (done), 10 (a fault) or 11 (a hart came to the limit); without it 10
+    --only KIND,..   these kinds alone. Without it runs in threads are left out with --all, and for status 11, since a slow
+                     run isn't a hang
+    --all DIR        makes all runs, and saves LOG and BOOK of the first with each ending in DIR, as KIND-NUMBER.log and .book;
+                     an ending is a line of the table. RECORD-WORDS end with ELF then
+    --part K/N       every Nth number alone, from the Kth on: the parts 1/N to N/N together are all numbers
+    --shrink         does what `zelkuma shrink` does with what was found: LOG and BOOK are those of the short run
+    --json           prints one JSON object in place of the text (docs/JSON.md)
+
+One recording in threads is under way at a time. One that spins on a busy machine takes long: give a --limit.
+Numbers may end in K, M or G. Trials are saved beside LOG and BOOK, in folders that are taken away again.
+
+Over machines, each of which has a part; `triage` joins what they found:
+
+    parallel --sshloginfile MACHINES zelkuma seeds --all found/{} --part {}/8 1 1000 -- program.elf ::: 1 2 3 4 5 6 7 8
+    zelkuma triage found --elfs ."""
+FORM = "seeds [-j N] [--until STATUS] [--only KIND,..] [--all DIR] [--part K/N] [--shrink] [--json] FROM TO -- RECORD-WORDS"
+OPTIONS = {"--jobs": True, "--until": True, "--only": True, "--all": True, "--part": True, "--shrink": False, "--json": False}
+KINDS = {"seeds": Kind.SEED, "bursts": Kind.BURSTS, "sleepers": Kind.SLEEPER, "threads": Kind.THREADS}
+HEAD = "status", "count", "first", "place"
+NOT_FOUND = 22
+LAST_NUMBER = 2**64 - 1
+
+
+def split(words: list[str]) -> tuple[list[str], list[str]]:
+    """The words before the first `--`, with -j as an option of its full name, and those behind it."""
+    at = words.index("--") if "--" in words else len(words)
+    own = ["--jobs" if word == "-j" else "--jobs=" + word[2:] if word[:2] == "-j" else word for word in words[:at]]
+    return own, words[at + 1:]
+
+
+def kinds_of(options: Mapping[str, str], is_lean: bool, until: Optional[int]) -> list[Kind]:
+    """The kinds of turns, in order. Turns of threads can be taken again only from BOOK; a slow run in threads comes to its
+    limit without a hang; and parts that make all runs are to give what the whole gives."""
+    leaves_out = is_lean or until in (None, LIMIT)
+    words = options["--only"].split(",") if "--only" in options else [name for name in KINDS if name != "threads" or not leaves_out]
+    for word in words:
+        if word not in KINDS:
+            raise CompanionError(f"--only takes some of {', '.join(KINDS)}, with commas between them, not {word!r}", REFUSED)
+    if is_lean and "threads" in words:
+        raise CompanionError("with --lean there is no BOOK, by which a recording in threads could be made again", REFUSED)
+    return sorted({KINDS[word] for word in words})
+
+
+def in_order(counts: Mapping[Ending, Count]) -> list[tuple[Ending, Count]]:
+    return sorted(counts.items(), key=lambda item: (item[0].status, item[1].first))
+
+
+def table(counts: Mapping[Ending, Count]) -> str:
+    rows = [HEAD] + [(str(ending.status), number(count.count), str(count.first), ending.place)
+                     for ending, count in in_order(counts)]
+    widths = [max(len(row[column]) for row in rows) for column in range(3)]
+    return "".join("  ".join([cell.ljust(width) for cell, width in zip(row, widths)] + [row[3]]) + "\n" for row in rows)
+
+
+def tell(search: Search) -> None:
+    """Prints what was found, and how the runs ended."""
+    text, found = "", search.found
+    if found is not None:
+        text = f"{found.plan}: status {search.until}\n{search.words.shown(found.plan)}\n"
+    if search.endings.counts:
+        text += table(search.endings.counts)
+    streams.put(text)
+
+
+def fields_of(plan: Optional[Plan]) -> dict[str, object]:
+    return {"kind": plan.kind.name.lower() if plan else None, "number": plan.number if plan else None}
+
+
+def shrunk(words: RecordWords, plan: Plan) -> Shrunk:
+    """Shrinks the recording that was saved, in its place."""
+    log, book = words.targets(plan)
+    source = {option: value for option, _, value in (word.partition("=") for word in words.options) if option == "--input"}
+    elf = Elf(words.elf)
+    return shrink(Asked(log.path, book.path, elf, {**settings_of(log.path), **source}, log, book, elf))
+
+
+def tell_json(search: Search, short: Optional[Shrunk]) -> None:
+    plan, counts, numbers = search.found.plan if search.found else None, search.endings.counts, search.numbers
+    endings = [{"status": ending.status, "place": ending.place, "count": count.count, **fields_of(count.first),
+                "files": list(filter(os.path.exists, search.words.outputs_of(count.first))) if ending in search.kept else []}
+               for ending, count in in_order(counts)]
+    put_answer("seeds", **fields_of(plan), seed=plan.number if plan and plan.kind is Kind.SEED else None,
+               command=search.words.shown(plan) if plan else None, status=search.until,
+               **{"from": numbers.first}, to=numbers.last, part=numbers.part, parts=numbers.parts,
+               tried=sum(count.count for count in counts.values()), endings=endings[:LONGEST],
+               shrunk=short.answer if short else None)
+
+
+def find(search: Search, is_json: bool, shrinks: bool) -> None:
+    """Searches, saves what was found, and tells how the runs ended: as text also those before a refusal."""
+    short = None
+    try:
+        search.run()
+    finally:
+        streams.on_interrupt(signal.SIG_IGN)
+        try:
+            for trial in [search.found] if search.found else search.kept.values():
+                trial.save()
+        finally:
+            if not is_json:
+                tell(search)
+    if shrinks and search.found is not None and not search.stopped:
+        short = shrunk(search.words, search.found.plan)
+    if is_json:
+        tell_json(search, short)
+    elif short:
+        streams.put("".join(line + "\n" for line in short.lines))
+
+
+def status_of(search: Search, names: Sequence[str]) -> int:
+    if search.stopped:
+        return 128 + search.stopped
+    if search.found is not None:
+        return 0
+    if search.until is None:
+        more = len(search.endings.counts) - len(search.kept)
+        if more:
+            streams.say(f"of {number(more)} endings nothing is kept: {number(MOST_KEPT)} others came before them")
+        return 0
+    streams.say(f"none of {', '.join(names)} from {search.numbers} ends with status {search.until}")
+    return NOT_FOUND
+
+
+def numbers_of(low: str, high: str, part: str) -> Numbers:
+    first, last = whole(low, 0, LAST_NUMBER, "FROM"), whole(high, 0, LAST_NUMBER, "TO")
+    if last < first:
+        raise CompanionError(f"TO is {last}, which is below FROM", REFUSED)
+    at, slash, of = part.partition("/")
+    if not slash:
+        raise CompanionError(f"--part has to be K/N, not {part!r}", REFUSED)
+    parts = whole(of, 1, LAST_NUMBER, "the N of --part")
+    return Numbers(first, last, whole(at, 1, parts, "the K of --part"), parts)
+
+
+def until_of(options: Mapping[str, str]) -> Optional[int]:
+    """The status that ends the search, or None if all are wanted."""
+    if "--all" in options:
+        if "--until" in options:
+            raise CompanionError("with --all no status ends the search, so --until can't be given", REFUSED)
+        return None
+    until = whole(options.get("--until", str(FAULT)), 0, max(ENDS), "--until")
+    if until not in ENDS:
+        raise CompanionError(f"--until has to be one of {', '.join(map(str, ENDS))}", REFUSED)
+    return until
+
+
+def main(words: list[str]) -> int:
+    own, rest = split(words)
+    (low, high), options = parse(own, OPTIONS, 2, FORM)
+    numbers, until = numbers_of(low, high, options.get("--part", "1/1")), until_of(options)
+    record = RecordWords(rest, options.get("--all", ""))
+    if "--shrink" in options and (record.is_lean or until not in (FAULT, LIMIT)):
+        raise CompanionError("--shrink needs a BOOK, so not --lean, and one run with a fault or a hang: not --all or --until 0",
+                             REFUSED)
+    kinds = kinds_of(options, record.is_lean, until)
+    processors = 1 if kinds == [Kind.THREADS] else len(os.sched_getaffinity(0))
+    jobs = whole(options["--jobs"], 1, 1024, "-j") if "--jobs" in options else processors
+    if record.folder:
+        os.makedirs(record.folder, exist_ok=True)
+    folders = record.scratch()
+    search = Search(record, numbers, kinds, until, jobs, [folder.name for folder in folders])
+    try:
+        find(search, "--json" in options, "--shrink" in options)
+    finally:
+        for folder in folders:
+            folder.cleanup()
+    return status_of(search, [name for name, kind in KINDS.items() if kind in kinds])

@@ -1,0 +1,159 @@
+"""Shrinks a recording: searches, saves the shortest that is found, and tells its switches."""
+from __future__ import annotations
+
+import os
+import signal
+import tempfile
+from contextlib import closing
+from dataclasses import dataclass
+from typing import Any, Mapping, NamedTuple, Optional
+
+from ..call import streams
+from ..call.errors import NO_INTERVAL, CompanionError
+from ..call.saving import Target
+from ..call.text import counted, number
+from ..recording.answers import LONGEST
+from ..recording.calls import CallTree
+from ..recording.cause import cause_of
+from ..recording.elf import Elf
+from ..recording.log import Log
+from ..recording.naming import places_of
+from ..recording.turns import pieces_of, shown, size_of
+from ..triage.bucket import bucket_of
+from ..why.facts import Byte
+from ..why.output import MOST_ROWS, numbered, writes_of
+from .same_end import Ends, Recording, Waiting, log_of
+from .search import Search
+from .switches import Teller, rows_by_piece, switches_of
+from .tries import Tries
+
+MOST_TOLD = 40              # switches
+MEMORY_FOLDER = "/dev/shm"  # files of tries needn't reach a disk
+
+
+@dataclass(frozen=True)
+class Asked:
+    """What is shrunk.
+
+    options  those of its recording
+    new_log, new_book   where the short one is saved
+    named    the program with its names
+    byte     of the output that is asked of, or None
+    seconds  after which the search ends, or 0"""
+    log: str
+    book: str
+    elf: Elf
+    options: Mapping[str, str]
+    new_log: Target
+    new_book: Target
+    named: Elf
+    byte: Optional[Byte] = None
+    seconds: int = 0
+
+
+class Shrunk(NamedTuple):
+    """What is told, as lines and for other programs, and the status to end with."""
+    lines: list[str]
+    answer: dict[str, Any]
+    status: int
+
+
+def shrink(asked: Asked) -> Shrunk:
+    folder = MEMORY_FOLDER if os.access(MEMORY_FOLDER, os.W_OK) else None
+    with tempfile.TemporaryDirectory(prefix="zelkuma-", dir=folder) as scratch:
+        found, made, signals = search(asked, scratch)
+        for name, place in ((made.log, asked.new_log), (made.book, asked.new_book)):
+            with open(name, "rb") as file:
+                place.save(file.read())
+        with closing(places_of(asked.named)) as places:
+            told = Told(found, made, Teller(asked.named, places))
+            said = Shrunk(told.lines(), told.answer(), signals.status)
+    if found.tries.is_ended():
+        streams.say("the search was ended before it was done: the list may be longer than it need be")
+    return said
+
+
+class Signals:
+    """Ends a search on Ctrl-C, TERM, HUP and when its time is over.
+
+    status  to end with"""
+
+    def __init__(self, tries: Tries, seconds: int) -> None:
+        self.tries, self.seconds, self.status = tries, seconds, 0
+
+    def come(self, which: int, _frame: object) -> None:
+        self.status = 128 + which if which in streams.STOPS else 0
+        self.tries.stop()
+
+    def __enter__(self) -> Signals:
+        streams.on_interrupt(self.come)
+        signal.signal(signal.SIGALRM, self.come)
+        signal.alarm(self.seconds)
+        return self
+
+    def __exit__(self, *_: object) -> None:
+        """From here on nothing ends the call before all is saved."""
+        signal.alarm(0)
+        streams.on_interrupt(signal.SIG_IGN)
+
+
+def offset_of(log: Log, elf: Elf, byte: Byte) -> int:
+    """How many bytes of the output come before one."""
+    before = 0
+    for write in writes_of(log, elf, CallTree(), numbered(log), MOST_ROWS):
+        if write.number == byte.write and write.stream == 1 and byte.place < len(write.data):
+            return before + byte.place
+        before += len(write.data) if write.stream == 1 else 0
+    raise CompanionError(f"the log holds no byte {byte.place} of a write {byte.write} to the output: `zelkuma output` lists them",
+                         NO_INTERVAL)
+
+
+def search(asked: Asked, folder: str) -> tuple[Search, Recording, Signals]:
+    """Searches, and makes the recording of the shortest list that is found."""
+    offset = offset_of(log_of(asked.log), asked.elf, asked.byte) if asked.byte else None
+    tries = Tries(asked.options, Ends(asked.elf, offset), len(os.sched_getaffinity(0)), folder)
+    with open(asked.book, "rb") as file:
+        turns = pieces_of(file.read())
+    found = Search(tries, tries.record(turns))
+    with Signals(tries, asked.seconds) as signals:
+        found.run()
+    tries.options = dict(asked.options)
+    return found, tries.record(found.best), signals
+
+
+class Told:
+    """What is told of a search."""
+
+    def __init__(self, found: Search, made: Recording, teller: Teller) -> None:
+        self.found, self.teller, elf = found, teller, found.tries.ends.elf
+        log = log_of(made.log)
+        self.pieces, self.turns = pieces_of(made.turns()), found.recorded_turns
+        rows = rows_by_piece(log, elf.name, self.pieces, min(len(found.core), MOST_TOLD + 1))
+        self.switches = switches_of(self.pieces, rows, found.windows)
+        self.bucket = bucket_of(cause_of(log, elf.name), elf, teller.places)
+        self.waiting = tuple(found.tries.exact.words) if isinstance(found.tries.exact, Waiting) else ()
+
+    def order(self) -> str:
+        """The pieces that matter."""
+        return shown(self.found.core) + (" .." if self.waiting else "")
+
+    def lines(self) -> list[str]:
+        found = self.found
+        said = [f"{counted(found.recorded_pieces - 1, 'switch')} and {counted(found.recorded_turns, 'turn')} are cut to "
+                f"{number(len(self.pieces) - 1)} and {number(size_of(self.pieces)[1])}, by {number(found.tries.count)} recordings",
+                f"order: {self.order()}"]
+        for place, switch in enumerate(self.switches, 1):
+            said += self.teller.lines(place, switch)
+        more = len(found.core) - 1 - len(self.switches)
+        said += [f"  .. {counted(more, 'more switch')} .."] if more > 0 else []
+        if self.waiting:
+            harts = ", ".join(map(str, self.waiting))
+            said.append(f"from then on {'harts' if len(self.waiting) > 1 else 'hart'} {harts} wait{'s' * (len(self.waiting) == 1)}")
+        return said + [f"end: {self.bucket.line()}"]
+
+    def answer(self) -> dict[str, Any]:
+        return {"order": self.order(), "pieces": [list(piece) for piece in self.pieces[:LONGEST]],
+                "recorded_pieces": self.found.recorded_pieces, "recorded_turns": self.found.recorded_turns,
+                "turns": size_of(self.pieces)[1], "recordings": self.found.tries.count, "waiting": list(self.waiting),
+                "is_done": not self.found.tries.is_ended(), "end": self.bucket.line(),
+                "switches": [self.teller.answer(switch) for switch in self.switches[:LONGEST]]}

@@ -1,0 +1,279 @@
+"""Trials: one recording after another, a child a processor, until one ends as wanted, or all to keep one of each ending."""
+from __future__ import annotations
+
+import heapq
+import os
+import time
+from contextlib import closing
+from typing import Iterator, NamedTuple, Optional, Sequence
+
+from ..call import streams
+from ..call.children import Guard, Process
+from ..call.errors import UNREADABLE, CompanionError
+from ..recording.cause import Cause, cause_of
+from ..recording.elf import Elf
+from ..recording.naming import places_of
+from ..recording.places import Places
+from ..recording.recent import FIRST_ROWS, LogFile
+from ..triage.bucket import bucket_of
+from .forked import Forked
+from .record import ENDS, FAULT, Kind, Plan, RecordWords, environment, last_line
+
+NO_PLACE = "-"
+MOST_KEPT = 1000            # endings of which one recording each is kept
+
+
+class Numbers(NamedTuple):
+    """From the first to the last, or one of so many parts of them. Each part has numbers from all over, so that the lowest
+    are tried first on each machine."""
+    first: int
+    last: int
+    part: int = 1
+    parts: int = 1
+
+    def range(self) -> range:
+        return range(self.first + self.part - 1, self.last + 1, self.parts)
+
+    def __str__(self) -> str:
+        return f"{self.first:,} to {self.last:,}" + (f", part {self.part}/{self.parts}" if self.parts > 1 else "")
+
+
+class Ending(NamedTuple):
+    """How a trial ended: its status, and of a fault the place, as `bucket` tells it."""
+    status: int
+    place: str
+
+
+class Count:
+    """How many trials ended in one way, and the first of them."""
+
+    def __init__(self, first: Plan) -> None:
+        self.count, self.first = 0, first
+
+
+class Endings:
+    """Counts how trials end, in the trials' order: one that ends early waits for those before it. So what is counted up to
+    the one that is found is the same each time."""
+
+    def __init__(self) -> None:
+        self.counts: dict[Ending, Count] = {}
+        self.by_status: dict[int, int] = {}     # of all that ended
+        self.early: list[tuple[Plan, Ending]] = []
+
+    def add(self, plan: Plan, ending: Ending) -> None:
+        self.by_status[ending.status] = self.by_status.get(ending.status, 0) + 1
+        heapq.heappush(self.early, (plan, ending))
+
+    def count_below(self, bound: Plan) -> None:
+        while self.early and self.early[0][0] < bound:
+            self.count_next()
+
+    def count_next(self) -> None:
+        plan, ending = heapq.heappop(self.early)
+        self.counts.setdefault(ending, Count(plan)).count += 1
+
+
+class Trial:
+    """A recording, under way or done, and then of a fault the search for its cause.
+
+    status  that of the recording, once it is done"""
+
+    def __init__(self, words: RecordWords, plan: Plan, folders: Sequence[str], guard: Guard) -> None:
+        self.plan, self.words, self.status = plan, words, -1
+        name = str(plan).replace(" ", "-")
+        self.outputs = [os.path.join(folder, f"{name}.{number}") for number, folder in enumerate(folders)]
+        self.said, self.err = self.outputs[0] + ".said", self.outputs[0] + ".err"
+        self.child: Process = guard.start(words.command(plan, self.outputs), os.devnull, self.err, environment(plan.schedule()))
+
+    def look_for_cause(self) -> None:
+        self.child = Forked(self.find_cause, self.said, self.err)
+
+    def find_cause(self) -> str:
+        with closing(LogFile(self.outputs[0])) as source:
+            return cause_of(source.end(FIRST_ROWS), self.words.elf).text()
+
+    def cause(self) -> Optional[Cause]:
+        """What was found; nothing in a log that lost the interval of its fault."""
+        line = last_line(self.said) if os.path.exists(self.said) else ""
+        return Cause.of(line) if line else None
+
+    def refusal(self, status: int) -> str:
+        return last_line(self.err).split(": ", 1)[-1] or f"the recording of {self.plan} ended with {status}"
+
+    def remove(self) -> None:
+        for name in self.outputs + [self.said, self.err]:
+            if os.path.exists(name):
+                os.remove(name)
+
+    def save(self) -> None:
+        for name, target in zip(self.outputs, self.words.targets(self.plan)):
+            if os.path.exists(name):
+                target.take(name)
+
+
+class Buckets:
+    """The line of `bucket` for each cause. One addr2line answers all."""
+
+    def __init__(self, elf_name: str) -> None:
+        self.elf_name = elf_name
+        self.lines: dict[Cause, str] = {}
+        self.opened: Optional[tuple[Elf, Places]] = None
+
+    def line(self, cause: Cause) -> str:
+        if cause not in self.lines:
+            if self.opened is None:
+                elf = Elf(self.elf_name)
+                self.opened = elf, places_of(elf)
+            self.lines[cause] = bucket_of(cause, *self.opened).line()
+        return self.lines[cause]
+
+    def close(self) -> None:
+        if self.opened:
+            self.opened[1].close()
+
+
+class Search:
+    """Trials in order; those above the lowest that was found are given up. Recordings in threads need a processor a hart, so
+    only one is under way: beside others it is left out when its turn comes too early. They don't repeat, so the first
+    that ends as wanted ends the search.
+
+    until    the status that is searched for; None keeps one of each ending
+    found    the trial that is kept
+    kept     those of each ending
+    stopped  the signal that ends it, if one came"""
+
+    def __init__(self, words: RecordWords, numbers: Numbers, kinds: Sequence[Kind], until: Optional[int], jobs: int,
+                 folders: Sequence[str]) -> None:
+        self.words, self.numbers, self.kinds, self.until = words, numbers, kinds, until
+        self.jobs, self.folders = jobs, folders
+        self.running: dict[int, Trial] = {}     # by process
+        self.found: Optional[Trial] = None
+        self.kept: dict[Ending, Trial] = {}
+        self.stopped = 0
+        self.endings, self.buckets = Endings(), Buckets(words.elf)
+        self.guard: Guard
+        self.at = numbers.first
+        self.progress, self.began = streams.Progress(), time.monotonic()
+
+    def plans(self) -> Iterator[Plan]:
+        for self.at in self.numbers.range():
+            for kind in self.kinds:
+                if kind is not Kind.THREADS or len(self.kinds) == 1 or not self.in_threads():
+                    yield Plan(self.at, kind)
+
+    def in_threads(self) -> bool:
+        return any(trial.plan.kind is Kind.THREADS for trial in self.running.values())
+
+    def stop(self, number: int, _: object) -> None:
+        """Ctrl-C, or another signal. No call is broken off, so that each child is known."""
+        self.stopped = number
+        for trial in self.running.values():
+            trial.child.kill()
+
+    def is_given_up(self, trial: Trial) -> bool:
+        if self.found is None or trial is self.found:
+            return False
+        return Kind.THREADS in (trial.plan.kind, self.found.plan.kind) or trial.plan > self.found.plan
+
+    def watch(self, trial: Trial) -> None:
+        self.running[trial.child.pid] = trial
+        if self.stopped:
+            trial.child.kill()
+
+    def start(self, plans: Iterator[Plan]) -> None:
+        while self.found is None and not self.stopped and len(self.running) < self.jobs:
+            plan = next(plans, None)
+            if plan is None:
+                return
+            self.watch(Trial(self.words, plan, self.folders, self.guard))
+
+    def keep(self, trial: Trial) -> None:
+        if self.found is not None:
+            self.found.remove()
+        self.found = trial
+        for other in self.running.values():
+            if self.is_given_up(other):
+                other.child.kill()
+
+    def take(self, trial: Trial, status: int) -> None:
+        """Takes a child that has ended: a recording, or the search for its cause."""
+        if -status in streams.STOPS:            # it came to the whole group
+            self.stopped = self.stopped or -status
+        if self.is_given_up(trial):
+            trial.remove()
+        elif trial.status in ENDS:
+            cause = trial.cause()
+            self.end(trial, self.buckets.line(cause) if cause else NO_PLACE)
+        elif status in ENDS:
+            trial.status = status
+            self.recorded(trial)
+        elif self.stopped:
+            trial.remove()
+        else:
+            raise CompanionError(trial.refusal(status), status if status > 0 else UNREADABLE)
+
+    def recorded(self, trial: Trial) -> None:
+        if trial.status == self.until:
+            self.keep(trial)
+        if trial.status == FAULT:
+            trial.look_for_cause()
+            self.watch(trial)
+        else:
+            self.end(trial, NO_PLACE)
+
+    def end(self, trial: Trial, place: str) -> None:
+        ending = Ending(trial.status, place)
+        self.endings.add(trial.plan, ending)
+        if self.until is None:
+            first = self.kept.get(ending)
+            if first and trial.plan < first.plan or not first and len(self.kept) < MOST_KEPT:
+                self.kept[ending], trial = trial, first or trial
+            if trial is self.kept.get(ending):
+                return
+        if trial is not self.found:
+            trial.remove()
+
+    def tell(self) -> None:
+        met = self.endings.by_status
+        done = sum(met.values())
+        said = [f"{self.at:,} of {self.numbers}",
+                f"{done / max(time.monotonic() - self.began, 0.001):.1f} runs a second"]
+        said += [f"{count:,} of status {status}" for status, count in sorted(met.items())]
+        said += [f"found {self.found.plan}"] if self.found else []
+        self.progress.tell(", ".join(said))
+
+    def run(self) -> None:
+        plans = self.plans()
+        self.guard = Guard()
+        streams.on_interrupt(self.stop)
+        try:
+            self.start(plans)
+            while self.running:
+                process, status = os.wait()
+                if process not in self.running:         # an addr2line that failed
+                    continue
+                trial = self.running.pop(process)
+                self.take(trial, trial.child.end(status))
+                self.start(plans)
+                self.count()
+                self.tell()
+        finally:
+            self.progress.clear()
+            for trial in self.running.values():
+                trial.child.kill()
+                trial.child.wait()
+            self.buckets.close()
+            self.guard.close()
+            self.count_rest()
+
+    def count(self) -> None:
+        """Counts those below all that are under way and the one that was found."""
+        open_ones = [trial.plan for trial in self.running.values()] + ([self.found.plan] if self.found else [])
+        if open_ones:
+            self.endings.count_below(min(open_ones))
+
+    def count_rest(self) -> None:
+        """Counts what is left, but nothing above a found one that a number draws."""
+        early, found = self.endings.early, self.found
+        while early and (found is None or found.plan.kind is Kind.THREADS or early[0][0] <= found.plan):
+            self.endings.count_next()

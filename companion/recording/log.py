@@ -1,0 +1,199 @@
+"""What the log file itself says beside the rows: settings, intervals, Ends and Edges, according to docs/FORMAT.md."""
+from __future__ import annotations
+
+import re
+import struct
+from array import array
+from dataclasses import dataclass
+from typing import Iterator, NamedTuple
+
+from ..call import program
+from ..call.errors import BAD_LOG, CompanionError
+from ..call.files import check_regular
+
+HEADER, FIRST_LOAD, SC_OK, SC_FAILED, EDGE, END = 1, 2, 3, 4, 5, 6
+SIZES = {HEADER: 146, FIRST_LOAD: 10, SC_OK: 2, SC_FAILED: 2, EDGE: 19, END: 15}
+REASONS = {1: "length", 2: "call", 3: "exit", 4: "group", 5: "stopped", 6: "guard", 7: "limit",
+           17: "Illegal", 18: "Breakpoint", 19: "FetchOutside", 20: "TargetMisaligned", 21: "LoadOutside",
+           22: "LoadMisaligned", 23: "StoreOutside", 24: "StoreMisaligned", 25: "StoreReadOnly"}
+CALL, A1, A7 = "call", 11, 17                   # a call's reason and registers
+READ_CALL, WRITE_CALL, FAILED = 63, 64, 1 << 31  # calls, and the least result of one that failed
+LONGEST_CALL = 4096                             # bytes that a call moves at most
+MOST_HARTS = 16
+NO_END = ""                                     # the reason of an interval without an End
+HEAD_1, HEAD_2, DIGEST, SEAL = 92, 136, 32, 48  # bytes before the records, of a digest, of what ends a block
+# Most records are FirstLoads: so many that follow each other are passed at once. The sizes are those of SIZES.
+RUNS = re.compile(rb"(?:\x02.{9}){1,1000}|\x01.{145}|\x05.{18}|\x06.{14}|\x03.|\x04.", re.S)
+FIRST_FAULT = 17                                # the number of the first reason that is a fault
+
+
+@dataclass
+class Interval:
+    """`start` and `end` are counts; `registers` are the pc and x1 to x31 at its start."""
+    hart: int
+    number: int
+    start: int
+    end: int
+    reason: str
+    value: int
+    registers: tuple[int, ...]
+
+
+@dataclass(frozen=True)
+class End:
+    count: int
+    reason: str
+    value: int
+
+
+@dataclass(frozen=True)
+class At:
+    """An instruction: a hart and its count."""
+    hart: int
+    count: int
+
+
+@dataclass(frozen=True)
+class SystemCall:
+    """A system call of a hart: its row's count, its kind, the address that it names, the bytes that it moved if it is a read
+    or a write, and the address of its code."""
+    hart: int
+    count: int
+    kind: int
+    address: int
+    size: int
+    pc: int
+
+
+class Edges(NamedTuple):
+    """Columns, one entry for each Edge: the access of a hart at a count comes after that of its source."""
+    counts: array[int]
+    source_counts: array[int]
+    harts: array[int]
+    sources: array[int]
+
+
+class Log:
+    """Settings (version, harts, length, limit, size, memory, dropped), and
+
+    intervals  in the log's order
+    ends       {hart: its last End}
+    edges      all of them, as columns
+    records    how many records it has
+    bytes      how long the file is
+    faulted    whether a hart did
+    name       of the file; shown: of the file that was asked of, if this is its end alone
+    unread     how many bytes of that file come before"""
+
+    def __init__(self, name: str, data: bytes, shown: str = "", unread: int = 0) -> None:
+        """`data` has to be what `check` takes: records are read as they stand. CompanionError if they end too early."""
+        self.name, self.bytes, self.shown, self.unread = name, len(data), shown or name, unread
+        self.version = self.harts = self.length = self.limit = self.size = self.memory = self.dropped = 0
+        self.intervals: list[Interval] = []
+        self.called: list[Interval] = []        # those that ended by a system call, in its order
+        self.ends: dict[int, End] = {}
+        self.records = 0
+        self.edges = Edges(array("Q"), array("Q"), array("B"), array("B"))
+        try:
+            self.read_records(self.read_head(data))
+        except (struct.error, IndexError, KeyError):
+            raise changed(self.shown)
+        self.faulted = any(is_fault(end.reason) for end in self.ends.values())
+
+    def read_head(self, data: bytes) -> bytes:
+        """Reads the settings; gives the records."""
+        self.version, self.harts, self.length, self.limit, self.size, self.memory = struct.unpack_from("<IIIQII", data, 8)
+        if not 1 <= self.harts <= MOST_HARTS:
+            raise IndexError(self.harts)        # of so many lists would be made
+        self.dropped = struct.unpack_from("<Q", data, 80 if self.version == 1 else 92)[0]
+        if self.version == 1:
+            return data[HEAD_1:-DIGEST]
+        pieces, end = [], len(data)
+        while end > HEAD_2:                     # sealed blocks, from the last one back
+            size, = struct.unpack_from("<I", data, end - 36)
+            pieces.append(data[end - SEAL - size:end - SEAL])
+            end -= size + SEAL
+        if end < HEAD_2:
+            raise IndexError(end)               # no block begins there
+        return b"".join(reversed(pieces))
+
+    def read_records(self, records: bytes) -> None:
+        opened: dict[int, Interval] = {}
+        for record in runs_of(records):
+            tag, hart = record[0], record[1]
+            self.records += len(record) // SIZES[tag]
+            if tag == HEADER:
+                opened[hart] = self.header(record)
+            elif tag == EDGE:
+                count, source, source_count = struct.unpack_from("<QBQ", record, 2)
+                for column, value in zip(self.edges, (count, source_count, hart, source)):
+                    column.append(value)
+            elif tag == END:
+                count, reason, value = struct.unpack_from("<QBI", record, 2)
+                self.ends[hart] = End(count, REASONS[reason], value)
+                interval = opened.pop(hart, None)
+                if interval:                    # the Header of the log's first End can be lost
+                    interval.end, interval.reason, interval.value = count, REASONS[reason], value
+                    if interval.reason == CALL:
+                        self.called.append(interval)
+
+    def header(self, record: bytes) -> Interval:
+        """A new interval."""
+        number, count, pc = struct.unpack_from("<QQI", record, 2)
+        registers = (pc,) + struct.unpack_from("<31I", record, 22)
+        self.intervals.append(Interval(record[1], number, count, count, NO_END, 0, registers))
+        return self.intervals[-1]
+
+    def rows(self) -> int:
+        """How many instructions its intervals have."""
+        return sum(interval.end - interval.start for interval in self.intervals)
+
+    def first_intervals(self) -> dict[int, Interval]:
+        """{hart: its first interval in the log}"""
+        found: dict[int, Interval] = {}
+        for interval in self.intervals:
+            found.setdefault(interval.hart, interval)
+        return found
+
+    def system_calls(self) -> Iterator[SystemCall]:
+        """Those after which a hart continued, in their order. What they were asked is in the registers that the next Header has."""
+        following = {(interval.hart, interval.number): interval.registers for interval in self.intervals}
+        for interval in self.called:
+            registers = following.get((interval.hart, interval.number + 1))
+            if registers and interval.value < FAILED:
+                yield SystemCall(interval.hart, interval.end - 1, registers[A7], registers[A1], min(interval.value, LONGEST_CALL),
+                                 registers[0] - 4)
+
+
+def runs_of(records: bytes) -> Iterator[bytes]:
+    """Each record; FirstLoads that follow each other are one piece."""
+    return (found[0] for found in RUNS.finditer(records))
+
+
+def changed(name: str) -> CompanionError:
+    """What to raise of a file that isn't what `check` took."""
+    return CompanionError(f"log: {name} changed while it was read", BAD_LOG)
+
+
+def check(name: str) -> None:
+    """Has the program check a log."""
+    check_regular(name)
+    try:
+        program.output("check", name)
+    except CompanionError as error:
+        if error.status == BAD_LOG:
+            with open(name, "rb") as file:
+                if file.read(4) == b"\x7fELF":
+                    raise CompanionError(f"log: {name} is an ELF file, and the log is named before it: LOG ELF", BAD_LOG)
+        raise
+
+
+def read_log(name: str) -> Log:
+    """A log that the program has checked."""
+    check(name)
+    with open(name, "rb") as file:
+        return Log(name, file.read())
+
+
+def is_fault(reason: str) -> bool:
+    return reason[:1].isupper()

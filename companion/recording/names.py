@@ -1,0 +1,122 @@
+"""The filter that puts functions and lines behind rows, and the addresses of names."""
+from __future__ import annotations
+
+import os
+import sys
+from contextlib import closing
+
+from ..call import streams
+from ..call.errors import MISSING, CompanionError
+from ..call.options import parse
+from .addresses import addresses_of
+from .elf import Elf
+from .naming import places_of
+
+HELP = """Functions and lines of addresses, and addresses of names.
+
+    zelkuma names ELF               a filter: puts the function and line behind each row that it reads
+    zelkuma names ELF NAME..        prints the address of a function, an object or FILE:LINE, for `break` and `word`
+
+ELF is the program with its names and lines (gcc -g); the log may be of the same program stripped. Lines come from
+addr2line of binutils or LLVM; without one there are the names of ELF's symbols, and without these the rows alone."""
+FORM = "names ELF [NAME | FILE:LINE]..."
+CHUNK = 1 << 16
+
+
+class Filter:
+    """Puts the name of its place behind each line that tells of one."""
+
+    def __init__(self, elf: Elf) -> None:
+        self.elf, self.places = elf, places_of(elf)
+        self.kept: dict[bytes, bytes] = {}      # third word of a row: what is put behind, with the line's end
+        self.last: dict[bytes, bytes] = {}      # hart: what was put behind its last row
+
+    def close(self) -> None:
+        self.places.close()
+
+    def line(self, line: bytes) -> bytes:
+        """A line with its end."""
+        words = line.split(None, 3)
+        if len(words) < 3:
+            return self.other(line, words)
+        # A row's address is in memory, or has no code; a count of eight digits in a line of `list` is neither.
+        if len(words[2]) == 8 and words[0].isdigit() and (words[2] < b"1" or words[3:] and words[3][:8] == b"--------"):
+            behind = self.kept.get(words[2])
+            if behind is None:
+                behind = self.kept[words[2]] = self.of_address(words[2])
+            self.last[words[0]] = behind
+            return line[:-1] + behind
+        return self.other(line, words)
+
+    def of_address(self, text: bytes) -> bytes:
+        """What is put behind an address of code."""
+        try:
+            said = self.places.named(int(text, 16))
+        except ValueError:
+            return b"\n"
+        return b" | %s\n" % said.encode() if said else b"\n"
+
+    def of_data(self, text: bytes) -> bytes:
+        """What is put behind an address of data."""
+        try:
+            said = self.elf.data_name(int(text[:8], 16))
+        except ValueError:
+            return b"\n"
+        return b" | %s\n" % said.encode() if said else b"\n"
+
+    def other(self, line: bytes, words: list[bytes]) -> bytes:
+        """A line that is no row: an end, one of `list`, of `debug`, of `races`, a word of memory."""
+        kind, said = words[0] if words else b"", b"\n"
+        if kind == b"end" and len(words) > 2:
+            said = self.last.get(words[1], b"\n")
+        elif kind.isdigit() and len(words) == 4:
+            said = self.list_line(words[3].split())
+        elif kind == b"stop" and len(words) == 4:
+            said = self.of_address(words[3].strip())
+        elif kind == b"race" and len(words) == 4:
+            said = self.of_data(words[3].split()[-1])
+        elif kind in (b"word", b"in") and len(words) > 1:
+            said = self.of_data(words[-1])
+        elif kind == b"branch" and len(words) == 4:
+            said = self.of_address(words[3].split()[0])
+        return line[:-1] + said
+
+    def list_line(self, words: list[bytes]) -> bytes:
+        """A line of `list` tells no address of code but for a jump that found none there."""
+        if len(words) != 3:
+            return b"\n"
+        if words[1] in (b"FetchOutside", b"TargetMisaligned"):
+            return self.of_address(words[2])
+        return self.of_data(words[2]) if words[1].startswith((b"Load", b"Store")) else b"\n"
+
+
+def filter_input(elf: Elf) -> int:
+    """Each piece of the input is answered at once, so a session of `debug` can be read through it."""
+    rest, source = b"", open(sys.stdin.fileno(), "rb", closefd=False)
+    with closing(Filter(elf)) as rows:
+        while True:
+            piece = source.read1(CHUNK)
+            lines = (rest + piece).split(b"\n")
+            rest = lines.pop()
+            streams.put_bytes(b"".join([rows.line(line + b"\n") for line in lines]))
+            if not piece:
+                break
+        if rest:                                # a last line without an end gets none
+            streams.put_bytes(rows.line(rest + b"\n")[:-1])
+    return 0
+
+
+def main(words: list[str]) -> int:
+    names, _ = parse(words, {}, range(1, 1000), FORM)
+    elf = Elf(names[0])
+    if not elf.symbols:
+        streams.say(f"{os.path.basename(elf.name)} has no names: it is stripped")
+    if len(names) == 1:
+        return filter_input(elf)
+    for name in names[1:]:
+        found = addresses_of(elf, name)
+        if not found:
+            raise CompanionError(f"{os.path.basename(elf.name)} has no {name}", MISSING)
+        for each in found:
+            streams.put(f"{each.address:08x} {each.what}\n")
+    return 0

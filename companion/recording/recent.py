@@ -1,0 +1,186 @@
+"""The end of a large log as a log of its own, since what tells of a crash is mostly among its last rows.
+
+How many rows an interval has is in its Header and its End, so what is read is decided before a row is asked for. The
+last records of a run are a log, too (docs/FORMAT.md). The program's own `joint`, `races` and `list` read it, in a time
+that doesn't grow with the whole."""
+from __future__ import annotations
+
+import contextlib
+import hashlib
+import mmap
+import os
+import struct
+import tempfile
+from typing import Iterator, Optional
+
+from ..call import program, streams
+from ..call.errors import NO_INTERVAL, UNREADABLE, CompanionError
+from .log import END, FIRST_FAULT, HEAD_2, HEADER, REASONS, SEAL, SIZES, At, End, Log, changed, check, runs_of
+
+VERSION_1, LARGEST_SMALL = 1, 1 << 20   # a file of version 1 that is larger isn't read whole
+SETTINGS, BLOCK = 92, 4096                      # bytes of a head up to its count of dropped records; of a block's records
+FIRST_ROWS, MORE_ROWS = 1000000, 2600000        # are read at first, and if values come from before them
+
+
+class LogFile:
+    """A log that is checked, and ends of it. Its files are gone once it is closed."""
+
+    def __init__(self, name: str) -> None:
+        self.name, self.source = name, name
+        self.files = contextlib.ExitStack()
+        self.folder = ""
+
+    def close(self) -> None:
+        self.files.close()
+
+    def path(self, name: str) -> str:
+        """The name of a file that is kept until the end."""
+        if not self.folder:
+            try:
+                with streams.uninterrupted():
+                    self.folder = self.files.enter_context(tempfile.TemporaryDirectory(prefix="zelkuma-"))
+            except OSError as error:
+                raise CompanionError(f"no place for the end of {self.name}: {error.strerror or error}", UNREADABLE)
+        return os.path.join(self.folder, name)
+
+    def harts(self) -> int:
+        with open(self.name, "rb") as file:
+            return int.from_bytes(file.read(16)[12:], "little")
+
+    def whole(self) -> Log:
+        with open(self.name, "rb") as file:
+            return Log(self.name, file.read())
+
+    def end(self, rows: int, asked: Optional[At] = None) -> Log:
+        """The shortest end that holds so many rows and what else is needed, or the whole log if it is no longer. Of a row that
+        is asked of, so many rows before it are held."""
+        try:
+            return self.end_of_file(rows, asked)
+        except (ValueError, IndexError, KeyError, struct.error):
+            raise changed(self.name)
+
+    def end_of_file(self, rows: int, asked: Optional[At]) -> Log:
+        with open(self.source, "rb") as file, mmap.mmap(file.fileno(), 0, access=mmap.ACCESS_READ) as data:
+            if struct.unpack_from("<I", data, 8)[0] == VERSION_1:
+                if len(data) <= LARGEST_SMALL:
+                    log = self.whole()
+                    if log.rows() <= rows:
+                        return log
+                with streams.working("the log is converted"):
+                    program.output("convert", self.name, self.path("converted"))
+                self.source = self.path("converted")
+                return self.end_of_file(rows, asked)
+            last = LastRecords(data, rows, asked)
+            if last.asked:
+                raise CompanionError(f"the log holds no row {last.asked.hart}:{last.asked.count}", NO_INTERVAL)
+            if not last.unread:
+                return self.whole()
+            sealed = b"".join(sealed_blocks(data[:SETTINGS], last.dropped, last.records()))
+        with open(self.path("log"), "wb") as kept:
+            kept.write(sealed)
+        log = Log(self.path("log"), sealed, self.name, last.unread)
+        log.ends = dict(sorted(last.last.items()))      # some may be further back
+        return log
+
+
+def open_log(name: str) -> LogFile:
+    """A log that the program has checked."""
+    with streams.working("the log is checked"):
+        check(name)
+    return LogFile(name)
+
+
+class LastRecords:
+    """The last records of a file, from the end back, until they hold so many rows, the last interval of each hart that
+    ended there, and the row that is asked of. Intervals can be long: once there are twice as many rows, those of the harts
+    that faulted are enough.
+
+    unread   how many bytes come before them; dropped: how many records
+    last     {hart: its last End}, wherever that is"""
+
+    def __init__(self, data: mmap.mmap, rows: int, asked: Optional[At]) -> None:
+        self.most, self.asked = rows, asked
+        self.rows = self.unread = self.dropped = 0
+        self.ends: dict[int, int] = {}          # {hart: where its interval ends, whose Header comes further back}
+        self.awaited: set[int] = set()          # harts whose last interval is still incomplete
+        self.faulted: set[int] = set()
+        self.seen: set[int] = set()
+        self.last: dict[int, End] = {}
+        self.pieces: list[bytes] = []
+        harts, end = struct.unpack_from("<I", data, 12)[0], len(data)
+        while end > HEAD_2 and not (self.unread and len(self.last) == harts):
+            before, _, size = struct.unpack_from("<QII", data, end - SEAL)
+            end -= SEAL + size
+            self.take_block(data[end:end + size], end - HEAD_2, before)
+        if end < HEAD_2:
+            raise IndexError(end)               # no block begins there
+
+    def records(self) -> bytes:
+        return b"".join(reversed(self.pieces))
+
+    def take_block(self, block: bytes, unread: int, before: int) -> None:
+        """Takes the records of a block, the last one first, while they are needed."""
+        runs, at = list(runs_of(block)), len(block)
+        while runs:
+            run = runs.pop()
+            at -= len(run)
+            if run[0] == END:
+                count, reason, value = struct.unpack_from("<QBI", run, 2)
+                self.last.setdefault(run[1], End(count, REASONS[reason], value))
+            if not self.unread:
+                self.take(run)
+                if run[0] == HEADER and self.is_enough():
+                    self.unread, self.dropped = unread + at, before + sum(len(one) // SIZES[one[0]] for one in runs)
+                    self.pieces.append(block[at:])
+        if not self.unread:
+            self.pieces.append(block)
+
+    def is_enough(self) -> bool:
+        if self.asked or not self.last or self.rows < self.most or self.awaited & self.faulted:
+            return False
+        return not self.awaited or self.rows >= 2 * self.most
+
+    def take(self, record: bytes) -> None:
+        """Takes the record before those that were taken."""
+        hart = record[1]
+        if record[0] == END:
+            self.ends[hart] = struct.unpack_from("<Q", record, 2)[0]
+            if hart not in self.seen:
+                self.seen.add(hart)
+                self.awaited.add(hart)
+                if record[10] >= FIRST_FAULT:
+                    self.faulted.add(hart)
+        elif record[0] == HEADER and hart in self.ends:
+            begin, end = struct.unpack_from("<Q", record, 10)[0], self.ends.pop(hart)
+            self.awaited.discard(hart)
+            self.rows += end - begin
+            if self.asked and self.asked.hart == hart and begin <= self.asked.count <= end:
+                self.rows, self.asked = self.asked.count - begin, None
+                self.awaited = set()
+
+
+def sealed_blocks(settings: bytes, dropped: int, records: bytes) -> Iterator[bytes]:
+    """The file of version 2 of some records, in pieces."""
+    head = settings + struct.pack("<QI", dropped, len(records))
+    key, left = hashlib.sha256(head).digest(), len(records)
+    yield head + key
+    for block, count in blocks_of(records):
+        left -= len(block)
+        body = block + struct.pack("<QII", dropped, left, len(block))
+        yield body + hashlib.sha256(key + body).digest()
+        dropped += count
+
+
+def blocks_of(records: bytes) -> Iterator[tuple[bytes, int]]:
+    """The records of each block, and how many they are."""
+    block, count = b"", 0
+    for run in runs_of(records):
+        size = SIZES[run[0]]
+        while run:
+            fits = (BLOCK - len(block)) // size * size
+            block, count, run = block + run[:fits], count + len(run[:fits]) // size, run[fits:]
+            if run:
+                yield block, count
+                block, count = b"", 0
+    if block:
+        yield block, count

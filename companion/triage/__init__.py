@@ -1,0 +1,3 @@
+"""Many logs: the bucket of each, and the table of all.
+
+May use: call, recording, why."""

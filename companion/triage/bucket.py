@@ -1,0 +1,71 @@
+"""One line for each cause."""
+from __future__ import annotations
+
+import hashlib
+from contextlib import closing
+from typing import NamedTuple
+
+from ..call import streams
+from ..call.options import parse
+from ..recording.answers import put_answer
+from ..recording.cause import EXITS, Cause, cause_of
+from ..recording.elf import Elf
+from ..recording.naming import named_elf, places_of
+from ..recording.places import Places
+from ..recording.recent import FIRST_ROWS, open_log
+
+HELP = """One line that is the same for logs that ended for the same cause, for sorting many logs.
+
+    zelkuma bucket LOG ELF [--names ELF] [--json]
+
+It prints how the run ended, the function, FILE:LINE and a digest: of the address, and of the functions on the call stack
+by ELF's own symbols, each once. So the digest is the same on each machine, with and without --names and addr2line. Values,
+counts and the schedule aren't in it. `sort | uniq -c` over the lines of many logs groups them. A run that came to its limit
+is told by the outermost function of its last rows, since any row of a loop can be last. Of a large log the last million
+rows are read, and calls from before them aren't known. --json prints one JSON object in place of the line (docs/JSON.md).
+Companions show; the program proves."""
+FORM = "bucket LOG ELF [--names ELF] [--json]"
+UNKNOWN = "-"
+
+
+def digest_of(cause: Cause, elf: Elf) -> str:
+    """Of what the recorded file and the log alone say: so it is the same on each machine, whatever tools and files with
+    names are there."""
+    said = [cause.reason, UNKNOWN if cause.reason == "limit" else f"{cause.pc:08x}", *cause.functions(elf)]
+    return hashlib.sha256("\n".join(said).encode("utf-8", "replace")).hexdigest()[:8]
+
+
+class Bucket(NamedTuple):
+    """How the run ended, the function, FILE:LINE, and the digest; UNKNOWN for what isn't told."""
+    reason: str
+    function: str
+    place: str
+    digest: str
+
+    def line(self) -> str:
+        return " ".join(word.replace(" ", "_") if at else word for at, word in enumerate(self))
+
+
+def bucket_of(cause: Cause, elf: Elf, places: Places) -> Bucket:
+    """`elf` is the recorded file, and `places` are those of one with names."""
+    if cause.reason in EXITS:
+        return Bucket(cause.reason, str(cause.value), UNKNOWN, UNKNOWN)
+    frame = places.innermost(cause.pc)
+    place = f"{frame.file}:{frame.line}" if frame.line and cause.reason != "limit" else UNKNOWN
+    return Bucket(cause.reason, places.function(cause.pc), place, digest_of(cause, elf))
+
+
+def main(words: list[str]) -> int:
+    (log_name, elf_name), given = parse(words, {"--names": True, "--json": False}, 2, FORM)
+    with closing(open_log(log_name)) as source:
+        elf = Elf(elf_name)
+        named = named_elf(elf, given.get("--names", ""))
+        with streams.working("rows are read"):
+            cause = cause_of(source.end(FIRST_ROWS), elf_name)
+        with closing(places_of(named)) as places:
+            bucket = bucket_of(cause, elf, places)
+    if "--json" in given:
+        put_answer("bucket", line=bucket.line(), **bucket._asdict())
+    else:
+        streams.put(bucket.line() + "\n")
+    return 0

@@ -1,0 +1,61 @@
+"""A table of logs for other programs: as JSON, and as JUnit's XML."""
+from __future__ import annotations
+
+import json
+import time
+from typing import Any
+from xml.sax.saxutils import escape, quoteattr
+
+from ..call.saving import Kind
+from ..call.text import clean, counted
+from ..recording.answers import LONGEST, VERSION
+from ..recording.cause import EXITS
+from .store import File
+from .table import Group, Table
+
+JSON_BEGINS = '{"answer": "triage"'
+JUNIT_BEGINS = '<?xml version="1.0" encoding="utf-8"?>\n<testsuite name="zelkuma triage"'
+JSON = Kind("an answer of triage", lambda head: head.startswith(JSON_BEGINS.encode()))
+JUNIT = Kind("a report of triage", lambda head: head.startswith(JUNIT_BEGINS.encode()))
+
+
+def json_text(table: Table) -> str:
+    groups, unread = table.sorted(), table.sorted_unread()
+    return json.dumps({
+        "answer": "triage", "version": VERSION, "logs": table.logs, "others": table.others, "causes": len(groups),
+        "buckets": [group_answer(group) for group in groups[:LONGEST]],
+        "unread": [{"why": why, "count": one.count, "first": file_answer(one.first)} for why, one in unread[:LONGEST]]}) + "\n"
+
+
+def group_answer(group: Group) -> dict[str, Any]:
+    return {"line": group.bucket.line(), **group.bucket._asdict(), "count": group.count, "salvaged": group.salvaged,
+            "harts": sorted(group.harts), "first": file_answer(group.first), "last": file_answer(group.last),
+            "example": group.example.name, "elf": group.elf, "suspect": group.suspect, "command": group.command()}
+
+
+def file_answer(file: File) -> dict[str, str]:
+    return {"log": file.name, "time": time.strftime("%Y-%m-%dT%H:%M:%SZ", time.gmtime(file.time))}
+
+
+def junit_text(table: Table) -> str:
+    groups, unread = table.sorted(), table.sorted_unread()
+    failed = sum(group.bucket.reason not in EXITS for group in groups)
+    lines = [f'{JUNIT_BEGINS} tests="{len(groups) + len(unread)}" failures="{failed}" errors="{len(unread)}">']
+    for group in groups:
+        lines.append(f"<testcase classname={quoted(group.bucket.reason)} name={quoted(group.bucket.line())}>")
+        if group.bucket.reason not in EXITS:
+            said = "\n".join(filter(None, [group.suspect, group.command()]))
+            lines.append(f"<failure message={quoted(counted(group.count, 'log'))}>{cleaned(said)}</failure>")
+        lines.append("</testcase>")
+    for why, one in unread:
+        lines.append(f"<testcase classname=\"unread\" name={quoted(why)}><error message={quoted(counted(one.count, 'log'))}>"
+                     f"{cleaned(one.first.name)}</error></testcase>")
+    return "\n".join(lines + ["</testsuite>", ""])
+
+
+def quoted(text: str) -> str:
+    return quoteattr(clean(text))
+
+
+def cleaned(text: str) -> str:
+    return escape("\n".join(map(clean, text.split("\n"))))

@@ -1,0 +1,87 @@
+"""How often each cause, and which logs aren't read."""
+from __future__ import annotations
+
+import shlex
+import time
+from dataclasses import dataclass, field
+
+from ..call.text import counted, number
+from .bucket import Bucket
+from .store import File
+from .work import SALVAGED, Answer
+
+
+@dataclass
+class Group:
+    """The logs of a cause.
+
+    example  of these, one that is whole if there is any; elf: its program
+    harts    how many a log has
+    suspect  in words, or nothing"""
+    bucket: Bucket
+    first: File
+    last: File
+    example: File
+    elf: str
+    is_whole: bool
+    count: int = 0
+    salvaged: int = 0
+    harts: set[int] = field(default_factory=set)
+    suspect: str = ""
+
+    def command(self) -> str:
+        """What tells more of the example."""
+        log, elf = shlex.quote(self.example.name), shlex.quote(self.elf)
+        if self.is_whole:
+            return f"zelkuma why {log} {elf}"
+        return f"zelkuma salvage {log} {log}.salvaged && zelkuma why {log}.salvaged {elf}"
+
+
+@dataclass
+class Unread:
+    """Logs that aren't read for one reason."""
+    first: File
+    count: int = 0
+
+
+class Table:
+    """logs, others  how many logs there are, and how many files that are none"""
+
+    def __init__(self, logs: int, others: int) -> None:
+        self.logs, self.others = logs, others
+        self.groups: dict[Bucket, Group] = {}
+        self.unread: dict[str, Unread] = {}
+
+    def add(self, answer: Answer, file: File, elf: str) -> None:
+        """A log. They come in the order of their dates."""
+        is_whole = answer.state != SALVAGED
+        group = self.groups.get(answer.bucket)
+        if group is None:
+            group = self.groups[answer.bucket] = Group(answer.bucket, file, file, file, elf, is_whole)
+        if is_whole and not group.is_whole:
+            group.example, group.elf, group.is_whole = file, elf, True
+        group.last = file
+        group.count += 1
+        group.salvaged += not is_whole
+        group.harts.add(answer.harts)
+
+    def add_unread(self, why: str, file: File) -> None:
+        self.unread.setdefault(why, Unread(file)).count += 1
+
+    def sorted(self) -> list[Group]:
+        return sorted(self.groups.values(), key=lambda group: (-group.count, group.bucket))
+
+    def sorted_unread(self) -> list[tuple[str, Unread]]:
+        return sorted(self.unread.items(), key=lambda item: (-item[1].count, item[0]))
+
+    def heading(self) -> str:
+        salvaged = sum(group.salvaged for group in self.groups.values())
+        left = sum(one.count for one in self.unread.values())
+        said = [f"{counted(self.logs, 'log')}: {counted(len(self.groups), 'cause')}"]
+        said += [f"{number(salvaged)} salvaged"] * bool(salvaged) + [f"{number(left)} not read"] * bool(left)
+        said += [f"{counted(self.others, 'other file')}"] * bool(self.others)
+        return ", ".join(said)
+
+
+def day(file: File) -> str:
+    return time.strftime("%Y-%m-%d %H:%M", time.localtime(file.time))

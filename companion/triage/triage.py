@@ -1,0 +1,142 @@
+"""Many logs in one table: how often each cause, and an example of it."""
+from __future__ import annotations
+
+import os
+import shlex
+from contextlib import closing
+from typing import Iterable, Mapping
+
+from ..call import streams
+from ..call.errors import MISSING, CompanionError
+from ..call.options import parse
+from ..call.page import Part, page
+from ..call.saving import PAGE, Target, target
+from ..call.text import clean, counted, number
+from ..recording.cause import EXITS
+from .forms import JSON, JUNIT, json_text, junit_text
+from .pool import answers
+from .store import MOST_LOGS, Logs, Store, find_logs, missing_elf
+from .table import Group, Table, Unread, day
+from .work import MOST_BYTES, MOST_SECONDS, READ, UNREAD, Answer, Task
+
+MOST_SUSPECTS = 20
+HELP = f"""Sorts many logs by the cause of their end.
+
+    zelkuma triage DIR.. --elfs DIR [--json FILE] [--junit FILE] [--html FILE]
+
+It reads all logs below each DIR, on all processors. Of each cause it prints the line of `bucket`, how many logs have it, the
+first and the last by their files' dates, how many harts they have, the best suspect of `why`, and the command that says more
+of one of them.
+
+--elfs   where the programs are: each is found by its SHA-256, which a log has. What was found is remembered in
+         ~/.cache/zelkuma/elfs.json ($XDG_CACHE_HOME), which can be deleted
+--json   saves the table for other programs (docs/JSON.md)
+--junit  saves it as JUnit's XML: a cause is a test, and one that is no exit has failed
+--html   saves it as a page
+
+A damaged log is salvaged into a temporary place; its own file stays as it is. A log takes at most {MOST_SECONDS} s of
+processor time, a minute by the clock, and {MOST_BYTES >> 20} MB. Those that can't be read are counted by the reason, as are those
+whose program isn't there. Of a large log the last million rows are read. Of the {MOST_SUSPECTS} most frequent causes the suspect
+is told.
+Companions show; the program proves."""
+FORM = "triage DIR.. --elfs DIR [--json FILE] [--junit FILE] [--html FILE]"
+OPTIONS = {"--elfs": True, "--json": True, "--junit": True, "--html": True}
+KINDS = {"--json": JSON, "--junit": JUNIT, "--html": PAGE}
+MOST_NAMES = 1000
+
+
+class Asker:
+    """Has the tasks done, and tells how far they are."""
+
+    def __init__(self) -> None:
+        self.jobs, self.progress = len(os.sched_getaffinity(0)), streams.Progress()
+
+    def ask(self, tasks: list[Task], what: str) -> dict[str, Answer]:
+        """{log: the answer}"""
+        found: dict[str, Answer] = {}
+        with closing(answers(tasks, min(self.jobs, len(tasks)))) as said:
+            for task, answer in said:
+                found[task.log] = answer
+                self.progress.tell(f"{number(len(found))} of {counted(len(tasks), what)}")
+        self.progress.clear()
+        return found
+
+
+def table_of(logs: Logs, elfs: Mapping[str, str], found: Mapping[str, Answer]) -> Table:
+    table = Table(len(logs.files), logs.others)
+    for file in logs.files:
+        answer = found.get(file.name)
+        if answer is None:
+            table.add_unread(missing_elf(file.program), file)
+        elif answer.state == UNREAD:
+            table.add_unread(answer.words, file)
+        else:
+            table.add(answer, file, elfs[file.program])
+    return table
+
+
+def with_suspects(table: Table, asker: Asker) -> None:
+    """Asks for the suspects of the most frequent causes, each of one log."""
+    groups = [group for group in table.sorted() if group.bucket.reason not in EXITS and group.is_whole][:MOST_SUSPECTS]
+    found = asker.ask([Task(group.example.name, group.elf, True) for group in groups], "suspect")
+    for group in groups:
+        answer = found[group.example.name]
+        group.suspect = answer.words if answer.state == READ else f"none: {answer.words}"
+
+
+def lines_of(group: Group) -> list[str]:
+    first, last = group.first, group.last
+    harts = ", ".join(map(str, sorted(group.harts)))
+    lines = [f"harts {harts}; {day(first)} {clean(first.name)}" + (f" to {day(last)} {clean(last.name)}" if first != last else "")]
+    lines += [f"{counted(group.salvaged, 'log')} of them salvaged"] if group.salvaged else []
+    lines += [f"suspect: {group.suspect}"] if group.suspect else []
+    return lines + [clean(group.command())]
+
+
+def parts_of(table: Table) -> list[Part]:
+    """The table, most frequent first; then what isn't read."""
+    parts = [Part("", [table.heading()])]
+    parts += [Part(f"{number(group.count)}  {group.bucket.line()}", lines_of(group)) for group in table.sorted()]
+    if table.unread:
+        parts.append(Part("NOT READ", [unread_line(why, one) for why, one in table.sorted_unread()]))
+    return parts
+
+
+def unread_line(why: str, one: Unread) -> str:
+    return f"{number(one.count)}  {clean(why)}: {clean(one.first.name)}" + (" and others" if one.count > 1 else "")
+
+
+def text_of(parts: Iterable[Part]) -> str:
+    lines: list[str] = []
+    for part in parts:
+        lines += ["", part.heading] if part.heading else []
+        lines += ["  " + line if part.heading else line for line in part.lines]
+    return "".join(line + "\n" for line in lines)
+
+
+def saved_text(option: str, table: Table, parts: list[Part]) -> str:
+    """What an option saves."""
+    if option == "--html":
+        return page(table.heading(), parts[1:])
+    return json_text(table) if option == "--json" else junit_text(table)
+
+
+def main(words: list[str]) -> int:
+    folders, given = parse(words, OPTIONS, range(1, MOST_NAMES), FORM)
+    if "--elfs" not in given:
+        raise CompanionError(f"--elfs isn't given; the words are: {FORM}")
+    targets = {option: target(given[option], kind, []) for option, kind in KINDS.items() if option in given}
+    logs = find_logs(folders)
+    if not logs.files:
+        raise CompanionError(f"there is no log below {', '.join(map(shlex.quote, folders))}", MISSING)
+    elfs = Store([given["--elfs"]]).find({file.program for file in logs.files})
+    asker = Asker()
+    table = table_of(logs, elfs, asker.ask([Task(file.name, elfs[file.program]) for file in logs.files if file.program in elfs], "log"))
+    with_suspects(table, asker)
+    parts = parts_of(table)
+    for option, place in targets.items():
+        place.save(saved_text(option, table, parts).encode("utf-8", "backslashreplace"))
+    streams.put(text_of(parts))
+    if logs.are_more:
+        streams.say(f"only {number(MOST_LOGS)} logs were read, and there are more")
+    return 0

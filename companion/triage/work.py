@@ -1,0 +1,144 @@
+"""What one process finds out of one log after another, and how much each may take."""
+from __future__ import annotations
+
+import contextlib
+import os
+import resource
+import signal
+import tempfile
+from contextlib import closing
+from typing import Callable, Iterator, NamedTuple, TypeVar
+
+from ..call import program
+from ..call.errors import BAD_LOG, NO_MEMORY, CompanionError
+from ..recording.cause import cause_of
+from ..recording.elf import Elf
+from ..recording.places import Places
+from ..recording.recent import FIRST_ROWS, LogFile, open_log
+from ..why.analysis import analysed
+from ..why.report import DID
+from .bucket import Bucket, bucket_of
+
+MOST_SECONDS, MOST_BYTES = 10, 300 << 20
+TOO_LONG = f"it takes more than {MOST_SECONDS} s of processor time"
+TOO_LARGE = f"it takes more than {MOST_BYTES >> 20} MB"
+DAMAGED = "it is damaged, and nothing of it could be salvaged"
+READ, SALVAGED, UNREAD = "read", "salvaged", "unread"
+T = TypeVar("T")
+
+
+class Task(NamedTuple):
+    """A log and its program. `asks_why` asks for the best suspect, not for the bucket."""
+    log: str
+    elf: str
+    asks_why: bool = False
+
+
+class Answer(NamedTuple):
+    """state   READ, SALVAGED or UNREAD
+    words   why it isn't read, or the best suspect
+    bucket  its fields, if the bucket was asked for
+    harts   how many it has"""
+    state: str
+    words: str
+    bucket: Bucket
+    harts: int
+
+
+NO_BUCKET = Bucket("", "", "", "")
+
+
+class TooLong(BaseException):
+    """The time of a log is over. No handler on the way takes it for a fault."""
+
+
+def unread(words: str) -> Answer:
+    return Answer(UNREAD, words, NO_BUCKET, 0)
+
+
+@contextlib.contextmanager
+def salvaged(name: str) -> Iterator[LogFile]:
+    """What can be saved of a damaged log, in a temporary place."""
+    with tempfile.TemporaryDirectory(prefix="zelkuma-") as folder:
+        saved = os.path.join(folder, "log")
+        try:
+            program.output("salvage", name, saved)
+        except CompanionError as error:
+            raise CompanionError(DAMAGED, error.status)
+        with closing(LogFile(saved)) as source:
+            yield source
+
+
+class Work:
+    """The programs that were opened, each with one addr2line."""
+
+    def __init__(self) -> None:
+        self.opened: dict[str, tuple[Elf, Places]] = {}
+
+    def close(self) -> None:
+        for _, places in self.opened.values():
+            places.close()
+        self.opened.clear()
+
+    def answer(self, task: Task) -> Answer:
+        """Whatever a log is, there is an answer."""
+        try:
+            return within(MOST_SECONDS, lambda: self.suspect(task) if task.asks_why else self.bucket(task))
+        except TooLong:
+            failed = TOO_LONG
+        except MemoryError:
+            failed = TOO_LARGE
+        except CompanionError as error:
+            return unread(TOO_LARGE if error.status == NO_MEMORY else str(error))
+        except OSError as error:
+            failed = error.strerror or str(error)
+        except Exception as error:              # a forged log may meet a fault of ours: the others are read all the same
+            failed = f"its reader failed inside ({type(error).__name__})"
+        self.close()                            # a question may be under way
+        return unread(failed)
+
+    def bucket(self, task: Task) -> Answer:
+        try:
+            with closing(open_log(task.log)) as source:
+                return self.bucket_of(source, task.elf, READ)
+        except CompanionError as error:
+            if error.status != BAD_LOG:
+                raise
+        with salvaged(task.log) as source:
+            return self.bucket_of(source, task.elf, SALVAGED)
+
+    def bucket_of(self, source: LogFile, elf_name: str, state: str) -> Answer:
+        if elf_name not in self.opened:
+            elf = Elf(elf_name)
+            self.opened[elf_name] = elf, Places(elf)
+        log = source.end(FIRST_ROWS)
+        return Answer(state, "", bucket_of(cause_of(log, elf_name), *self.opened[elf_name]), log.harts)
+
+    def suspect(self, task: Task) -> Answer:
+        with closing(analysed(task.log, task.elf)) as facts:
+            if not facts.shown:
+                return Answer(READ, "", NO_BUCKET, 0)
+            first = facts.shown[0]
+            source = facts.source(first.guilty)
+            words = f"{DID[first.kind]} {facts.where(first.guilty)}" + (f": {source}" if source else "")
+            return Answer(READ, words, NO_BUCKET, 0)
+
+
+def within(seconds: float, work: Callable[[], T]) -> T:
+    """What `work` gives, if this process computes for no more than so many seconds."""
+    def is_over(*_: object) -> None:
+        raise TooLong
+
+    signal.signal(signal.SIGPROF, is_over)
+    try:
+        signal.setitimer(signal.ITIMER_PROF, seconds)
+        return work()
+    finally:
+        signal.setitimer(signal.ITIMER_PROF, 0)
+
+
+def limit_memory() -> None:
+    """For this process, and for each that it starts."""
+    _, most = resource.getrlimit(resource.RLIMIT_DATA)
+    limit = MOST_BYTES if most == resource.RLIM_INFINITY else min(MOST_BYTES, most)
+    resource.setrlimit(resource.RLIMIT_DATA, (limit, most))

@@ -1,0 +1,200 @@
+"""What a page shows of a log as a whole: places, intervals, Edges, the functions along each hart."""
+from __future__ import annotations
+
+from typing import NamedTuple, Union
+
+from ..call.text import clean
+from ..recording.log import NO_END, Log
+from ..recording.places import Places
+from ..recording.trace import Trace
+
+EDGES = 6000            # in the page at most: a half of them evenly over all rows, the other half at the end
+EDGE_STEPS = 1500       # the even half takes its Edges from so many equal parts of the rows
+SEGMENTS = 2500         # switches of each hart in the page at most
+STRIP_SPOTS = 24000     # rows whose function is asked for, of all harts together
+SOURCE_LENGTH = 90
+
+
+class PageInterval(NamedTuple):
+    """An interval, with its first row and the row behind its last."""
+    hart: int
+    number: int
+    start: int
+    end: int
+    reason: str
+    value: str
+    first_row: int
+    rows_end: int
+
+
+class PageEdge(NamedTuple):
+    """An Edge with the rows of both its accesses, 0 of one that was dropped, and 1 if it is of the even half."""
+    hart: int
+    at: int
+    source: int
+    source_at: int
+    row: int
+    source_row: int
+    is_even: int
+
+
+class Segments(NamedTuple):
+    """The counts and the rows at which a hart continues after another hart, and 1 if some are left out."""
+    counts: list[int]
+    rows: list[int]
+    left_out: int
+
+
+class Strip(NamedTuple):
+    """A hart, the count behind its last, and its functions: [first count, the function's number].."""
+    hart: int
+    end: int
+    runs: list[list[int]]
+
+
+class Strips(NamedTuple):
+    """The strips, and [function, its share in percent].."""
+    strips: list[Strip]
+    functions: list[list[Union[str, float]]]
+
+
+class Spots(NamedTuple):
+    """The count behind a hart's last, and for each of so many equal parts of it the first count and a row in the middle."""
+    end: int
+    parts: list[tuple[int, int]]
+
+
+class Around(NamedTuple):
+    """Lines of source, and the number of the first."""
+    first: int
+    lines: list[str]
+
+
+class Code(NamedTuple):
+    pc: int
+    text: str
+    place: int
+
+
+class Page:
+    """Places and codes have numbers, so that each name stands in the page once."""
+
+    def __init__(self, trace: Trace, places: Places, log: Log) -> None:
+        self.trace, self.places, self.log = trace, places, log
+        self.place_known: dict[int, int] = {}
+        self.place_list: list[list[Union[str, list[str]]]] = []
+        self.place_pcs: list[int] = []
+        self.code_known: dict[int, int] = {}
+        self.code_list: list[Code] = []
+
+    def place(self, pc: int) -> int:
+        """The number of [function, file:line, text of the line, [function, file:line] it is inlined in..]."""
+        found = self.place_known.get(pc)
+        if found is None:
+            entry: list[Union[str, list[str]]] = ["", f"{pc:08x}", ""]
+            frames = self.places.frames(pc)
+            if frames:
+                entry = [frames[0].function, self.places.line(pc), self.places.source(pc)[:SOURCE_LENGTH]]
+                entry += [[frame.function, f"{frame.file}:{frame.line}"] for frame in frames[1:]]
+            found = self.place_known[pc] = len(self.place_list)
+            self.place_list.append(entry)
+            self.place_pcs.append(pc)
+        return found
+
+    def around(self, place: int) -> Around:
+        """The line of source at a place, the one before and the one behind, if the source is there."""
+        frame = self.places.innermost(self.place_pcs[place])
+        lines = self.places.sources.lines(frame.path) if frame.line else []
+        first = max(1, frame.line - 1)
+        some = lines[first - 1:frame.line + 1] if frame.line <= len(lines) else []
+        return Around(first, [clean(text.expandtabs(4).rstrip())[:SOURCE_LENGTH] for text in some])
+
+    def code(self, at: int) -> int:
+        """The number of an instruction."""
+        found = self.code_known.get(at)
+        if found is None:
+            instruction = self.trace.codes[at]
+            found = self.code_known[at] = len(self.code_list)
+            self.code_list.append(Code(instruction.pc, instruction.text, self.place(instruction.pc)))
+        return found
+
+    def point(self, row: int) -> list[int]:
+        """The hart, the count and the row."""
+        return [self.trace.hart[row], self.trace.count_of(row), row]
+
+    def place_of_row(self, row: int) -> int:
+        return self.place(self.trace.code_of(row).pc)
+
+    def intervals(self) -> list[PageInterval]:
+        row_of, found = self.trace.row_of, []
+        for each in self.log.intervals:
+            first, last = row_of(each.hart, each.start), row_of(each.hart, max(each.start, each.end - 1))
+            reason = "no end" if each.reason == NO_END else each.reason
+            found.append(PageInterval(each.hart, each.number, each.start, each.end, reason, f"{each.value:08x}", first,
+                                      (last or first) + 1))
+        return found
+
+    def segments(self) -> list[Segments]:
+        """Of each hart."""
+        return [self.segments_of(number) for number in range(self.log.harts)]
+
+    def segments_of(self, number: int) -> Segments:
+        hart = self.trace.harts.get(number)
+        if not hart:
+            return Segments([], [], 0)
+        step = max(1, -(-len(hart.rows) // SEGMENTS))
+        return Segments(list(hart.counts[::step]), list(hart.rows[::step]), int(step > 1))
+
+    def edges(self) -> list[PageEdge]:
+        counts, from_counts, harts, sources = self.log.edges
+        total, row_of = len(counts), self.trace.row_of
+        rows = [row_of(harts[i], counts[i]) for i in range(total)]
+        even = self.even_edges(rows)
+        kept = even | set(range(max(0, total - EDGES + len(even)), total))
+        return [PageEdge(harts[i], counts[i], sources[i], from_counts[i], rows[i], row_of(sources[i], from_counts[i]),
+                         int(i in even)) for i in sorted(kept)]
+
+    def even_edges(self, rows: list[int]) -> set[int]:
+        """The places of Edges that are spread evenly over the rows: of each part at most two, to different harts."""
+        if len(rows) <= EDGES // 2:
+            return set(range(len(rows)))
+        most = EDGES // 2 // EDGE_STEPS
+        harts, found = self.log.edges.harts, set()
+        taken: dict[int, dict[int, int]] = {}
+        for i, row in enumerate(rows):
+            key = row * EDGE_STEPS // (self.trace.rows + 1)
+            used = taken.setdefault(key, {})
+            if sum(used.values()) < most and used.get(harts[i], 0) < max(1, most // 2):
+                used[harts[i]] = used.get(harts[i], 0) + 1
+                found.add(i)
+        return found
+
+    def strips(self) -> Strips:
+        spots, found = self.strip_spots(), []
+        numbers: dict[str, int] = {}
+        shares: dict[str, int] = {}
+        self.places.fetch({self.trace.code_of(row).pc for each in spots.values() for _, row in each.parts if row})
+        for hart, (end, rows) in spots.items():
+            runs: list[list[int]] = []
+            for count, row in rows:
+                name = self.places.function(self.trace.code_of(row).pc) if row else "?"
+                shares[name] = shares.get(name, 0) + 1
+                number = numbers.setdefault(name, len(numbers))
+                if not runs or runs[-1][1] != number:
+                    runs.append([count, number])
+            found.append(Strip(hart, end, runs))
+        total = sum(shares.values()) or 1
+        return Strips(found, [[name, round(100 * shares[name] / total, 1)] for name in numbers])
+
+    def strip_spots(self) -> dict[int, Spots]:
+        """Of each hart."""
+        trace = self.trace
+        most = max(200, min(3000, STRIP_SPOTS // max(1, len(trace.last))))
+        found = {}
+        for hart, last_row in sorted(trace.last.items()):
+            first, last = trace.harts[hart].counts[0], trace.count_of(last_row)
+            spots = min(most, last - first + 1)
+            size = (last - first + 1) / spots
+            found[hart] = Spots(last + 1, [(int(first + i * size), trace.row_of(hart, int(first + (i + 0.5) * size)))
+                                           for i in range(spots)])
+        return found

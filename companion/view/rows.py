@@ -1,0 +1,129 @@
+"""The rows that a page holds: around all that can be clicked, while there is room."""
+from __future__ import annotations
+
+from dataclasses import dataclass, field
+from typing import Iterable, NamedTuple, Sequence
+
+from .data import Page, PageEdge
+
+ROWS = 45000            # in the page at most
+CALLS = 24              # innermost calls that a stack tells
+SPOTS = 1200            # points over the whole run with some rows around each
+EDGES_WITH_ROWS = 400
+
+
+class Node(NamedTuple):
+    """A call: the node outside, and the place of the call; below 0 the number of calls that are left out."""
+    outer: int
+    place: int
+
+
+@dataclass
+class Window:
+    """Rows of a hart that follow each other: the numbers of their codes, the ends of their texts, and the nodes of their
+    calls, as [offset, node] at each change."""
+    hart: int
+    first: int
+    codes: list[int] = field(default_factory=list)
+    tails: list[str] = field(default_factory=list)
+    calls: list[list[int]] = field(default_factory=list)
+
+
+class PageRows:
+    """windows, nodes: what the page holds of rows and of calls"""
+
+    def __init__(self, page: Page) -> None:
+        self.page, self.trace = page, page.trace
+        self.wanted: set[int] = set()
+        self.windows: list[Window] = []
+        self.nodes, self.top_known = [Node(0, 0)], {0: 0}
+        self.node_known: dict[Node, int] = {}
+
+    def around(self, row: int, back: int, ahead: int) -> None:
+        """Wants a row, and some before and behind it of its hart."""
+        trace = self.trace
+        if not row or len(self.wanted) >= ROWS:
+            return
+        hart, count = trace.hart[row], trace.count_of(row)
+        for near in range(max(trace.harts[hart].counts[0], count - back), count + ahead + 1):
+            found = trace.row_of(hart, near)
+            if found and len(self.wanted) < ROWS:
+                self.wanted.add(found)
+
+    def want(self, start: int, ways: Iterable[int], looked_at: Iterable[int], edges: Sequence[PageEdge],
+             race_rows: Iterable[int]) -> None:
+        """What is likeliest looked at comes first."""
+        trace = self.trace
+        self.around(start, 60, 5)
+        for row in ways:
+            self.around(row, 0, 0)
+        for row in looked_at:
+            self.around(row, 60, 60)
+        for row in trace.last.values():
+            self.around(row, 800, 0)
+        for interval in trace.log.intervals[-2000:]:
+            self.around(trace.row_of(interval.hart, interval.start), 0, 20)
+        for edge in edges[:-EDGES_WITH_ROWS - 1:-1]:
+            self.around(edge.row, 12, 12)
+            self.around(edge.source_row, 12, 12)
+        for row in race_rows:
+            self.around(row, 12, 12)
+        for hart, last in trace.last.items():
+            first, end = trace.harts[hart].counts[0], trace.count_of(last)
+            spots = max(1, SPOTS // len(trace.last))
+            for i in range(spots):
+                self.around(trace.row_of(hart, first + (end - first) * i // spots), 10, 10)
+
+    def read(self) -> None:
+        """Fills windows and nodes."""
+        self.page.places.fetch({self.trace.code_of(row).pc for row in self.wanted})
+        by_hart: dict[int, list[int]] = {}
+        for row in sorted(self.wanted):
+            by_hart.setdefault(self.trace.hart[row], []).append(row)
+        for hart, rows in sorted(by_hart.items()):
+            self.read_hart(hart, rows)
+
+    def read_hart(self, hart: int, rows: Sequence[int]) -> None:
+        window, before, expected = Window(hart, 0), -1, -1
+        for row in rows:
+            count, node = self.trace.count_of(row), self.trace.node_of(row)
+            if count != expected:
+                window, before = Window(hart, count), -1
+                self.windows.append(window)
+            window.tails.append(self.trace.text(row).partition(" | ")[2])
+            window.codes.append(self.page.code(self.trace.pc[row]))
+            if node != before:
+                window.calls.append([count - window.first, self.node(node)])
+                before = node
+            expected = count + 1
+
+    def node(self, node: int) -> int:
+        """The page's number of a node of the calls, with those around it."""
+        if node in self.top_known:
+            return self.top_known[node]
+        tree, at = self.trace.tree, node
+        path: list[int] = []
+        while at and len(path) < CALLS:
+            path.append(tree.call_pc[at])
+            at = tree.parent[at]
+        top = self.cut_node(at) if at else 0
+        for pc in reversed(path):
+            top = self.add_node(top, self.page.place(pc))
+        self.top_known[node] = top
+        return top
+
+    def cut_node(self, node: int) -> int:
+        """The page's number of a node whose calls are left out, but for the outermost one."""
+        tree = self.trace.tree
+        top = self.add_node(0, self.page.place(tree.outermost[node]))
+        return self.add_node(top, 1 - tree.depth[node]) if tree.depth[node] > 1 else top
+
+    def add_node(self, outer: int, place: int) -> int:
+        key = Node(outer, place)
+        if key not in self.node_known:
+            self.node_known[key] = len(self.nodes)
+            self.nodes.append(key)
+        return self.node_known[key]
+
+    def as_data(self) -> list[list[object]]:
+        return [[each.hart, each.first, each.codes, "\n".join(each.tails), each.calls] for each in self.windows]

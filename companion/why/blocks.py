@@ -1,0 +1,260 @@
+"""Memory that a function hands out and another takes back, recognised by what calls do, without names.
+
+A *giver* is a function that returns addresses of memory which aren't near its argument (malloc). A *taker* is the
+function that is called with such an address before the giver returns it again (free). A function that returns one
+address again and again with no such call between is a look-up, and no giver."""
+from __future__ import annotations
+
+import bisect
+from collections import Counter
+from typing import NamedTuple, Optional, Sequence
+
+from ..recording.elf import WRITABLE, Elf
+from ..recording.instruction import JUMP, RA
+from ..recording.trace import LOADS, STORES, Trace
+
+LOWEST, NEAR, LARGEST = 4096, 1024, 1 << 16
+MOST_JUMPS = 500000         # so many of the latest calls and returns are looked at, which bounds the memory
+HEADER = 4                  # bytes before a block that are surely its allocator's
+MOST_OTHERS = 50            # blocks behind one that are looked at
+STEPS = 600                 # so many rows are looked at for the block that a pointer came from
+
+
+class Block:
+    """An address that a giver returned."""
+    __slots__ = ("call", "back", "giver", "address")
+
+    def __init__(self, call: int, back: int, giver: int, address: int) -> None:
+        self.call, self.back, self.giver, self.address = call, back, giver, address
+
+
+class Given(NamedTuple):
+    """A block, and the row that wrote its address into a0."""
+    block: Block
+    writer: int
+
+
+class CallWith(NamedTuple):
+    """A call with an address as its argument: its row, and the function that is called."""
+    row: int
+    function: int
+
+
+class Blocks:
+    """by_address   {address: the blocks that were given out there, in order}; addresses: these, sorted
+    arguments    {address: the calls with it, in order}
+    writers      {row: the blocks whose address it wrote into a0}
+    taker        {giver: taker}
+    own          the functions that hand out memory and take it back, and not those that call them to do it"""
+
+    def __init__(self, trace: Trace, elf: Elf) -> None:
+        self.trace, self.elf = trace, elf
+        self.by_address: dict[int, list[Block]] = {}
+        self.arguments: dict[int, list[CallWith]] = {}
+        self.writers: dict[int, list[Block]] = {}
+        self.taker: dict[int, int] = {}
+        self.first = max(0, len(trace.jumps) - MOST_JUMPS)
+        found = self.matched()
+        givers = self.givers(found)
+        self.collect(found, givers)
+        # What a function that takes memory back leaves in its result's register is no memory that it gives out.
+        spread = Counter(giver for blocks in self.by_address.values() for giver in {block.giver for block in blocks})
+        untrue = {taker for giver, taker in self.taker.items() if spread[giver] > spread[taker] > 0}
+        if untrue:
+            givers -= untrue
+            self.collect(found, givers)
+        self.own = self.allocators([given.block for given in found if given.block.giver in givers])
+        self.leads = {ins.pc: ins.leads for ins in trace.codes if ins.kind == JUMP}
+        self.own_nodes: dict[int, bool] = {}
+
+    def collect(self, found: list[Given], givers: set[int]) -> None:
+        """The blocks of these givers, and the calls with them."""
+        self.by_address, self.arguments, self.writers = {}, {}, {}
+        for given in found:
+            if given.block.giver in givers:
+                self.add(given.block)
+                self.writers.setdefault(given.writer, []).append(given.block)
+        self.addresses = sorted(self.by_address)
+        self.collect_arguments()
+        self.taker = self.takers()
+
+    def add(self, block: Block) -> None:
+        """A block replaces those that were given out within its call at the same address, as malloc's are in calloc."""
+        there = self.by_address.setdefault(block.address, [])
+        while there and there[-1].call > block.call:
+            there.pop()
+        there.append(block)
+
+    def matched(self) -> list[Given]:
+        """The blocks of all calls that return an address of data."""
+        trace, found = self.trace, []
+        stacks: dict[int, list[int]] = {}       # {hart: its calls, as places among the jumps}
+        for at in range(self.first, len(trace.jumps)):
+            n = trace.jumps[at]
+            stack = stacks.setdefault(trace.hart[n], [])
+            if trace.code_of(n).call:
+                stack.append(at)
+                continue
+            call = self.call_behind(n, stack)
+            address = trace.jump_a0[at]
+            if call is not None and self.is_given(address, trace.jump_a0[call]):
+                entry = self.entry(trace.jumps[call])
+                found.append(Given(Block(trace.jumps[call], n, entry, address), trace.jump_writer[at]))
+        return found
+
+    def call_behind(self, n: int, stack: list[int]) -> Optional[int]:
+        """The call that a return belongs to: the one that the next row follows."""
+        trace = self.trace
+        known = n < trace.rows and trace.hart[n + 1] == trace.hart[n]
+        while stack:
+            call = stack.pop()
+            if not known or trace.code_of(trace.jumps[call]).pc + 4 == trace.code_of(n + 1).pc:
+                return call
+        return None
+
+    def entry(self, call: int) -> int:
+        """The called function's first address: the place of its first row."""
+        trace, hart, n = self.trace, self.trace.hart[call], call + 1
+        while n <= trace.rows and trace.hart[n] != hart:
+            n += 1
+        return trace.code_of(n).pc if n <= trace.rows else 0
+
+    def is_given(self, address: int, argument: int) -> bool:
+        part = self.elf.part_of(address)
+        return (address % 4 == 0 and LOWEST <= address < self.trace.log.memory and not (part and not part.flags & WRITABLE)
+                and abs(address - argument) >= NEAR)
+
+    def givers(self, found: list[Given]) -> set[int]:
+        """The functions whose addresses come again only after a call with them."""
+        latest: dict[tuple[int, int], int] = {}
+        again: dict[int, int] = {}
+        alone: dict[int, int] = {}
+        calls: dict[int, list[int]] = {}
+        for at in range(self.first, len(self.trace.jumps)):
+            n = self.trace.jumps[at]
+            if self.trace.code_of(n).rd == RA:
+                calls.setdefault(self.trace.jump_a0[at], []).append(n)
+        for block in (given.block for given in found):
+            key = block.giver, block.address
+            before = latest.get(key)
+            if before is not None:
+                rows = calls.get(block.address, [])
+                place = bisect.bisect_right(rows, before)
+                between = place < len(rows) and rows[place] < block.call
+                kind = again if between else alone
+                kind[block.giver] = kind.get(block.giver, 0) + 1
+            latest[key] = block.back
+        return {giver for giver, _ in latest if alone.get(giver, 0) <= again.get(giver, 0)}
+
+    def collect_arguments(self) -> None:
+        trace = self.trace
+        for at in range(self.first, len(trace.jumps)):
+            n = trace.jumps[at]
+            if trace.jump_a0[at] in self.by_address and trace.code_of(n).rd == RA:
+                self.arguments.setdefault(trace.jump_a0[at], []).append(CallWith(n, self.entry(n)))
+        for tail in trace.tails:
+            if tail.a0 in self.by_address:
+                self.arguments.setdefault(tail.a0, []).append(CallWith(tail.row, self.entry(tail.row)))
+        for calls in self.arguments.values():
+            calls.sort()
+
+    def takers(self) -> dict[int, int]:
+        """Of each giver the function that is called most often between two times that it gives an address out."""
+        votes: dict[tuple[int, int], int] = {}
+        for address, blocks in self.by_address.items():
+            for first, second in zip(blocks, blocks[1:]):
+                for _, function in self.calls_between(address, first.back, second.call):
+                    if function != first.giver:
+                        key = first.giver, function
+                        votes[key] = votes.get(key, 0) + 1
+        found = {}
+        for (giver, function), _ in sorted(votes.items(), key=lambda item: item[1]):
+            found[giver] = function
+        return found
+
+    def allocators(self, blocks: list[Block]) -> set[int]:
+        """The innermost functions that returned a block and whose blocks somebody takes back, and of each the function that
+        got an address last before it was given out again. A function that only returns addresses may return its caller's."""
+        latest: dict[int, Block] = {}
+        last: Counter[tuple[int, int]] = Counter()
+        for block in blocks:                    # in the order of their returns: inner calls first
+            before = latest.get(block.address)
+            if before and before.call > block.call:
+                continue
+            if before:
+                between = self.calls_between(block.address, before.back, block.call)
+                last.update((block.giver, call.function) for call in between[-1:])
+            latest[block.address] = block
+        return {function for giver, _ in last for function in
+                (giver, max((times, taker) for (one, taker), times in last.items() if one == giver)[1])}
+
+    def is_own(self, n: int) -> bool:
+        """Whether a row is an allocator's own."""
+        tree, node = self.trace.tree, self.trace.node_of(n)
+        passed: list[int] = []
+        while node and node not in self.own_nodes:
+            passed.append(node)
+            node = tree.parent[node]
+        for each in reversed(passed):
+            self.own_nodes[each] = self.leads.get(tree.call_pc[each]) in self.own or self.own_nodes.get(tree.parent[each], False)
+        return self.own_nodes.get(self.trace.node_of(n), False)
+
+    def behind(self, row: int, address: int) -> Optional[Block]:
+        """The block that a pointer came from, by the row that wrote the pointer and the address that it leads to."""
+        seen, todo = {row}, [row]
+        best: Optional[Block] = None
+        while todo and len(seen) < STEPS:
+            n = todo.pop()
+            for block in self.writers.get(n, ()):
+                if 0 <= address - block.address < LARGEST and (best is None or self.rank(block) > self.rank(best)):
+                    best = block
+            if best is not None and n < best.call:
+                continue
+            for source in self.sources(n):
+                if source and source not in seen:
+                    seen.add(source)
+                    todo.append(source)
+        return best
+
+    def rank(self, block: Block) -> tuple[bool, int]:
+        """Of the blocks behind a pointer the latest counts, of those that somebody takes back if there are any."""
+        return block.giver in self.taker, block.call
+
+    def twice(self) -> list[tuple[int, int]]:
+        """The calls that gave a block back twice: both rows."""
+        found = []
+        for address, blocks in self.by_address.items():
+            for block, following in zip(blocks, blocks[1:] + [None]):
+                rows = self.given_back(block, block.back, following.call if following else self.trace.rows + 1)
+                found += list(zip(rows, rows[1:]))
+        return sorted(found)
+
+    def is_over(self, block: Block, address: int, row: int) -> bool:
+        """Whether an address that a row accessed is in another block, handed out behind this one, or in its header."""
+        first = bisect.bisect_right(self.addresses, block.address)
+        behind = bisect.bisect_right(self.addresses, address + HEADER, first)
+        return any(self.is_out(other, block.giver, row) for other in self.addresses[first:min(behind, first + MOST_OTHERS)])
+
+    def is_out(self, address: int, giver: int, row: int) -> bool:
+        """Whether a block of a giver is out at a row."""
+        latest = next((block for block in reversed(self.by_address[address]) if block.back < row and block.giver == giver), None)
+        return latest is not None and not self.given_back(latest, latest.back, row)
+
+    def sources(self, n: int) -> list[int]:
+        """The rows that a row's value comes from."""
+        trace = self.trace
+        if trace.flags[n] & LOADS:
+            return trace.writers(n).rows
+        if trace.flags[n] & STORES:
+            return [trace.d2[n]]
+        return [trace.before_counting(n), trace.d2[n]] if trace.code_of(n).rd else []
+
+    def given_back(self, block: Block, low: int, high: int) -> list[int]:
+        """The calls of the taker with a block's address between two rows."""
+        taker = self.taker.get(block.giver)
+        return [n for n, function in self.calls_between(block.address, low, high) if function == taker]
+
+    def calls_between(self, address: int, low: int, high: int) -> Sequence[CallWith]:
+        """The calls with an address between two rows."""
+        calls = self.arguments.get(address, [])
+        return calls[bisect.bisect_left(calls, (low + 1,)):bisect.bisect_left(calls, (high,))]

@@ -1,0 +1,146 @@
+"""Branches as suspects: the one before which a value was chosen, and the one that would have ended a loop."""
+from __future__ import annotations
+
+import math
+from array import array
+from collections import Counter
+from itertools import compress
+from typing import NamedTuple, Optional
+
+from ..call.text import number
+from .facts import Facts
+from .history import History
+from .loops import operands_of, pairs_of, rows_of
+from .lost import cut_behind
+from .suspect import Extra, Suspect
+
+EQUAL, RARE_WAY, CUT, ROUND = 10, 4, 8, 6   # what these signs are worth
+SAME_LINE = 1               # what a branch costs more that only decided of its own line, as the parts of a condition do
+USUAL, USUAL_ROWS = 2, 20    # what the usual way of a branch costs more, and how often it has to have come
+ENTRY = 12                  # what a branch of the code that sets up a hart costs more
+EXIT, INNER = 5, 4          # a loop's exit, and each call that it is deeper than the outermost one
+MOST = 40                   # branches that are looked at
+ORDERS = "blt", "bge"
+BEFORE = {"control": "before", "kept": "so this kept its value in", "spared": "so a word beside what it compared kept its value in",
+          "awaited": "so this goes on waiting in"}
+
+
+class Compared(NamedTuple):
+    """The two values that a branch compared; None if the log doesn't tell one."""
+    one: Optional[int]
+    other: Optional[int]
+
+
+def compared(facts: Facts, row: int) -> Compared:
+    trace, ins = facts.trace, facts.trace.code_of(row)
+    return Compared(trace.result_of(trace.d1[row]) if ins.rs1 else 0, trace.result_of(trace.d2[row]) if ins.rs2 else 0)
+
+
+def branch_suspects(facts: Facts, history: History) -> list[Suspect]:
+    """The nearest branches that decided of the history's rows, one of each source line."""
+    found: dict[str, Suspect] = {}
+    ways = Ways(facts)
+    for row in sorted(history.branches, key=lambda n: (history.branches[n].cost, -n))[:MOST]:
+        line, decided = facts.line(row), history.branches[row]
+        if row in facts.starts:
+            continue
+        if line in found:
+            found[line].rows += 1
+            continue
+        suspect = found[line] = Suspect("branch", row, row, decided.cost)
+        judge_values(facts, suspect)
+        way = ways.of(row)
+        if decided.how == "awaited":            # it left its loop, wherever that continues
+            way = way._replace(is_back=False)
+        judge_way(suspect, way)
+        if suspect.shown:
+            add_stored(facts, suspect)
+        if way.all_times == 1 and not facts.trace.node_of(row) and not facts.trace.is_cut(row):
+            suspect.sign(-ENTRY, "it ran once, before any call")
+        if facts.line(decided.row) == line:
+            suspect.score += SAME_LINE
+        suspect.extra.append(Extra(BEFORE[decided.how], decided.row))
+    return list(found.values())
+
+
+def exit_suspects(facts: Facts) -> list[Suspect]:
+    """Branches that would have ended the loop of a hart that hangs, those of its outermost function first."""
+    trace, found = facts.trace, {}
+    for loop in facts.loops:
+        exits = [item for item in loop.exits if item.leads_out]
+        depths = {item.row: trace.tree.depth[trace.node_of(item.row)] for item in exits}
+        for item in exits:
+            line = facts.line(item.row)
+            if line not in found:
+                found[line] = Suspect("exit", item.row, item.row, INNER * (depths[item.row] - min(depths.values())))
+                found[line].sign(EXIT, f"it went the same way {number(item.times)} times")
+                judge_values(facts, found[line])
+                add_stored(facts, found[line])
+    return list(found.values())
+
+
+def judge_values(facts: Facts, suspect: Suspect) -> None:
+    """The signs of what a branch compared."""
+    trace, row = facts.trace, suspect.guilty
+    one, other = compared(facts, row)
+    if one is not None and other is not None:
+        words = f"it compared {one:08x} with {other:08x}"
+        if one == other and trace.code_of(row).name.startswith(ORDERS):
+            suspect.sign(EQUAL, words + ", which are the same: is the bound one off?")
+        else:
+            suspect.why.append(words)
+    cut = cut_behind(trace, trace.d1[row]) or cut_behind(trace, trace.d2[row])
+    if cut:
+        suspect.sign(CUT, "of which one had lost bits")
+        suspect.extra.append(Extra(cut.words + " in", cut.row))
+
+
+def add_stored(facts: Facts, suspect: Suspect) -> None:
+    """Tells who stored a word that a branch compared as it was loaded, if it was another line."""
+    for operand in operands_of(facts.trace, suspect.guilty):
+        if operand.store and operand.load == operand.row and not facts.trace.is_spill(operand.load, operand.store):
+            told = {facts.line(n) for n in [suspect.guilty] + [extra.row for extra in suspect.extra]}
+            if facts.line(operand.store) not in told:
+                suspect.extra.append(Extra("a value that it compared was stored in", operand.store))
+
+
+class Way(NamedTuple):
+    """How often a branch went as it did in a row, how often it ran, and whether that way leads back."""
+    times: int
+    all_times: int
+    is_back: bool
+
+
+def judge_way(suspect: Suspect, way: Way) -> None:
+    """The signs of the way that a branch went."""
+    if way.is_back:
+        suspect.shown = bool(suspect.extra)
+        suspect.sign(-ROUND, "a loop went round again")
+    elif way.all_times >= USUAL_ROWS and way.times * 10 >= way.all_times * 9:
+        suspect.sign(-USUAL, f"it went this way {number(way.times)} of {number(way.all_times)} times")
+    if way.times and way.all_times >= 4 and way.times * 10 <= way.all_times:
+        suspect.sign(RARE_WAY * math.log10(way.all_times / way.times),
+                     f"it went this way {number(way.times)} of {number(way.all_times)} times")
+
+
+class Ways:
+    """How often each branch went each way."""
+
+    def __init__(self, facts: Facts) -> None:
+        self.trace = facts.trace
+        self.times: Counter[tuple[int, int]] = Counter()
+        for hart in self.trace.last:
+            codes = array("I", compress(self.trace.pc, rows_of(self.trace, hart)))
+            self.times.update(pairs_of(codes))
+        self.all_times: Counter[int] = Counter()
+        for (at, _), times in self.times.items():
+            self.all_times[at] += times
+
+    def of(self, row: int) -> Way:
+        trace, n = self.trace, row + 1
+        while n <= trace.rows and trace.hart[n] != trace.hart[row]:
+            n += 1
+        if n > trace.rows:
+            return Way(0, 0, False)
+        at = trace.pc[row]
+        return Way(self.times[at, trace.pc[n]], self.all_times[at], trace.code_of(n).pc < trace.code_of(row).pc)

@@ -1,0 +1,191 @@
+"""All that is known of a crash: the rows, the names, and which rows a report begins with."""
+from __future__ import annotations
+
+from typing import NamedTuple, Sequence
+
+from ..call.errors import NO_INTERVAL, REFUSED, CompanionError
+from ..call.options import whole
+from ..call.text import clean
+from ..recording.elf import Elf
+from ..recording.instruction import STORE
+from ..recording.log import WRITE_CALL, At, Log, SystemCall
+from ..recording.naming import NO_TOOL, places_of
+from ..recording.places import Frame
+from ..recording.trace import LOADS, Trace
+from .loops import Loop
+
+LAST_ROWS = 12
+LOOP_ROWS, MOST_LOADS = 300, 12         # what a hart did last, if it didn't fault
+MOST_EXITS = 12
+
+
+class Byte(NamedTuple):
+    """A byte of the guest's output: of which of its writes, and which of that. Both count from 0."""
+    write: int
+    place: int
+
+
+class Written(NamedTuple):
+    """A byte of the guest's output, and the write that took it."""
+    write: int
+    place: int
+    call: SystemCall
+
+
+class StackFrame(NamedTuple):
+    """A call: its address, the function, FILE:LINE or nothing, and whether it is inlined in the next one."""
+    address: int
+    function: str
+    place: str
+    inlined: bool
+
+
+class Stack(NamedTuple):
+    """Calls, innermost first; how many are left out before the last one; whether earlier calls are unknown."""
+    frames: list[StackFrame]
+    left_out: int
+    is_cut: bool
+
+
+class Facts:
+    """log, elf, trace
+    named    the ELF with names (--names), else elf
+    places   functions and lines
+    start    the row that is asked of: the fault's, what a byte of the output came from, or an exit of a loop
+    starts   it, and others that the history begins with
+    loops    of the harts that came to their limit; hangs: whether `starts` are of such a loop
+    output   the byte of the output that is asked of; stored: the row that stored it, or else wrote it
+    faulted  whether `start` is the fault
+    last     the last rows up to `start`
+    notes    lines for the end of a report"""
+
+    def __init__(self, log: Log, elf: Elf, named: Elf, trace: Trace, row: str = "", output: Written | None = None,
+                 folders: Sequence[str] = ()) -> None:
+        self.output = output
+        self.log, self.elf, self.named, self.trace, self.asked = log, elf, named, trace, row
+        self.places = places_of(named, folders)
+        self.notes = self.first_notes()
+        if not trace.last:
+            raise CompanionError(f"the log holds no row: the records of a hart's last interval passed its --log-size "
+                                 f"{log.size}; --format 2 keeps the interval of a crash", NO_INTERVAL)
+        asks_of_end = not row and not output and not trace.fault
+        self.loops = [Loop(trace, hart) for hart in limited(log, trace)] if asks_of_end else []
+        exits = [item.row for loop in self.loops for item in loop.exits[:MOST_EXITS] if item.leads_out]
+        self.stored = writer_of(trace, output) if output else 0
+        self.starts = [self.stored] if output else exits or find_starts(log, trace, row)
+        self.hangs = bool(self.loops)
+        self.begin_at(self.starts[0])
+        self.faulted = trace.fault is not None and trace.fault.row == self.start
+
+    def begin_at(self, row: int) -> None:
+        """Lets the report be about a row."""
+        self.starts[0] = self.start = row
+        self.last = self.trace.last_rows(row, LAST_ROWS)
+
+    def first_notes(self) -> list[str]:
+        if not self.named.symbols:
+            return [f"{clean(self.named.name)} has no names: --names takes the same program with its names"]
+        return [] if self.places.tool else [NO_TOOL]
+
+    def close(self) -> None:
+        self.places.close()
+
+    def pc_of(self, n: int) -> int:
+        return self.trace.code_of(n).pc
+
+    def where(self, n: int) -> str:
+        return self.places.where(self.pc_of(n))
+
+    def line(self, n: int) -> str:
+        return self.places.line(self.pc_of(n))
+
+    def source(self, n: int) -> str:
+        return self.places.source(self.pc_of(n))
+
+    def stack(self, n: int, most: int) -> Stack:
+        """The place of a row and so many of the calls over it, innermost first."""
+        above = self.trace.tree.calls(self.trace.node_of(n), most)
+        chain = [self.pc_of(n)] + above.calls + ([above.first] if above.more else [])
+        self.places.fetch(chain)
+        said = []
+        for at in chain:
+            frames = self.places.frames(at) or [Frame("", "", 0, "")]
+            for depth, frame in enumerate(frames, 1):
+                place = f"{frame.file}:{frame.line}" if frame.line else ""
+                said.append(StackFrame(at, frame.function, place, depth < len(frames)))
+        return Stack(said, max(0, above.more - 1), self.trace.is_cut(n))
+
+    def is_own(self, n: int) -> bool:
+        """Whether the source of a row is here, or that of one of the innermost calls over it."""
+        return any(self.places.source(frame.address) for frame in self.stack(n, 3).frames[:4])
+
+    def callers(self, n: int) -> list[StackFrame]:
+        """The innermost calls over a row."""
+        return self.stack(n, 3).frames[1:4]
+
+    def ends(self) -> str:
+        return ", ".join(f"hart {hart} {end.reason} {end.value:08x}" for hart, end in sorted(self.log.ends.items()))
+
+
+def find_starts(log: Log, trace: Trace, row: str) -> list[int]:
+    """The rows that a history begins with."""
+    if row:
+        return [find_row(trace, asked_row(row))]
+    if trace.fault:
+        return [trace.fault.row]
+    harts = limited(log, trace)
+    if not harts:
+        return [max(trace.last.values())]
+    # What a hart that hangs waits for is in the loads of its loop.
+    loads: list[int] = []
+    seen: set[int] = set()
+    for n in reversed(trace.last_rows(trace.last[harts[0]], LOOP_ROWS)):
+        if trace.flags[n] & LOADS and trace.pc[n] not in seen and len(loads) < MOST_LOADS:
+            seen.add(trace.pc[n])
+            loads.append(n)
+    return loads or [trace.last[harts[0]]]
+
+
+def limited(log: Log, trace: Trace) -> list[int]:
+    """The harts that came to their limit."""
+    return [hart for hart, end in sorted(log.ends.items()) if end.reason == "limit" and hart in trace.last]
+
+
+def written(log: Log, byte: Byte) -> Written:
+    """The write that took a byte, by the log of the whole run."""
+    writes = [call for call in log.system_calls() if call.kind == WRITE_CALL]
+    if byte.write >= len(writes) or byte.place >= writes[byte.write].size:
+        raise CompanionError(f"the log holds no byte {byte.place} of a write {byte.write}: `zelkuma output` lists them",
+                             NO_INTERVAL)
+    return Written(byte.write, byte.place, writes[byte.write])
+
+
+def writer_of(trace: Trace, byte: Written) -> int:
+    """The store that gave a byte of the output, or else the row that wrote it."""
+    row, place = trace.row_of(byte.call.hart, byte.call.count), byte.call.address + byte.place
+    writer = trace.writer_before(place & ~3, row)
+    while writer and trace.code_of(writer).kind == STORE and not trace.mask(writer) >> (place & 3) & 1:
+        writer = trace.dm[writer]
+    return writer or row
+
+
+def asked_row(row: str) -> At:
+    """The instruction that --row names."""
+    hart, colon, count = row.partition(":")
+    if not colon:
+        raise CompanionError(f"--row has to be HART:COUNT, not {row!r}", REFUSED)
+    return At(whole(hart, 0, 255, "the hart of --row"), whole(count, 0, 1 << 41, "the count of --row"))
+
+
+def asked_byte(text: str) -> Byte:
+    """The byte that --output N:BYTE names."""
+    write, _, place = text.partition(":")
+    return Byte(whole(write, 0, 1 << 31, "the write of --output N:BYTE"), whole(place, 0, 1 << 31, "the byte of --output N:BYTE"))
+
+
+def find_row(trace: Trace, at: At) -> int:
+    n = trace.row_of(at.hart, at.count)
+    if not n:
+        raise CompanionError(f"the log holds no row {at.hart}:{at.count}", NO_INTERVAL)
+    return n
+

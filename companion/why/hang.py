@@ -1,0 +1,128 @@
+"""What `why` says of harts that came to their limit: their loops, what would have ended these, what stopped before."""
+from __future__ import annotations
+
+from typing import NamedTuple
+
+from ..call.text import counted, number, short
+from ..recording.instruction import NAMES
+from ..recording.trace import STORES
+from .facts import Facts
+from .loops import Exit, Loop, Operand
+
+EXITS, STOPPED, WORDS = 4, 6, 6         # how many are told
+MORE_EXITS, MORE_STOPPED = 12, 20
+FUNCTIONS, ROW_WIDTH = 5, 60
+
+
+def hang_lines(facts: Facts, more: bool) -> list[str]:
+    said: list[str] = []
+    for loop in facts.loops:
+        said += loop_lines(facts, loop, more) if loop.places else [
+            f"hart {loop.hart}: no loop is seen; its last row is in {facts.where(loop.last)}"]
+    return said
+
+
+def loop_lines(facts: Facts, loop: Loop, more: bool) -> list[str]:
+    trace = facts.trace
+    since = f"since count {number(trace.count_of(loop.first))}"
+    if not loop.begin and trace.is_cut(loop.first):
+        since = "since before the first row that was read"
+    said = [f"hart {loop.hart} goes round {since}: {counted(loop.rows, 'row')}, {counted(loop.rounds, 'round')}",
+            f"  in {functions(facts, loop)}"]
+    exits = [item for item in loop.exits if item.leads_out]
+    said.append("  These branches would have left it, and never went the other way:" if exits else
+                "  No branch of it leads out.")
+    for item in exits[:MORE_EXITS if more else EXITS]:
+        said += exit_lines(facts, item)
+    return said + stopped_lines(facts, loop, MORE_STOPPED if more else STOPPED) + changing_lines(facts, loop)
+
+
+def functions(facts: Facts, loop: Loop) -> str:
+    codes = facts.trace.codes
+    facts.places.fetch({codes[at].pc for at in loop.places})
+    names = list(dict.fromkeys(facts.places.function(codes[at].pc) for at in sorted(loop.places)))
+    rest = len(names) - FUNCTIONS
+    return ", ".join(names[:FUNCTIONS]) + (f", and {counted(rest, 'more function')}" if rest > 0 else "")
+
+
+def with_source(facts: Facts, n: int) -> str:
+    source = facts.source(n)
+    return facts.where(n) + (f"   {source}" if source else "")
+
+
+def exit_lines(facts: Facts, item: Exit) -> list[str]:
+    row = short(facts.trace.code_of(item.row).row, ROW_WIDTH)
+    said = [f"    {with_source(facts, item.row)}",
+            f"      {row}, {counted(item.times, 'time')}, last at count {number(facts.trace.count_of(item.row))}"]
+    said += [f"      {operand_words(facts, operand)}" for operand in item.operands]
+    return said + (["      the other value is 0"] if len(item.operands) < 2 else [])
+
+
+def operand_words(facts: Facts, operand: Operand) -> str:
+    """What a value is, which row loaded it, and who stored it last."""
+    trace, value = facts.trace, facts.trace.result_of(operand.row)
+    told = trace.load_of(operand.load) if operand.load else None
+    said = f"{NAMES[operand.register]} is " + ("unknown" if value is None else f"{value:08x}")
+    if told is None:
+        return said + (f", computed in {facts.where(operand.row)}" if operand.row else "")
+    said += f", from {facts.named.data_name(told.address) or f'{told.address:08x}'}"
+    if told.value != value:
+        said += f" (a word of {told.value:08x})"
+    if not operand.store:
+        return said + ", which no row of the log stored"
+    before, stored = trace.dm[operand.store], f"{said}, stored last in {moment(facts, operand.store)}"
+    told = trace.store_of(before) if before and facts.line(before) != facts.line(operand.store) else None
+    return stored + (f", over {told.value:08x} of {moment(facts, before)}" if told else "")
+
+
+def moment(facts: Facts, n: int) -> str:
+    return f"{facts.where(n)} (hart {facts.trace.hart[n]} at count {number(facts.trace.count_of(n))})"
+
+
+class Line(NamedTuple):
+    """A source line that ran often and then never again: the row to tell, its latest row, how often it ran."""
+    row: int
+    latest: int
+    times: int
+
+
+def stopped_lines(facts: Facts, loop: Loop, most: int) -> list[str]:
+    """Latest first; lines that stored what an exit loads come before."""
+    wanted = {operand.store for item in loop.exits for operand in item.operands}
+    running = {facts.places.line(facts.trace.codes[at].pc) for at in loop.places}
+    facts.places.fetch({facts.pc_of(item.row) for item in loop.stopped})
+    lines: dict[str, Line] = {}
+    for row, times in loop.stopped:
+        name = facts.line(row)
+        if name not in running:
+            line = lines.get(name, Line(row, row, times))
+            better = max(line.row, row, key=lambda n: (n in wanted, facts.trace.flags[n] & STORES, n))
+            lines[name] = Line(better, line.latest, max(line.times, times))
+    found = sorted(lines.values(), key=lambda line: (line.row not in wanted, -line.latest))
+    said = ["  These ran often, and then never again:"] if found else []
+    for line in found[:most]:
+        count = number(facts.trace.count_of(line.row))
+        said.append(f"    {counted(line.times, 'time')}, last at count {count}: {with_source(facts, line.row)}")
+    rest = len(found) - most
+    return said + ([f"    .. {counted(rest, 'more line')} (--more) .."] if rest > 0 else [])
+
+
+def changing_lines(facts: Facts, loop: Loop) -> list[str]:
+    """The words that the loop still changes, by its latest stores."""
+    values: dict[int, set[int]] = {}
+    latest: dict[int, int] = {}
+    for n in loop.stores:
+        told = facts.trace.store_of(n)
+        if told:
+            values.setdefault(told.address & ~3, set()).add(told.value)
+            latest.setdefault(told.address & ~3, n)
+    changing = [word for word in latest if len(values[word]) > 1]
+    if not changing:
+        return ["  No word that it stores changes." if loop.stores else "  It stores nothing."]
+    said = ["  These words still change:"]
+    for word in changing[:WORDS]:
+        name, told = facts.named.data_name(word), facts.trace.store_of(latest[word])
+        value = f"{told.value:08x}" if told else ""
+        said.append(f"    {word:08x}{f' ({name})' if name else ''}, now {value}, in {facts.where(latest[word])}")
+    rest = len(changing) - WORDS
+    return said + ([f"    .. {counted(rest, 'more word')} .."] if rest > 0 else [])

@@ -1,0 +1,288 @@
+"""The rows behind a row: the values that it used, the rows that stored them, and so on.
+
+A search by cost. A step along a value costs 1. A step along an address costs 12: else the walk through a list or an
+allocator's own loop buries everything. What decided that the row was reached at all costs more still."""
+from __future__ import annotations
+
+import heapq
+from typing import NamedTuple, Optional, Sequence
+
+from ..recording.instruction import AMO, BRANCH, CALL, JUMP
+from ..recording.places import Places
+from ..recording.trace import FAULTS, LOADS, STORES, Trace
+from .control import Control
+
+MOST_ROWS = 200000          # the search is cut off there: it keeps two entries a row
+ADDRESS, OUTPUT_ADDRESS = 12, 6
+FROM_FILE = 3               # a step along the address of a word that no row stored
+FILLED = 4                  # a step to where the words beside a word were stored that never was
+DECISION = 14               # a branch before the row
+DECIDING_ROWS, MOST_BRANCHES = 300, 24
+CONTROL, OUTPUT_CONTROL, NEXT_CONTROL = 12, 8, 4    # the branch that decided of a row; of a row of an output; of a branch
+MOST_GIVERS = 8             # places that stored what a load loads, of which it is asked if a branch went past them
+MOST_CONTROL, MOST_KEPT, MOST_FILLED = 2000, 400, 4  # how often it is asked what decided of a row
+DEAREST_CONTROL, DEAREST_FILLED, KEPT_ROWS = 40, 6, 50
+SPARED, DEAREST_SPARED, MOST_SPARED = 4, 16, 100     # the branch that spared a word of the object whose value it compared
+AWAITED, NEAR_LOOP = 4, 3   # the branch by which another hart didn't store what a loop waits for
+WIDENS = "srai", "srli"     # the second of two shifts that widen a value
+STORES_ANOTHER = "amoswap", "sc."       # atomics whose stored word owes nothing to the loaded one
+FAR = 1000                  # a store so many rows before its load is far
+MOST_INLINED = 8            # functions that are inlined in one place
+NO_REGISTER = 0                         # memory
+START, LOOP = "start", "the loop"       # how the first rows are needed
+
+
+class Pair(NamedTuple):
+    """A load and the store that it got."""
+    load: int
+    store: int
+
+
+class Step(NamedTuple):
+    """A row, and how it is needed by the row before it on the way, or as what the row is needed by this one."""
+    row: int
+    how: str
+
+
+class Decided(NamedTuple):
+    """What a branch decided: at which cost it was reached, a row, and whether that was reached or kept its value."""
+    cost: int
+    row: int
+    how: str
+
+
+class Left(NamedTuple):
+    """A register of a hart, or memory, whose value comes from before the rows."""
+    hart: int
+    register: int
+
+
+class Line(NamedTuple):
+    """The rows of a history that are of one hart and place: how many, the latest, the least cost."""
+    hart: int
+    place: str
+    rows: int
+    latest: int
+    cost: int
+
+
+class History:
+    """cost     {row: the least cost at which it was reached}
+    parent   {row: the row that needed it, and how}
+    far      {a load and the store that it got: cost}
+    before   loads of bytes that no row stored
+    decided  the rows that led to the start only by a branch
+    branches {a branch that decided of a row: of which}
+    cut      whether the search was cut off
+    left     loads and registers near to the start whose values come from before a hart's first row, and not from the
+             run's start"""
+
+    def __init__(self, trace: Trace, starts: Sequence[int], most: int = MOST_ROWS, control: Optional[Control] = None,
+                 is_output: bool = False, hangs: bool = False, control_cost: int = 0) -> None:
+        """`starts` are the rows that are asked of; the first is the one that the report is about. With `control` the
+        branches that decided of the rows are followed too, at `control_cost` or else the usual one. `hangs` says that the
+        starts are of a loop without end."""
+        self.trace, self.start, self.most = trace, starts[0], most
+        self.cost: dict[int, int] = {}
+        self.copied: dict[int, int] = {}        # {load: the first copied load behind it}
+        self.roots: dict[int, int] = {}
+        self.parent: dict[int, Step] = {}
+        self.far: dict[Pair, int] = {}
+        self.before: list[int] = []
+        self.decided: set[int] = set()
+        self.branches: dict[int, Decided] = {}
+        self.asked = self.kept = self.filled = self.spared = 0
+        self.address = OUTPUT_ADDRESS if is_output else ADDRESS
+        self.hangs = hangs
+        self.control, self.control_cost = control, control_cost or (OUTPUT_CONTROL if is_output else CONTROL)
+        self.cut = False
+        self.left: set[Left] = set()
+        self.heap: list[tuple[int, int, int]] = []
+        for row in starts:
+            self.cost[row] = 0
+            heapq.heappush(self.heap, (0, -row, row))
+        for row in set(starts) - {self.start}:
+            self.parent[row] = Step(self.start, LOOP)
+        if not is_output:                       # the branches just before a byte is stored are those of its text
+            self.decisions()
+        self.search()
+
+    def decisions(self) -> None:
+        """The latest branches before the start, one of each instruction."""
+        trace, n = self.trace, self.start - 1
+        seen: set[int] = set()
+        hart, low = trace.hart[self.start], max(1, self.start - DECIDING_ROWS)
+        while n >= low and len(seen) < MOST_BRANCHES:
+            if trace.hart[n] == hart and trace.pc[n] not in seen and trace.code_of(n).kind == BRANCH:
+                seen.add(trace.pc[n])
+                self.step(n, DECISION + len(seen) // 4, self.start, "decision")
+            n -= 1
+
+    def step(self, row: int, price: int, source: int, how: str) -> None:
+        if row and (row not in self.cost or price < self.cost[row]):
+            self.cost[row], self.parent[row] = price, Step(source, how)
+            if how in ("decision", "control", "kept", "spared", "awaited") or source in self.decided:
+                self.decided.add(row)
+            else:
+                self.decided.discard(row)
+            heapq.heappush(self.heap, (price, -row, row))
+
+    def search(self) -> None:
+        done = 0
+        while self.heap:
+            price, _, n = heapq.heappop(self.heap)
+            if price > self.cost[n]:
+                continue
+            done += 1
+            if done > self.most:
+                self.cut = True
+                break
+            self.visit(n, price)
+            self.deciding(n, price)
+
+    def visit(self, n: int, price: int) -> None:
+        trace = self.trace
+        ins, flag = trace.code_of(n), trace.flags[n]
+        if flag & FAULTS:                       # its address is the bad value
+            self.step(trace.d1[n], price + 1, n, "address")
+        elif flag & LOADS and not (ins.name.startswith(STORES_ANOTHER) and self.is_for_memory(n)):
+            unstored = not self.loaded(n, price)
+            if ins.kind == AMO:
+                self.step(trace.d2[n], price + 1, n, "value")
+            self.step(trace.d1[n], price + (FROM_FILE if unstored else self.address), n, "address")
+        elif flag & STORES:
+            self.step(trace.d2[n], price + 1, n, "value")
+            self.step(trace.d1[n], price + self.address, n, "address")
+        elif ins.kind not in (CALL, JUMP):      # a call's result comes from outside, a return address is a constant
+            self.step(self.unchanged(n), price, n, "value")
+            price += 0 if ins.move else 1
+            self.step(trace.before_counting(n), price, n, "value")
+            self.step(trace.d2[n], price, n, "value")
+            for register, writer in ((ins.rs1, trace.d1[n]), (ins.rs2, trace.d2[n])):
+                if register and not writer:
+                    self.leave(n, price, register)
+
+    def unchanged(self, n: int) -> int:
+        """The row of the value that two shifts widened and left as it was, or 0."""
+        trace, source = self.trace, self.trace.d1[n]
+        if not source or trace.code_of(n).name not in WIDENS or trace.code_of(source).name != "slli":
+            return 0
+        before = trace.d1[source]
+        return before if before and trace.result_of(before) == trace.result_of(n) else 0
+
+    def leave(self, n: int, price: int, register: int) -> None:
+        """A row uses what isn't known: memory, or a register."""
+        if price < ADDRESS and self.trace.is_cut(n):
+            self.left.add(Left(self.trace.hart[n], register))
+
+    def deciding(self, n: int, price: int) -> None:
+        """The branch that decided that a row was reached."""
+        if self.control and price <= DEAREST_CONTROL and self.asked < MOST_CONTROL:
+            self.asked += 1
+            price += NEXT_CONTROL if self.trace.code_of(n).kind == BRANCH else self.control_cost
+            self.decide(self.control.before(n), Decided(price, n, "control"))
+
+    def decide(self, branch: int, decided: Decided) -> None:
+        if branch:
+            if branch not in self.branches or decided.cost < self.branches[branch].cost:
+                self.branches[branch] = decided
+            self.step(branch, decided.cost, decided.row, decided.how)
+
+    def is_for_memory(self, n: int) -> bool:
+        """Whether a row is needed as the store that a load got."""
+        return n in self.parent and self.parent[n].how == "memory"
+
+    def loaded(self, n: int, price: int) -> bool:
+        """A load, and the stores that it got, if there are any."""
+        first = self.first_copied(n)
+        writers, rest = self.trace.writers(first)
+        found = [row for row in map(self.trace.changed_by, writers) if row]
+        for writer in found:
+            cost = price if self.trace.is_spill(n, writer) else price + 1
+            self.step(writer, cost, n, "memory")
+            key = Pair(first, writer)
+            self.far[key] = min(cost, self.far.get(key, cost))
+            self.awaited(n, writer, price)
+            if self.control and price <= DEAREST_CONTROL and n - writer >= KEPT_ROWS and cost > price and self.kept < MOST_KEPT:
+                self.kept += 1
+                for at in sorted({self.trace.pc[writer], *self.trace.givers(n)})[:MOST_GIVERS]:
+                    branch = self.control.kept(n, writer, self.trace.codes[at].pc)
+                    self.decide(branch, Decided(price + self.control_cost, n, "kept"))
+            if self.control and price <= DEAREST_SPARED and self.spared < MOST_SPARED and not self.trace.is_spill(n, writer):
+                self.spared += 1
+                self.decide(self.control.spared(first, writer), Decided(price + SPARED, n, "spared"))
+        if rest or len(found) < len(writers):
+            self.before.append(n)
+            self.leave(n, price, NO_REGISTER)
+        if not found and price <= DEAREST_FILLED and self.filled < MOST_FILLED and not self.trace.access(n).value:
+            self.filled += 1
+            for row in self.trace.beside(n):    # why not here?
+                self.step(self.trace.d1[row], price + FILLED, n, "address")
+        return bool(found)
+
+    def first_copied(self, load: int) -> int:
+        """The load behind a load whose word was copied by its own instruction before, again and again: the first copy
+        counts."""
+        trace, passed = self.trace, []
+        while load not in self.copied:
+            found, rest = trace.writers(load)
+            source = trace.d2[found[0]] if len(found) == 1 and not rest and trace.mask(found[0]) == 15 else 0
+            passed.append(load)
+            if not source or trace.pc[source] != trace.pc[load] or not trace.flags[source] & LOADS:
+                self.copied[load] = load
+            else:
+                load = source
+        self.copied.update((row, self.copied[load]) for row in passed)
+        return self.copied[load]
+
+    def awaited(self, load: int, store: int, price: int) -> None:
+        """What a hart waits for is stored by another one: the branch by which that one didn't store it again."""
+        trace = self.trace
+        if self.control and self.hangs and price <= NEAR_LOOP and trace.hart[load] != trace.hart[store]:
+            branch = self.control.left(store)
+            self.decide(branch, Decided(price + AWAITED, load, "awaited"))
+
+    def is_far(self, load: int, store: int) -> bool:
+        return self.trace.hart[load] != self.trace.hart[store] or load - store > FAR
+
+    def path(self, row: int) -> list[Step]:
+        """The rows from the start to a row, as the search went, with how each was needed."""
+        steps = []
+        while row != self.start and row in self.parent:
+            source, how = self.parent[row]
+            steps.append(Step(row, how))
+            row = source
+        steps.append(Step(self.start, START))
+        return steps[::-1]
+
+    def words(self) -> dict[int, int]:
+        """{address of a word: the least cost of a row that accessed it}"""
+        found: dict[int, int] = {}
+        for n, price in self.cost.items():
+            if self.trace.flags[n] & (LOADS | STORES):
+                word = self.trace.access(n).address & ~3
+                found[word] = min(price, found.get(word, price))
+        return found
+
+    def root(self, row: int) -> int:
+        """Which of the rows that the history begins with a row led to."""
+        passed = []
+        while row in self.parent and self.parent[row].how != LOOP and row not in self.roots:
+            passed.append(row)
+            row = self.parent[row].row
+        row = self.roots.get(row, row)
+        self.roots.update((each, row) for each in passed)
+        return row
+
+    def lines(self, places: Places) -> list[Line]:
+        """The values by source line, nearest first."""
+        trace = self.trace
+        groups: dict[tuple[int, str], Line] = {}
+        places.fetch({trace.codes[at].pc for at in {trace.pc[n] for n in self.cost}})
+        for n, price in self.cost.items():
+            if n in self.decided:
+                continue
+            hart, place = key = trace.hart[n], places.chain([trace.code_of(n).pc], MOST_INLINED)
+            item = groups.get(key, Line(hart, place, 0, n, price))
+            groups[key] = Line(hart, place, item.rows + 1, max(item.latest, n), min(item.cost, price))
+        return sorted(groups.values(), key=lambda item: (item.cost, -item.latest))

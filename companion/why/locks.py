@@ -1,0 +1,151 @@
+"""A word that harts access while they hold a lock, and once without it.
+
+A lock is a word that a hart sets from 0 by an atomic instruction, and sets to 0 again. Nothing has to say which words it
+guards: that shows in what is held at their accesses."""
+from __future__ import annotations
+
+from collections import Counter
+from typing import Iterable, Mapping, NamedTuple, Sequence
+
+from ..call.text import number
+from ..recording.instruction import AMO
+from ..recording.trace import LOADS, STORES, Trace
+from .facts import Facts
+from .history import History
+from .suspect import Extra, Suspect
+
+LEAST, RARE = 3, 3          # how often a guarded word is accessed with its lock at least, and how much rarer without
+UNLOCKED = 12
+CIRCLE, MOST_TIMES = 12, 1000
+
+
+class Held(NamedTuple):
+    """An access to a word, and the locks that its hart held."""
+    row: int
+    locks: frozenset[int]
+
+
+class Setting(NamedTuple):
+    """A row that set a word from 0 by an atomic instruction, or back to 0."""
+    row: int
+    word: int
+    is_set: bool
+
+
+def setting(trace: Trace) -> list[Setting]:
+    """In the rows' order."""
+    found, free, stored = [], set(), iter(trace.stored)
+    is_atomic = [ins.kind == AMO for ins in trace.codes]
+    for n, address, value in zip(trace.access_rows, trace.addresses, trace.words):
+        kind = trace.flags[n] & (LOADS | STORES)
+        if kind == LOADS | STORES:
+            if next(stored) and not value:
+                found.append(Setting(n, address, True))
+        elif is_atomic[trace.pc[n]]:
+            if kind == STORES:
+                if value and address in free:
+                    found.append(Setting(n, address, True))
+            elif value:                         # a store-conditional may follow
+                free.discard(address)
+            else:
+                free.add(address)
+    words, stored = {each.word for each in found}, iter(trace.stored)
+    for n, address, value in zip(trace.access_rows, trace.addresses, trace.words):
+        kind = trace.flags[n] & (LOADS | STORES)
+        value = next(stored) if kind == LOADS | STORES else value
+        if not value and kind & STORES and address in words:
+            found.append(Setting(n, address, False))
+    return sorted(found)
+
+
+def accesses(trace: Trace, words: Iterable[int], changes: Sequence[Setting]) -> dict[int, list[Held]]:
+    """The accesses to some words."""
+    held: dict[int, frozenset[int]] = dict.fromkeys(trace.last, frozenset())
+    given_back = {(trace.hart[n], lock) for n, lock, is_set in changes if not is_set}
+    found: dict[int, list[Held]] = {word: [] for word in words}
+    at = 0
+    for n, address in zip(trace.access_rows, trace.addresses):
+        while at < len(changes) and changes[at].row <= n:
+            row, lock, is_set = changes[at]
+            hart = trace.hart[row]
+            held[hart] = held[hart] | {lock} if is_set and (hart, lock) in given_back else held[hart] - {lock}
+            at += 1
+        if address & ~3 in found:
+            found[address & ~3].append(Held(n, held[trace.hart[n]]))
+    return found
+
+
+def unlocked(facts: Facts, history: History) -> list[Suspect]:
+    """The accesses without a lock to words that are behind the start and that others access with one."""
+    trace = facts.trace
+    if len(trace.last) < 2:
+        return []
+    nearest, found = history.words(), []
+    changes = setting(trace)
+    for word, held in accesses(trace, set(nearest) - {each.word for each in changes}, changes).items():
+        lock, times = max(Counter(lock for each in held for lock in each.locks).items(), key=lambda item: item[1],
+                          default=(word, 0))
+        harts: set[int] = set()
+        bare = []
+        for each in held:                       # until a second hart comes, nothing has to be guarded
+            harts.add(trace.hart[each.row])
+            if lock not in each.locks and len(harts) > 1:
+                bare.append(each.row)
+        stores = [n for n in bare if trace.flags[n] & STORES]
+        if lock != word and bare and times >= LEAST and times >= RARE * len(bare):
+            found.append(suspect_of(facts, (stores or bare)[-1], bare, nearest[word]))
+            found[-1].sign(UNLOCKED, f"{times} other accesses hold a lock, {facts.named.data_name(lock) or f'{lock:08x}'}")
+    return found
+
+
+class Wait(NamedTuple):
+    """A hart's latest try to take a lock that another holds, and the row by which it took the one that it holds itself."""
+    row: int
+    taken: int
+
+
+def circle(facts: Facts) -> list[Suspect]:
+    """Harts that wait for each other's locks, at the end of a run that hangs: first the one that waits where locks were
+    taken least often, since its order is the odd one."""
+    trace = facts.trace
+    if not facts.hangs or len(trace.last) < 2:
+        return []
+    holders: dict[int, int] = {}            # {lock: the row that took it last, if it is still held}
+    times: Counter[int] = Counter()         # how often a lock was taken in a call
+    for n, lock, is_set in setting(trace):
+        times[trace.node_of(n)] += is_set
+        if is_set:
+            holders[lock] = n
+        else:
+            holders.pop(lock, 0)
+    found = []
+    for wait in waits(trace, holders):
+        rows = times[trace.node_of(wait.row)]
+        suspect = Suspect("order", wait.row, wait.row, 0)
+        suspect.sign(CIRCLE - min(rows, MOST_TIMES) / MOST_TIMES,
+                     f"the harts wait for each other's locks; here a lock was taken {number(rows)} times")
+        suspect.extra.append(Extra("it holds the lock that it took in", wait.taken))
+        found.append(suspect)
+    return found
+
+
+def waits(trace: Trace, holders: Mapping[int, int]) -> list[Wait]:
+    """Those that are in a circle."""
+    latest: dict[int, int] = {}             # {hart: its last try}
+    for n, address in zip(trace.access_rows, trace.addresses):
+        if trace.code_of(n).kind == AMO and address in holders:
+            latest[trace.hart[n]] = n
+    wanted = {hart: trace.access(n).address for hart, n in latest.items() if trace.hart[holders[trace.access(n).address]] != hart}
+    found = []
+    for hart, lock in wanted.items():
+        other = trace.hart[holders[lock]]
+        if other in wanted and trace.hart[holders[wanted[other]]] == hart:
+            found.append(Wait(latest[hart], holders[wanted[other]]))
+    return found
+
+
+def suspect_of(facts: Facts, guilty: int, bare: list[int], cost: int) -> Suspect:
+    suspect = Suspect("unlocked", guilty, guilty, cost)
+    other = [n for n in bare if facts.line(n) != facts.line(guilty)]
+    suspect.extra += [Extra("and so did", n) for n in other[-1:]]
+    return suspect

@@ -1,0 +1,92 @@
+"""Whether a value had lost bits: it was stored in fewer bytes, masked, or shifted up and down again."""
+from __future__ import annotations
+
+from typing import Mapping, NamedTuple, Optional
+
+from ..recording.instruction import STORE, Instruction
+from ..recording.trace import LOADS, STORES, Trace
+
+SMALL = 1 << 16             # how far below zero a difference may be
+MASKS = {(1 << width) - 1: width for width in range(4, 12)}
+KEPT = {16: 16, 24: 8}      # the bits that two shifts by so many keep
+SUMS = "add", "addi", "sub", "or", "ori"
+UNSIGNED = "bltu", "bgeu", "sltu", "sltiu"      # what compares without signs
+STEPS, MOST_SUMS = 14, 8    # rows that are looked at behind a value, and on the way to its use
+
+
+class Narrowing(NamedTuple):
+    """The row of a value, and how many of its lowest bits are kept."""
+    source: int
+    width: int
+
+
+class Cut(NamedTuple):
+    """A row that lost bits, and what, in words."""
+    row: int
+    words: str
+
+
+def cut_behind(trace: Trace, row: int) -> Optional[Cut]:
+    """The nearest row behind a row's value that kept only some bits of a value, if it lost one."""
+    todo, seen = [row], {0}
+    users: dict[int, int] = {}
+    for n in todo:
+        if n in seen or len(seen) > STEPS:
+            continue
+        seen.add(n)
+        words = loss(trace, n, users)
+        if words:
+            return Cut(n, words)
+        if trace.flags[n] & LOADS:
+            behind = trace.writers(n).rows
+        else:
+            behind = [trace.d2[n]] if trace.flags[n] & STORES else [trace.before_counting(n), trace.d2[n]]
+        todo += behind
+        users.update((source, n) for source in behind if source not in users)
+    return None
+
+
+def loss(trace: Trace, n: int, users: Mapping[int, int]) -> str:
+    """What a row lost, in words, if bits were."""
+    ins, (source, width) = trace.code_of(n), narrowing(trace, n)
+    before = trace.result_of(source)
+    if before is None:
+        return ""
+    after = before & (1 << width) - 1
+    if ins.kind != STORE and (1 << 32) - before <= SMALL and trace.result_of(n) == after:
+        is_fine = is_meant(trace.code_of(user_of(trace, n, users)), width)
+        return "" if is_fine else f"{before - (1 << 32)}, below zero, became {after:08x}"
+    signed = after | (0xffffffff << width & 0xffffffff if after >> width - 1 else 0)
+    return "" if before in (after, signed) else f"{before:08x} was cut to {width} bits, and became {after:08x}"
+
+
+def narrowing(trace: Trace, n: int) -> Narrowing:
+    """Of what a row keeps the lowest bits: it stores some bytes, is a mask, or the second of two shifts. Or row 0."""
+    ins = trace.code_of(n)
+    if ins.kind == STORE and ins.width < 4:
+        return Narrowing(trace.d2[n], 8 * ins.width)
+    if ins.name == "andi" and ins.word >> 20 in MASKS:
+        return Narrowing(trace.d1[n], MASKS[ins.word >> 20])
+    if ins.name in ("srli", "srai") and trace.code_of(trace.d1[n]).name == "slli":
+        width, left = (KEPT.get(each.word >> 20 & 31, 0) for each in (ins, trace.code_of(trace.d1[n])))
+        if width and width == left:
+            return Narrowing(trace.d1[trace.d1[n]], width)
+    return Narrowing(0, 32)
+
+
+def user_of(trace: Trace, n: int, users: Mapping[int, int]) -> int:
+    """The row that a row's value is for, or 0. Sums are passed on the way to a store, as they need no more bits than it."""
+    first = n = users.get(n, 0)
+    for _ in range(MOST_SUMS):
+        if not n or trace.code_of(n).name not in SUMS:
+            break
+        n = users.get(n, 0)
+    return n if trace.flags[n] & STORES else first
+
+
+def is_meant(user: Instruction, width: int) -> bool:
+    """Whether a value below zero may be cut for this use: a store takes no more bits of it, and a test of a range compares
+    it without its sign."""
+    if user.kind == STORE:
+        return 8 * user.width <= width
+    return user.name in UNSIGNED

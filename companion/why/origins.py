@@ -1,0 +1,73 @@
+"""The origins of words that no row of the log stored, and how to record more."""
+from __future__ import annotations
+
+from typing import NamedTuple
+
+from ..call.text import number
+from ..recording.log import Log
+from .facts import Facts
+from .history import History
+
+LARGEST_LOG = 1 << 28
+MOST_LOADS = 400
+
+
+class Origin(NamedTuple):
+    """The origin of a load's word, in words, and the place of the load."""
+    words: str
+    place: str
+
+
+class Loads(NamedTuple):
+    """How many loads, and the nearest of them."""
+    times: int
+    nearest: int
+
+
+def nearest_before(history: History) -> list[int]:
+    """The loads of what no row stored, nearest to the fault first."""
+    return sorted(history.before, key=lambda n: history.cost[n])[:MOST_LOADS]
+
+
+def origins(facts: Facts, history: History) -> dict[Origin, Loads]:
+    """The history's loads from before the rows."""
+    found: dict[Origin, Loads] = {}
+    for n in nearest_before(history):
+        key = Origin(came_from(facts, n), facts.where(n))
+        times, first = found.get(key, (0, n))
+        found[key] = Loads(times + 1, first)
+    return found
+
+
+def came_from(facts: Facts, n: int) -> str:
+    told, dropped = facts.trace.load_of(n), facts.log.dropped
+    before = "stored before the rows that were read" if facts.log.unread else "stored before the log"
+    if told is None:
+        return "no row tells"
+    address, value = told
+    for call in reversed(facts.trace.reads):
+        if call.row < n and call.address <= address | 3 and address & ~3 < call.address + call.size:
+            return f"a read call filled it (hart {call.hart}, count {number(facts.trace.count_of(call.row))})"
+    rest = facts.trace.writers(n).rest
+    mask = sum(255 << 8 * i for i in range(4) if rest >> i & 1)
+    value &= mask
+    if value == (facts.elf.word(address) or 0) & mask:
+        kind = "the program file" if value else "zero from the start: never stored"
+        return f"{kind} (or {before})" if dropped else kind
+    return before if dropped else "no row tells"
+
+
+def advice(log: Log) -> list[str]:
+    """Which option would have kept what the log gave up."""
+    if not log.dropped or log.unread:           # what wasn't read is told elsewhere
+        return []
+    kept = max(1, log.records)
+    whole = log.size + log.dropped * max(1, log.size // kept)
+    said = [f"The log gave up {number(log.dropped)} records before its first: values can come from there."]
+    if whole <= LARGEST_LOG:
+        size = 1 << (whole - 1).bit_length()
+        said.append(f"About `record --log-size {min(size, LARGEST_LOG)}` would have kept the whole run.")
+    else:
+        said.append(f"The whole run has about {number(whole)} bytes of records, more than `--log-size` takes; a larger "
+                    "cache (`--sets`, `--ways`) logs fewer loads.")
+    return said

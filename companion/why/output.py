@@ -1,0 +1,237 @@
+"""Lists what the guest wrote.
+
+Which calls wrote, from where and how much is in the log's records. Of its rows those are read that touch the words that were
+written, and calls and returns."""
+from __future__ import annotations
+
+import re
+from contextlib import closing
+from typing import Any, Iterable, Iterator, Match, NamedTuple, Optional
+
+from ..call import streams
+from ..call.options import parse, whole
+from ..call.text import counted, number
+from ..recording.answers import place_of as code_place, put_answer
+from ..recording.calls import CallTree, entries_of
+from ..recording.chunks import chunks, parted, touching_any
+from ..recording.elf import Elf
+from ..recording.instruction import A0
+from ..recording.log import READ_CALL, WRITE_CALL, Log, SystemCall
+from ..recording.memory import Memory, quoted
+from ..recording.naming import named_elf, places_of
+from ..recording.places import Places
+from ..recording.recent import open_log
+
+HELP = """Lists what the guest wrote: each write with its row, its place and its text.
+
+    zelkuma output LOG ELF [--names ELF] [--rows N] [--json]
+
+--names  the same program with names and lines, if ELF was stripped
+--rows   how many of the last rows are read; without it 32 million
+--json   prints one JSON object in place of the text (docs/JSON.md)
+
+Writes are numbered from 0, and so are the bytes of each: `why LOG ELF --output N:BYTE` explains one. The text is put
+together from the rows of `joint`: bytes that no row loaded or stored, and that the file doesn't give for sure, are told
+as unknown. Companions show; the program proves."""
+FORM = "output LOG ELF [--names ELF] [--rows N] [--json]"
+MOST_ROWS, MOST_FRAMES, MOST_RANGES = 32000000, 4, 8
+ASKED, SET = re.compile(rb" 00000073 ecall[^\n]*"), b"| a0="
+JUMPED = re.compile(rb" jalr? (\w+),(?:(\w{8})|-?\d+\((ra|t0)\))?")  # what it links, the place that it leads to, if it is a return
+LINKS, TOP = (b"ra", b"t0"), 1 << 32
+STREAMS = {1: "the output", 2: "err"}
+
+
+class Write(NamedTuple):
+    """A write: its number, its row, the stream, the bytes that it took, the address of its code, and the node of the calls over
+    it. A byte is None if it isn't known."""
+    number: int
+    row: str
+    stream: int
+    data: list[Optional[int]]
+    pc: int
+    node: int
+
+
+class Hart:
+    """a0 as it was last set, the node of its calls, and whether its next row is that to which it returns."""
+    __slots__ = ("a0", "node", "returns")
+
+    def __init__(self, a0: int) -> None:
+        self.a0, self.node, self.returns = a0, 0, False
+
+
+class Reader:
+    """Follows the rows of `joint`: the words that are written, a0 and calls."""
+
+    def __init__(self, log: Log, elf: Elf, tree: CallTree, numbers: dict[SystemCall, int]) -> None:
+        """`numbers` are those of the writes of the whole log."""
+        self.memory, self.tree, self.numbers = Memory(elf, not log.dropped), tree, numbers
+        self.calls = {(call.hart, call.count): call for call in log.system_calls()}
+        self.wanted = sorted(numbers[call] for call in self.calls.values() if call in numbers)
+        self.ranges = ranges(numbers)
+        self.touched = touching_any(self.ranges)
+        self.harts = {b"%d" % hart: Hart(interval.registers[A0]) for hart, interval in log.first_intervals().items()}
+
+    def writes(self, texts: Iterator[bytes]) -> Iterator[Write]:
+        """In the order of their numbers."""
+        ready: dict[int, Write] = {}
+        at = 0
+        for text in texts:
+            for write in self.written(text):
+                ready[write.number] = write
+            while at < len(self.wanted) and self.wanted[at] in ready:
+                yield ready.pop(self.wanted[at])
+                at += 1
+            if at == len(self.wanted):
+                break
+
+    def written(self, text: bytes) -> Iterator[Write]:
+        at = 0
+        for name, hart in self.harts.items():
+            if hart.returns:                    # its last row was a return
+                self.come_back(hart, text, name, 0)
+        for asked in ASKED.finditer(text):
+            begin = text.rfind(b"\n", 0, asked.start()) + 1
+            name, count, _ = text[begin:asked.start()].split(b" ", 2)
+            call = self.calls.get((int(name), int(count)))
+            if call:
+                self.follow(text, at, begin)
+                at = begin
+                if call in self.numbers:
+                    yield Write(self.numbers[call], text[begin:asked.end()].decode("ascii", "replace"), self.harts[name].a0,
+                                self.memory.read(call.address, call.size), call.pc, self.harts[name].node)
+                elif call.kind == READ_CALL:
+                    self.fill(call.address, call.address + call.size)
+        self.follow(text, at, len(text))
+
+    def fill(self, first: int, end: int) -> None:
+        """A `read` call filled these addresses."""
+        for low, high in self.ranges:
+            self.memory.fill(max(first, low), max(0, min(end, high) - max(first, low)))
+
+    def follow(self, text: bytes, begin: int, end: int) -> None:
+        """The rows between two places of a chunk."""
+        for told in self.touched.finditer(text, begin, end):
+            address, value = text[told.end() - 9:told.end() - 1], text[told.end():told.end() + 8]
+            self.memory.known[int(address, 16) & ~3] = int(value, 16)
+        for jumped in JUMPED.finditer(text, begin, end):
+            self.jump(text, text.rfind(b"\n", 0, jumped.start()) + 1, jumped)
+        left = set(self.harts)
+        while left and end >= begin:            # of each hart the latest a0
+            end = text.rfind(SET, begin, end)
+            name = text[text.rfind(b"\n", 0, max(end, 0)) + 1:][:3].split(b" ")[0]
+            if end >= 0 and name in left:
+                left.remove(name)
+                self.harts[name].a0 = int(text[end + len(SET):end + len(SET) + 8], 16)
+
+    def jump(self, text: bytes, begin: int, jumped: Match[bytes]) -> None:
+        """A call, a return, or a jump to a function."""
+        name, _, place = text[begin:begin + 40].split(b" ", 3)[:3]
+        hart, register, leads, link = self.harts[name], *jumped.groups()
+        if register in LINKS:
+            hart.node = self.tree.called(hart.node, int(place, 16))
+        elif link:
+            self.come_back(hart, text, name, jumped.end())
+        elif leads and int(leads, 16) in self.tree.entries:
+            hart.node = self.tree.went(hart.node, int(place, 16))
+
+    def come_back(self, hart: Hart, text: bytes, name: bytes, behind: int) -> None:
+        """A hart's return leads to its next row, which may be in a later chunk."""
+        at = text.find(b"\n" + name + b" ", behind)
+        hart.returns = at < 0
+        if at >= 0:
+            hart.node = self.tree.returned(hart.node, int(text[at:at + 40].split(b" ", 3)[2], 16))
+
+
+def ranges(calls: Iterable[SystemCall]) -> list[tuple[int, int]]:
+    """The addresses that calls name, in few ranges: what lies near to each other is one."""
+    found, near = sorted((call.address, min(call.address + call.size, TOP)) for call in calls if call.size), 1
+    while True:
+        merged: list[tuple[int, int]] = []
+        for first, end in found:
+            if merged and first <= merged[-1][1] + near:
+                merged[-1] = merged[-1][0], max(end, merged[-1][1])
+            else:
+                merged.append((first, end))
+        if len(merged) <= MOST_RANGES:
+            return merged
+        found, near = merged, near * 4
+
+
+def place_of(places: Places, tree: CallTree, write: Write) -> str:
+    """The place of a write, and the calls over it, innermost first."""
+    pcs = [write.pc] + tree.calls(write.node, MOST_FRAMES).calls
+    frames = [frame for pc in pcs for frame in places.frames(pc)][:MOST_FRAMES]
+    said = [f"{frame.function} {frame.file}:{frame.line}" if frame.line else frame.function for frame in frames]
+    return "  <  ".join(said) or f"{write.pc:08x}"
+
+
+def write_answer(places: Places, write: Write) -> dict[str, Any]:
+    """A write for other programs. Bytes are numbers, and null if they aren't known."""
+    return {"number": write.number, "stream": write.stream, "bytes": write.data, "row": write.row,
+            "place": code_place(places, write.pc)}
+
+
+def texts_of(log: Log, elf_name: str, most: int) -> Iterator[bytes]:
+    """About so many of the last rows."""
+    left, rows = max(0, log.rows() - most) if log.rows() > 2 * most else 0, 0
+    for text in chunks(log.name, elf_name):
+        here = text.count(b"\n")
+        rows += here
+        if rows > left:
+            yield text if rows - here >= left else parted(text, left - rows + here)[1]
+
+
+def numbered(log: Log) -> dict[SystemCall, int]:
+    """The writes of a log, and their numbers."""
+    return {call: at for at, call in enumerate(call for call in log.system_calls() if call.kind == WRITE_CALL)}
+
+
+def writes_of(log: Log, elf: Elf, tree: CallTree, numbers: dict[SystemCall, int], most: int) -> Iterator[Write]:
+    """The writes among about so many of the last rows of a log. `numbers` are those of the whole log's."""
+    return Reader(log, elf, tree, numbers).writes(texts_of(log, elf.name, most))
+
+
+def watched(writes: Iterator[Write]) -> Iterator[Write]:
+    while True:
+        with streams.working("rows are read"):
+            write = next(writes, None)
+        if not write:
+            break
+        yield write
+
+
+def said_of(places: Places, tree: CallTree, write: Write) -> str:
+    stream = STREAMS.get(write.stream, f"stream {write.stream}")
+    return (f"{write.number:>3}. {counted(len(write.data), 'byte')} to {stream}, in {place_of(places, tree, write)}\n"
+            f"     {quoted(write.data)}\n     {write.row}\n")
+
+
+def main(words: list[str]) -> int:
+    (log_name, elf_name), given = parse(words, {"--names": True, "--rows": True, "--json": False}, 2, FORM)
+    most = whole(given["--rows"], 1, 1 << 41, "--rows") if "--rows" in given else MOST_ROWS
+    with closing(open_log(log_name)) as source:
+        elf = Elf(elf_name)
+        named = named_elf(elf, given.get("--names", ""))
+        all_rows, log, tree = source.whole(), source.end(most), CallTree(entries_of(named))
+        numbers, listed = numbered(all_rows), []
+        count = size = unknown = 0
+        with closing(places_of(named)) as places:
+            for write in watched(writes_of(log, elf, tree, numbers, most)):
+                if "--json" in given:
+                    listed.append(write_answer(places, write))
+                else:
+                    streams.put(said_of(places, tree, write))
+                count, size, unknown = count + 1, size + len(write.data), unknown + write.data.count(None)
+    before = len(numbers) - count
+    if "--json" in given:
+        put_answer("output", writes=listed, writes_before=before, dropped_records=all_rows.dropped)
+        return 0
+    said = f"OUTPUT: {counted(count, 'write')}, {counted(size, 'byte')}"
+    streams.put(said + (f", of which {number(unknown)} aren't known\n" if unknown else "\n"))
+    if before:
+        streams.put(f"  Only the last {counted(log.rows(), 'row')} were read: {counted(before, 'write')} before them aren't listed. "
+                    "--rows N reads the last N.\n")
+    if all_rows.dropped:
+        streams.put(f"  The log gave up {number(all_rows.dropped)} records before its first: earlier writes are lost.\n")
+    return 0

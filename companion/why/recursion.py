@@ -1,0 +1,48 @@
+"""A call stack that is so deep that it may have overflowed."""
+from __future__ import annotations
+
+from typing import NamedTuple
+
+from ..call.text import number
+from ..recording.trace import Trace
+from .suspect import Suspect
+
+DEEP = 500                  # calls
+ASKED_FROM, ASKED_CALLS = 250, 64   # deeper than a sound program goes, and before the stack can have damaged anything
+COST = 2
+
+
+class Recursion(NamedTuple):
+    """The call that the stack has most often, if it is deep, and the rows that gave calls in its middle what they got."""
+    suspects: list[Suspect]
+    given: list[int]
+
+
+def find_recursion(trace: Trace, start: int) -> Recursion:
+    calls = live_calls(trace, trace.hart[start])
+    if len(calls) < DEEP:
+        return Recursion([], [])
+    times: dict[int, int] = {}
+    for at in calls:
+        pc = trace.code_of(trace.jumps[at]).pc
+        times[pc] = times.get(pc, 0) + 1
+    place = max(times, key=lambda pc: times[pc])
+    if times[place] * 4 < len(calls):
+        return Recursion([], [])
+    latest = max(trace.jumps[at] for at in calls if trace.code_of(trace.jumps[at]).pc == place)
+    suspect = Suspect("calls", latest, latest, COST)
+    suspect.why.append(f"the stack is {number(len(calls))} calls deep, and {number(times[place])} of them are this one")
+    asked = calls[ASKED_FROM:ASKED_FROM + ASKED_CALLS]
+    return Recursion([suspect], [trace.jump_writer[at] for at in asked if trace.jump_writer[at]])
+
+
+def live_calls(trace: Trace, hart: int) -> list[int]:
+    """The calls of a hart that haven't returned, outermost first, as places among the trace's jumps."""
+    calls: list[int] = []
+    for at, n in enumerate(trace.jumps):
+        if trace.hart[n] == hart:
+            if trace.code_of(n).call:
+                calls.append(at)
+            elif calls:
+                calls.pop()
+    return calls

@@ -1,0 +1,198 @@
+"""The text of `why`."""
+from __future__ import annotations
+
+from ..call.page import Part
+from ..call.text import as_text, counted, number, short
+from ..recording.instruction import NAMES
+from ..recording.places import CALLED_FROM
+from ..recording.ready import ready
+from .analysis import MOST_RACES, Analysis
+from .facts import Written
+from .fault import fault_words
+from .hang import hang_lines
+from .history import ADDRESS
+from .origins import advice
+from .suspect import Suspect
+
+SUSPECTS, MORE_SUSPECTS, LINES, MORE_LINES, ORIGINS, MORE_ORIGINS = 5, 12, 10, 40, 6, 20
+ROW_WIDTH, TEXT_WIDTH, MOST_CALLS = 84, 78, 9
+SUSPECTS_HEAD = "SUSPECTS, likeliest first (a load and the store that it got; what a call did to the memory; a branch)"
+# What the guilty row of each kind did, and what its other two rows did.
+DID = {"store": "stored it in", "back": "gave the memory back in", "unwritten": "got the memory in", "twice": "gave the memory back in",
+       "calls": "calls itself in", "branch": "chose the way in", "unlocked": "held no lock in", "order": "waits for a lock in",
+       "exit": "never left its loop by", "failed": "stored nothing in", "unset": "loaded from its stack what it never stored in"}
+ALONE = "twice", "calls", "branch", "exit", "unlocked", "order", "failed", "unset"     # kinds that have no load
+STORED = {"back": "the new owner stored in", "unwritten": "the old bytes were stored in"}
+
+
+def report(facts: Analysis, more: bool = False) -> list[Part]:
+    parts = [Part(heading(facts), head_lines(facts))]
+    if facts.loops:
+        parts.append(Part("HANG", hang_lines(facts, more)))
+    parts.append(Part("CALLS", call_lines(facts)))
+    if not facts.asked and not facts.output:
+        parts.append(Part("REGISTERS", register_lines(facts)))
+    parts += [Part("LAST ROWS", row_lines(facts)),
+              Part(SUSPECTS_HEAD, suspect_lines(facts, MORE_SUSPECTS if more else SUSPECTS)),
+              value_part(facts, MORE_LINES if more else LINES),
+              Part(f"FROM BEFORE: loads behind it that no row {'that was read' if facts.log.unread else 'of the log'} stored",
+                   origin_lines(facts, MORE_ORIGINS if more else ORIGINS))]
+    if facts.log.harts > 1:
+        parts.append(race_part(facts))
+    return parts + [Part("", last_lines(facts))]
+
+
+def heading(facts: Analysis) -> str:
+    return "OUTPUT" if facts.output else "ROW" if facts.asked else "FAULT" if facts.faulted else "END"
+
+
+def head_lines(facts: Analysis) -> list[str]:
+    trace, start = facts.trace, facts.start
+    hart, count = trace.hart[start], number(trace.count_of(start))
+    at, verb = start, "In"
+    if trace.fault and facts.faulted:
+        said = [f"{trace.fault.name} {trace.fault.value:08x}, hart {hart} at count {count}"]
+        said += fault_words(trace, trace.fault, facts.named)
+        if trace.fault.name == "FetchOutside" and len(facts.last) > 1:
+            at, verb = facts.last[-2], "By the jump in"
+    elif facts.output:
+        said = output_lines(facts, facts.output)
+    elif facts.asked:
+        said = [f"Asked of hart {hart} at count {count} (not the fault)"]
+    else:
+        what = "a branch that would have ended the loop" if facts.hangs else "the last row"
+        said = ["No hart faulted: " + facts.ends(), f"Below is {what} of hart {hart}."]
+        said += [f"hart {each} is in {facts.where(n)}" for each, n in sorted(trace.last.items())]
+    source = facts.source(at)
+    return said + [f"{verb} {facts.where(at)}{':  ' + source if source else ''}"]
+
+
+def output_lines(facts: Analysis, byte: Written) -> list[str]:
+    """What was written, and who stored the byte."""
+    trace, call = facts.trace, byte.call
+    row = trace.row_of(call.hart, call.count)
+    said = [f"Asked of byte {byte.place} of write {byte.write}, which took {counted(call.size, 'byte')} from {call.address:08x}",
+            f"hart {call.hart} wrote it at count {number(call.count)} in {facts.where(row)}"]
+    if facts.stored == row:
+        return said + [f"No row{' that was read' if facts.log.unread else ''} stored the byte: below is the write."]
+    told = trace.store_of(facts.stored)
+    place = call.address + byte.place & 3
+    value = bytes([told.value >> 8 * place & 255]) if told else b""
+    said.append(f"The byte is {repr(value)[1:]}: hart {trace.hart[facts.stored]} stored it at count {number(trace.count_of(facts.stored))}.")
+    if facts.start != facts.stored:
+        said.append("A library made it of what it was given: below is that.")
+    return said
+
+
+def call_lines(facts: Analysis) -> list[str]:
+    """The call stack, innermost first, with what is inlined."""
+    stack = facts.stack(facts.start, MOST_CALLS)
+    said = []
+    for i, frame in enumerate(stack.frames):
+        inlined = "  (inlined)" if frame.inlined else ""
+        said.append(f"{'from' if i else 'at':<5} {frame.address:08x} {frame.function}  {frame.place}{inlined}")
+    if stack.left_out:
+        said.insert(-1, f"      .. {counted(stack.left_out, 'more call')} ..")
+    first = "the first row that was read" if facts.log.unread else "the log's first row"
+    return said + ([f"      (calls from before {first} aren't known)"] if stack.is_cut else [])
+
+
+def register_lines(facts: Analysis) -> list[str]:
+    values = facts.trace.final[facts.trace.hart[facts.start]]
+    return [" ".join(f"{NAMES[i]:>4} {values[i]:08x}" for i in range(row, row + 8)) for row in range(0, 32, 8)]
+
+
+def row_lines(facts: Analysis) -> list[str]:
+    return [f"{short(facts.trace.text(n), ROW_WIDTH):<{ROW_WIDTH}} {facts.line(n)}" for n in facts.last]
+
+
+def suspect_lines(facts: Analysis, most: int) -> list[str]:
+    said: list[str] = []
+    for place, item in enumerate(facts.shown[:most], 1):
+        said += one_suspect(facts, place, item)
+    return said or [f"none: no row {'that was read' if facts.log.unread else 'of the log'} stored the value"]
+
+
+def one_suspect(facts: Analysis, place: int, item: Suspect) -> list[str]:
+    said = [f"{place}. {did(facts, item.guilty, DID[item.kind])}"] + guilty_lines(facts, item.guilty)
+    for words, n in item.extra:
+        said += [f"   {words} {facts.where(n)}   {facts.source(n)}"] + guilty_lines(facts, n)
+    if item.kind in STORED:
+        said += ["   " + did(facts, item.store, STORED[item.kind]), "      " + short(facts.trace.text(item.store))]
+    if item.kind not in ALONE:
+        said += ["   " + did(facts, item.load, "loaded it in"),
+                 "      " + short(facts.trace.text(item.load)) + data_words(facts, item.load)]
+    times = f" ({number(item.rows)} such pairs)" if item.rows > 1 else ""
+    reasons = item.why if item.kind == "exit" else [distance(item)] + item.why
+    guilty = ready(facts.log, facts.elf, facts.named, facts.trace.hart[item.guilty], facts.trace.count_of(item.guilty))
+    return said + ["   because: " + "; ".join(reasons) + times] + ["   " + line for line in guilty]
+
+
+def did(facts: Analysis, n: int, words: str) -> str:
+    return f"hart {facts.trace.hart[n]} {words} {facts.where(n)}   {facts.source(n)}"
+
+
+def guilty_lines(facts: Analysis, n: int) -> list[str]:
+    """The calls over a row, and the row."""
+    callers = [f"{frame.function} {frame.place}" for frame in facts.callers(n)]
+    said = ["      called from " + CALLED_FROM.join(callers)] if callers else []
+    return said + ["      " + short(facts.trace.text(n))]
+
+
+def data_words(facts: Analysis, n: int) -> str:
+    """The object that a load's word is in, and its text if it is one."""
+    told = facts.trace.load_of(n)
+    if told is None:
+        return ""
+    name, text = facts.named.data_name(told.address), as_text(told.value)
+    return (f" [{name}]" if name else "") + (f" '{text}'" if text else "")
+
+
+def distance(item: Suspect) -> str:
+    if item.cost < ADDRESS:
+        return f"{counted(item.cost, 'step')} of value from it"
+    return f"behind an address or a branch (at a cost of {item.cost})"
+
+
+def value_part(facts: Analysis, most: int) -> Part:
+    history, said = facts.history, []
+    for line in facts.lines[:most]:
+        latest = short(facts.trace.text(line.latest), TEXT_WIDTH)
+        place, *callers = line.place.split(CALLED_FROM)
+        said.append(f"{f'hart {line.hart}':<6} {short(place, 36):<36} {number(line.rows):>7} rows  latest {latest}")
+        said += ["       inlined in " + CALLED_FROM.join(callers)] if callers else []
+    if len(facts.lines) > most:
+        said.append(f"       .. {counted(len(facts.lines) - most, 'more place')} (--more) ..")
+    rows, all_rows = number(len(history.cost) - len(history.decided)), number(facts.trace.rows)
+    cut = " (cut off there)" if history.cut else ""
+    return Part(f"VALUES: {rows} of {all_rows} rows stand behind it{cut}, by place, nearest first", said)
+
+
+def origin_lines(facts: Analysis, most: int) -> list[str]:
+    nearest = sorted(facts.origin.items(), key=lambda item: facts.history.cost[item[1].nearest])
+    said = [f"{number(loads.times):>5}  {origin.words:<42} loaded by {origin.place}" for origin, loads in nearest[:most]]
+    return (said or ["nothing: all values behind it come from constants"]) + advice(facts.log)
+
+
+def race_part(facts: Analysis) -> Part:
+    races, left = facts.races, len(facts.unordered)
+    if races.over:
+        return Part("RACES", [f"more than {MOST_RACES} races: not listed"])
+    fenced = f", of which fences order {number(races.total - left)}" if left < races.total else ""
+    return Part("RACES", [f"{counted(races.total, 'pair')}{fenced}; `zelkuma race` groups them" if races.total else "none"])
+
+
+def last_lines(facts: Analysis) -> list[str]:
+    trace = facts.trace
+    rate = number(int(trace.rows / max(trace.seconds, 0.001)))
+    said = f"{counted(trace.rows, 'row')} in {trace.seconds:.1f} s ({rate} a second)"
+    return [said] + unread(facts) + facts.notes + facts.places.trouble()
+
+
+def unread(facts: Analysis) -> list[str]:
+    """What of the log wasn't looked at."""
+    log = facts.log
+    if not log.unread:
+        return []
+    return [f"Only the last {counted(facts.trace.rows, 'row')} were read: {number(log.unread)} bytes of records before them weren't "
+            "looked at. --rows N reads the last N."]

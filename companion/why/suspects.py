@@ -1,0 +1,231 @@
+"""What may be guilty of a crash, likeliest first.
+
+A suspect is a load and the store that it got, or memory that was used after it was given back or before it was written.
+It may also be a branch that chose the way, an access without the lock that others hold, or a function that keeps calling
+itself. Its score is the cost at which the history of the fault reached it, less what its signs are worth; the lowest
+score is the likeliest.
+
+The signs, and what each is worth, were set by looking at few programs: tests/crashes/README.md says which, and how well
+they do on others."""
+from __future__ import annotations
+
+import math
+from typing import AbstractSet, Sequence
+
+from ..call.text import counted, number
+from ..recording.instruction import AMO, SP, STORE
+from ..recording.log import At
+from ..recording.trace import LOADS
+from .branches import branch_suspects, exit_suspects
+from .facts import Facts
+from .history import ADDRESS, History, Pair
+from .locks import circle, unlocked
+from .memory_use import MemoryUse
+from .suspect import Extra, Suspect, rank
+from .unread import failed_stores, unset
+
+OTHER_HART, NARROW, RACE, OTHER_FUNCTION, RARITY = 8, 12, 6, 3, 5
+COMMON, COMMON_ROWS = 10, 8   # what a near store is worth less that a load always got, if it ran so often
+CLOSES, CLOSE = 8, 3        # the store that closed a circle, and how near to the loop its load is
+FOLLOWED_ROWS = 400         # the last rows of a loop, in which the pointers are that it follows
+AGAIN, NOTHING_NEW = 6, 40  # what a suspect costs more whose line another tells, and if it tells no new line at all
+MOST_COMPARED = 40          # suspects whose lines are compared
+FIRST_ONES, PLACE_ROWS = 3, 2000    # suspects whose stores' addresses are asked of, and rows of such a history
+MOST_FOR_PLACE = 6          # what the store's own signs are worth to these at most
+GUARD, BEHIND_PLACE = 2, 3  # what the branch before such a store costs, and what all costs more than the store
+FOREIGN = 40                # what a suspect costs more of which no source is here
+SYMPTOM = 8                 # a stack that has grown into data is a consequence of its depth
+NEAR_STORE = 6              # what a near store is worth less
+MOST_LOOKED_AT = 60         # pairs of loads and stores whose rows are read
+SIZES = {1: "bytes", 2: "halves"}, {2: "half", 4: "word"}
+
+
+class Ranking:
+    """found: the suspects, likeliest first."""
+
+    def __init__(self, facts: Facts, history: History, races: AbstractSet[frozenset[At]], recursion: list[Suspect],
+                 loop: Sequence[int]) -> None:
+        """`races` is pairs of accesses that nothing orders, `recursion` suspects that are known, and `loop` the rows that a
+        loop or a recursion follows."""
+        self.facts, self.trace, self.places = facts, facts.trace, facts.places
+        self.history, self.races, self.is_recursive, self.loop = history, races, bool(recursion), set(loop)
+        self.loads: dict[int, int] = {}         # a load's code: how many rows
+        for pair, times in self.trace.pairs.items():
+            self.loads[pair >> 32] = self.loads.get(pair >> 32, 0) + times
+        stores = sorted(self.stores(history), key=rank)
+        memory = MemoryUse(facts, history)
+        found = [suspect for item in stores[:MOST_LOOKED_AT] for suspect in memory.judge(item)]
+        found += memory.given_back_twice() + branch_suspects(facts, history) + exit_suspects(facts)
+        found += unlocked(facts, history) + circle(facts) + failed_stores(facts, history) + unset(facts, history)
+        found = self.own_first(stores + found + recursion)
+        self.found = self.once(sorted(found + self.behind_places(found, memory), key=rank))
+
+    def own_first(self, found: list[Suspect]) -> list[Suspect]:
+        """Those of which no source is here, as of a library's inner functions, come last."""
+        self.places.fetch({self.facts.pc_of(n) for item in found for n in (item.guilty, item.load)})
+        foreign = [item for item in found if not any(self.facts.is_own(n) for n in
+                                                     [item.guilty, item.load] + [extra.row for extra in item.extra])]
+        if len(foreign) < len(found):
+            for item in foreign:
+                item.sign(-FOREIGN, "no source of it is here")
+        return sorted(found, key=rank)
+
+    def behind_places(self, found: list[Suspect], memory: MemoryUse) -> list[Suspect]:
+        """Of a store in a place of something else it isn't the value that is wrong: what is behind its address, and the
+        branch that should have kept it away?"""
+        behind = []
+        for item in [item for item in found if item.shown][:FIRST_ONES]:
+            row = self.trace.d1[item.store] if item.misplaced else 0
+            if row:
+                history = History(self.trace, [row], PLACE_ROWS, self.history.control, control_cost=GUARD)
+                for suspect in [one for one in branch_suspects(self.facts, history) + self.stores(history)
+                                if not memory.blocks.is_own(one.guilty) and not memory.blocks.is_own(one.load)]:
+                    suspect.cost += item.cost
+                    suspect.score += max(item.score, -MOST_FOR_PLACE) + BEHIND_PLACE
+                    suspect.why.append("it is behind the address of a store in the wrong place")
+                    behind.append(suspect)
+        return behind
+
+    def once(self, found: list[Suspect]) -> list[Suspect]:
+        """Of several suspects about one line that stored, the later ones stand further back. One that tells of no line that
+        isn't told already is last: its place is for another line, and the first one tells of its store."""
+        told_lines: set[str] = set()
+        stored: dict[str, Suspect] = {}         # {line: the first suspect that stored there}
+        for item in [item for item in self.behind_others(found) if item.shown][:MOST_COMPARED]:
+            lines, line = self.lines_of(item), self.facts.line(item.guilty)
+            if lines <= told_lines:
+                item.score += NOTHING_NEW
+                if item.kind == "store" and line in stored and item.store < stored[line].store:
+                    stored.pop(line).extra.append(Extra("earlier the same line stored in", item.store))
+            elif item.kind == "store":
+                stored.setdefault(line, item)
+            told_lines |= lines | {self.facts.line(item.load)}
+        return sorted(found, key=rank)
+
+    def lines_of(self, item: Suspect) -> set[str]:
+        """The lines that a suspect is about."""
+        rows = [item.guilty] + [extra.row for extra in item.extra]
+        lines = {self.facts.line(n) for n in rows}
+        if item.kind == "order" or not self.facts.source(item.guilty):  # a lock's function, or a library's
+            lines |= {frame.place for frame in self.facts.callers(item.guilty)}
+        return lines
+
+    def behind_others(self, found: list[Suspect]) -> list[Suspect]:
+        told: set[str] = set()
+        for item in found:
+            line = self.places.line(self.trace.code_of(item.guilty).pc)
+            if item.kind == "store" and item.shown and line in told:
+                item.score += AGAIN
+            elif item.shown:
+                told.add(line)
+        return sorted(found, key=rank)
+
+    def stores(self, history: History) -> list[Suspect]:
+        """A suspect for each two source lines of a history's loads and stores, with its signs."""
+        trace, places, far = self.trace, self.places, history.far
+        groups: dict[tuple[str, str, bool], Suspect] = {}
+        closing = self.closing_pair()
+        pairs = dict(far)
+        if closing.store:
+            pairs[closing] = min(CLOSE, pairs.get(closing, CLOSE))
+        places.fetch({trace.code_of(n).pc for key in pairs for n in key} |
+                     {trace.code_of(trace.dm[store]).pc for _, store in pairs if trace.dm[store]})
+        for (load, store), price in pairs.items():
+            key = (places.line(trace.code_of(load).pc), places.line(trace.code_of(store).pc),
+                   trace.hart[store] != trace.hart[load])
+            item = groups.get(key)
+            pair = Pair(load, store)
+            nearer = item is None or ((item.load, item.store) != closing and (price, -load) < (item.cost, -item.load))
+            if nearer or pair == closing:
+                groups[key] = Suspect("store", load, store, price)
+                groups[key].rows = item.rows if item else 0
+            groups[key].rows += 1
+        for item in groups.values():
+            self.judge(item, history)
+            if (item.load, item.store) == closing:
+                item.sign(CLOSES, "the latest store that the loop or the calls follow: it may have closed a circle")
+        return list(groups.values())
+
+    def closing_pair(self) -> Pair:
+        """What a loop or a recursion follows is often a circle: the latest far store in it closed it. With its load."""
+        latest = self.latest_followed()
+        for (load, store), price in self.history.far.items():
+            if (price <= CLOSE and (store, load) > (latest.store, latest.load) and self.history.is_far(load, store) and
+                    self.history.root(load) in self.loop):
+                latest = Pair(load, store)
+        return latest
+
+    def latest_followed(self) -> Pair:
+        """The latest store of the pointers that a loop follows, and its load."""
+        trace, latest = self.trace, Pair(0, 0)
+        for hanging in self.facts.loops:
+            loads = [n for n in trace.last_rows(hanging.last, FOLLOWED_ROWS) if trace.flags[n] & LOADS and n >= hanging.first]
+            for n in loads:
+                pointer = trace.d1[n]
+                while pointer and trace.code_of(pointer).move:
+                    pointer = trace.d1[pointer]
+                if pointer and trace.pc[pointer] == trace.pc[n]:
+                    for load in (n, pointer):
+                        for store in map(trace.changed_by, trace.writers(load).rows):
+                            if store < hanging.first and store > latest.store:
+                                latest = Pair(load, store)
+        return latest
+
+    def judge(self, item: Suspect, history: History) -> None:
+        """The signs of a load and its store."""
+        trace, load, store = self.trace, item.load, item.store
+        if trace.hart[store] != trace.hart[load]:
+            item.sign(OTHER_HART, "another hart stored it")
+        stored, loaded = trace.code_of(store), trace.code_of(load)
+        if stored.kind == STORE and loaded.kind != AMO and stored.width < loaded.width and not self.is_copied(load, history):
+            item.misplaced = True
+            item.sign(NARROW, f"stored as {SIZES[0][stored.width]}, loaded as a {SIZES[1][loaded.width]}")
+        if self.is_recursive and stored.rs1 == SP and loaded.rs1 != SP:
+            item.sign(-SYMPTOM, "the stack has grown into this data")
+        if load in history.decided:
+            item.why.append("it decided the way to here")
+        self.judge_rarity(item)
+        old = trace.dm[store]
+        if old and stored.kind == STORE:
+            where = trace.code_of(old).pc
+            if self.places.function(where) != self.places.function(stored.pc):
+                item.sign(OTHER_FUNCTION, f"over what {self.places.where(where)} stored")
+        pair = frozenset(At(trace.hart[n], trace.count_of(n)) for n in (load, store))
+        if pair in self.races:
+            item.sign(RACE, "a race: no atomic instruction orders them")
+        self.judge_distance(item)
+
+    def is_copied(self, load: int, history: History) -> bool:
+        """Whether a load's word was stored again unchanged, as the parts of a copied object do."""
+        return load in history.parent and self.trace.code_of(history.parent[load].row).kind == STORE
+
+    def times_of(self, item: Suspect) -> int:
+        """How often the load got its word from the line that stored it: a compiler may have made several stores of it. 0 if
+        another store gave the rest of the word later."""
+        line = self.places.line(self.trace.code_of(item.store).pc)
+        stores = self.trace.givers(item.load)
+        self.places.fetch({self.trace.codes[at].pc for at in stores})
+        return sum(times for at, times in stores.items() if self.places.line(self.trace.codes[at].pc) == line)
+
+    def judge_rarity(self, item: Suspect) -> None:
+        trace = self.trace
+        times = self.times_of(item)
+        whole = self.loads.get(trace.pc[item.load], 1)
+        if times and whole >= 4 and times * 10 <= whole:
+            item.sign(RARITY * math.log10(whole / times), f"rare here: {number(times)} of {number(whole)} loads")
+        elif whole >= COMMON_ROWS and times == whole and not self.history.is_far(item.load, item.store):
+            item.sign(-COMMON, f"so in all {number(whole)} loads here")
+
+    def judge_distance(self, item: Suspect) -> None:
+        """Near stores are let in on the chain of values, but for a register that its function put aside."""
+        trace, load, store = self.trace, item.load, item.store
+        distance = load - store
+        if trace.is_spill(load, store):
+            item.shown = False
+            return
+        if self.history.is_far(load, store):
+            if trace.hart[load] == trace.hart[store]:
+                item.why.append(f"{counted(distance, 'row')} earlier")
+            return
+        item.shown = item.cost < ADDRESS
+        item.sign(-NEAR_STORE, f"{counted(distance, 'row')} earlier")

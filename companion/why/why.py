@@ -1,0 +1,57 @@
+"""Explains a crash."""
+from __future__ import annotations
+
+import os
+from contextlib import closing
+
+from ..call import streams
+from ..call.options import parse, whole
+from ..call.page import page
+from ..call.saving import PAGE, target
+from ..recording.answers import put_answer
+from ..recording.sources import source_folders
+from .analysis import analysed
+from .answer import why_answer
+from .facts import asked_byte
+from .report import report
+
+HELP = """Explains a crash: what happened, where, and which store, call or branch is behind it, likeliest first.
+
+    zelkuma why LOG ELF [--names ELF] [--source DIR] [--row HART:IC] [--output N:BYTE] [--rows N] [--more] [--html FILE] [--json]
+
+--names   the same program with names and lines, if ELF was stripped
+--source  shows sources below this folder too, not only below ELF's and the current one; may be given several times
+--row     asks of another row than the fault's
+--output  asks of a byte that the guest wrote, as `zelkuma output` numbers them
+--rows    how many of the last rows are read; without it a million, and 2.6 million if values near the fault come from before
+--more    longer lists
+--html    saves the same text as a page, too
+--json    prints one JSON object in place of the text (docs/JSON.md)
+
+It reads the rows of `joint`, keeps some 30 bytes of each, and shows what they say; the ranking is its own judgement.
+Companions show; the program proves."""
+FORM = "why LOG ELF [--names ELF] [--source DIR] [--row HART:IC] [--output N:BYTE] [--rows N] [--more] [--html FILE] [--json]"
+OPTIONS = {"--names": True, "--source": True, "--row": True, "--output": True, "--rows": True, "--more": False, "--html": True,
+           "--json": False}
+
+
+def main(words: list[str]) -> int:
+    (log, elf), given = parse(words, OPTIONS, 2, FORM)
+    rows = whole(given["--rows"], 1, 1 << 41, "--rows") if "--rows" in given else 0
+    byte = asked_byte(given["--output"]) if "--output" in given else None
+    names = given.get("--names", "")
+    saved = target(given["--html"], PAGE, [log, elf, names]) if "--html" in given else None
+    with closing(analysed(log, elf, names, given.get("--row", ""), rows, byte, source_folders(given))) as analysis:
+        parts = report(analysis, "--more" in given)
+        if "--json" in given:
+            put_answer("why", **why_answer(analysis))
+    if saved:
+        saved.save(page(f"Why {os.path.basename(elf)} ended", parts).encode("utf-8", "backslashreplace"))
+    if "--json" in given:
+        return 0
+    lines = []
+    for part in parts:
+        lines += [part.heading] if part.heading else []
+        lines += ["  " + line if part.heading else line for line in part.lines]
+    streams.put("".join(line + "\n" for line in lines))
+    return 0
