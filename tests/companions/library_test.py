@@ -70,7 +70,7 @@ class LibraryTest(case.Case):
         """By the package of the installation, and by a copy elsewhere if the command zelkuma is there."""
         prefix = common.path("prefix")
         subprocess.run([os.path.join(common.TOP, "zelkuma"), "install", prefix], stdout=subprocess.DEVNULL, check=True)
-        script = "import zelkuma.program; print(zelkuma.program.path()); from zelkuma import Recording"
+        script = "from zelkuma.call import program; print(program.path()); from zelkuma import Recording"
         clean = {name: value for name, value in os.environ.items() if name != "ZELKUMA_PROGRAM"}
         wanted = os.path.realpath(os.path.join(prefix, "lib", "zelkuma", "zelkuma"))
         copied = common.path("packages")
