@@ -19,7 +19,7 @@ from .questions.types import python_value
 from .questions.variables import variable_of
 from .recording.instruction import NAMES
 from .recording.log import At, is_fault
-from .recording.rows import Row, rows_of
+from .recording.row import Row, rows_of
 
 EVERY = 1 << 40
 

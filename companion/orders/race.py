@@ -15,9 +15,8 @@ from ..recording.log import At
 from ..recording.naming import named_elf, places_of
 from ..recording.races import FENCED, ORDERED, TOO_MANY, Access, AccessPair, Group, Races
 from ..recording.recent import FIRST_ROWS, LogFile, open_log
-from ..recording.rows import read_trace
 from ..recording.sources import source_folders
-from ..recording.trace import Trace
+from ..recording.trace import Trace, read_trace
 from ..why.history import History
 
 HELP = """Groups the races of a log by the two places and the word, the likeliest cause of its fault first. Words of one object
@@ -54,12 +53,12 @@ class Judged:
 
     def __init__(self, races: Races, trace: Optional[Trace] = None, history: Optional[History] = None) -> None:
         """`history` is of the rows behind the fault, or None if no hart faulted."""
-        self.races, self.trace = races, trace
+        self.races, self.rows = races, trace and trace.rows
         self.chain: dict[int, int] = {}
         self.fault_function = ""
         if trace and history:
             self.chain = {row: cost for row, cost in history.cost.items() if row not in history.decided}
-            self.fault_function = races.places.function(trace.code_of(history.start).pc)
+            self.fault_function = races.places.function(trace.rows.code_of(history.start).pc)
         self.costs: list[Optional[int]] = [None] * len(races.groups)
         self.words: dict[int, int] = {}
         self.follow_chain()
@@ -79,7 +78,7 @@ class Judged:
     def cost(self, access: At) -> int:
         """How far a row is from the fault. A pair with both rows on the chain comes before one with
         one: there the load got what the other access stored."""
-        return self.chain.get(self.trace.row_of(access.hart, access.count), FAR) if self.trace else FAR
+        return self.chain.get(self.rows.row_of(access.hart, access.count), FAR) if self.rows else FAR
 
     def rank(self, group: Group) -> int:
         if self.costs[group.number] is not None:
@@ -174,7 +173,8 @@ def judge(source: LogFile, elf_name: str, races: Races) -> Judged:
     if not log or not log.faulted:
         return Judged(races)
     trace = read_trace(log, elf_name, most=2 * FIRST_ROWS)
-    return Judged(races, trace, History(trace, [trace.fault.row])) if trace.fault else Judged(races)
+    fault = trace.rows.fault
+    return Judged(races, trace, History(trace, [fault.row])) if fault else Judged(races)
 
 
 def race_answer(races: Races, judged: Judged) -> dict[str, Any]:

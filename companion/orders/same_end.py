@@ -13,8 +13,7 @@ from ..recording.cause import MOST_FRAMES, cause_along
 from ..recording.elf import Elf
 from ..recording.instruction import STORE
 from ..recording.log import End, Log, is_fault
-from ..recording.rows import trace_of
-from ..recording.trace import Trace
+from ..recording.trace import Trace, trace_of
 from ..why.control import load_behind
 from ..why.loops import Loop
 from .record import FAULT, LIMIT
@@ -137,8 +136,8 @@ class Ends:
             if loop.places:
                 break
         loads = [operand.load for item in loop.exits if item.leads_out for operand in item.operands]
-        words = {trace.access(unspilled(trace, load)).address & ~3 for load in loads if load}
-        return tuple(sorted(words)), turns_in(text, [trace.codes[at].pc for at in loop.places])
+        words = {trace.rows.access(unspilled(trace, load)).address & ~3 for load in loads if load}
+        return tuple(sorted(words)), turns_in(text, [trace.rows.codes[at].pc for at in loop.places])
 
     def last_text(self, log: Log, hart: int, most: int) -> tuple[bytes, bool]:
         """What `replay` prints of a hart's last intervals, until they have so many rows, and whether there are rows before."""
@@ -187,8 +186,8 @@ def turns_in(text: bytes, places: Sequence[int]) -> int:
 def unspilled(trace: Trace, load: int) -> int:
     """The load behind a load: one that takes back what this hart put on the stack leads to where that came from."""
     for _ in range(MOST_SPILLS):
-        store = trace.dm[load]
-        source = load_behind(trace, trace.d2[store]) if store and trace.code_of(store).kind == STORE else 0
+        store = trace.writers.word[load]
+        source = load_behind(trace, trace.writers.second[store]) if store and trace.rows.code_of(store).kind == STORE else 0
         if not source:
             break
         load = source

@@ -8,7 +8,7 @@ from ..recording.answers import place_of
 from ..recording.elf import Elf
 from ..recording.log import Log
 from ..recording.places import Places
-from ..recording.rows import Row, parse_row
+from ..recording.row import Row, parse_row
 from ..recording.turn_ends import turn_lines
 from ..recording.turns import Pieces
 from .windows import Window, again_at

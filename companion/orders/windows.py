@@ -4,7 +4,7 @@ from __future__ import annotations
 from dataclasses import dataclass
 from typing import Iterator, NamedTuple, Optional
 
-from ..recording.rows import Row, parse_row
+from ..recording.row import Row, parse_row
 from ..recording.turn_ends import turn_lines
 from ..recording.turns import Piece, Pieces, joined
 from .same_end import Faulted, log_of

@@ -5,11 +5,12 @@ A return goes to the nearest node whose call it returns behind; one that fits no
 and hand-made returns. A jump to the first address of a function is a call too, which returns for the function that made it."""
 from __future__ import annotations
 
+import bisect
 from array import array
 from typing import AbstractSet, NamedTuple
 
 from .elf import FUNCTION, Elf
-
+from .rows import Rows
 
 RESTORES = "__riscv_restore_"
 
@@ -70,3 +71,55 @@ class CallTree:
             found.append(self.call_pc[node])
             node = self.parent[node]
         return Above(found, self.depth[node], self.outermost[node])
+
+
+class Tail(NamedTuple):
+    """A jump to a function: its row and what a0 was."""
+    row: int
+    a0: int
+
+
+class Calls:
+    """How harts were called.
+
+    tree     the calls
+    jumps    the rows of calls and returns; a0: what it was there, an argument or a result; writers: the rows that wrote it
+    tails    the jumps to functions
+    goes     {hart: the rows of its jumps}; nodes: {hart: its nodes after them}"""
+
+    def __init__(self, rows: Rows, entries: AbstractSet[int] = frozenset()) -> None:
+        """`entries` is where functions begin."""
+        self.rows, self.tree = rows, CallTree(entries)
+        self.jumps, self.a0, self.writers = array("I"), array("I"), array("I")
+        self.tails: list[Tail] = []
+        self.goes = {hart: array("I") for hart in range(rows.log.harts)}
+        self.nodes = {hart: array("I", [0]) for hart in range(rows.log.harts)}
+
+    def go(self, n: int, writer: int, a0: int, target: int) -> None:
+        """A call, a return, or a jump to a function. `writer` is the row that wrote a0, `target` what its register held."""
+        ins, hart, tree = self.rows.code_of(n), self.rows.hart[n], self.tree
+        node = self.nodes[hart][-1]
+        if ins.call or ins.ret:
+            self.jumps.append(n)
+            self.a0.append(a0)
+            self.writers.append(writer)
+            node = tree.called(node, ins.pc) if ins.call else tree.returned(node, target)
+        else:
+            node = tree.went(node, ins.pc)
+            self.tails.append(Tail(n, a0))
+        self.goes[hart].append(n)
+        self.nodes[hart].append(node)
+
+    def node_of(self, n: int) -> int:
+        """The node that a row is in."""
+        hart = self.rows.hart[n]
+        return self.nodes[hart][bisect.bisect_left(self.goes[hart], n)]
+
+    def above(self, n: int, most: int) -> Above:
+        """So many of the calls that a row is in."""
+        return self.tree.calls(self.node_of(n), most)
+
+    def writer_of(self, call: int) -> int:
+        """The row that wrote a0 before a call, or 0."""
+        at = bisect.bisect_left(self.jumps, call)
+        return self.writers[at] if at < len(self.jumps) and self.jumps[at] == call else 0

@@ -48,7 +48,7 @@ class Piece(NamedTuple):
     returned: bool
 
 
-class Calls:
+class HartCalls:
     """The calls of a hart along chunks of text, of which the last are kept."""
 
     def __init__(self, hart: int) -> None:
@@ -130,7 +130,7 @@ def ended_hart(log: Log) -> int:
 
 def cause_along(texts: Iterable[bytes], hart: int, end: End) -> Cause:
     """The cause of a hart's end, from chunks of its last rows."""
-    calls = Calls(hart)
+    calls = HartCalls(hart)
     for text in texts:
         calls.take(text)
     if end.reason in EXITS:

@@ -57,7 +57,7 @@ class Ways:
 
     def place_key(self, row: int) -> tuple[object, ...]:
         entry = self.page.place_list[self.page.place_of_row(row)]
-        return self.page.trace.hart[row], entry[0], entry[1]
+        return self.page.rows.hart[row], entry[0], entry[1]
 
     def follows(self, row: int, following: int) -> bool:
         """Whether a row stands in the same box as the one that needed it."""
@@ -133,12 +133,12 @@ class Boxes:
 
     def told(self, row: int) -> str:
         """What a row did."""
-        text = self.page.trace.text(row)
+        text = self.page.rows.text(row)
         told = text.split(" | ")[1:]
         return told[-1] if told else text.split(" ", 4)[-1]
 
     def loaded(self, row: int) -> str:
-        return self.page.trace.text(row).rpartition("load ")[2][:17]
+        return self.page.rows.text(row).rpartition("load ")[2][:17]
 
     def gap(self, box: Box, column: int, depth: int) -> dict[str, Any]:
         return {"column": column, "depth": depth, "rank": 0, "skipped": box.skipped}

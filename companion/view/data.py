@@ -80,7 +80,7 @@ class Page:
     """Places and codes have numbers, so that each name stands in the page once."""
 
     def __init__(self, trace: Trace, places: Places, log: Log) -> None:
-        self.trace, self.places, self.log = trace, places, log
+        self.rows, self.calls, self.places, self.log = trace.rows, trace.calls, places, log
         self.place_known: dict[int, int] = {}
         self.place_list: list[list[Union[str, list[str]]]] = []
         self.place_pcs: list[int] = []
@@ -113,20 +113,20 @@ class Page:
         """The number of an instruction."""
         found = self.code_known.get(at)
         if found is None:
-            instruction = self.trace.codes[at]
+            instruction = self.rows.codes[at]
             found = self.code_known[at] = len(self.code_list)
             self.code_list.append(Code(instruction.pc, instruction.text, self.place(instruction.pc)))
         return found
 
     def point(self, row: int) -> list[int]:
         """The hart, the count and the row."""
-        return [self.trace.hart[row], self.trace.count_of(row), row]
+        return [self.rows.hart[row], self.rows.count_of(row), row]
 
     def place_of_row(self, row: int) -> int:
-        return self.place(self.trace.code_of(row).pc)
+        return self.place(self.rows.code_of(row).pc)
 
     def intervals(self) -> list[PageInterval]:
-        row_of, found = self.trace.row_of, []
+        row_of, found = self.rows.row_of, []
         for each in self.log.intervals:
             first, last = row_of(each.hart, each.start), row_of(each.hart, max(each.start, each.end - 1))
             reason = "no end" if each.reason == NO_END else each.reason
@@ -139,15 +139,15 @@ class Page:
         return [self.segments_of(number) for number in range(self.log.harts)]
 
     def segments_of(self, number: int) -> Segments:
-        hart = self.trace.harts.get(number)
+        hart = self.rows.harts.get(number)
         if not hart:
             return Segments([], [], 0)
-        step = max(1, -(-len(hart.rows) // SEGMENTS))
-        return Segments(list(hart.counts[::step]), list(hart.rows[::step]), int(step > 1))
+        step = max(1, -(-len(hart.begins) // SEGMENTS))
+        return Segments(list(hart.counts[::step]), list(hart.begins[::step]), int(step > 1))
 
     def edges(self) -> list[PageEdge]:
         counts, from_counts, harts, sources = self.log.edges
-        total, row_of = len(counts), self.trace.row_of
+        total, row_of = len(counts), self.rows.row_of
         rows = [row_of(harts[i], counts[i]) for i in range(total)]
         even = self.even_edges(rows)
         kept = even | set(range(max(0, total - EDGES + len(even)), total))
@@ -162,7 +162,7 @@ class Page:
         harts, found = self.log.edges.harts, set()
         taken: dict[int, dict[int, int]] = {}
         for i, row in enumerate(rows):
-            key = row * EDGE_STEPS // (self.trace.rows + 1)
+            key = row * EDGE_STEPS // (self.rows.size + 1)
             used = taken.setdefault(key, {})
             if sum(used.values()) < most and used.get(harts[i], 0) < max(1, most // 2):
                 used[harts[i]] = used.get(harts[i], 0) + 1
@@ -173,11 +173,11 @@ class Page:
         spots, found = self.strip_spots(), []
         numbers: dict[str, int] = {}
         shares: dict[str, int] = {}
-        self.places.fetch({self.trace.code_of(row).pc for each in spots.values() for _, row in each.parts if row})
+        self.places.fetch({self.rows.code_of(row).pc for each in spots.values() for _, row in each.parts if row})
         for hart, (end, rows) in spots.items():
             runs: list[list[int]] = []
             for count, row in rows:
-                name = self.places.function(self.trace.code_of(row).pc) if row else "?"
+                name = self.places.function(self.rows.code_of(row).pc) if row else "?"
                 shares[name] = shares.get(name, 0) + 1
                 number = numbers.setdefault(name, len(numbers))
                 if not runs or runs[-1][1] != number:
@@ -188,13 +188,13 @@ class Page:
 
     def strip_spots(self) -> dict[int, Spots]:
         """Of each hart."""
-        trace = self.trace
-        most = max(200, min(3000, STRIP_SPOTS // max(1, len(trace.last))))
+        rows = self.rows
+        most = max(200, min(3000, STRIP_SPOTS // max(1, len(rows.last))))
         found = {}
-        for hart, last_row in sorted(trace.last.items()):
-            first, last = trace.harts[hart].counts[0], trace.count_of(last_row)
+        for hart, last_row in sorted(rows.last.items()):
+            first, last = rows.harts[hart].counts[0], rows.count_of(last_row)
             spots = min(most, last - first + 1)
             size = (last - first + 1) / spots
-            found[hart] = Spots(last + 1, [(int(first + i * size), trace.row_of(hart, int(first + (i + 0.5) * size)))
+            found[hart] = Spots(last + 1, [(int(first + i * size), rows.row_of(hart, int(first + (i + 0.5) * size)))
                                            for i in range(spots)])
         return found

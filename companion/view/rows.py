@@ -33,7 +33,7 @@ class PageRows:
     """windows, nodes: what the page holds of rows and of calls"""
 
     def __init__(self, page: Page) -> None:
-        self.page, self.trace = page, page.trace
+        self.page, self.rows, self.calls = page, page.rows, page.calls
         self.wanted: set[int] = set()
         self.windows: list[Window] = []
         self.nodes, self.top_known = [Node(0, 0)], {0: 0}
@@ -41,57 +41,57 @@ class PageRows:
 
     def around(self, row: int, back: int, ahead: int) -> None:
         """Wants a row, and some before and behind it of its hart."""
-        trace = self.trace
+        rows = self.rows
         if not row or len(self.wanted) >= ROWS:
             return
-        hart, count = trace.hart[row], trace.count_of(row)
-        for near in range(max(trace.harts[hart].counts[0], count - back), count + ahead + 1):
-            found = trace.row_of(hart, near)
+        hart, count = rows.hart[row], rows.count_of(row)
+        for near in range(max(rows.harts[hart].counts[0], count - back), count + ahead + 1):
+            found = rows.row_of(hart, near)
             if found and len(self.wanted) < ROWS:
                 self.wanted.add(found)
 
     def want(self, start: int, ways: Iterable[int], looked_at: Iterable[int], edges: Sequence[PageEdge],
              race_rows: Iterable[int]) -> None:
         """What is likeliest looked at comes first."""
-        trace = self.trace
+        rows = self.rows
         self.around(start, 60, 5)
         for row in ways:
             self.around(row, 0, 0)
         for row in looked_at:
             self.around(row, 60, 60)
-        for row in trace.last.values():
+        for row in rows.last.values():
             self.around(row, 800, 0)
-        for interval in trace.log.intervals[-2000:]:
-            self.around(trace.row_of(interval.hart, interval.start), 0, 20)
+        for interval in rows.log.intervals[-2000:]:
+            self.around(rows.row_of(interval.hart, interval.start), 0, 20)
         for edge in edges[:-EDGES_WITH_ROWS - 1:-1]:
             self.around(edge.row, 12, 12)
             self.around(edge.source_row, 12, 12)
         for row in race_rows:
             self.around(row, 12, 12)
-        for hart, last in trace.last.items():
-            first, end = trace.harts[hart].counts[0], trace.count_of(last)
-            spots = max(1, SPOTS // len(trace.last))
+        for hart, last in rows.last.items():
+            first, end = rows.harts[hart].counts[0], rows.count_of(last)
+            spots = max(1, SPOTS // len(rows.last))
             for i in range(spots):
-                self.around(trace.row_of(hart, first + (end - first) * i // spots), 10, 10)
+                self.around(rows.row_of(hart, first + (end - first) * i // spots), 10, 10)
 
     def read(self) -> None:
         """Fills windows and nodes."""
-        self.page.places.fetch({self.trace.code_of(row).pc for row in self.wanted})
+        self.page.places.fetch({self.rows.code_of(row).pc for row in self.wanted})
         by_hart: dict[int, list[int]] = {}
         for row in sorted(self.wanted):
-            by_hart.setdefault(self.trace.hart[row], []).append(row)
+            by_hart.setdefault(self.rows.hart[row], []).append(row)
         for hart, rows in sorted(by_hart.items()):
             self.read_hart(hart, rows)
 
     def read_hart(self, hart: int, rows: Sequence[int]) -> None:
         window, before, expected = Window(hart, 0), -1, -1
         for row in rows:
-            count, node = self.trace.count_of(row), self.trace.node_of(row)
+            count, node = self.rows.count_of(row), self.calls.node_of(row)
             if count != expected:
                 window, before = Window(hart, count), -1
                 self.windows.append(window)
-            window.tails.append(self.trace.text(row).partition(" | ")[2])
-            window.codes.append(self.page.code(self.trace.pc[row]))
+            window.tails.append(self.rows.text(row).partition(" | ")[2])
+            window.codes.append(self.page.code(self.rows.code[row]))
             if node != before:
                 window.calls.append([count - window.first, self.node(node)])
                 before = node
@@ -101,7 +101,7 @@ class PageRows:
         """The page's number of a node of the calls, with those around it."""
         if node in self.top_known:
             return self.top_known[node]
-        tree, at = self.trace.tree, node
+        tree, at = self.calls.tree, node
         path: list[int] = []
         while at and len(path) < CALLS:
             path.append(tree.call_pc[at])
@@ -114,7 +114,7 @@ class PageRows:
 
     def cut_node(self, node: int) -> int:
         """The page's number of a node whose calls are left out, but for the outermost one."""
-        tree = self.trace.tree
+        tree = self.calls.tree
         top = self.add_node(0, self.page.place(tree.outermost[node]))
         return self.add_node(top, 1 - tree.depth[node]) if tree.depth[node] > 1 else top
 

@@ -77,9 +77,9 @@ class View:
     """Gathers what the page tells of a crash that `why` analysed."""
 
     def __init__(self, crash: Analysis) -> None:
-        self.crash, self.trace, self.log, self.places = crash, crash.trace, crash.log, crash.places
-        self.page = Page(self.trace, self.places, self.log)
-        self.fault = self.trace.fault if crash.faulted else None
+        self.crash, self.log, self.places = crash, crash.log, crash.places
+        self.page = Page(crash.trace, self.places, self.log)
+        self.fault = self.crash.rows.fault if crash.faulted else None
         self.suspects = crash.shown[:SUSPECTS]
         self.races: Optional[Races] = None
         self.race_groups: list[dict[str, Any]] = []
@@ -92,7 +92,7 @@ class View:
         if races.over:
             self.races_note = f"There are more than {number(RACES_ASKED)} races, so none is drawn; zelkuma race groups them."
             return
-        judged = Judged(races, self.trace, self.crash.history if self.fault else None)
+        judged = Judged(races, self.crash.trace, self.crash.history if self.fault else None)
         families = judged.families()
         self.race_groups = [self.race_group(races, judged, family) for family in families[:RACE_GROUPS]]
         self.race_total = len(families)
@@ -108,7 +108,7 @@ class View:
     def arc(self, pair: AccessPair) -> list[int]:
         """Hart, count and row of both accesses."""
         return [value for access in pair
-                for value in (access.hart, access.count, self.trace.row_of(access.hart, access.count))]
+                for value in (access.hart, access.count, self.crash.rows.row_of(access.hart, access.count))]
 
     def where(self) -> int:
         """The place of the end; if the fault is a jump to an address without code, that of the jump."""
@@ -130,7 +130,7 @@ class View:
                     calledFrom=[f"{frame.function} {frame.place}" for frame in self.crash.callers(item.guilty)])
 
     def step(self, words: str, row: int) -> dict[str, Any]:
-        told = self.trace.load_of(row)
+        told = self.crash.rows.load_of(row)
         word, about = "", ""
         if told:
             word = f"{told.address:08x}={told.value:08x}"
@@ -180,7 +180,7 @@ class View:
         rows = self.rows(edges, ways, origins)
         data: dict[str, Any] = dict(
             elf=os.path.basename(crash.elf.name), log=os.path.basename(log.shown), harts=log.harts, bytes=log.bytes,
-            rows=self.trace.rows, dropped=log.dropped, unread=log.unread, intervals=page.intervals(), segments=page.segments(),
+            rows=self.crash.rows.size, dropped=log.dropped, unread=log.unread, intervals=page.intervals(), segments=page.segments(),
             edges=edges, allEdges=len(log.edges.counts), strips=strips, functions=functions,
             ends=[[hart, end.count, end.reason, f"{end.value:08x}"] for hart, end in sorted(log.ends.items())],
             races=self.race_groups, allRaces=self.races.total if self.races else 0,
@@ -194,7 +194,7 @@ class View:
     def end_data(self) -> dict[str, Any]:
         """What is told of the end, and of what is behind it."""
         crash, history = self.crash, self.crash.history
-        final = self.trace.final[self.trace.hart[crash.start]]
+        final = self.crash.rows.final[self.crash.rows.hart[crash.start]]
         return dict(
             start=self.page.point(crash.start), where=self.where(), notes=crash.notes + unread(crash) + crash.places.trouble(),
             fault=[self.fault.name, f"{self.fault.value:08x}"] if self.fault else None,
@@ -216,7 +216,7 @@ class View:
     def words(self) -> list[str]:
         if self.crash.output:
             return output_lines(self.crash, self.crash.output)
-        return fault_words(self.trace, self.fault, self.crash.named) if self.fault else []
+        return fault_words(self.crash.rows, self.fault, self.crash.named) if self.fault else []
 
     def title(self) -> str:
         elf = os.path.basename(self.crash.elf.name)

@@ -10,8 +10,7 @@ from ..recording.log import At, Log
 from ..recording.naming import named_elf
 from ..recording.races import Races
 from ..recording.recent import FIRST_ROWS, MORE_ROWS, LogFile, open_log
-from ..recording.rows import read_trace
-from ..recording.trace import Trace
+from ..recording.trace import Trace, read_trace
 from .control import Control
 from .facts import Byte, Facts, Written, asked_row, find_starts, writer_of, written
 from .formatted import begin_at_argument
@@ -80,7 +79,7 @@ def analysed(log_name: str, elf_name: str, names: str = "", row: str = "", rows:
         entries, most = entries_of(named), rows or FIRST_ROWS
         log = source.end(most, asked)
         trace = read_trace(log, elf_name, entries, 2 * most, asked)
-        if (log.unread or trace.passed) and not rows and trace.last:
+        if (log.unread or trace.rows.passed) and not rows and trace.rows.last:
             more = source.end(MORE_ROWS, asked)
             with streams.working("values from before are looked for"):
                 is_short = needs_more(trace, log, more, row, byte)
@@ -99,5 +98,5 @@ def analysed(log_name: str, elf_name: str, names: str = "", row: str = "", rows:
 def needs_more(trace: Trace, log: Log, more: Log, row: str, byte: Written | None) -> bool:
     """Whether values near the start come from before the rows."""
     starts = [writer_of(trace, byte)] if byte else find_starts(log, trace, row)
-    unstored = byte and starts[0] == trace.row_of(byte.call.hart, byte.call.count)
+    unstored = byte and starts[0] == trace.rows.row_of(byte.call.hart, byte.call.count)
     return bool(unstored) or leads_into(History(trace, starts, is_output=byte is not None), log, more)

@@ -14,41 +14,41 @@ from .suspect import Suspect
 
 
 def row_of(facts: Analysis, n: int) -> dict[str, Any]:
-    return {"hart": facts.trace.hart[n], "count": facts.trace.count_of(n), "row": facts.trace.text(n),
+    return {"hart": facts.rows.hart[n], "count": facts.rows.count_of(n), "row": facts.rows.text(n),
             "place": place_of(facts.places, facts.pc_of(n))}
 
 
 def why_answer(facts: Analysis) -> dict[str, Any]:
-    trace, log, stack = facts.trace, facts.log, facts.stack(facts.start, LONGEST)
-    hart = trace.hart[facts.start]
+    rows, log, stack = facts.rows, facts.log, facts.stack(facts.start, LONGEST)
+    hart = rows.hart[facts.start]
     end = log.ends[hart]
     return {
         "log": log.shown, "elf": facts.elf.name, "faulted": facts.faulted,
         "ends": [{"hart": each, "count": one.count, "reason": one.reason, "value": f"{one.value:08x}"}
                  for each, one in sorted(log.ends.items())],
         "reason": end.reason, "value": f"{end.value:08x}", "start": row_of(facts, facts.start),
-        "words": fault_words(trace, trace.fault, facts.named) if trace.fault and facts.faulted else [],
+        "words": fault_words(rows, rows.fault, facts.named) if rows.fault and facts.faulted else [],
         "calls": [{"address": f"{frame.address:08x}", "function": frame.function, "place": frame.place,
                    "inlined": frame.inlined} for frame in stack.frames],
         "calls_cut": stack.is_cut,
         "hang": hang_lines(facts, True) if facts.loops else [],
         "loops": [loop_answer(facts, loop) for loop in facts.loops],
-        "registers": {} if facts.asked or facts.output else {name: f"{value:08x}" for name, value in zip(NAMES, trace.final[hart])},
-        "last_rows": [trace.text(n) for n in facts.last],
+        "registers": {} if facts.asked or facts.output else {name: f"{value:08x}" for name, value in zip(NAMES, rows.final[hart])},
+        "last_rows": [rows.text(n) for n in facts.last],
         "suspects": [suspect_answer(facts, item) for item in facts.shown[:LONGEST]],
         "values": [{"hart": line.hart, "place": line.place, "rows": line.rows, "cost": line.cost,
-                    "latest": trace.text(line.latest)} for line in facts.lines[:LONGEST]],
+                    "latest": rows.text(line.latest)} for line in facts.lines[:LONGEST]],
         "before": [{"words": origin.words, "place": origin.place, "loads": loads.times}
                    for origin, loads in facts.origin.items()],
         "races": None if facts.races.over else facts.races.total,
-        "rows": trace.rows, "unread_bytes": log.unread, "dropped_records": 0 if log.unread else log.dropped,
+        "rows": rows.size, "unread_bytes": log.unread, "dropped_records": 0 if log.unread else log.dropped,
         "notes": facts.notes + facts.places.trouble()}
 
 
 def loop_answer(facts: Analysis, loop: Loop) -> dict[str, Any]:
     """The loop of a hart at its limit; `places` is empty if none is seen."""
-    codes = facts.trace.codes
-    return {"hart": loop.hart, "since": facts.trace.count_of(loop.first), "rows": loop.rows, "rounds": loop.rounds,
+    codes = facts.rows.codes
+    return {"hart": loop.hart, "since": facts.rows.count_of(loop.first), "rows": loop.size, "rounds": loop.rounds,
             "places": [f"{pc:08x}" for pc in sorted(codes[at].pc for at in loop.places)[:LONGEST]],
             "exits": [{"times": item.times, **row_of(facts, item.row)} for item in loop.exits[:LONGEST] if item.leads_out],
             "stopped": [{"times": item.times, **row_of(facts, item.row)} for item in loop.stopped[:LONGEST]]}

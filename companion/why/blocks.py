@@ -11,7 +11,8 @@ from typing import NamedTuple, Optional, Sequence
 
 from ..recording.elf import WRITABLE, Elf
 from ..recording.instruction import JUMP, RA
-from ..recording.trace import LOADS, STORES, Trace
+from ..recording.rows import LOADS, STORES
+from ..recording.trace import Trace
 
 LOWEST, NEAR, LARGEST = 4096, 1024, 1 << 16
 MOST_JUMPS = 500000         # so many of the latest calls and returns are looked at, which bounds the memory
@@ -43,17 +44,18 @@ class CallWith(NamedTuple):
 class Blocks:
     """by_address   {address: the blocks that were given out there, in order}; addresses: these, sorted
     arguments    {address: the calls with it, in order}
-    writers      {row: the blocks whose address it wrote into a0}
+    wrote        {row: the blocks whose address it wrote into a0}
     taker        {giver: taker}
     own          the functions that hand out memory and take it back, and not those that call them to do it"""
 
     def __init__(self, trace: Trace, elf: Elf) -> None:
-        self.trace, self.elf = trace, elf
+        self.rows, self.writers, self.calls = trace
+        self.elf = elf
         self.by_address: dict[int, list[Block]] = {}
         self.arguments: dict[int, list[CallWith]] = {}
-        self.writers: dict[int, list[Block]] = {}
+        self.wrote: dict[int, list[Block]] = {}
         self.taker: dict[int, int] = {}
-        self.first = max(0, len(trace.jumps) - MOST_JUMPS)
+        self.first = max(0, len(self.calls.jumps) - MOST_JUMPS)
         found = self.matched()
         givers = self.givers(found)
         self.collect(found, givers)
@@ -64,16 +66,16 @@ class Blocks:
             givers -= untrue
             self.collect(found, givers)
         self.own = self.allocators([given.block for given in found if given.block.giver in givers])
-        self.leads = {ins.pc: ins.leads for ins in trace.codes if ins.kind == JUMP}
+        self.leads = {ins.pc: ins.leads for ins in self.rows.codes if ins.kind == JUMP}
         self.own_nodes: dict[int, bool] = {}
 
     def collect(self, found: list[Given], givers: set[int]) -> None:
         """The blocks of these givers, and the calls with them."""
-        self.by_address, self.arguments, self.writers = {}, {}, {}
+        self.by_address, self.arguments, self.wrote = {}, {}, {}
         for given in found:
             if given.block.giver in givers:
                 self.add(given.block)
-                self.writers.setdefault(given.writer, []).append(given.block)
+                self.wrote.setdefault(given.writer, []).append(given.block)
         self.addresses = sorted(self.by_address)
         self.collect_arguments()
         self.taker = self.takers()
@@ -87,41 +89,39 @@ class Blocks:
 
     def matched(self) -> list[Given]:
         """The blocks of all calls that return an address of data."""
-        trace, found = self.trace, []
+        rows, calls, found = self.rows, self.calls, []
         stacks: dict[int, list[int]] = {}       # {hart: its calls, as places among the jumps}
-        for at in range(self.first, len(trace.jumps)):
-            n = trace.jumps[at]
-            stack = stacks.setdefault(trace.hart[n], [])
-            if trace.code_of(n).call:
+        for at in range(self.first, len(calls.jumps)):
+            n = calls.jumps[at]
+            stack = stacks.setdefault(rows.hart[n], [])
+            if rows.code_of(n).call:
                 stack.append(at)
                 continue
             call = self.call_behind(n, stack)
-            address = trace.jump_a0[at]
-            if call is not None and self.is_given(address, trace.jump_a0[call]):
-                entry = self.entry(trace.jumps[call])
-                found.append(Given(Block(trace.jumps[call], n, entry, address), trace.jump_writer[at]))
+            address = calls.a0[at]
+            if call is not None and self.is_given(address, calls.a0[call]):
+                entry = self.entry(calls.jumps[call])
+                found.append(Given(Block(calls.jumps[call], n, entry, address), calls.writers[at]))
         return found
 
     def call_behind(self, n: int, stack: list[int]) -> Optional[int]:
         """The call that a return belongs to: the one that the next row follows."""
-        trace = self.trace
-        known = n < trace.rows and trace.hart[n + 1] == trace.hart[n]
+        rows, calls = self.rows, self.calls
+        known = n < rows.size and rows.hart[n + 1] == rows.hart[n]
         while stack:
             call = stack.pop()
-            if not known or trace.code_of(trace.jumps[call]).pc + 4 == trace.code_of(n + 1).pc:
+            if not known or rows.code_of(calls.jumps[call]).pc + 4 == rows.code_of(n + 1).pc:
                 return call
         return None
 
     def entry(self, call: int) -> int:
         """The called function's first address: the place of its first row."""
-        trace, hart, n = self.trace, self.trace.hart[call], call + 1
-        while n <= trace.rows and trace.hart[n] != hart:
-            n += 1
-        return trace.code_of(n).pc if n <= trace.rows else 0
+        n = self.rows.following(call)
+        return self.rows.code_of(n).pc if n else 0
 
     def is_given(self, address: int, argument: int) -> bool:
         part = self.elf.part_of(address)
-        return (address % 4 == 0 and LOWEST <= address < self.trace.log.memory and not (part and not part.flags & WRITABLE)
+        return (address % 4 == 0 and LOWEST <= address < self.rows.log.memory and not (part and not part.flags & WRITABLE)
                 and abs(address - argument) >= NEAR)
 
     def givers(self, found: list[Given]) -> set[int]:
@@ -130,10 +130,10 @@ class Blocks:
         again: dict[int, int] = {}
         alone: dict[int, int] = {}
         calls: dict[int, list[int]] = {}
-        for at in range(self.first, len(self.trace.jumps)):
-            n = self.trace.jumps[at]
-            if self.trace.code_of(n).rd == RA:
-                calls.setdefault(self.trace.jump_a0[at], []).append(n)
+        for at in range(self.first, len(self.calls.jumps)):
+            n = self.calls.jumps[at]
+            if self.rows.code_of(n).rd == RA:
+                calls.setdefault(self.calls.a0[at], []).append(n)
         for block in (given.block for given in found):
             key = block.giver, block.address
             before = latest.get(key)
@@ -147,16 +147,16 @@ class Blocks:
         return {giver for giver, _ in latest if alone.get(giver, 0) <= again.get(giver, 0)}
 
     def collect_arguments(self) -> None:
-        trace = self.trace
-        for at in range(self.first, len(trace.jumps)):
-            n = trace.jumps[at]
-            if trace.jump_a0[at] in self.by_address and trace.code_of(n).rd == RA:
-                self.arguments.setdefault(trace.jump_a0[at], []).append(CallWith(n, self.entry(n)))
-        for tail in trace.tails:
+        rows, calls = self.rows, self.calls
+        for at in range(self.first, len(calls.jumps)):
+            n = calls.jumps[at]
+            if calls.a0[at] in self.by_address and rows.code_of(n).rd == RA:
+                self.arguments.setdefault(calls.a0[at], []).append(CallWith(n, self.entry(n)))
+        for tail in calls.tails:
             if tail.a0 in self.by_address:
                 self.arguments.setdefault(tail.a0, []).append(CallWith(tail.row, self.entry(tail.row)))
-        for calls in self.arguments.values():
-            calls.sort()
+        for made in self.arguments.values():
+            made.sort()
 
     def takers(self) -> dict[int, int]:
         """Of each giver the function that is called most often between two times that it gives an address out."""
@@ -190,14 +190,14 @@ class Blocks:
 
     def is_own(self, n: int) -> bool:
         """Whether a row is an allocator's own."""
-        tree, node = self.trace.tree, self.trace.node_of(n)
+        tree, node = self.calls.tree, self.calls.node_of(n)
         passed: list[int] = []
         while node and node not in self.own_nodes:
             passed.append(node)
             node = tree.parent[node]
         for each in reversed(passed):
             self.own_nodes[each] = self.leads.get(tree.call_pc[each]) in self.own or self.own_nodes.get(tree.parent[each], False)
-        return self.own_nodes.get(self.trace.node_of(n), False)
+        return self.own_nodes.get(self.calls.node_of(n), False)
 
     def behind(self, row: int, address: int) -> Optional[Block]:
         """The block that a pointer came from, by the row that wrote the pointer and the address that it leads to."""
@@ -205,7 +205,7 @@ class Blocks:
         best: Optional[Block] = None
         while todo and len(seen) < STEPS:
             n = todo.pop()
-            for block in self.writers.get(n, ()):
+            for block in self.wrote.get(n, ()):
                 if 0 <= address - block.address < LARGEST and (best is None or self.rank(block) > self.rank(best)):
                     best = block
             if best is not None and n < best.call:
@@ -225,7 +225,7 @@ class Blocks:
         found = []
         for address, blocks in self.by_address.items():
             for block, following in zip(blocks, blocks[1:] + [None]):
-                rows = self.given_back(block, block.back, following.call if following else self.trace.rows + 1)
+                rows = self.given_back(block, block.back, following.call if following else self.rows.size + 1)
                 found += list(zip(rows, rows[1:]))
         return sorted(found)
 
@@ -242,12 +242,12 @@ class Blocks:
 
     def sources(self, n: int) -> list[int]:
         """The rows that a row's value comes from."""
-        trace = self.trace
-        if trace.flags[n] & LOADS:
-            return trace.writers(n).rows
-        if trace.flags[n] & STORES:
-            return [trace.d2[n]]
-        return [trace.before_counting(n), trace.d2[n]] if trace.code_of(n).rd else []
+        rows, writers = self.rows, self.writers
+        if rows.flags[n] & LOADS:
+            return writers.stores(n).rows
+        if rows.flags[n] & STORES:
+            return [writers.second[n]]
+        return [writers.before_counting(n), writers.second[n]] if rows.code_of(n).rd else []
 
     def given_back(self, block: Block, low: int, high: int) -> list[int]:
         """The calls of the taker with a block's address between two rows."""

@@ -32,8 +32,8 @@ class Compared(NamedTuple):
 
 
 def compared(facts: Facts, row: int) -> Compared:
-    trace, ins = facts.trace, facts.trace.code_of(row)
-    return Compared(trace.result_of(trace.d1[row]) if ins.rs1 else 0, trace.result_of(trace.d2[row]) if ins.rs2 else 0)
+    rows, writers, ins = facts.rows, facts.writers, facts.rows.code_of(row)
+    return Compared(rows.result_of(writers.first[row]) if ins.rs1 else 0, rows.result_of(writers.second[row]) if ins.rs2 else 0)
 
 
 def branch_suspects(facts: Facts, history: History) -> list[Suspect]:
@@ -55,7 +55,7 @@ def branch_suspects(facts: Facts, history: History) -> list[Suspect]:
         judge_way(suspect, way)
         if suspect.shown:
             add_stored(facts, suspect)
-        if way.all_times == 1 and not facts.trace.node_of(row) and not facts.trace.is_cut(row):
+        if way.all_times == 1 and not facts.calls.node_of(row) and not facts.rows.is_cut(row):
             suspect.sign(-ENTRY, "it ran once, before any call")
         if facts.line(decided.row) == line:
             suspect.score += SAME_LINE
@@ -65,10 +65,10 @@ def branch_suspects(facts: Facts, history: History) -> list[Suspect]:
 
 def exit_suspects(facts: Facts) -> list[Suspect]:
     """Branches that would have ended the loop of a hart that hangs, those of its outermost function first."""
-    trace, found = facts.trace, {}
+    calls, found = facts.calls, {}
     for loop in facts.loops:
         exits = [item for item in loop.exits if item.leads_out]
-        depths = {item.row: trace.tree.depth[trace.node_of(item.row)] for item in exits}
+        depths = {item.row: calls.tree.depth[calls.node_of(item.row)] for item in exits}
         for item in exits:
             line = facts.line(item.row)
             if line not in found:
@@ -81,15 +81,15 @@ def exit_suspects(facts: Facts) -> list[Suspect]:
 
 def judge_values(facts: Facts, suspect: Suspect) -> None:
     """The signs of what a branch compared."""
-    trace, row = facts.trace, suspect.guilty
+    rows, row = facts.rows, suspect.guilty
     one, other = compared(facts, row)
     if one is not None and other is not None:
         words = f"it compared {one:08x} with {other:08x}"
-        if one == other and trace.code_of(row).name.startswith(ORDERS):
+        if one == other and rows.code_of(row).name.startswith(ORDERS):
             suspect.sign(EQUAL, words + ", which are the same: is the bound one off?")
         else:
             suspect.why.append(words)
-    cut = cut_behind(trace, trace.d1[row]) or cut_behind(trace, trace.d2[row])
+    cut = cut_behind(facts.trace, facts.writers.first[row]) or cut_behind(facts.trace, facts.writers.second[row])
     if cut:
         suspect.sign(CUT, "of which one had lost bits")
         suspect.extra.append(Extra(cut.words + " in", cut.row))
@@ -98,7 +98,7 @@ def judge_values(facts: Facts, suspect: Suspect) -> None:
 def add_stored(facts: Facts, suspect: Suspect) -> None:
     """Tells who stored a word that a branch compared as it was loaded, if it was another line."""
     for operand in operands_of(facts.trace, suspect.guilty):
-        if operand.store and operand.load == operand.row and not facts.trace.is_spill(operand.load, operand.store):
+        if operand.store and operand.load == operand.row and not facts.rows.is_spill(operand.load, operand.store):
             told = {facts.line(n) for n in [suspect.guilty] + [extra.row for extra in suspect.extra]}
             if facts.line(operand.store) not in told:
                 suspect.extra.append(Extra("a value that it compared was stored in", operand.store))
@@ -127,20 +127,18 @@ class Ways:
     """How often each branch went each way."""
 
     def __init__(self, facts: Facts) -> None:
-        self.trace = facts.trace
+        self.rows = facts.rows
         self.times: Counter[tuple[int, int]] = Counter()
-        for hart in self.trace.last:
-            codes = array("I", compress(self.trace.pc, rows_of(self.trace, hart)))
+        for hart in self.rows.last:
+            codes = array("I", compress(self.rows.code, rows_of(self.rows, hart)))
             self.times.update(pairs_of(codes))
         self.all_times: Counter[int] = Counter()
         for (at, _), times in self.times.items():
             self.all_times[at] += times
 
     def of(self, row: int) -> Way:
-        trace, n = self.trace, row + 1
-        while n <= trace.rows and trace.hart[n] != trace.hart[row]:
-            n += 1
-        if n > trace.rows:
+        rows, n = self.rows, self.rows.following(row)
+        if not n:
             return Way(0, 0, False)
-        at = trace.pc[row]
-        return Way(self.times[at, trace.pc[n]], self.all_times[at], trace.code_of(n).pc < trace.code_of(row).pc)
+        at = rows.code[row]
+        return Way(self.times[at, rows.code[n]], self.all_times[at], rows.code_of(n).pc < rows.code_of(row).pc)

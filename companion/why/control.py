@@ -8,12 +8,14 @@ from typing import Callable, Mapping, Optional
 
 from ..recording.elf import Elf
 from ..recording.instruction import BRANCH, JUMP, Instruction
-from ..recording.trace import LOADS, Trace
+from ..recording.rows import LOADS
+from ..recording.trace import Trace
 
 MOST_PLACES = 4000          # so many places are looked at for a way round
 MOST_ROWS = 2000            # so many rows are looked at for a branch
 MOST_STEPS = 24             # rows of a value that are looked at for the load that it came from
 BESIDE = 32                 # how near the words of an object are
+MOST_WRITERS, WRITERS_CALLS = 20, 2     # stores to a word before one, and calls over each
 
 
 class Control:
@@ -21,17 +23,18 @@ class Control:
 
     def __init__(self, trace: Trace, elf: Elf, entered: Optional[Mapping[int, int]] = None) -> None:
         self.trace, self.elf, self.entered = trace, elf, entered or {}
-        self.code: dict[int, Optional[Instruction]] = {ins.pc: ins for ins in trace.codes}
+        self.rows, self.writers, self.calls = trace
+        self.code: dict[int, Optional[Instruction]] = {ins.pc: ins for ins in trace.rows.codes}
         self.ways: dict[tuple[int, int], bool] = {}
         self.call_of = self.matched()
 
     def matched(self) -> dict[int, int]:
         """{row of a return: the row of its call}"""
-        trace, found = self.trace, {}
+        rows, calls, found = self.rows, self.calls, {}
         stacks: dict[int, list[int]] = {}
-        for n in trace.jumps:
-            stack = stacks.setdefault(trace.hart[n], [])
-            if trace.code_of(n).call:
+        for n in calls.jumps:
+            stack = stacks.setdefault(rows.hart[n], [])
+            if rows.code_of(n).call:
                 stack.append(n)
             elif stack:
                 found[n] = stack.pop()
@@ -39,17 +42,17 @@ class Control:
 
     def before(self, row: int) -> int:
         """The branch that decided that a row was reached, or 0."""
-        trace, hart = self.trace, self.trace.hart[row]
+        rows, hart = self.rows, self.rows.hart[row]
         # A loop that waits for other harts hasn't its reason in what this one did.
-        first = self.entered.get(hart, row) if len(trace.last) == 1 else row
-        place, after = trace.code_of(row).pc, min(row, first)
+        first = self.entered.get(hart, row) if len(rows.last) == 1 else row
+        place, after = rows.code_of(row).pc, min(row, first)
         n = after - 1
         for _ in range(MOST_ROWS):
             if n <= 0:
                 break
-            if trace.hart[n] == hart:
-                ins = trace.code_of(n)
-                if ins.kind == BRANCH and self.is_decided(ins, trace.code_of(after).pc, place):
+            if rows.hart[n] == hart:
+                ins = rows.code_of(n)
+                if ins.kind == BRANCH and self.is_decided(ins, rows.code_of(after).pc, place):
                     return n
                 if ins.call:
                     place = ins.pc              # the row's function was called here
@@ -100,50 +103,59 @@ class Control:
     def kept(self, load: int, store: int, place: int = 0) -> int:
         """The latest branch between a store and the load that got it which went past a place, or else the store's own, or 0.
         Had it gone the other way, the word would have been stored again."""
-        if self.trace.hart[store] != self.trace.hart[load]:
+        if self.rows.hart[store] != self.rows.hart[load]:
             return 0
-        return self.passed(store, load, place or self.trace.code_of(store).pc, self.is_past)
+        return self.passed(store, load, place or self.rows.code_of(store).pc, self.is_past)
 
     def spared(self, load: int, store: int) -> int:
         """The latest branch between a store and the load that got it which went past what stored the word before, and
         compared a value of the same object. Or 0."""
-        trace, after = self.trace, load
-        if trace.hart[store] != trace.hart[load]:
+        rows, after = self.rows, load
+        if rows.hart[store] != rows.hart[load]:
             return 0
-        places, word = trace.storing_places(store), trace.access(load).address
+        places, word = self.storing_places(store), rows.access(load).address
         for n in range(load - 1, max(store, load - MOST_ROWS), -1):
-            if trace.hart[n] == trace.hart[load]:
-                if trace.code_of(n).kind == BRANCH and self.is_beside(n, word):
-                    went = trace.code_of(after).pc
+            if rows.hart[n] == rows.hart[load]:
+                if rows.code_of(n).kind == BRANCH and self.is_beside(n, word):
+                    went = rows.code_of(after).pc
                     if any(self.is_past(n, went, place) for place in places):
                         return n
                 after = n
         return 0
 
+    def storing_places(self, store: int) -> set[int]:
+        """The places that stored a store's word up to it, and those of the innermost calls over them."""
+        found: set[int] = set()
+        for _ in range(MOST_WRITERS):
+            if store:
+                found.update([self.rows.code_of(store).pc] + self.calls.above(store, WRITERS_CALLS).calls)
+                store = self.writers.word[store]
+        return found
+
     def is_beside(self, branch: int, word: int) -> bool:
         """Whether a branch compared a value from a place near a word."""
-        for row in (self.trace.d1[branch], self.trace.d2[branch]):
+        for row in (self.writers.first[branch], self.writers.second[branch]):
             load = load_behind(self.trace, row)
-            if load and abs(self.trace.access(load).address - word) <= BESIDE:
+            if load and abs(self.rows.access(load).address - word) <= BESIDE:
                 return True
         return False
 
     def left(self, store: int) -> int:
         """The latest branch of a store's hart from which it could have come to the store again, and can't since. Or 0."""
-        return self.passed(store, self.trace.last[self.trace.hart[store]], self.trace.code_of(store).pc, self.is_left)
+        return self.passed(store, self.rows.last[self.rows.hart[store]], self.rows.code_of(store).pc, self.is_left)
 
     def passed(self, store: int, end: int, place: int, has_passed: Callable[[int, int, int], bool]) -> int:
-        trace, hart = self.trace, self.trace.hart[store]
+        rows, hart = self.rows, self.rows.hart[store]
         after = end = min(end, max(store, self.entered.get(hart, end)))
         for n in range(end - 1, max(store, end - MOST_ROWS), -1):
-            if trace.hart[n] == hart:
-                if trace.code_of(n).kind == BRANCH and has_passed(n, trace.code_of(after).pc, place):
+            if rows.hart[n] == hart:
+                if rows.code_of(n).kind == BRANCH and has_passed(n, rows.code_of(after).pc, place):
                     return n
                 after = n
         return 0
 
     def is_left(self, n: int, went: int, place: int) -> bool:
-        other = other_side(self.trace.code_of(n), went)
+        other = other_side(self.rows.code_of(n), went)
         return other is not None and self.can_reach(other, place) and not self.can_reach(went, place)
 
     def can_reach(self, start: int, place: int) -> bool:
@@ -160,7 +172,7 @@ class Control:
 
     def is_past(self, n: int, went: int, place: int) -> bool:
         """Whether a branch could have gone on to a place that its way doesn't come to. A way back is a loop's."""
-        branch = self.trace.code_of(n)
+        branch = self.rows.code_of(n)
         other = other_side(branch, went)
         return other is not None and other > branch.pc and not self.can_avoid(other, place) and self.can_avoid(went, place)
 
@@ -172,11 +184,11 @@ def load_behind(trace: Trace, row: int) -> int:
         if n in seen:
             continue
         seen.add(n)
-        if trace.flags[n] & LOADS:
+        if trace.rows.flags[n] & LOADS:
             return n
         if len(seen) > MOST_STEPS:
             break
-        todo += [trace.d1[n], trace.d2[n]]
+        todo += [trace.writers.first[n], trace.writers.second[n]]
     return 0
 
 

@@ -11,7 +11,8 @@ from ..recording.instruction import STORE
 from ..recording.log import WRITE_CALL, At, Log, SystemCall
 from ..recording.naming import NO_TOOL, places_of
 from ..recording.places import Frame
-from ..recording.trace import LOADS, Trace
+from ..recording.rows import LOADS
+from ..recording.trace import Trace
 from .loops import Loop
 
 LAST_ROWS = 12
@@ -63,24 +64,25 @@ class Facts:
                  folders: Sequence[str] = ()) -> None:
         self.output = output
         self.log, self.elf, self.named, self.trace, self.asked = log, elf, named, trace, row
+        self.rows, self.writers, self.calls = trace
         self.places = places_of(named, folders)
         self.notes = self.first_notes()
-        if not trace.last:
+        if not trace.rows.last:
             raise CompanionError(f"the log holds no row: the records of a hart's last interval passed its --log-size "
                                  f"{log.size}; --format 2 keeps the interval of a crash", NO_INTERVAL)
-        asks_of_end = not row and not output and not trace.fault
+        asks_of_end = not row and not output and not trace.rows.fault
         self.loops = [Loop(trace, hart) for hart in limited(log, trace)] if asks_of_end else []
         exits = [item.row for loop in self.loops for item in loop.exits[:MOST_EXITS] if item.leads_out]
         self.stored = writer_of(trace, output) if output else 0
         self.starts = [self.stored] if output else exits or find_starts(log, trace, row)
         self.hangs = bool(self.loops)
         self.begin_at(self.starts[0])
-        self.faulted = trace.fault is not None and trace.fault.row == self.start
+        self.faulted = trace.rows.fault is not None and trace.rows.fault.row == self.start
 
     def begin_at(self, row: int) -> None:
         """Lets the report be about a row."""
         self.starts[0] = self.start = row
-        self.last = self.trace.last_rows(row, LAST_ROWS)
+        self.last = self.rows.last_rows(row, LAST_ROWS)
 
     def first_notes(self) -> list[str]:
         if not self.named.symbols:
@@ -91,7 +93,7 @@ class Facts:
         self.places.close()
 
     def pc_of(self, n: int) -> int:
-        return self.trace.code_of(n).pc
+        return self.rows.code_of(n).pc
 
     def where(self, n: int) -> str:
         return self.places.where(self.pc_of(n))
@@ -104,7 +106,7 @@ class Facts:
 
     def stack(self, n: int, most: int) -> Stack:
         """The place of a row and so many of the calls over it, innermost first."""
-        above = self.trace.tree.calls(self.trace.node_of(n), most)
+        above = self.calls.above(n, most)
         chain = [self.pc_of(n)] + above.calls + ([above.first] if above.more else [])
         self.places.fetch(chain)
         said = []
@@ -113,7 +115,7 @@ class Facts:
             for depth, frame in enumerate(frames, 1):
                 place = f"{frame.file}:{frame.line}" if frame.line else ""
                 said.append(StackFrame(at, frame.function, place, depth < len(frames)))
-        return Stack(said, max(0, above.more - 1), self.trace.is_cut(n))
+        return Stack(said, max(0, above.more - 1), self.rows.is_cut(n))
 
     def is_own(self, n: int) -> bool:
         """Whether the source of a row is here, or that of one of the innermost calls over it."""
@@ -131,24 +133,24 @@ def find_starts(log: Log, trace: Trace, row: str) -> list[int]:
     """The rows that a history begins with."""
     if row:
         return [find_row(trace, asked_row(row))]
-    if trace.fault:
-        return [trace.fault.row]
+    if trace.rows.fault:
+        return [trace.rows.fault.row]
     harts = limited(log, trace)
     if not harts:
-        return [max(trace.last.values())]
+        return [max(trace.rows.last.values())]
     # What a hart that hangs waits for is in the loads of its loop.
     loads: list[int] = []
     seen: set[int] = set()
-    for n in reversed(trace.last_rows(trace.last[harts[0]], LOOP_ROWS)):
-        if trace.flags[n] & LOADS and trace.pc[n] not in seen and len(loads) < MOST_LOADS:
-            seen.add(trace.pc[n])
+    for n in reversed(trace.rows.last_rows(trace.rows.last[harts[0]], LOOP_ROWS)):
+        if trace.rows.flags[n] & LOADS and trace.rows.code[n] not in seen and len(loads) < MOST_LOADS:
+            seen.add(trace.rows.code[n])
             loads.append(n)
-    return loads or [trace.last[harts[0]]]
+    return loads or [trace.rows.last[harts[0]]]
 
 
 def limited(log: Log, trace: Trace) -> list[int]:
     """The harts that came to their limit."""
-    return [hart for hart, end in sorted(log.ends.items()) if end.reason == "limit" and hart in trace.last]
+    return [hart for hart, end in sorted(log.ends.items()) if end.reason == "limit" and hart in trace.rows.last]
 
 
 def written(log: Log, byte: Byte) -> Written:
@@ -162,11 +164,8 @@ def written(log: Log, byte: Byte) -> Written:
 
 def writer_of(trace: Trace, byte: Written) -> int:
     """The store that gave a byte of the output, or else the row that wrote it."""
-    row, place = trace.row_of(byte.call.hart, byte.call.count), byte.call.address + byte.place
-    writer = trace.writer_before(place & ~3, row)
-    while writer and trace.code_of(writer).kind == STORE and not trace.mask(writer) >> (place & 3) & 1:
-        writer = trace.dm[writer]
-    return writer or row
+    row = trace.rows.row_of(byte.call.hart, byte.call.count)
+    return trace.writers.store_before(byte.call.address + byte.place, row) or row
 
 
 def asked_row(row: str) -> At:
@@ -184,7 +183,7 @@ def asked_byte(text: str) -> Byte:
 
 
 def find_row(trace: Trace, at: At) -> int:
-    n = trace.row_of(at.hart, at.count)
+    n = trace.rows.row_of(at.hart, at.count)
     if not n:
         raise CompanionError(f"the log holds no row {at.hart}:{at.count}", NO_INTERVAL)
     return n

@@ -4,7 +4,7 @@ from __future__ import annotations
 from ..call.text import as_text
 from ..recording.elf import Elf
 from ..recording.instruction import AMO, LOAD, NAMES, OP_SYSTEM, SP, STORE
-from ..recording.trace import Fault, Trace
+from ..recording.rows import Fault, Rows
 
 # Words that other processors know, and registers that words with this opcode access.
 PRIVILEGED = {0x30200073: "mret", 0x10200073: "sret", 0x10500073: "wfi"}
@@ -17,23 +17,23 @@ PAGE = 4096                 # nothing below is mapped
 VERBS = {"Load": "loads from", "Store": "stores to", "Fetch": "jumps to", "Target": "jumps to"}
 
 
-def fault_words(trace: Trace, fault: Fault, elf: Elf) -> list[str]:
+def fault_words(rows: Rows, fault: Fault, elf: Elf) -> list[str]:
     """The fault in words, as lines."""
     value, ins = fault.value, fault.instruction
-    said = [reason(trace, elf, fault)]
+    said = [reason(rows, elf, fault)]
     if fault.name in ("Breakpoint", "Illegal"):
         return said
-    base = trace.regs[ins.rs1] if ins.rs1 else 0
+    base = rows.final[fault.hart][ins.rs1] if ins.rs1 else 0
     text = next((guess for guess in (value, base) if as_text(guess)), None)
     if text is not None:
         said.append(f"As text {text:08x} is '{as_text(text)}': text was taken for a pointer.")
     if ins.rs1 and ins.kind in (LOAD, STORE, AMO):
         offset = (value - base + (1 << 31)) % (1 << 32) - (1 << 31)
         said.append(f"The address is {NAMES[ins.rs1]} = {base:08x}{f' {offset:+d}' if offset else ''}.")
-    return said + jump_words(trace, fault) + stack_words(trace, elf, ins.rs1)
+    return said + jump_words(rows, fault) + stack_words(rows.final[fault.hart][SP], elf, ins.rs1)
 
 
-def reason(trace: Trace, elf: Elf, fault: Fault) -> str:
+def reason(rows: Rows, elf: Elf, fault: Fault) -> str:
     name, value, ins = fault.name, fault.value, fault.instruction
     verb = "updates" if ins.kind == AMO else next((word for start, word in VERBS.items() if name.startswith(start)), "")
     if name == "Breakpoint":
@@ -47,8 +47,8 @@ def reason(trace: Trace, elf: Elf, fault: Fault) -> str:
     if value < PAGE:
         what = "a null pointer" if value == 0 else f"a null pointer and an offset of {value}"
         return f"It {verb} {value:08x}: {what} (nothing below {PAGE:08x} is mapped)."
-    if value >= trace.log.memory:
-        return f"It {verb} {value:08x}, which is not mapped: memory ends at {trace.log.memory:08x}."
+    if value >= rows.log.memory:
+        return f"It {verb} {value:08x}, which is not mapped: memory ends at {rows.log.memory:08x}."
     return f"It {verb} {value:08x}, where there is no code."
 
 
@@ -69,19 +69,18 @@ def near(elf: Elf, address: int) -> str:
     return f" ({name})" if name else ""
 
 
-def jump_words(trace: Trace, fault: Fault) -> list[str]:
-    rows = trace.last_rows(fault.row, 2)
-    if fault.name != "FetchOutside" or len(rows) < 2:
+def jump_words(rows: Rows, fault: Fault) -> list[str]:
+    last = rows.last_rows(fault.row, 2)
+    if fault.name != "FetchOutside" or len(last) < 2:
         return []
-    jump = trace.code_of(rows[0])
+    jump = rows.code_of(last[0])
     if jump.ret:
         return ["It was a return: the return address that its function had saved was overwritten."]
     return ["It was a call through a pointer."] if jump.call else []
 
 
-def stack_words(trace: Trace, elf: Elf, base: int) -> list[str]:
+def stack_words(pointer: int, elf: Elf, base: int) -> list[str]:
     """Whether the stack's pointer is at a place for no stack."""
-    pointer = trace.regs[SP]
     if base == SP or pointer < PAGE or elf.part_of(pointer):
         return [f"The stack's pointer is {pointer:08x}{near(elf, pointer)}: the stack may have overflowed."]
     return []

@@ -4,7 +4,7 @@ A library's printf takes values apart into letters. Its rows tell nothing of the
 from __future__ import annotations
 
 from ..recording.instruction import ALU
-from ..recording.trace import LOADS, STORES
+from ..recording.rows import LOADS, STORES
 from .facts import Facts
 
 MOST_ROWS = 20000           # are looked at
@@ -12,16 +12,16 @@ MOST_ROWS = 20000           # are looked at
 
 def begin_at_argument(facts: Facts) -> None:
     """Lets a question of a byte begin at the value that a library got, if the byte came from there."""
-    facts.places.fetch({ins.pc for ins in facts.trace.codes})
+    facts.places.fetch({ins.pc for ins in facts.rows.codes})
     row = given(facts, [facts.start])
     if row:
         facts.begin_at(row)
 
 
-def given(facts: Facts, rows: list[int]) -> int:
+def given(facts: Facts, of: list[int]) -> int:
     """Behind the values of these rows, or else behind the addresses of what no row stored: the nearest row whose source is
     here, after some whose source isn't. 0 if there are none."""
-    trace, todo, seen, addresses = facts.trace, [(n, False) for n in rows], {0}, []
+    rows, writers, todo, seen, addresses = facts.rows, facts.writers, [(n, False) for n in of], {0}, []
     for n, is_past in todo:
         if n in seen or len(seen) > MOST_ROWS:
             continue
@@ -30,12 +30,12 @@ def given(facts: Facts, rows: list[int]) -> int:
         if is_own and is_past:
             return n
         behind: list[int] = []
-        if trace.flags[n] & LOADS:
-            behind, rest = trace.writers(n)
-            addresses += [trace.d1[n]] if rest and not is_own else []
-        elif trace.flags[n] & STORES:
-            behind = [trace.d2[n]]
-        elif trace.code_of(n).kind == ALU:
-            behind = [trace.before_counting(n), trace.d2[n]]
+        if rows.flags[n] & LOADS:
+            behind, rest = writers.stores(n)
+            addresses += [writers.first[n]] if rest and not is_own else []
+        elif rows.flags[n] & STORES:
+            behind = [writers.second[n]]
+        elif rows.code_of(n).kind == ALU:
+            behind = [writers.before_counting(n), writers.second[n]]
         todo += [(row, is_past or not is_own) for row in behind]
-    return given(facts, addresses) if addresses and addresses != rows else 0
+    return given(facts, addresses) if addresses and addresses != of else 0

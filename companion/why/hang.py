@@ -5,7 +5,7 @@ from typing import NamedTuple
 
 from ..call.text import counted, number, short
 from ..recording.instruction import NAMES
-from ..recording.trace import STORES
+from ..recording.rows import STORES
 from .facts import Facts
 from .loops import Exit, Loop, Operand
 
@@ -23,11 +23,11 @@ def hang_lines(facts: Facts, more: bool) -> list[str]:
 
 
 def loop_lines(facts: Facts, loop: Loop, more: bool) -> list[str]:
-    trace = facts.trace
-    since = f"since count {number(trace.count_of(loop.first))}"
-    if not loop.begin and trace.is_cut(loop.first):
+    rows = facts.rows
+    since = f"since count {number(rows.count_of(loop.first))}"
+    if not loop.begin and rows.is_cut(loop.first):
         since = "since before the first row that was read"
-    said = [f"hart {loop.hart} goes round {since}: {counted(loop.rows, 'row')}, {counted(loop.rounds, 'round')}",
+    said = [f"hart {loop.hart} goes round {since}: {counted(loop.size, 'row')}, {counted(loop.rounds, 'round')}",
             f"  in {functions(facts, loop)}"]
     exits = [item for item in loop.exits if item.leads_out]
     said.append("  These branches would have left it, and never went the other way:" if exits else
@@ -38,7 +38,7 @@ def loop_lines(facts: Facts, loop: Loop, more: bool) -> list[str]:
 
 
 def functions(facts: Facts, loop: Loop) -> str:
-    codes = facts.trace.codes
+    codes = facts.rows.codes
     facts.places.fetch({codes[at].pc for at in loop.places})
     names = list(dict.fromkeys(facts.places.function(codes[at].pc) for at in sorted(loop.places)))
     rest = len(names) - FUNCTIONS
@@ -51,17 +51,17 @@ def with_source(facts: Facts, n: int) -> str:
 
 
 def exit_lines(facts: Facts, item: Exit) -> list[str]:
-    row = short(facts.trace.code_of(item.row).row, ROW_WIDTH)
+    row = short(facts.rows.code_of(item.row).row, ROW_WIDTH)
     said = [f"    {with_source(facts, item.row)}",
-            f"      {row}, {counted(item.times, 'time')}, last at count {number(facts.trace.count_of(item.row))}"]
+            f"      {row}, {counted(item.times, 'time')}, last at count {number(facts.rows.count_of(item.row))}"]
     said += [f"      {operand_words(facts, operand)}" for operand in item.operands]
     return said + (["      the other value is 0"] if len(item.operands) < 2 else [])
 
 
 def operand_words(facts: Facts, operand: Operand) -> str:
     """What a value is, which row loaded it, and who stored it last."""
-    trace, value = facts.trace, facts.trace.result_of(operand.row)
-    told = trace.load_of(operand.load) if operand.load else None
+    rows, writers, value = facts.rows, facts.writers, facts.rows.result_of(operand.row)
+    told = rows.load_of(operand.load) if operand.load else None
     said = f"{NAMES[operand.register]} is " + ("unknown" if value is None else f"{value:08x}")
     if told is None:
         return said + (f", computed in {facts.where(operand.row)}" if operand.row else "")
@@ -70,13 +70,13 @@ def operand_words(facts: Facts, operand: Operand) -> str:
         said += f" (a word of {told.value:08x})"
     if not operand.store:
         return said + ", which no row of the log stored"
-    before, stored = trace.dm[operand.store], f"{said}, stored last in {moment(facts, operand.store)}"
-    told = trace.store_of(before) if before and facts.line(before) != facts.line(operand.store) else None
+    before, stored = writers.word[operand.store], f"{said}, stored last in {moment(facts, operand.store)}"
+    told = rows.store_of(before) if before and facts.line(before) != facts.line(operand.store) else None
     return stored + (f", over {told.value:08x} of {moment(facts, before)}" if told else "")
 
 
 def moment(facts: Facts, n: int) -> str:
-    return f"{facts.where(n)} (hart {facts.trace.hart[n]} at count {number(facts.trace.count_of(n))})"
+    return f"{facts.where(n)} (hart {facts.rows.hart[n]} at count {number(facts.rows.count_of(n))})"
 
 
 class Line(NamedTuple):
@@ -89,19 +89,19 @@ class Line(NamedTuple):
 def stopped_lines(facts: Facts, loop: Loop, most: int) -> list[str]:
     """Latest first; lines that stored what an exit loads come before."""
     wanted = {operand.store for item in loop.exits for operand in item.operands}
-    running = {facts.places.line(facts.trace.codes[at].pc) for at in loop.places}
+    running = {facts.places.line(facts.rows.codes[at].pc) for at in loop.places}
     facts.places.fetch({facts.pc_of(item.row) for item in loop.stopped})
     lines: dict[str, Line] = {}
     for row, times in loop.stopped:
         name = facts.line(row)
         if name not in running:
             line = lines.get(name, Line(row, row, times))
-            better = max(line.row, row, key=lambda n: (n in wanted, facts.trace.flags[n] & STORES, n))
+            better = max(line.row, row, key=lambda n: (n in wanted, facts.rows.flags[n] & STORES, n))
             lines[name] = Line(better, line.latest, max(line.times, times))
     found = sorted(lines.values(), key=lambda line: (line.row not in wanted, -line.latest))
     said = ["  These ran often, and then never again:"] if found else []
     for line in found[:most]:
-        count = number(facts.trace.count_of(line.row))
+        count = number(facts.rows.count_of(line.row))
         said.append(f"    {counted(line.times, 'time')}, last at count {count}: {with_source(facts, line.row)}")
     rest = len(found) - most
     return said + ([f"    .. {counted(rest, 'more line')} (--more) .."] if rest > 0 else [])
@@ -112,7 +112,7 @@ def changing_lines(facts: Facts, loop: Loop) -> list[str]:
     values: dict[int, set[int]] = {}
     latest: dict[int, int] = {}
     for n in loop.stores:
-        told = facts.trace.store_of(n)
+        told = facts.rows.store_of(n)
         if told:
             values.setdefault(told.address & ~3, set()).add(told.value)
             latest.setdefault(told.address & ~3, n)
@@ -121,7 +121,7 @@ def changing_lines(facts: Facts, loop: Loop) -> list[str]:
         return ["  No word that it stores changes." if loop.stores else "  It stores nothing."]
     said = ["  These words still change:"]
     for word in changing[:WORDS]:
-        name, told = facts.named.data_name(word), facts.trace.store_of(latest[word])
+        name, told = facts.named.data_name(word), facts.rows.store_of(latest[word])
         value = f"{told.value:08x}" if told else ""
         said.append(f"    {word:08x}{f' ({name})' if name else ''}, now {value}, in {facts.where(latest[word])}")
     rest = len(changing) - WORDS

@@ -9,7 +9,8 @@ from typing import NamedTuple, Optional, Sequence
 
 from ..recording.instruction import AMO, BRANCH, CALL, JUMP
 from ..recording.places import Places
-from ..recording.trace import FAULTS, LOADS, STORES, Trace
+from ..recording.rows import FAULTS, LOADS, STORES
+from ..recording.trace import Trace
 from .control import Control
 
 MOST_ROWS = 200000          # the search is cut off there: it keeps two entries a row
@@ -82,7 +83,8 @@ class History:
         """`starts` are the rows that are asked of; the first is the one that the report is about. With `control` the
         branches that decided of the rows are followed too, at `control_cost` or else the usual one. `hangs` says that the
         starts are of a loop without end."""
-        self.trace, self.start, self.most = trace, starts[0], most
+        self.rows, self.writers, self.calls = trace
+        self.start, self.most = starts[0], most
         self.cost: dict[int, int] = {}
         self.copied: dict[int, int] = {}        # {load: the first copied load behind it}
         self.roots: dict[int, int] = {}
@@ -109,12 +111,12 @@ class History:
 
     def decisions(self) -> None:
         """The latest branches before the start, one of each instruction."""
-        trace, n = self.trace, self.start - 1
+        rows, n = self.rows, self.start - 1
         seen: set[int] = set()
-        hart, low = trace.hart[self.start], max(1, self.start - DECIDING_ROWS)
+        hart, low = rows.hart[self.start], max(1, self.start - DECIDING_ROWS)
         while n >= low and len(seen) < MOST_BRANCHES:
-            if trace.hart[n] == hart and trace.pc[n] not in seen and trace.code_of(n).kind == BRANCH:
-                seen.add(trace.pc[n])
+            if rows.hart[n] == hart and rows.code[n] not in seen and rows.code_of(n).kind == BRANCH:
+                seen.add(rows.code[n])
                 self.step(n, DECISION + len(seen) // 4, self.start, "decision")
             n -= 1
 
@@ -141,45 +143,45 @@ class History:
             self.deciding(n, price)
 
     def visit(self, n: int, price: int) -> None:
-        trace = self.trace
-        ins, flag = trace.code_of(n), trace.flags[n]
+        rows, writers = self.rows, self.writers
+        ins, flag = rows.code_of(n), rows.flags[n]
         if flag & FAULTS:                       # its address is the bad value
-            self.step(trace.d1[n], price + 1, n, "address")
+            self.step(writers.first[n], price + 1, n, "address")
         elif flag & LOADS and not (ins.name.startswith(STORES_ANOTHER) and self.is_for_memory(n)):
             unstored = not self.loaded(n, price)
             if ins.kind == AMO:
-                self.step(trace.d2[n], price + 1, n, "value")
-            self.step(trace.d1[n], price + (FROM_FILE if unstored else self.address), n, "address")
+                self.step(writers.second[n], price + 1, n, "value")
+            self.step(writers.first[n], price + (FROM_FILE if unstored else self.address), n, "address")
         elif flag & STORES:
-            self.step(trace.d2[n], price + 1, n, "value")
-            self.step(trace.d1[n], price + self.address, n, "address")
+            self.step(writers.second[n], price + 1, n, "value")
+            self.step(writers.first[n], price + self.address, n, "address")
         elif ins.kind not in (CALL, JUMP):      # a call's result comes from outside, a return address is a constant
             self.step(self.unchanged(n), price, n, "value")
             price += 0 if ins.move else 1
-            self.step(trace.before_counting(n), price, n, "value")
-            self.step(trace.d2[n], price, n, "value")
-            for register, writer in ((ins.rs1, trace.d1[n]), (ins.rs2, trace.d2[n])):
+            self.step(writers.before_counting(n), price, n, "value")
+            self.step(writers.second[n], price, n, "value")
+            for register, writer in ((ins.rs1, writers.first[n]), (ins.rs2, writers.second[n])):
                 if register and not writer:
                     self.leave(n, price, register)
 
     def unchanged(self, n: int) -> int:
         """The row of the value that two shifts widened and left as it was, or 0."""
-        trace, source = self.trace, self.trace.d1[n]
-        if not source or trace.code_of(n).name not in WIDENS or trace.code_of(source).name != "slli":
+        rows, writers, source = self.rows, self.writers, self.writers.first[n]
+        if not source or rows.code_of(n).name not in WIDENS or rows.code_of(source).name != "slli":
             return 0
-        before = trace.d1[source]
-        return before if before and trace.result_of(before) == trace.result_of(n) else 0
+        before = writers.first[source]
+        return before if before and rows.result_of(before) == rows.result_of(n) else 0
 
     def leave(self, n: int, price: int, register: int) -> None:
         """A row uses what isn't known: memory, or a register."""
-        if price < ADDRESS and self.trace.is_cut(n):
-            self.left.add(Left(self.trace.hart[n], register))
+        if price < ADDRESS and self.rows.is_cut(n):
+            self.left.add(Left(self.rows.hart[n], register))
 
     def deciding(self, n: int, price: int) -> None:
         """The branch that decided that a row was reached."""
         if self.control and price <= DEAREST_CONTROL and self.asked < MOST_CONTROL:
             self.asked += 1
-            price += NEXT_CONTROL if self.trace.code_of(n).kind == BRANCH else self.control_cost
+            price += NEXT_CONTROL if self.rows.code_of(n).kind == BRANCH else self.control_cost
             self.decide(self.control.before(n), Decided(price, n, "control"))
 
     def decide(self, branch: int, decided: Decided) -> None:
@@ -195,40 +197,40 @@ class History:
     def loaded(self, n: int, price: int) -> bool:
         """A load, and the stores that it got, if there are any."""
         first = self.first_copied(n)
-        writers, rest = self.trace.writers(first)
-        found = [row for row in map(self.trace.changed_by, writers) if row]
+        writers, rest = self.writers.stores(first)
+        found = [row for row in map(self.writers.changed_by, writers) if row]
         for writer in found:
-            cost = price if self.trace.is_spill(n, writer) else price + 1
+            cost = price if self.rows.is_spill(n, writer) else price + 1
             self.step(writer, cost, n, "memory")
             key = Pair(first, writer)
             self.far[key] = min(cost, self.far.get(key, cost))
             self.awaited(n, writer, price)
             if self.control and price <= DEAREST_CONTROL and n - writer >= KEPT_ROWS and cost > price and self.kept < MOST_KEPT:
                 self.kept += 1
-                for at in sorted({self.trace.pc[writer], *self.trace.givers(n)})[:MOST_GIVERS]:
-                    branch = self.control.kept(n, writer, self.trace.codes[at].pc)
+                for at in sorted({self.rows.code[writer], *self.writers.givers(n)})[:MOST_GIVERS]:
+                    branch = self.control.kept(n, writer, self.rows.codes[at].pc)
                     self.decide(branch, Decided(price + self.control_cost, n, "kept"))
-            if self.control and price <= DEAREST_SPARED and self.spared < MOST_SPARED and not self.trace.is_spill(n, writer):
+            if self.control and price <= DEAREST_SPARED and self.spared < MOST_SPARED and not self.rows.is_spill(n, writer):
                 self.spared += 1
                 self.decide(self.control.spared(first, writer), Decided(price + SPARED, n, "spared"))
         if rest or len(found) < len(writers):
             self.before.append(n)
             self.leave(n, price, NO_REGISTER)
-        if not found and price <= DEAREST_FILLED and self.filled < MOST_FILLED and not self.trace.access(n).value:
+        if not found and price <= DEAREST_FILLED and self.filled < MOST_FILLED and not self.rows.access(n).value:
             self.filled += 1
-            for row in self.trace.beside(n):    # why not here?
-                self.step(self.trace.d1[row], price + FILLED, n, "address")
+            for row in self.writers.beside(n):    # why not here?
+                self.step(self.writers.first[row], price + FILLED, n, "address")
         return bool(found)
 
     def first_copied(self, load: int) -> int:
         """The load behind a load whose word was copied by its own instruction before, again and again: the first copy
         counts."""
-        trace, passed = self.trace, []
+        rows, writers, passed = self.rows, self.writers, []
         while load not in self.copied:
-            found, rest = trace.writers(load)
-            source = trace.d2[found[0]] if len(found) == 1 and not rest and trace.mask(found[0]) == 15 else 0
+            found, rest = writers.stores(load)
+            source = writers.second[found[0]] if len(found) == 1 and not rest and rows.mask(found[0]) == 15 else 0
             passed.append(load)
-            if not source or trace.pc[source] != trace.pc[load] or not trace.flags[source] & LOADS:
+            if not source or rows.code[source] != rows.code[load] or not rows.flags[source] & LOADS:
                 self.copied[load] = load
             else:
                 load = source
@@ -237,13 +239,13 @@ class History:
 
     def awaited(self, load: int, store: int, price: int) -> None:
         """What a hart waits for is stored by another one: the branch by which that one didn't store it again."""
-        trace = self.trace
-        if self.control and self.hangs and price <= NEAR_LOOP and trace.hart[load] != trace.hart[store]:
+        rows = self.rows
+        if self.control and self.hangs and price <= NEAR_LOOP and rows.hart[load] != rows.hart[store]:
             branch = self.control.left(store)
             self.decide(branch, Decided(price + AWAITED, load, "awaited"))
 
     def is_far(self, load: int, store: int) -> bool:
-        return self.trace.hart[load] != self.trace.hart[store] or load - store > FAR
+        return self.rows.hart[load] != self.rows.hart[store] or load - store > FAR
 
     def path(self, row: int) -> list[Step]:
         """The rows from the start to a row, as the search went, with how each was needed."""
@@ -259,8 +261,8 @@ class History:
         """{address of a word: the least cost of a row that accessed it}"""
         found: dict[int, int] = {}
         for n, price in self.cost.items():
-            if self.trace.flags[n] & (LOADS | STORES):
-                word = self.trace.access(n).address & ~3
+            if self.rows.flags[n] & (LOADS | STORES):
+                word = self.rows.access(n).address & ~3
                 found[word] = min(price, found.get(word, price))
         return found
 
@@ -276,13 +278,13 @@ class History:
 
     def lines(self, places: Places) -> list[Line]:
         """The values by source line, nearest first."""
-        trace = self.trace
+        rows = self.rows
         groups: dict[tuple[int, str], Line] = {}
-        places.fetch({trace.codes[at].pc for at in {trace.pc[n] for n in self.cost}})
+        places.fetch({rows.codes[at].pc for at in {rows.code[n] for n in self.cost}})
         for n, price in self.cost.items():
             if n in self.decided:
                 continue
-            hart, place = key = trace.hart[n], places.chain([trace.code_of(n).pc], MOST_INLINED)
+            hart, place = key = rows.hart[n], places.chain([rows.code_of(n).pc], MOST_INLINED)
             item = groups.get(key, Line(hart, place, 0, n, price))
             groups[key] = Line(hart, place, item.rows + 1, max(item.latest, n), min(item.cost, price))
         return sorted(groups.values(), key=lambda item: (item.cost, -item.latest))

@@ -9,7 +9,7 @@ from typing import Iterable, Mapping, NamedTuple, Sequence
 
 from ..call.text import number
 from ..recording.instruction import AMO
-from ..recording.trace import LOADS, STORES, Trace
+from ..recording.rows import LOADS, STORES, Rows
 from .facts import Facts
 from .history import History
 from .suspect import Extra, Suspect
@@ -32,16 +32,16 @@ class Setting(NamedTuple):
     is_set: bool
 
 
-def setting(trace: Trace) -> list[Setting]:
+def setting(rows: Rows) -> list[Setting]:
     """In the rows' order."""
-    found, free, stored = [], set(), iter(trace.stored)
-    is_atomic = [ins.kind == AMO for ins in trace.codes]
-    for n, address, value in zip(trace.access_rows, trace.addresses, trace.words):
-        kind = trace.flags[n] & (LOADS | STORES)
+    found, free, stored = [], set(), iter(rows.stored)
+    is_atomic = [ins.kind == AMO for ins in rows.codes]
+    for n, address, value in zip(rows.accesses, rows.addresses, rows.words):
+        kind = rows.flags[n] & (LOADS | STORES)
         if kind == LOADS | STORES:
             if next(stored) and not value:
                 found.append(Setting(n, address, True))
-        elif is_atomic[trace.pc[n]]:
+        elif is_atomic[rows.code[n]]:
             if kind == STORES:
                 if value and address in free:
                     found.append(Setting(n, address, True))
@@ -49,49 +49,49 @@ def setting(trace: Trace) -> list[Setting]:
                 free.discard(address)
             else:
                 free.add(address)
-    words, stored = {each.word for each in found}, iter(trace.stored)
-    for n, address, value in zip(trace.access_rows, trace.addresses, trace.words):
-        kind = trace.flags[n] & (LOADS | STORES)
+    words, stored = {each.word for each in found}, iter(rows.stored)
+    for n, address, value in zip(rows.accesses, rows.addresses, rows.words):
+        kind = rows.flags[n] & (LOADS | STORES)
         value = next(stored) if kind == LOADS | STORES else value
         if not value and kind & STORES and address in words:
             found.append(Setting(n, address, False))
     return sorted(found)
 
 
-def accesses(trace: Trace, words: Iterable[int], changes: Sequence[Setting]) -> dict[int, list[Held]]:
+def accesses(rows: Rows, words: Iterable[int], changes: Sequence[Setting]) -> dict[int, list[Held]]:
     """The accesses to some words."""
-    held: dict[int, frozenset[int]] = dict.fromkeys(trace.last, frozenset())
-    given_back = {(trace.hart[n], lock) for n, lock, is_set in changes if not is_set}
+    held: dict[int, frozenset[int]] = dict.fromkeys(rows.last, frozenset())
+    given_back = {(rows.hart[n], lock) for n, lock, is_set in changes if not is_set}
     found: dict[int, list[Held]] = {word: [] for word in words}
     at = 0
-    for n, address in zip(trace.access_rows, trace.addresses):
+    for n, address in zip(rows.accesses, rows.addresses):
         while at < len(changes) and changes[at].row <= n:
             row, lock, is_set = changes[at]
-            hart = trace.hart[row]
+            hart = rows.hart[row]
             held[hart] = held[hart] | {lock} if is_set and (hart, lock) in given_back else held[hart] - {lock}
             at += 1
         if address & ~3 in found:
-            found[address & ~3].append(Held(n, held[trace.hart[n]]))
+            found[address & ~3].append(Held(n, held[rows.hart[n]]))
     return found
 
 
 def unlocked(facts: Facts, history: History) -> list[Suspect]:
     """The accesses without a lock to words that are behind the start and that others access with one."""
-    trace = facts.trace
-    if len(trace.last) < 2:
+    rows = facts.rows
+    if len(rows.last) < 2:
         return []
     nearest, found = history.words(), []
-    changes = setting(trace)
-    for word, held in accesses(trace, set(nearest) - {each.word for each in changes}, changes).items():
+    changes = setting(rows)
+    for word, held in accesses(rows, set(nearest) - {each.word for each in changes}, changes).items():
         lock, times = max(Counter(lock for each in held for lock in each.locks).items(), key=lambda item: item[1],
                           default=(word, 0))
         harts: set[int] = set()
         bare = []
         for each in held:                       # until a second hart comes, nothing has to be guarded
-            harts.add(trace.hart[each.row])
+            harts.add(rows.hart[each.row])
             if lock not in each.locks and len(harts) > 1:
                 bare.append(each.row)
-        stores = [n for n in bare if trace.flags[n] & STORES]
+        stores = [n for n in bare if rows.flags[n] & STORES]
         if lock != word and bare and times >= LEAST and times >= RARE * len(bare):
             found.append(suspect_of(facts, (stores or bare)[-1], bare, nearest[word]))
             found[-1].sign(UNLOCKED, f"{times} other accesses hold a lock, {facts.named.data_name(lock) or f'{lock:08x}'}")
@@ -107,39 +107,40 @@ class Wait(NamedTuple):
 def circle(facts: Facts) -> list[Suspect]:
     """Harts that wait for each other's locks, at the end of a run that hangs: first the one that waits where locks were
     taken least often, since its order is the odd one."""
-    trace = facts.trace
-    if not facts.hangs or len(trace.last) < 2:
+    rows, calls = facts.rows, facts.calls
+    if not facts.hangs or len(rows.last) < 2:
         return []
     holders: dict[int, int] = {}            # {lock: the row that took it last, if it is still held}
     times: Counter[int] = Counter()         # how often a lock was taken in a call
-    for n, lock, is_set in setting(trace):
-        times[trace.node_of(n)] += is_set
+    for n, lock, is_set in setting(rows):
+        times[calls.node_of(n)] += is_set
         if is_set:
             holders[lock] = n
         else:
             holders.pop(lock, 0)
     found = []
-    for wait in waits(trace, holders):
-        rows = times[trace.node_of(wait.row)]
+    for wait in waits(rows, holders):
+        taken = times[calls.node_of(wait.row)]
         suspect = Suspect("order", wait.row, wait.row, 0)
-        suspect.sign(CIRCLE - min(rows, MOST_TIMES) / MOST_TIMES,
-                     f"the harts wait for each other's locks; here a lock was taken {number(rows)} times")
+        suspect.sign(CIRCLE - min(taken, MOST_TIMES) / MOST_TIMES,
+                     f"the harts wait for each other's locks; here a lock was taken {number(taken)} times")
         suspect.extra.append(Extra("it holds the lock that it took in", wait.taken))
         found.append(suspect)
     return found
 
 
-def waits(trace: Trace, holders: Mapping[int, int]) -> list[Wait]:
+def waits(rows: Rows, holders: Mapping[int, int]) -> list[Wait]:
     """Those that are in a circle."""
     latest: dict[int, int] = {}             # {hart: its last try}
-    for n, address in zip(trace.access_rows, trace.addresses):
-        if trace.code_of(n).kind == AMO and address in holders:
-            latest[trace.hart[n]] = n
-    wanted = {hart: trace.access(n).address for hart, n in latest.items() if trace.hart[holders[trace.access(n).address]] != hart}
+    for n, address in zip(rows.accesses, rows.addresses):
+        if rows.code_of(n).kind == AMO and address in holders:
+            latest[rows.hart[n]] = n
+    wanted = {hart: rows.access(n).address for hart, n in latest.items()}
+    wanted = {hart: lock for hart, lock in wanted.items() if rows.hart[holders[lock]] != hart}
     found = []
     for hart, lock in wanted.items():
-        other = trace.hart[holders[lock]]
-        if other in wanted and trace.hart[holders[wanted[other]]] == hart:
+        other = rows.hart[holders[lock]]
+        if other in wanted and rows.hart[holders[wanted[other]]] == hart:
             found.append(Wait(latest[hart], holders[wanted[other]]))
     return found
 

@@ -10,7 +10,8 @@ from itertools import compress
 from typing import NamedTuple, Sequence
 
 from ..recording.instruction import BRANCH
-from ..recording.trace import STORES, Trace
+from ..recording.rows import STORES, Rows
+from ..recording.trace import Trace
 from .control import load_behind, other_side
 
 AT_ONCE = 1 << 18           # rows between which Ctrl-C is heard
@@ -48,22 +49,22 @@ class Stopped(NamedTuple):
 class Loop:
     """places    the codes of its instructions; none if no loop is seen
     first     the row with which the stay among them began, and `last` the hart's last row
-    rows      how many rows the stay has; rounds: how often the rarest place came
+    size      how many rows the stay has; rounds: how often the rarest place came
     exits     those that lead out first, then the latest
     stores    the latest stores of each place
     stopped   latest first"""
 
     def __init__(self, trace: Trace, hart: int) -> None:
-        self.trace, self.hart, self.last = trace, hart, trace.last[hart]
-        mine = rows_of(trace, hart)
+        self.trace, self.rows, self.hart, self.last = trace, trace.rows, hart, trace.rows.last[hart]
+        mine = rows_of(trace.rows, hart)
         self.of_hart = array("I", compress(range(len(mine)), mine))
-        self.codes = array("I", compress(trace.pc, mine))
+        self.codes = array("I", compress(trace.rows.code, mine))
         self.latest: dict[int, int] = {}        # {code: its last place among the hart's rows}
         for begin in range(0, len(self.codes), AT_ONCE):
             self.latest.update(zip(self.codes[begin:begin + AT_ONCE], range(begin, len(self.codes))))
         self.places, self.begin = self.find_places()
         stay = self.codes[self.begin:]
-        self.first, self.rows, self.times = self.of_hart[self.begin], len(stay), counted(stay)
+        self.first, self.size, self.times = self.of_hart[self.begin], len(stay), counted(stay)
         self.rounds = min((self.times[at] for at in self.places), default=0)
         self.exits = self.find_exits(stay)
         self.stores = self.find_stores()
@@ -82,21 +83,21 @@ class Loop:
 
     def longest_stay(self, places: set[int], before: int) -> int:
         """How many rows the hart stayed at most among these places before."""
-        inside = [at in places for at in range(len(self.trace.codes))]
+        inside = [at in places for at in range(len(self.rows.codes))]
         if not before:
             return 0
         marks = bytes(map(inside.__getitem__, self.codes[:before]))
         return max(map(len, marks.split(b"\0")))
 
     def find_exits(self, stay: Sequence[int]) -> list[Exit]:
-        trace, where = self.trace, {self.trace.codes[at].pc for at in self.places}
+        rows, trace, where = self.rows, self.trace, {self.rows.codes[at].pc for at in self.places}
         ways: dict[int, list[int]] = {}
         for at, following in set(pairs_of(stay)):
-            if trace.codes[at].kind == BRANCH and at in self.places:
+            if rows.codes[at].kind == BRANCH and at in self.places:
                 ways.setdefault(at, []).append(following)
         found = []
         for at, (following, *more) in ways.items():
-            other = other_side(trace.codes[at], trace.codes[following].pc)
+            other = other_side(rows.codes[at], rows.codes[following].pc)
             if not more and other is not None:
                 row = self.of_hart[self.latest[at]]
                 found.append(Exit(row, self.times[at], other not in where, operands_of(trace, row)))
@@ -107,7 +108,7 @@ class Loop:
         found = []
         for i in range(len(self.codes) - 1, max(self.begin, len(self.codes) - LATEST_ROWS) - 1, -1):
             n = self.of_hart[i]
-            if self.trace.flags[n] & STORES and left.get(self.codes[i]):
+            if self.rows.flags[n] & STORES and left.get(self.codes[i]):
                 left[self.codes[i]] -= 1
                 found.append(n)
         return found
@@ -135,15 +136,15 @@ def counted(codes: Sequence[int]) -> Counter[int]:
     return found
 
 
-def rows_of(trace: Trace, hart: int) -> bytes:
+def rows_of(rows: Rows, hart: int) -> bytes:
     """Of each row whether it is a hart's, as a byte."""
-    return b"\0" + trace.hart.tobytes().translate(bytes(at == hart for at in range(256)))[1:]
+    return b"\0" + rows.hart.tobytes().translate(bytes(at == hart for at in range(256)))[1:]
 
 
 def operands_of(trace: Trace, row: int) -> list[Operand]:
     """What a branch compares beside 0."""
-    ins, found = trace.code_of(row), []
-    for register, source in ((ins.rs1, trace.d1[row]), (ins.rs2, trace.d2[row])):
+    ins, found = trace.rows.code_of(row), []
+    for register, source in ((ins.rs1, trace.writers.first[row]), (ins.rs2, trace.writers.second[row])):
         if register:
             load = load_behind(trace, source)
             found.append(Operand(register, source, load, store_behind(trace, load)))
@@ -152,4 +153,4 @@ def operands_of(trace: Trace, row: int) -> list[Operand]:
 
 def store_behind(trace: Trace, load: int) -> int:
     """The store that gave a load's word its value, or 0."""
-    return trace.changed_by(next(iter(trace.writers(load).rows), 0)) if load else 0
+    return trace.writers.changed_by(trace.writers.store(load)) if load else 0

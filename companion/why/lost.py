@@ -4,7 +4,8 @@ from __future__ import annotations
 from typing import Mapping, NamedTuple, Optional
 
 from ..recording.instruction import STORE, Instruction
-from ..recording.trace import LOADS, STORES, Trace
+from ..recording.rows import LOADS, STORES
+from ..recording.trace import Trace
 
 SMALL = 1 << 16             # how far below zero a difference may be
 MASKS = {(1 << width) - 1: width for width in range(4, 12)}
@@ -37,10 +38,10 @@ def cut_behind(trace: Trace, row: int) -> Optional[Cut]:
         words = loss(trace, n, users)
         if words:
             return Cut(n, words)
-        if trace.flags[n] & LOADS:
-            behind = trace.writers(n).rows
+        if trace.rows.flags[n] & LOADS:
+            behind = trace.writers.stores(n).rows
         else:
-            behind = [trace.d2[n]] if trace.flags[n] & STORES else [trace.before_counting(n), trace.d2[n]]
+            behind = [trace.writers.second[n]] if trace.rows.flags[n] & STORES else [trace.writers.before_counting(n), trace.writers.second[n]]
         todo += behind
         users.update((source, n) for source in behind if source not in users)
     return None
@@ -48,13 +49,13 @@ def cut_behind(trace: Trace, row: int) -> Optional[Cut]:
 
 def loss(trace: Trace, n: int, users: Mapping[int, int]) -> str:
     """What a row lost, in words, if bits were."""
-    ins, (source, width) = trace.code_of(n), narrowing(trace, n)
-    before = trace.result_of(source)
+    ins, (source, width) = trace.rows.code_of(n), narrowing(trace, n)
+    before = trace.rows.result_of(source)
     if before is None:
         return ""
     after = before & (1 << width) - 1
-    if ins.kind != STORE and (1 << 32) - before <= SMALL and trace.result_of(n) == after:
-        is_fine = is_meant(trace.code_of(user_of(trace, n, users)), width)
+    if ins.kind != STORE and (1 << 32) - before <= SMALL and trace.rows.result_of(n) == after:
+        is_fine = is_meant(trace.rows.code_of(user_of(trace, n, users)), width)
         return "" if is_fine else f"{before - (1 << 32)}, below zero, became {after:08x}"
     signed = after | (0xffffffff << width & 0xffffffff if after >> width - 1 else 0)
     return "" if before in (after, signed) else f"{before:08x} was cut to {width} bits, and became {after:08x}"
@@ -62,15 +63,15 @@ def loss(trace: Trace, n: int, users: Mapping[int, int]) -> str:
 
 def narrowing(trace: Trace, n: int) -> Narrowing:
     """Of what a row keeps the lowest bits: it stores some bytes, is a mask, or the second of two shifts. Or row 0."""
-    ins = trace.code_of(n)
+    ins = trace.rows.code_of(n)
     if ins.kind == STORE and ins.width < 4:
-        return Narrowing(trace.d2[n], 8 * ins.width)
+        return Narrowing(trace.writers.second[n], 8 * ins.width)
     if ins.name == "andi" and ins.word >> 20 in MASKS:
-        return Narrowing(trace.d1[n], MASKS[ins.word >> 20])
-    if ins.name in ("srli", "srai") and trace.code_of(trace.d1[n]).name == "slli":
-        width, left = (KEPT.get(each.word >> 20 & 31, 0) for each in (ins, trace.code_of(trace.d1[n])))
+        return Narrowing(trace.writers.first[n], MASKS[ins.word >> 20])
+    if ins.name in ("srli", "srai") and trace.rows.code_of(trace.writers.first[n]).name == "slli":
+        width, left = (KEPT.get(each.word >> 20 & 31, 0) for each in (ins, trace.rows.code_of(trace.writers.first[n])))
         if width and width == left:
-            return Narrowing(trace.d1[trace.d1[n]], width)
+            return Narrowing(trace.writers.first[trace.writers.first[n]], width)
     return Narrowing(0, 32)
 
 
@@ -78,10 +79,10 @@ def user_of(trace: Trace, n: int, users: Mapping[int, int]) -> int:
     """The row that a row's value is for, or 0. Sums are passed on the way to a store, as they need no more bits than it."""
     first = n = users.get(n, 0)
     for _ in range(MOST_SUMS):
-        if not n or trace.code_of(n).name not in SUMS:
+        if not n or trace.rows.code_of(n).name not in SUMS:
             break
         n = users.get(n, 0)
-    return n if trace.flags[n] & STORES else first
+    return n if trace.rows.flags[n] & STORES else first
 
 
 def is_meant(user: Instruction, width: int) -> bool:

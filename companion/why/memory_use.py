@@ -7,7 +7,7 @@ from __future__ import annotations
 from collections import Counter
 
 from ..recording.instruction import ALU, SP
-from ..recording.trace import LOADS, STORES
+from ..recording.rows import LOADS, STORES
 from .blocks import Block, Blocks
 from .facts import Facts
 from .history import History
@@ -24,19 +24,20 @@ MOST_COPIES = 2             # lines that stored copies of a pointer
 class MemoryUse:
     def __init__(self, facts: Facts, history: History) -> None:
         self.facts, self.trace, self.history = facts, facts.trace, history
+        self.rows, self.writers, self.calls = facts.trace
         self.blocks = Blocks(facts.trace, facts.elf)
         self.told: set[tuple[str, int, int]] = set()
 
     def judge(self, item: Suspect) -> list[Suspect]:
         """The suspects that a load and its store are: none, or one of a kind that names the call."""
-        trace = self.trace
-        where = trace.load_of(item.load)
+        rows, writers = self.rows, self.writers
+        where = rows.load_of(item.load)
         if where is None or not self.blocks.by_address:
             return []
         address = where.address
         if self.is_own_use(item):
             return []
-        loaded = self.blocks.behind(trace.d1[item.load], address)
+        loaded = self.blocks.behind(writers.first[item.load], address)
         if loaded is None:
             return []
         # What is free is the allocator's: it may load from there.
@@ -49,7 +50,7 @@ class MemoryUse:
             return []
         if item.store < loaded.call:
             return self.unwritten(item, loaded)
-        stored = self.blocks.behind(trace.d1[item.store], address)
+        stored = self.blocks.behind(writers.first[item.store], address)
         if stored is None:
             return []
         if self.blocks.is_over(stored, address, item.store):
@@ -90,7 +91,7 @@ class MemoryUse:
     def judge_bound(self, item: Suspect) -> None:
         """What bounds the loop that wrote over the end may have lost bits."""
         branch = self.history.control.before(item.store) if self.history.control else 0
-        cut = cut_behind(self.trace, self.trace.d1[branch]) or cut_behind(self.trace, self.trace.d2[branch])
+        cut = cut_behind(self.trace, self.writers.first[branch]) or cut_behind(self.trace, self.writers.second[branch])
         if cut:
             item.sign(CUT_BOUND, "a bound of its loop had lost bits")
             item.extra.append(Extra(cut.words + " in", cut.row))
@@ -121,7 +122,7 @@ class MemoryUse:
     def used_after(self, item: Suspect, block: Block, rows: list[int], address: int) -> list[Suspect]:
         """A pointer that was kept over the call that gave its memory back: the first one after its block was given out. The
         later ones gave back what others had got there since."""
-        owner, back = self.blocks.behind(self.trace.d1[item.store], address), rows[0]
+        owner, back = self.blocks.behind(self.writers.first[item.store], address), rows[0]
         again = "given out again, and" if owner and owner.call > back else "and"
         found = self.suspect("back", item, back, GIVEN_BACK, f"the memory was given back, {again} still used")
         kept = self.kept_pointer(item.load, back)
@@ -137,53 +138,52 @@ class MemoryUse:
 
     def add_copy(self, suspect: Suspect, block: Block, back: int) -> None:
         """Tells of the lines that stored a copy of the pointer least often: nobody may have counted it."""
-        trace = self.trace
+        rows = self.rows
         times: Counter[int] = Counter()
         latest: dict[int, int] = {}
-        for n in trace.stores_of_value(block.address, block.call, back):
-            times[trace.pc[n]] += 1
-            latest[trace.pc[n]] = n
-        told = {trace.pc[extra.row] for extra in suspect.extra}
+        for n in rows.stores_of_value(block.address, block.call, back):
+            times[rows.code[n]] += 1
+            latest[rows.code[n]] = n
+        told = {rows.code[extra.row] for extra in suspect.extra}
         rest = sorted((times[at], -n) for at, n in latest.items() if at not in told and not self.blocks.is_own(n)
-                      and trace.code_of(n).rs1 != SP)
+                      and rows.code_of(n).rs1 != SP)
         suspect.extra += [Extra("a copy of the pointer was stored in", -n) for _, n in rest[:MOST_COPIES]]
 
     def add_user(self, suspect: Suspect, load: int, back: int) -> None:
         """Tells who stored the pointer that was used, at a place that nobody cleared when its memory was given back."""
-        trace, n = self.trace, self.trace.d1[load]
-        while n and not trace.flags[n] & LOADS and trace.code_of(n).kind == ALU:
-            n = trace.d1[n]
-        store = next(iter(trace.writers(n).rows), 0) if trace.flags[n] & LOADS else 0
+        rows, writers, n = self.rows, self.writers, self.writers.first[load]
+        while n and not rows.flags[n] & LOADS and rows.code_of(n).kind == ALU:
+            n = writers.first[n]
+        store = writers.store(n) if rows.flags[n] & LOADS else 0
         told = {self.facts.line(extra.row) for extra in suspect.extra}
-        if store and store < back and not trace.is_spill(n, store) and self.facts.line(store) not in told:
+        if store and store < back and not rows.is_spill(n, store) and self.facts.line(store) not in told:
             suspect.extra.append(Extra("the pointer that was used was stored in", store))
 
     def add_holder(self, suspect: Suspect, back: int) -> None:
         """Tells who stored the pointer that was given back: that copy of it may have been nobody's to give back."""
-        trace, at = self.trace, self.trace.jump_at(back)
-        n = trace.jump_writer[at] if at < len(trace.jumps) and trace.jumps[at] == back else 0
+        rows, writers, n = self.rows, self.writers, self.calls.writer_of(back)
         while n:
-            store = next(iter(trace.writers(n).rows), 0) if trace.flags[n] & LOADS else 0
-            if store and not trace.is_spill(n, store):
+            store = writers.store(n) if rows.flags[n] & LOADS else 0
+            if store and not rows.is_spill(n, store):
                 suspect.extra.append(Extra("the pointer that was given back was stored in", store))
                 return
-            n = trace.d2[store] if store else trace.d1[n] if trace.code_of(n).kind == ALU else 0
+            n = writers.second[store] if store else writers.first[n] if rows.code_of(n).kind == ALU else 0
 
     def kept_pointer(self, load: int, back: int) -> int:
         """The row that a load's pointer comes from, as it was before a row: copies and spills of it are passed."""
-        trace, n = self.trace, self.trace.d1[load]
+        rows, writers, n = self.rows, self.writers, self.writers.first[load]
         while n:
-            ins, before = trace.code_of(n), 0
-            if trace.flags[n] & LOADS:
-                before = next(iter(trace.writers(n).rows), 0)
-                if n < back and not (before and trace.is_spill(n, before)):
+            ins, before = rows.code_of(n), 0
+            if rows.flags[n] & LOADS:
+                before = writers.store(n)
+                if n < back and not (before and rows.is_spill(n, before)):
                     return n
-            elif trace.flags[n] & STORES:
-                before = trace.d2[n]
+            elif rows.flags[n] & STORES:
+                before = writers.second[n]
             elif ins.kind == ALU:
                 if n < back and not ins.move:
                     return n
-                before = trace.d1[n]
+                before = writers.first[n]
             n = before
         return 0
 

@@ -40,15 +40,15 @@ def origins(facts: Facts, history: History) -> dict[Origin, Loads]:
 
 
 def came_from(facts: Facts, n: int) -> str:
-    told, dropped = facts.trace.load_of(n), facts.log.dropped
+    told, dropped = facts.rows.load_of(n), facts.log.dropped
     before = "stored before the rows that were read" if facts.log.unread else "stored before the log"
     if told is None:
         return "no row tells"
     address, value = told
-    for call in reversed(facts.trace.reads):
+    for call in reversed(facts.rows.reads):
         if call.row < n and call.address <= address | 3 and address & ~3 < call.address + call.size:
-            return f"a read call filled it (hart {call.hart}, count {number(facts.trace.count_of(call.row))})"
-    rest = facts.trace.writers(n).rest
+            return f"a read call filled it (hart {call.hart}, count {number(facts.rows.count_of(call.row))})"
+    rest = facts.writers.stores(n).rest
     mask = sum(255 << 8 * i for i in range(4) if rest >> i & 1)
     value &= mask
     if value == (facts.elf.word(address) or 0) & mask:

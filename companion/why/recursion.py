@@ -19,29 +19,29 @@ class Recursion(NamedTuple):
 
 
 def find_recursion(trace: Trace, start: int) -> Recursion:
-    calls = live_calls(trace, trace.hart[start])
+    made, calls = trace.calls, live_calls(trace, trace.rows.hart[start])
     if len(calls) < DEEP:
         return Recursion([], [])
     times: dict[int, int] = {}
     for at in calls:
-        pc = trace.code_of(trace.jumps[at]).pc
+        pc = trace.rows.code_of(made.jumps[at]).pc
         times[pc] = times.get(pc, 0) + 1
     place = max(times, key=lambda pc: times[pc])
     if times[place] * 4 < len(calls):
         return Recursion([], [])
-    latest = max(trace.jumps[at] for at in calls if trace.code_of(trace.jumps[at]).pc == place)
+    latest = max(made.jumps[at] for at in calls if trace.rows.code_of(made.jumps[at]).pc == place)
     suspect = Suspect("calls", latest, latest, COST)
     suspect.why.append(f"the stack is {number(len(calls))} calls deep, and {number(times[place])} of them are this one")
     asked = calls[ASKED_FROM:ASKED_FROM + ASKED_CALLS]
-    return Recursion([suspect], [trace.jump_writer[at] for at in asked if trace.jump_writer[at]])
+    return Recursion([suspect], [made.writers[at] for at in asked if made.writers[at]])
 
 
 def live_calls(trace: Trace, hart: int) -> list[int]:
     """The calls of a hart that haven't returned, outermost first, as places among the trace's jumps."""
     calls: list[int] = []
-    for at, n in enumerate(trace.jumps):
-        if trace.hart[n] == hart:
-            if trace.code_of(n).call:
+    for at, n in enumerate(trace.calls.jumps):
+        if trace.rows.hart[n] == hart:
+            if trace.rows.code_of(n).call:
                 calls.append(at)
             elif calls:
                 calls.pop()

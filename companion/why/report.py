@@ -47,13 +47,13 @@ def heading(facts: Analysis) -> str:
 
 
 def head_lines(facts: Analysis) -> list[str]:
-    trace, start = facts.trace, facts.start
-    hart, count = trace.hart[start], number(trace.count_of(start))
+    rows, start = facts.rows, facts.start
+    hart, count = rows.hart[start], number(rows.count_of(start))
     at, verb = start, "In"
-    if trace.fault and facts.faulted:
-        said = [f"{trace.fault.name} {trace.fault.value:08x}, hart {hart} at count {count}"]
-        said += fault_words(trace, trace.fault, facts.named)
-        if trace.fault.name == "FetchOutside" and len(facts.last) > 1:
+    if rows.fault and facts.faulted:
+        said = [f"{rows.fault.name} {rows.fault.value:08x}, hart {hart} at count {count}"]
+        said += fault_words(rows, rows.fault, facts.named)
+        if rows.fault.name == "FetchOutside" and len(facts.last) > 1:
             at, verb = facts.last[-2], "By the jump in"
     elif facts.output:
         said = output_lines(facts, facts.output)
@@ -62,23 +62,23 @@ def head_lines(facts: Analysis) -> list[str]:
     else:
         what = "a branch that would have ended the loop" if facts.hangs else "the last row"
         said = ["No hart faulted: " + facts.ends(), f"Below is {what} of hart {hart}."]
-        said += [f"hart {each} is in {facts.where(n)}" for each, n in sorted(trace.last.items())]
+        said += [f"hart {each} is in {facts.where(n)}" for each, n in sorted(rows.last.items())]
     source = facts.source(at)
     return said + [f"{verb} {facts.where(at)}{':  ' + source if source else ''}"]
 
 
 def output_lines(facts: Analysis, byte: Written) -> list[str]:
     """What was written, and who stored the byte."""
-    trace, call = facts.trace, byte.call
-    row = trace.row_of(call.hart, call.count)
+    rows, call = facts.rows, byte.call
+    row = rows.row_of(call.hart, call.count)
     said = [f"Asked of byte {byte.place} of write {byte.write}, which took {counted(call.size, 'byte')} from {call.address:08x}",
             f"hart {call.hart} wrote it at count {number(call.count)} in {facts.where(row)}"]
     if facts.stored == row:
         return said + [f"No row{' that was read' if facts.log.unread else ''} stored the byte: below is the write."]
-    told = trace.store_of(facts.stored)
+    told = rows.store_of(facts.stored)
     place = call.address + byte.place & 3
     value = bytes([told.value >> 8 * place & 255]) if told else b""
-    said.append(f"The byte is {repr(value)[1:]}: hart {trace.hart[facts.stored]} stored it at count {number(trace.count_of(facts.stored))}.")
+    said.append(f"The byte is {repr(value)[1:]}: hart {rows.hart[facts.stored]} stored it at count {number(rows.count_of(facts.stored))}.")
     if facts.start != facts.stored:
         said.append("A library made it of what it was given: below is that.")
     return said
@@ -98,12 +98,12 @@ def call_lines(facts: Analysis) -> list[str]:
 
 
 def register_lines(facts: Analysis) -> list[str]:
-    values = facts.trace.final[facts.trace.hart[facts.start]]
+    values = facts.rows.final[facts.rows.hart[facts.start]]
     return [" ".join(f"{NAMES[i]:>4} {values[i]:08x}" for i in range(row, row + 8)) for row in range(0, 32, 8)]
 
 
 def row_lines(facts: Analysis) -> list[str]:
-    return [f"{short(facts.trace.text(n), ROW_WIDTH):<{ROW_WIDTH}} {facts.line(n)}" for n in facts.last]
+    return [f"{short(facts.rows.text(n), ROW_WIDTH):<{ROW_WIDTH}} {facts.line(n)}" for n in facts.last]
 
 
 def suspect_lines(facts: Analysis, most: int) -> list[str]:
@@ -118,30 +118,30 @@ def one_suspect(facts: Analysis, place: int, item: Suspect) -> list[str]:
     for words, n in item.extra:
         said += [f"   {words} {facts.where(n)}   {facts.source(n)}"] + guilty_lines(facts, n)
     if item.kind in STORED:
-        said += ["   " + did(facts, item.store, STORED[item.kind]), "      " + short(facts.trace.text(item.store))]
+        said += ["   " + did(facts, item.store, STORED[item.kind]), "      " + short(facts.rows.text(item.store))]
     if item.kind not in ALONE:
         said += ["   " + did(facts, item.load, "loaded it in"),
-                 "      " + short(facts.trace.text(item.load)) + data_words(facts, item.load)]
+                 "      " + short(facts.rows.text(item.load)) + data_words(facts, item.load)]
     times = f" ({number(item.rows)} such pairs)" if item.rows > 1 else ""
     reasons = item.why if item.kind == "exit" else [distance(item)] + item.why
-    guilty = ready(facts.log, facts.elf, facts.named, facts.trace.hart[item.guilty], facts.trace.count_of(item.guilty))
+    guilty = ready(facts.log, facts.elf, facts.named, facts.rows.hart[item.guilty], facts.rows.count_of(item.guilty))
     return said + ["   because: " + "; ".join(reasons) + times] + ["   " + line for line in guilty]
 
 
 def did(facts: Analysis, n: int, words: str) -> str:
-    return f"hart {facts.trace.hart[n]} {words} {facts.where(n)}   {facts.source(n)}"
+    return f"hart {facts.rows.hart[n]} {words} {facts.where(n)}   {facts.source(n)}"
 
 
 def guilty_lines(facts: Analysis, n: int) -> list[str]:
     """The calls over a row, and the row."""
     callers = [f"{frame.function} {frame.place}" for frame in facts.callers(n)]
     said = ["      called from " + CALLED_FROM.join(callers)] if callers else []
-    return said + ["      " + short(facts.trace.text(n))]
+    return said + ["      " + short(facts.rows.text(n))]
 
 
 def data_words(facts: Analysis, n: int) -> str:
     """The object that a load's word is in, and its text if it is one."""
-    told = facts.trace.load_of(n)
+    told = facts.rows.load_of(n)
     if told is None:
         return ""
     name, text = facts.named.data_name(told.address), as_text(told.value)
@@ -157,13 +157,13 @@ def distance(item: Suspect) -> str:
 def value_part(facts: Analysis, most: int) -> Part:
     history, said = facts.history, []
     for line in facts.lines[:most]:
-        latest = short(facts.trace.text(line.latest), TEXT_WIDTH)
+        latest = short(facts.rows.text(line.latest), TEXT_WIDTH)
         place, *callers = line.place.split(CALLED_FROM)
         said.append(f"{f'hart {line.hart}':<6} {short(place, 36):<36} {number(line.rows):>7} rows  latest {latest}")
         said += ["       inlined in " + CALLED_FROM.join(callers)] if callers else []
     if len(facts.lines) > most:
         said.append(f"       .. {counted(len(facts.lines) - most, 'more place')} (--more) ..")
-    rows, all_rows = number(len(history.cost) - len(history.decided)), number(facts.trace.rows)
+    rows, all_rows = number(len(history.cost) - len(history.decided)), number(facts.rows.size)
     cut = " (cut off there)" if history.cut else ""
     return Part(f"VALUES: {rows} of {all_rows} rows stand behind it{cut}, by place, nearest first", said)
 
@@ -183,9 +183,9 @@ def race_part(facts: Analysis) -> Part:
 
 
 def last_lines(facts: Analysis) -> list[str]:
-    trace = facts.trace
-    rate = number(int(trace.rows / max(trace.seconds, 0.001)))
-    said = f"{counted(trace.rows, 'row')} in {trace.seconds:.1f} s ({rate} a second)"
+    rows = facts.rows
+    rate = number(int(rows.size / max(rows.seconds, 0.001)))
+    said = f"{counted(rows.size, 'row')} in {rows.seconds:.1f} s ({rate} a second)"
     return [said] + unread(facts) + facts.notes + facts.places.trouble()
 
 
@@ -194,5 +194,5 @@ def unread(facts: Analysis) -> list[str]:
     log = facts.log
     if not log.unread:
         return []
-    return [f"Only the last {counted(facts.trace.rows, 'row')} were read: {number(log.unread)} bytes of records before them weren't "
+    return [f"Only the last {counted(facts.rows.size, 'row')} were read: {number(log.unread)} bytes of records before them weren't "
             "looked at. --rows N reads the last N."]

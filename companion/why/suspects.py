@@ -15,7 +15,7 @@ from typing import AbstractSet, Sequence
 from ..call.text import counted, number
 from ..recording.instruction import AMO, SP, STORE
 from ..recording.log import At
-from ..recording.trace import LOADS
+from ..recording.rows import LOADS
 from .branches import branch_suspects, exit_suspects
 from .facts import Facts
 from .history import ADDRESS, History, Pair
@@ -48,9 +48,10 @@ class Ranking:
         """`races` is pairs of accesses that nothing orders, `recursion` suspects that are known, and `loop` the rows that a
         loop or a recursion follows."""
         self.facts, self.trace, self.places = facts, facts.trace, facts.places
+        self.rows, self.writers, _ = facts.trace
         self.history, self.races, self.is_recursive, self.loop = history, races, bool(recursion), set(loop)
         self.loads: dict[int, int] = {}         # a load's code: how many rows
-        for pair, times in self.trace.pairs.items():
+        for pair, times in self.writers.pairs.items():
             self.loads[pair >> 32] = self.loads.get(pair >> 32, 0) + times
         stores = sorted(self.stores(history), key=rank)
         memory = MemoryUse(facts, history)
@@ -75,7 +76,7 @@ class Ranking:
         branch that should have kept it away?"""
         behind = []
         for item in [item for item in found if item.shown][:FIRST_ONES]:
-            row = self.trace.d1[item.store] if item.misplaced else 0
+            row = self.writers.first[item.store] if item.misplaced else 0
             if row:
                 history = History(self.trace, [row], PLACE_ROWS, self.history.control, control_cost=GUARD)
                 for suspect in [one for one in branch_suspects(self.facts, history) + self.stores(history)
@@ -113,7 +114,7 @@ class Ranking:
     def behind_others(self, found: list[Suspect]) -> list[Suspect]:
         told: set[str] = set()
         for item in found:
-            line = self.places.line(self.trace.code_of(item.guilty).pc)
+            line = self.places.line(self.rows.code_of(item.guilty).pc)
             if item.kind == "store" and item.shown and line in told:
                 item.score += AGAIN
             elif item.shown:
@@ -122,17 +123,17 @@ class Ranking:
 
     def stores(self, history: History) -> list[Suspect]:
         """A suspect for each two source lines of a history's loads and stores, with its signs."""
-        trace, places, far = self.trace, self.places, history.far
+        rows, writers, places, far = self.rows, self.writers, self.places, history.far
         groups: dict[tuple[str, str, bool], Suspect] = {}
         closing = self.closing_pair()
         pairs = dict(far)
         if closing.store:
             pairs[closing] = min(CLOSE, pairs.get(closing, CLOSE))
-        places.fetch({trace.code_of(n).pc for key in pairs for n in key} |
-                     {trace.code_of(trace.dm[store]).pc for _, store in pairs if trace.dm[store]})
+        places.fetch({rows.code_of(n).pc for key in pairs for n in key} |
+                     {rows.code_of(writers.word[store]).pc for _, store in pairs if writers.word[store]})
         for (load, store), price in pairs.items():
-            key = (places.line(trace.code_of(load).pc), places.line(trace.code_of(store).pc),
-                   trace.hart[store] != trace.hart[load])
+            key = (places.line(rows.code_of(load).pc), places.line(rows.code_of(store).pc),
+                   rows.hart[store] != rows.hart[load])
             item = groups.get(key)
             pair = Pair(load, store)
             nearer = item is None or ((item.load, item.store) != closing and (price, -load) < (item.cost, -item.load))
@@ -157,26 +158,26 @@ class Ranking:
 
     def latest_followed(self) -> Pair:
         """The latest store of the pointers that a loop follows, and its load."""
-        trace, latest = self.trace, Pair(0, 0)
+        rows, writers, latest = self.rows, self.writers, Pair(0, 0)
         for hanging in self.facts.loops:
-            loads = [n for n in trace.last_rows(hanging.last, FOLLOWED_ROWS) if trace.flags[n] & LOADS and n >= hanging.first]
+            loads = [n for n in rows.last_rows(hanging.last, FOLLOWED_ROWS) if rows.flags[n] & LOADS and n >= hanging.first]
             for n in loads:
-                pointer = trace.d1[n]
-                while pointer and trace.code_of(pointer).move:
-                    pointer = trace.d1[pointer]
-                if pointer and trace.pc[pointer] == trace.pc[n]:
+                pointer = writers.first[n]
+                while pointer and rows.code_of(pointer).move:
+                    pointer = writers.first[pointer]
+                if pointer and rows.code[pointer] == rows.code[n]:
                     for load in (n, pointer):
-                        for store in map(trace.changed_by, trace.writers(load).rows):
+                        for store in map(writers.changed_by, writers.stores(load).rows):
                             if store < hanging.first and store > latest.store:
                                 latest = Pair(load, store)
         return latest
 
     def judge(self, item: Suspect, history: History) -> None:
         """The signs of a load and its store."""
-        trace, load, store = self.trace, item.load, item.store
-        if trace.hart[store] != trace.hart[load]:
+        rows, writers, load, store = self.rows, self.writers, item.load, item.store
+        if rows.hart[store] != rows.hart[load]:
             item.sign(OTHER_HART, "another hart stored it")
-        stored, loaded = trace.code_of(store), trace.code_of(load)
+        stored, loaded = rows.code_of(store), rows.code_of(load)
         if stored.kind == STORE and loaded.kind != AMO and stored.width < loaded.width and not self.is_copied(load, history):
             item.misplaced = True
             item.sign(NARROW, f"stored as {SIZES[0][stored.width]}, loaded as a {SIZES[1][loaded.width]}")
@@ -185,32 +186,32 @@ class Ranking:
         if load in history.decided:
             item.why.append("it decided the way to here")
         self.judge_rarity(item)
-        old = trace.dm[store]
+        old = writers.word[store]
         if old and stored.kind == STORE:
-            where = trace.code_of(old).pc
+            where = rows.code_of(old).pc
             if self.places.function(where) != self.places.function(stored.pc):
                 item.sign(OTHER_FUNCTION, f"over what {self.places.where(where)} stored")
-        pair = frozenset(At(trace.hart[n], trace.count_of(n)) for n in (load, store))
+        pair = frozenset(At(rows.hart[n], rows.count_of(n)) for n in (load, store))
         if pair in self.races:
             item.sign(RACE, "a race: no atomic instruction orders them")
         self.judge_distance(item)
 
     def is_copied(self, load: int, history: History) -> bool:
         """Whether a load's word was stored again unchanged, as the parts of a copied object do."""
-        return load in history.parent and self.trace.code_of(history.parent[load].row).kind == STORE
+        return load in history.parent and self.rows.code_of(history.parent[load].row).kind == STORE
 
     def times_of(self, item: Suspect) -> int:
         """How often the load got its word from the line that stored it: a compiler may have made several stores of it. 0 if
         another store gave the rest of the word later."""
-        line = self.places.line(self.trace.code_of(item.store).pc)
-        stores = self.trace.givers(item.load)
-        self.places.fetch({self.trace.codes[at].pc for at in stores})
-        return sum(times for at, times in stores.items() if self.places.line(self.trace.codes[at].pc) == line)
+        line = self.places.line(self.rows.code_of(item.store).pc)
+        stores = self.writers.givers(item.load)
+        self.places.fetch({self.rows.codes[at].pc for at in stores})
+        return sum(times for at, times in stores.items() if self.places.line(self.rows.codes[at].pc) == line)
 
     def judge_rarity(self, item: Suspect) -> None:
-        trace = self.trace
+        rows = self.rows
         times = self.times_of(item)
-        whole = self.loads.get(trace.pc[item.load], 1)
+        whole = self.loads.get(rows.code[item.load], 1)
         if times and whole >= 4 and times * 10 <= whole:
             item.sign(RARITY * math.log10(whole / times), f"rare here: {number(times)} of {number(whole)} loads")
         elif whole >= COMMON_ROWS and times == whole and not self.history.is_far(item.load, item.store):
@@ -218,13 +219,13 @@ class Ranking:
 
     def judge_distance(self, item: Suspect) -> None:
         """Near stores are let in on the chain of values, but for a register that its function put aside."""
-        trace, load, store = self.trace, item.load, item.store
+        rows, load, store = self.rows, item.load, item.store
         distance = load - store
-        if trace.is_spill(load, store):
+        if rows.is_spill(load, store):
             item.shown = False
             return
         if self.history.is_far(load, store):
-            if trace.hart[load] == trace.hart[store]:
+            if rows.hart[load] == rows.hart[store]:
                 item.why.append(f"{counted(distance, 'row')} earlier")
             return
         item.shown = item.cost < ADDRESS

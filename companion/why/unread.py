@@ -6,7 +6,8 @@ from collections import Counter
 
 from ..call.text import counted
 from ..recording.instruction import ALU, SP
-from ..recording.trace import LOADS, STORES, Trace
+from ..recording.rows import LOADS, STORES, Rows
+from ..recording.trace import Trace
 from .facts import Facts
 from .history import History
 from .suspect import Extra, Suspect
@@ -18,15 +19,15 @@ MOST_LOADS, MOST_FRAMES = 400, 1000     # loads that are looked at, and rows of 
 
 def failed_stores(facts: Facts, history: History) -> list[Suspect]:
     """Store-conditionals that failed unread, to words that are behind the start: the latest of each line."""
-    trace = facts.trace
-    codes = {ins.at for ins in trace.codes if ins.name.startswith("sc.")}
-    failed = [n for n, at in enumerate(trace.pc) if at in codes and n and not trace.flags[n] & STORES] if codes else []
+    rows, writers = facts.rows, facts.writers
+    codes = {ins.at for ins in rows.codes if ins.name.startswith("sc.")}
+    failed = [n for n, at in enumerate(rows.code) if at in codes and n and not rows.flags[n] & STORES] if codes else []
     nearest = history.words() if failed else {}
     found: dict[str, Suspect] = {}
     times: Counter[str] = Counter()
     for n in reversed(failed):
-        word = trace.result_of(trace.d1[n])
-        if word in nearest and is_unread(trace, n):
+        word = rows.result_of(writers.first[n])
+        if word in nearest and is_unread(rows, n):
             times[facts.line(n)] += 1
             found.setdefault(facts.line(n), Suspect("failed", n, n, nearest[word]))
     for line, suspect in found.items():
@@ -34,46 +35,46 @@ def failed_stores(facts: Facts, history: History) -> list[Suspect]:
     return list(found.values())
 
 
-def is_unread(trace: Trace, n: int) -> bool:
+def is_unread(rows: Rows, n: int) -> bool:
     """Whether a row's result was written over before its hart read it."""
-    register = trace.code_of(n).rd
-    for at in range(n + 1, min(n + MOST_READERS, trace.rows + 1) if register else 0):
-        ins = trace.code_of(at)
-        if trace.hart[at] == trace.hart[n] and register in (ins.rs1, ins.rs2, ins.rd):
+    register = rows.code_of(n).rd
+    for at in range(n + 1, min(n + MOST_READERS, rows.size + 1) if register else 0):
+        ins = rows.code_of(at)
+        if rows.hart[at] == rows.hart[n] and register in (ins.rs1, ins.rs2, ins.rd):
             return register not in (ins.rs1, ins.rs2)
     return not register
 
 
 def unset(facts: Facts, history: History) -> list[Suspect]:
     """Loads behind the start of a word in a frame of the stack that nothing stored since the frame was made."""
-    trace = facts.trace
-    loads = [n for n in history.cost if trace.flags[n] & LOADS]
+    rows, writers, trace = facts.rows, facts.writers, facts.trace
+    loads = [n for n in history.cost if rows.flags[n] & LOADS]
     found: dict[str, Suspect] = {}
     for n in sorted(loads, key=lambda row: (history.cost[row], -row))[:MOST_LOADS]:
-        frame, (stores, rest) = frame_of(trace, n), trace.writers(n)
+        frame, (stores, rest) = frame_of(trace, n), writers.stores(n)
         old = [store for store in stores if store < frame]
-        if frame and (old or rest and not is_filled(trace, frame, n)) and facts.line(n) not in found:
+        if frame and (old or rest and not is_filled(rows, frame, n)) and facts.line(n) not in found:
             suspect = found[facts.line(n)] = Suspect("unset", n, n, history.cost[n])
             suspect.sign(UNSET, "its bytes are from before this call")
             suspect.extra += [Extra("they were stored in", store) for store in old[:1]]
     return list(found.values())
 
 
-def is_filled(trace: Trace, frame: int, load: int) -> bool:
+def is_filled(rows: Rows, frame: int, load: int) -> bool:
     """Whether a `read` call filled a load's word since a frame was made."""
-    address = trace.access(load).address
-    return any(frame < call.row < load and call.address <= address < call.address + call.size for call in trace.reads)
+    address = rows.access(load).address
+    return any(frame < call.row < load and call.address <= address < call.address + call.size for call in rows.reads)
 
 
 def frame_of(trace: Trace, load: int) -> int:
     """The row that made the frame of the stack in which a load's address is, or 0."""
-    address, n = trace.access(load).address, trace.d1[load]
+    address, n = trace.rows.access(load).address, trace.writers.first[load]
     for _ in range(MOST_FRAMES):
-        ins = trace.code_of(n)
+        ins = trace.rows.code_of(n)
         if not n or ins.kind != ALU:
             break
-        low, high = trace.result_of(n), trace.result_of(trace.d1[n])
+        low, high = trace.rows.result_of(n), trace.rows.result_of(trace.writers.first[n])
         if ins.rd == ins.rs1 == SP and low is not None and high is not None and low <= address < high:
             return n
-        n = trace.d1[n]
+        n = trace.writers.first[n]
     return 0

@@ -10,7 +10,8 @@ import case
 import common
 
 from companion.recording.log import read_log
-from companion.recording.rows import parse_row, read_trace, rows_of
+from companion.recording.row import parse_row, rows_of
+from companion.recording.trace import read_trace
 
 
 def documented(word):
@@ -99,18 +100,17 @@ class AnswersTest(case.Case):
 class PythonTest(case.Case):
     def test_rows_of_a_log(self):
         for log, elf in (self.crash("use_after_free"), self.crash("race_ring")):
-            trace, rows = read_trace(read_log(log), elf), list(rows_of(log, elf))
-            self.assertEqual(len(rows), trace.rows)
+            (told, writers, _), rows = read_trace(read_log(log), elf), list(rows_of(log, elf))
+            self.assertEqual(len(rows), told.size)
             for n, row in enumerate(rows, 1):
-                self.assertEqual((row.hart, row.ic, row.pc), (trace.hart[n], trace.count_of(n), trace.code_of(n).pc))
-                self.assertEqual((row.load, row.store), (trace.load_of(n), trace.store_of(n)))
-                self.assertEqual(row.result if row.register else None, trace.result_of(n))
-                self.assertEqual(parse_row(trace.text(n).encode()), row)
+                self.assertEqual((row.hart, row.ic, row.pc), (told.hart[n], told.count_of(n), told.code_of(n).pc))
+                self.assertEqual((row.load, row.store), (told.load_of(n), told.store_of(n)))
+                self.assertEqual(row.result if row.register else None, told.result_of(n))
+                self.assertEqual(parse_row(told.text(n).encode()), row)
             stores = [n for n, row in enumerate(rows, 1) if row.store]
             address = rows[stores[-1] - 1].store.address
-            self.assertEqual(trace.last_store(address), stores[-1])
             before = [n for n in stores if n < stores[-1] and rows[n - 1].store.address & ~3 == address & ~3]
-            self.assertEqual(trace.last_store(address, stores[-1]), before[-1] if before else 0)
+            self.assertEqual(writers.word[stores[-1]], before[-1] if before else 0)
         self.assertIsNone(parse_row(b"end 0 2 22675 LoadOutside 6e657472\n"))
         self.assertIsNone(parse_row(b"word 0001147c=00000000\n"))
 

@@ -16,7 +16,7 @@ from companion.recording import recent
 from companion.why.analysis import analysed
 from companion.recording.log import At
 from companion.recording.recent import LogFile
-from companion.recording.rows import read_trace
+from companion.recording.trace import read_trace
 
 CODE = 0x10054                  # the first address of a forged program
 FOREVER = 0x6f                  # jal zero,0
@@ -73,19 +73,19 @@ class BoundsTest(case.Case):
                 end = source.end(MOST)
                 self.assertLessEqual(end.rows(), max(2 * MOST, MOST + length * harts))
                 self.assertEqual((source.whole().rows(), end.ends), (intervals * length * harts, source.whole().ends))
-                trace = read_trace(end, elf, most=2 * MOST)
-                self.assertLessEqual(trace.rows, 2 * MOST)
-                self.assertEqual(trace.passed + trace.rows, end.rows())
+                rows = read_trace(end, elf, most=2 * MOST).rows
+                self.assertLessEqual(rows.size, 2 * MOST)
+                self.assertEqual(rows.passed + rows.size, end.rows())
             with closing(analysed(log, elf)) as crash:
-                self.assertLessEqual(crash.trace.rows, 2 * MOST)
+                self.assertLessEqual(crash.rows.size, 2 * MOST)
                 self.assertGreater(crash.log.unread, 0)
 
     def test_a_row_far_back_is_read_with_those_before_it(self):
         log, elf = saved("back", *forever(200, 10000))
         with closing(analysed(log, elf, row="0:500123")) as crash:
-            self.assertEqual(crash.trace.text(crash.start)[:9], "0 500123 ")
-            self.assertLessEqual(crash.trace.rows, 2 * MOST)
-            self.assertGreaterEqual(crash.trace.row_of(0, 500123), MOST)
+            self.assertEqual(crash.rows.text(crash.start)[:9], "0 500123 ")
+            self.assertLessEqual(crash.rows.size, 2 * MOST)
+            self.assertGreaterEqual(crash.rows.row_of(0, 500123), MOST)
         with closing(LogFile(log)) as source:
             for at in (At(0, 2000001), At(1, 0)):
                 self.assertRaisesRegex(recent.CompanionError, f"the log holds no row {at.hart}:{at.count}", source.end, MOST, at)

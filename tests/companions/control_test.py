@@ -11,7 +11,7 @@ from gdb.recordings import (A0, DATA, EXIT, T0, T1, T2, addi, branch_unless_equa
 from companion.why.control import Control, other_side
 from companion.recording.elf import Elf
 from companion.recording.log import read_log
-from companion.recording.rows import read_trace
+from companion.recording.trace import read_trace
 
 RA = 1
 # T0 is the data's address. Each place is told by its number; the words after `#` are what the test asks of it.
@@ -46,12 +46,12 @@ class ControlTest(case.Case):
 
     def rows(self, place):
         """The rows of a place of the program."""
-        return [n for n in range(1, self.trace.rows + 1) if self.trace.code_of(n).pc == pc_of(place)]
+        return [n for n in range(1, self.trace.rows.size + 1) if self.trace.rows.code_of(n).pc == pc_of(place)]
 
     def decided_by(self, row):
         """The place of the branch that decided that a row was reached, or None."""
         found = self.control.before(row)
-        return (self.trace.code_of(found).pc - pc_of(0)) // 4 if found else None
+        return (self.trace.rows.code_of(found).pc - pc_of(0)) // 4 if found else None
 
     def test_the_program_does_what_the_test_says(self):
         self.assertEqual([len(self.rows(place)) for place in (2, 5, 6, 15, 11)], [3, 1, 3, 1, 1])
@@ -79,7 +79,7 @@ class ControlTest(case.Case):
         self.assertEqual(self.control.kept(self.rows(11)[0], self.rows(6)[2]), 0)
 
     def test_the_other_side(self):
-        branch = self.trace.code_of(self.rows(3)[0])
+        branch = self.trace.rows.code_of(self.rows(3)[0])
         self.assertEqual((branch.leads, other_side(branch, pc_of(6)), other_side(branch, pc_of(4))), (pc_of(6), pc_of(4), pc_of(6)))
 
 

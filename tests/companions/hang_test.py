@@ -73,7 +73,7 @@ class HangTest(case.Case):
         log, elf = self.crash("hang_width")
         facts = analysed(log, elf)
         facts.close()
-        self.assertIn("checksum_of", {facts.places.function(facts.trace.codes[at].pc) for at in facts.loops[0].places})
+        self.assertIn("checksum_of", {facts.places.function(facts.rows.codes[at].pc) for at in facts.loops[0].places})
 
     def test_stays_and_exits_are_those_of_the_rows(self):
         for name in HANGS:
@@ -86,23 +86,23 @@ class HangTest(case.Case):
                 self.check_loop(facts, loop, rows[loop.hart])
 
     def check_loop(self, facts, loop, rows):
-        since = facts.trace.count_of(loop.first)
+        since = facts.rows.count_of(loop.first)
         stay = [pc for count, pc in rows if count >= since]
         before = [pc for count, pc in rows if count < since]
-        self.assertEqual(set(stay), {facts.trace.codes[at].pc for at in loop.places})
+        self.assertEqual(set(stay), {facts.rows.codes[at].pc for at in loop.places})
         self.assertNotIn(before[-1], set(stay))
         self.assertEqual(loop.rounds, min(stay.count(pc) for pc in set(stay)))
         ways = {}
         for pc, following in zip(stay, stay[1:]):
             ways.setdefault(pc, set()).add(following)
         for item in loop.exits:
-            ins = facts.trace.code_of(item.row)
+            ins = facts.rows.code_of(item.row)
             other = {ins.pc + 4, ins.leads} - ways[ins.pc]
             self.assertEqual(len(other), 1, facts.where(item.row))
             self.assertEqual(item.leads_out, not other & set(stay))
             self.assertEqual(item.times, stay.count(ins.pc))
         for row, times in loop.stopped:
-            pc = facts.trace.code_of(row).pc
+            pc = facts.rows.code_of(row).pc
             self.assertEqual((before.count(pc), stay.count(pc)), (times, 0))
 
 

@@ -11,7 +11,7 @@ from companion.recording import recent
 from companion.why.analysis import analysed
 from companion.recording.log import At
 from companion.recording.recent import LogFile
-from companion.recording.rows import read_trace
+from companion.recording.trace import read_trace
 
 SMALL = ("--seed", "1", "--sets", "1", "--ways", "1", "--line", "1", "--interval", "200")    # many records in few rows
 
@@ -25,8 +25,8 @@ class RecentTest(case.Case):
                 setattr(module, name, value)
 
     def texts(self, log, elf):
-        trace = read_trace(log, elf)
-        return [trace.text(n) for n in range(1, trace.rows + 1)]
+        rows = read_trace(log, elf).rows
+        return [rows.text(n) for n in range(1, rows.size + 1)]
 
     def test_an_end_has_the_last_rows(self):
         for name, words in (("wild_store", SMALL), ("tills", SMALL + ("--harts", "2")),
@@ -49,17 +49,17 @@ class RecentTest(case.Case):
     def test_a_row_that_is_asked_of_is_among_them(self):
         log, elf = self.record("wild_store", *SMALL), self.elf("wild_store")
         with closing(LogFile(log)) as source:
-            trace = read_trace(source.end(500, At(0, 10000)), elf)
-            self.assertGreater(trace.row_of(0, 10000), 0)
-            self.assertEqual(trace.row_of(0, 2000), 0)
+            rows = read_trace(source.end(500, At(0, 10000)), elf).rows
+            self.assertGreater(rows.row_of(0, 10000), 0)
+            self.assertEqual(rows.row_of(0, 2000), 0)
 
     def test_the_rows_before_those_that_are_kept_are_passed(self):
         log, elf = self.record("wild_store", *SMALL), self.elf("wild_store")
         with closing(LogFile(log)) as source:
             whole = self.texts(source.whole(), elf)
-            trace = read_trace(source.whole(), elf, most=500)
-        self.assertEqual([trace.text(n) for n in range(1, trace.rows + 1)], whole[-501:])      # the fault's row isn't counted
-        self.assertEqual((trace.passed, trace.is_cut(1)), (len(whole) - 501, True))
+            rows = read_trace(source.whole(), elf, most=500).rows
+        self.assertEqual([rows.text(n) for n in range(1, rows.size + 1)], whole[-501:])      # the fault's row isn't counted
+        self.assertEqual((rows.passed, rows.is_cut(1)), (len(whole) - 501, True))
 
     def test_version_1_is_converted(self):
         log = common.path("version1.log")

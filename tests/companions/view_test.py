@@ -14,7 +14,7 @@ import common
 import forged
 import hostile
 
-from companion.recording import log as logs
+from companion.recording import log as logs, trace
 from companion.view import data as view_data
 
 
@@ -245,10 +245,10 @@ class EdgesTest(unittest.TestCase):
         class Log:
             edges = logs.Edges([0] * 20000, [0] * 20000, [i % 2 for i in range(20000)], [1] * 20000)
 
-        class Trace:
-            rows = 10000
+        class Rows:
+            size = 10000
 
-        page = view_data.Page(Trace, None, Log)
+        page = view_data.Page(trace.Trace(Rows, None, None), None, Log)
         rows = list(range(5000)) + [5000 + i // 3 for i in range(15000)]
         even = page.even_edges(rows)
         late = sum(rows[i] >= 5000 for i in even)

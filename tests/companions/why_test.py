@@ -115,22 +115,22 @@ class WhyTest(case.Case):
         log, elf = self.crash("libc_short_packet")
         facts = analysed(log, elf)
         facts.close()
-        counted = [n for n in facts.history.cost if facts.trace.code_of(n).counts and facts.trace.pc[n] == facts.trace.pc[facts.trace.d1[n]]]
+        counted = [n for n in facts.history.cost if facts.rows.code_of(n).counts and facts.rows.code[n] == facts.rows.code[facts.writers.first[n]]]
         self.assertTrue(counted)
         for n in counted:
-            before = facts.trace.before_counting(n)
-            self.assertNotEqual(facts.trace.pc[before], facts.trace.pc[n])
+            before = facts.writers.before_counting(n)
+            self.assertNotEqual(facts.rows.code[before], facts.rows.code[n])
             self.assertIn(before, [0, *facts.history.cost])
 
     def against_slice(self, name, log, elf):
         """Each row of the program's own slice of the fault is in the history."""
         facts = analysed(log, elf)
         facts.close()
-        hart, count = facts.trace.hart[facts.start], facts.trace.count_of(facts.start)
+        hart, count = facts.rows.hart[facts.start], facts.rows.count_of(facts.start)
         interval = next(item for item in facts.log.intervals if item.hart == hart and item.start <= count <= item.end)
         rows = [line.split() for line in output("slice", log, elf, str(hart), str(interval.number), str(count)).decode().split("\n")
                 if line[:1].isdigit()]
-        missing = [row[:3] for row in rows if facts.trace.row_of(int(row[0]), int(row[1])) not in facts.history.cost]
+        missing = [row[:3] for row in rows if facts.rows.row_of(int(row[0]), int(row[1])) not in facts.history.cost]
         self.check("%s: all %d rows of the slice are in the history" % (name, len(rows)), rows and not missing, missing)
 
     def test_lost_front(self):

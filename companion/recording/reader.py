@@ -1,0 +1,304 @@
+"""Fills the columns of rows, writers and calls from chunks of text: most at once for all rows of a chunk, and row by row
+only what depends on the rows before."""
+from __future__ import annotations
+
+import re
+import sys
+from array import array
+from binascii import unhexlify
+from itertools import compress, repeat
+from operator import ne
+from typing import Callable, Dict, Iterable, Iterator, NamedTuple, Optional, Sequence
+
+from .calls import Calls
+from .instruction import A0, A1, A7, AMO, CALL, JUMP, LOAD, NAMES, STORE, Instruction
+from .log import FAILED, LONGEST_CALL, READ_CALL
+from .rows import CHANGED, FAULTS, KEEPS, LOADS, OFFSET, STORES, UNSTORED, Fault, ReadCall, Rows
+from .writers import Writers
+
+# What a row does beside LOADS and STORES: it writes a register; it is a call, a return or a jump to a function; it is a
+# system call; it stores only if it succeeds.
+WRITES, GOES, ASKS, TRIES = 1, 2, 16, 32
+NEW = -1                    # in place of the number of an instruction that hasn't one
+NO_REGISTER = 32            # in place of the register of what writes none
+WORD = ~OFFSET
+SPECIAL, RESULT = re.compile(rb"[\x10-\x3f]"), re.compile(rb"\| (\w+)=(\w{8})")
+REGISTERS = {name.encode(): register for register, name in enumerate(NAMES)}
+FAULT = b" | fault "
+KEY, ZERO = 17, b"0" * 8    # letters of an address and a word; the value of what writes no register
+
+
+def of_shapes(bits: int) -> bytes:
+    """What `translate` needs to leave these bits of shapes."""
+    return bytes(shape & bits for shape in range(256))
+
+
+WENT, ACCESSED, TOUCHED = of_shapes(GOES), of_shapes(LOADS | STORES), of_shapes(LOADS | STORES | TRIES)
+NO_ACCESS = bytes(shape for shape in range(256) if not ACCESSED[shape])
+BOTH = LOADS | STORES
+# A row tells its value so many letters before its end, which is the same for all rows of a shape.
+BEHIND = {0: 0, LOADS: 25, STORES: 26, BOTH: 51}    # letters behind a value
+RESULTS = [slice(-8 - behind, -behind or None) if shape & WRITES else None
+           for shape in range(64) for behind in [BEHIND[shape & BOTH]]]
+
+
+class State:
+    """What is known of a hart while its rows are read: of each register the row that wrote it, and what it held before the
+    first row; the count of its next row."""
+    __slots__ = ("number", "writers", "values", "count")
+
+    def __init__(self, number: int, registers: Sequence[int]) -> None:
+        self.number, self.count = number, -1
+        self.writers, self.values = [0] * 33, [0, *registers[1:]]
+
+
+class Turn(NamedTuple):
+    """Rows of a hart that follow each other in a chunk, as places in it; the count of the first; the letters before their
+    addresses."""
+    hart: State
+    begin: int
+    end: int
+    first: int
+    letters: int
+
+
+class Codes(Dict[bytes, int]):
+    """{address and word: the number of the instruction}, and of each number its shape and the registers that it writes and
+    reads."""
+
+    def __init__(self, rows: Rows, calls: Calls) -> None:
+        super().__init__()
+        self.codes, self.entries = rows.codes, calls.tree.entries
+        self.shapes: list[int] = []
+        self.registers: list[tuple[int, int, int]] = []
+
+    def of(self, lines: Sequence[bytes], turns: Sequence[Turn]) -> list[int]:
+        found: list[int] = []
+        get: Callable[[bytes, int], int] = self.get
+        for _, begin, end, _, letters in turns:
+            keys = [line[letters:letters + KEY] for line in lines[begin:end]]
+            numbered = list(map(get, keys, repeat(NEW)))
+            if NEW in numbered:
+                for key, line in zip(keys, lines[begin:end]):
+                    if key not in self:
+                        self.add(key, line[letters:])
+                numbered = list(map(self.__getitem__, keys))
+            found += numbered
+        return found
+
+    def add(self, key: bytes, row: bytes) -> None:
+        ins = Instruction(len(self.codes), row.partition(b" | ")[0])
+        self.codes.append(ins)
+        shape = WRITES if ins.rd and (ins.kind != CALL or ins.name == "ecall") else 0
+        if ins.kind == JUMP and (ins.call or ins.ret or ins.leads in self.entries):
+            shape |= GOES
+        elif ins.kind == AMO:
+            shape |= STORES | TRIES if ins.name.startswith("sc.") else LOADS if ins.name.startswith("lr.") else BOTH
+        else:
+            shape |= {LOAD: LOADS, STORE: STORES, CALL: ASKS}.get(ins.kind, 0)
+        self.shapes.append(shape)
+        # A jump reads no second register. For a call and a return it is a0, which has an argument or a result.
+        self.registers.append((ins.rd or NO_REGISTER, ins.rs1, A0 if shape & GOES else ins.rs2))
+        self[key] = ins.at
+
+
+class Reader:
+    """start   the number of the chunk's first row
+    writer_of, held     of the address of a word the row that stored it last, and its value"""
+
+    def __init__(self, rows: Rows, writers: Writers, calls: Calls) -> None:
+        self.rows, self.writers, self.calls, self.codes = rows, writers, calls, Codes(rows, calls)
+        first = rows.log.first_intervals()
+        self.harts = {i: State(i, first[i].registers if i in first else (0,) * 32) for i in range(rows.log.harts)}
+        self.numbers = {b"%-2d" % hart: hart for hart in self.harts}
+        self.latest: Optional[State] = None     # whose row was read last
+        self.writer_of: dict[int, int] = {}
+        self.held: dict[int, int] = {}
+        self.start = 0
+
+    def skip(self, text: bytes) -> None:
+        """Rows that aren't kept: only what they put into registers, by the last row of each instruction."""
+        lines = text[1:].split(b"\n")
+        latest: dict[int, dict[bytes, int]] = {hart: {} for hart in self.harts}
+        for hart, begin, end, _, letters in self.turns(lines, self.harts_of(lines)):
+            key = slice(letters, letters + KEY)
+            latest[hart.number].update(zip([line[key] for line in lines[begin:end]], range(begin, end)))
+        for number, places in latest.items():
+            for place in sorted(places.values()):
+                found = RESULT.search(lines[place])
+                if found:
+                    self.harts[number].values[REGISTERS[found[1]]] = int(found[2], 16)
+
+    def read(self, text: bytes) -> None:
+        rows, self.start, lines = self.rows, len(self.rows.code), text[1:].split(b"\n")
+        harts = self.harts_of(lines)
+        turns = self.turns(lines, harts)
+        codes = self.codes.of(lines, turns)
+        shapes = bytearray(map(self.codes.shapes.__getitem__, codes))
+        alone = self.alone(text, lines, shapes)
+        here = range(self.start, self.start + len(codes))
+        rows.hart.frombytes(harts)
+        rows.code.extend(codes)
+        cuts = map(RESULTS.__getitem__, shapes)
+        rows.values.extend(numbers(line[cut] if cut else ZERO for line, cut in zip(lines, cuts)))
+        rows.flags.frombytes(shapes.translate(ACCESSED))
+        self.writers.word.frombytes(bytes(self.writers.word.itemsize * len(codes)))
+        self.link(turns, codes, alone)
+        for n in compress(here, shapes.translate(WENT)):
+            self.go(n)
+        self.access(lines, shapes, here)
+
+    def finish(self, seconds: float) -> None:
+        """All rows are read."""
+        rows = self.rows
+        rows.harts = {number: hart for number, hart in rows.harts.items() if hart.last}
+        rows.last = {number: hart.last for number, hart in rows.harts.items()}
+        rows.final = {number: [self.value(self.harts[number], register) for register in range(32)] for number in rows.last}
+        rows.seconds, rows.size = seconds, len(rows.code) - 1
+        self.writers.count_pairs()
+
+    def harts_of(self, lines: Sequence[bytes]) -> bytes:
+        """The hart of each row."""
+        if len(self.numbers) == 1:
+            return bytes(self.harts) * len(lines)
+        return bytes(map(self.numbers.__getitem__, [line[:2] for line in lines]))
+
+    def turns(self, lines: Sequence[bytes], harts: bytes) -> list[Turn]:
+        """The turns of a chunk. A turn is cut where its counts get a digit more."""
+        places = [0, *compress(range(1, len(harts)), map(ne, harts, harts[1:])), len(harts)]
+        found = []
+        for begin, end in zip(places, places[1:]):
+            hart = self.harts[harts[begin]]
+            while begin < end:
+                head = b"%d %d " % (hart.number, hart.count)
+                size = min(end - begin, 10 ** len(str(hart.count)) - hart.count)
+                if not lines[begin + size - 1].startswith(b"%d %d " % (hart.number, hart.count + size - 1)):
+                    hart.count, size = int(lines[begin].split(b" ", 2)[1]), 1       # rows before it are left out
+                    head = b"%d %d " % (hart.number, hart.count)
+                found.append(Turn(hart, begin, begin + size, hart.count, len(head)))
+                begin, hart.count = begin + size, hart.count + size
+        return found
+
+    def alone(self, text: bytes, lines: Sequence[bytes], shapes: bytearray) -> dict[int, list[bytes]]:
+        """{place: what the row tells} of faults and system calls. Shapes are corrected: of these if they write no register,
+        and of store-conditionals that failed."""
+        found: dict[int, list[bytes]] = {}
+        at = text.find(FAULT)
+        while at >= 0:
+            place = text.count(b"\n", 0, at) - 1
+            shapes[place], found[place] = 0, lines[place].split(FAULT)[1].split(b" ")
+            at = text.find(FAULT, at + 1)
+        for place in [each.start() for each in SPECIAL.finditer(shapes)]:
+            if shapes[place] & TRIES:
+                shapes[place] &= ~0 if b"| store " in lines[place] else ~STORES
+                continue
+            found[place] = []
+            if b"|" not in lines[place]:
+                shapes[place] &= ~WRITES
+                self.rows.silent.add(self.start + place)
+        return dict(sorted(found.items()))
+
+    def link(self, turns: Sequence[Turn], codes: Sequence[int], alone: dict[int, list[bytes]]) -> None:
+        """Finds of each row the rows that wrote its registers."""
+        places = iter([*alone, len(codes)])
+        place = next(places)
+        for turn in turns:
+            hart, at, kept = turn.hart, turn.begin, self.rows.harts[turn.hart.number]
+            if hart is not self.latest:
+                self.latest = hart
+                kept.begin(self.start + at, turn.first)
+            while place < turn.end:
+                self.link_rows(hart, codes[at:place], self.start + at)
+                self.link_alone(hart, self.start + place, alone[place])
+                at, place = place + 1, next(places)
+            self.link_rows(hart, codes[at:turn.end], self.start + at)
+            kept.last = self.start + turn.end - 1
+
+    def link_rows(self, hart: State, codes: Sequence[int], n: int) -> None:
+        """The one loop over all rows."""
+        add_first, add_second, writers = self.writers.first.append, self.writers.second.append, hart.writers
+        for register, first, second in map(self.codes.registers.__getitem__, codes):
+            add_first(writers[first])
+            add_second(writers[second])
+            writers[register] = n
+            n += 1
+
+    def link_alone(self, hart: State, n: int, fault: list[bytes]) -> None:
+        """A row that faulted, or else a system call."""
+        rows, wrote, ins = self.rows, self.writers, self.rows.code_of(n)
+        if not fault:
+            wrote.first.append(hart.writers[ins.rs1])
+            wrote.second.append(hart.writers[ins.rs2])
+            if n not in rows.silent:
+                if rows.values[n] < FAILED and self.value(hart, A7) == READ_CALL:
+                    size = min(rows.values[n], LONGEST_CALL)
+                    rows.reads.append(ReadCall(n, hart.number, self.value(hart, A1), size))
+                hart.writers[A0] = n
+            return
+        name = fault[0].decode()
+        before = n - 1 if rows.hart[n - 1] == hart.number else rows.harts[hart.number].last
+        is_here = name not in ("FetchOutside", "Illegal") or not before     # else its address is what the jump took
+        wrote.first.append(hart.writers[ins.rs1] if is_here else wrote.first[before])
+        wrote.second.append(0)
+        rows.flags[n] = FAULTS
+        rows.fault = Fault(n, hart.number, name, int(fault[1], 16), ins)
+
+    def value(self, hart: State, register: int) -> int:
+        """What a register holds, by the row that wrote it."""
+        return self.rows.values[hart.writers[register]] if hart.writers[register] else hart.values[register]
+
+    def go(self, n: int) -> None:
+        """A call, a return, or a jump to a function."""
+        values, wrote, hart = self.rows.values, self.writers, self.harts[self.rows.hart[n]]
+        writer, wrote.second[n] = wrote.second[n], 0
+        a0 = values[writer] if writer else hart.values[A0]
+        base = wrote.first[n]
+        self.calls.go(n, writer, a0, values[base] if base else hart.values[self.rows.code_of(n).rs1])
+
+    def access(self, lines: Sequence[bytes], shapes: bytearray, here: Sequence[int]) -> None:
+        """Fills the columns of accesses, and tells each who stored its word."""
+        rows, kinds = self.rows, shapes.translate(TOUCHED, NO_ACCESS)
+        mine = list(compress(lines, shapes.translate(ACCESSED)))
+        which = array("I", compress(here, shapes.translate(ACCESSED)))
+        both = [n for n, kind in zip(which, kinds) if kind == BOTH] if BOTH in kinds else []
+        stored = numbers(line[-8:] for line, kind in zip(mine, kinds) if kind == BOTH) if both else array("I")
+        rows.updates.extend(both)
+        rows.stored.extend(stored)
+        told = numbers([line[-43:-26] if kind == BOTH else line[-17:] for line, kind in zip(mine, kinds)] if both else
+                       [line[-17:] for line in mine])
+        rows.accesses.extend(which)
+        rows.addresses.extend(told[::2])
+        rows.words.extend(told[1::2])
+        self.follow(which, kinds, told, iter(stored))
+
+    def follow(self, which: Iterable[int], kinds: bytes, told: Sequence[int], stored: Iterator[int]) -> None:
+        writer_of, held, words, flags = self.writer_of, self.held, self.writers.word, self.rows.flags
+        for n, kind, address, value in zip(which, kinds, told[::2], told[1::2]):
+            word, flag = address & WORD, address & OFFSET
+            writer = writer_of.get(word, 0)
+            if kind & LOADS:
+                if held.get(word) != value:
+                    if word in held:            # changed, and no row did it: a `read` call
+                        flag |= CHANGED
+                    writer = writer_of[word] = 0
+                    held[word] = value
+                if not writer:
+                    flag |= UNSTORED
+                if kind == BOTH:
+                    value = next(stored)
+            if kind > STORES and held.get(word) == value:      # of an atomic
+                flag |= KEEPS
+            words[n] = writer
+            if flag:
+                flags[n] |= flag
+            if kind != LOADS:
+                writer_of[word], held[word] = n, value
+
+
+def numbers(told: Iterable[bytes]) -> array[int]:
+    """Numbers of eight digits."""
+    found = array("I")
+    found.frombytes(unhexlify(b"".join(told).replace(b"=", b"")))
+    if sys.byteorder == "little":
+        found.byteswap()
+    return found

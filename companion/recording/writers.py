@@ -1,0 +1,126 @@
+"""Who wrote what: of each row the rows that wrote its registers and its word. 12 bytes a row."""
+from __future__ import annotations
+
+from array import array
+from collections import Counter
+from itertools import compress
+from typing import NamedTuple
+
+from .instruction import STORE
+from .rows import KEEPS, LOADS, STORES, Rows
+
+STORE_BITS = 0xffffffff     # of a pair, those that tell its store
+LANES_KEPT = 16             # of so many stores to a word one's lanes are kept
+BESIDE = 64                 # how far from a word another is beside it
+LOADING = bytes(flags & LOADS for flags in range(256))
+
+
+class Stores(NamedTuple):
+    """The stores that gave a load its bytes, latest first, and a mask of the bytes that no row stored."""
+    rows: list[int]
+    rest: int
+
+
+class Writers:
+    """first, second   of each row the rows that wrote its first and second register
+    word   the row that stored the word that it accesses
+    pairs  {load's code << 32 | 1 + store's code, 0 if there is none: how many rows}"""
+
+    def __init__(self, rows: Rows) -> None:
+        self.rows = rows
+        self.first, self.second, self.word = array("I", [0]), array("I", [0]), array("I", [0])
+        self.pairs: dict[int, int] = {}
+        self.began: dict[int, int] = {}         # {row of a loop's counter: what wrote the value that it began with}
+        self.kept: dict[int, int] = {}          # {a store that kept its word: the latest one before that changed it}
+        self.lanes: dict[int, tuple[int, ...]] = {}     # {a store: of each byte of its word the latest store up to it}
+        self.stores_of: dict[int, dict[int, int]] = {}      # {a load's code: {a store's code: how many rows}}
+
+    def count_pairs(self) -> None:
+        code = self.rows.code
+        loads = list(compress(range(len(code)), self.rows.flags.tobytes().translate(LOADING)))
+        stores = [code[writer] + 1 if writer else 0 for writer in map(self.word.__getitem__, loads)]
+        self.pairs = Counter(load << 32 | store for load, store in zip(map(code.__getitem__, loads), stores))
+
+    def givers(self, load: int) -> dict[int, int]:
+        """The codes of the stores from which a load's instruction got its words, each with how often."""
+        if not self.stores_of:
+            for pair, times in self.pairs.items():
+                stores = self.stores_of.setdefault(pair >> 32, {})
+                if pair & STORE_BITS:
+                    stores[(pair & STORE_BITS) - 1] = times
+        return self.stores_of.get(self.rows.code[load], {})
+
+    def before_counting(self, n: int) -> int:
+        """The row that wrote a row's first register. The rounds of a loop that adds a constant to it are one step: what
+        counts is the value that it began with."""
+        source, passed, code = self.first[n], [], self.rows.code
+        if not self.rows.code_of(n).counts:
+            return source
+        while source and code[source] == code[n]:
+            if source in self.began:
+                source = self.began[source]
+                break
+            passed.append(source)
+            source = self.first[source]
+        self.began.update((row, source) for row in passed)
+        return source
+
+    def changed_by(self, store: int) -> int:
+        """The row that gave a word its value: a store that kept it is passed. 0 if that is before all rows."""
+        passed = []
+        while self.rows.flags[store] & KEEPS:
+            if store in self.kept:
+                store = self.kept[store]
+                break
+            passed.append(store)
+            store = self.word[store]
+        self.kept.update((row, store) for row in passed)
+        return store
+
+    def stored_bytes(self, n: int) -> int:
+        """Which bytes of its word a row stored."""
+        return self.rows.mask(n) if self.rows.code_of(n).kind == STORE else 15
+
+    def stores(self, load: int) -> Stores:
+        need, latest = self.rows.mask(load), self.word[load]
+        if latest and not need & ~self.stored_bytes(latest):
+            return Stores([latest], 0)
+        lanes = [row for lane, row in enumerate(self.lanes_of(latest)) if need >> lane & 1]
+        rest = sum(1 << lane for lane, row in enumerate(self.lanes_of(latest)) if need >> lane & 1 and not row)
+        return Stores(sorted({row for row in lanes if row}, reverse=True), rest)
+
+    def store(self, load: int) -> int:
+        """The latest of them, or 0."""
+        return next(iter(self.stores(load).rows), 0)
+
+    def lanes_of(self, store: int) -> tuple[int, ...]:
+        """Of each byte of a word the latest row up to a store that stored it, or 0. Of a long way back some are kept."""
+        passed: list[int] = []
+        while store and store not in self.lanes and (not passed or self.stored_bytes(passed[-1]) != 15):
+            passed.append(store)
+            store = self.word[store]
+        found = self.lanes.get(store, (0, 0, 0, 0))
+        for at, row in enumerate(reversed(passed), 1):
+            mask = self.stored_bytes(row)
+            found = tuple(row if mask >> lane & 1 else before for lane, before in enumerate(found))
+            if at % LANES_KEPT == 0 or at == len(passed):
+                self.lanes[row] = found
+        return found
+
+    def store_before(self, address: int, before: int) -> int:
+        """The row that gave a byte its value, as it was before a row, or 0."""
+        n = self.rows.last_access(address & ~3, before)
+        store = n if self.rows.flags[n] & STORES else self.word[n]
+        return self.lanes_of(store)[address & 3]
+
+    def beside(self, load: int) -> list[int]:
+        """The stores by which the same instruction got other words, of the nearest word on each side of a load's."""
+        rows, codes = self.rows, self.givers(load)
+        place, before, after = rows.access(load).address, (0, 0), (1 << 32, 0)
+        for n, address in zip(rows.accesses, rows.addresses):
+            if rows.code[n] in codes and rows.flags[n] & STORES and n < load:
+                if before[0] <= address < place:
+                    before = address, n
+                elif place < address <= after[0]:
+                    after = address, n
+        return [n for address, n in (before, after) if n and abs(address - place) <= BESIDE]
