@@ -2,6 +2,7 @@
 from __future__ import annotations
 
 import contextlib
+import functools
 from dataclasses import dataclass, field
 from typing import Any, Dict, Iterable, Iterator, List, NamedTuple, Optional
 
@@ -11,6 +12,7 @@ from ..call.options import parse, whole
 from ..call.text import counted, number
 from ..recording.answers import place_of, put_answer
 from ..recording.chunks import STORE, rows_between, rows_with, touching
+from ..recording.elf import Elf
 from ..recording.instruction import NAMES, Instruction
 from .reading import HIGHEST, Asked, asked_of
 from .ways import Lane, Way
@@ -21,14 +23,14 @@ though all was the same before, the load behind it, and who had stored that word
     zelkuma compare GOOD BAD ELF [--names ELF] [--rows N] [--json]
 
 --names  the same program with names and lines, if ELF was stripped
---rows   how many of the first rows of each log are read, 30 million without it
+--rows   how many of the first rows of each log are read, 25 million without it
 --json   prints one JSON object in place of the text (docs/JSON.md)
 
-Rounds of a loop that waits, which loads the same words again and stores nothing, are no difference. Harts come in the order in
-which they parted in BAD. A log that has lost its beginning can't be compared. Companions show; the program proves."""
+What a hart does while it waits, in a loop that loads but stores and counts nothing, is no difference. Harts come in the order
+in which they parted in BAD. A log that has lost its beginning can't be compared. Companions show; the program proves."""
 FORM = "compare GOOD BAD ELF [--names ELF] [--rows N] [--json]"
 OPTIONS = {"--names": True, "--rows": True, "--json": False}
-MOST_ROWS, LOOKED_BACK, READ_BACK, MOST_FRAMES = 30000000, 4000, 500, 3
+MOST_ROWS, LOOKED_BACK, READ_BACK, MOST_FRAMES = 25000000, 4000, 500, 3
 
 
 @dataclass(frozen=True)
@@ -78,10 +80,15 @@ class Parting:
         return self.lane.hart
 
 
+def instruction(elf: Elf, pc: int) -> Instruction:
+    return Instruction(0, b"%08x %08x x" % (pc, elf.word(pc) or 0))
+
+
 def lanes_of(runs: list[Run], most: int) -> tuple[list[Lane], bool]:
-    """The harts, compared up to so many rows of each run, and whether that left some out. Beginnings that are the same text are passed by."""
-    named = runs[0].asked.elf
-    lanes = [Lane(hart, lambda pc: Instruction(0, b"%08x %08x x" % (pc, named.word(pc) or 0))) for hart in range(max(run.asked.log.harts for run in runs))]
+    """The harts, compared up to so many rows of each run, and whether that left some out. Beginnings that are the same text are
+    passed by."""
+    code_of = functools.lru_cache(maxsize=None)(functools.partial(instruction, runs[0].asked.elf))
+    lanes = [Lane(hart, code_of) for hart in range(max(run.asked.log.harts for run in runs))]
     texts = [run.asked.chunks() for run in runs]
     rows, now = [0, 0], [next(each, b"") for each in texts]
     while now[0] and now[0] == now[1] and max(rows) < most:
@@ -106,7 +113,7 @@ def lanes_of(runs: list[Run], most: int) -> tuple[list[Lane], bool]:
 
 
 def has_parted(lane: Lane, runs: list[Run]) -> bool:
-    """Whether a hart went another way. One that another hart or the limit has stopped did not, unless it waited until its limit."""
+    """Whether a hart went another way. One that another hart or the limit has stopped did not, but for one that waited until then."""
     for way, run in zip((lane.good, lane.bad), runs):
         if lane.parted and not way.pcs:
             return run.reason(lane.hart) == "limit" if lane.waits else not way.stopped
@@ -139,7 +146,7 @@ def loads_behind(runs: list[Run], lane: Lane, branch: Instruction) -> list[Optio
 
 
 def rows_back(runs: list[Run], lane: Lane) -> Iterator[tuple[Row, Row]]:
-    """The rows that are the same in both runs, backwards from the last but one. Where one of them waited longer its rows are left out."""
+    """The rows that are the same in both runs, backwards from the last but one. What one of them waited longer is left out."""
     good, bad, skips = lane.good.first - 2, lane.bad.first - 2, list(lane.skips)
     for _ in range(LOOKED_BACK):
         one, other = runs[0].row(lane.hart, good), runs[1].row(lane.hart, bad)
@@ -263,7 +270,7 @@ def parting_answer(found: Parting, runs: list[Run]) -> dict[str, Any]:
             return None
         return {"hart": found.hart, "count": row.count, "row": row.text, "place": place_of(runs[0].asked.places, row.code.pc)}
     return {"hart": found.hart, "same": list(map(point, found.same)), "other": list(map(point, found.other)),
-            "loads": list(map(point, found.loads)), "givers": found.givers}
+            "loads": list(map(point, found.loads)), "givers": found.givers, "waits": found.lane.waits}
 
 
 def check(runs: Iterable[Asked]) -> None:

@@ -52,15 +52,17 @@ class CompareTest(case.Case):
         self.assertEqual(parted["givers"], ["", ""])
 
     def test_who_had_stored_what_was_loaded(self):
-        elf = self.elf("filters")
-        logs = [self.record("filters", "--seed", seed, "--harts", "4") for seed in ("9", "10")]
-        said = json.loads(self.says("compare", *logs, elf, "--json"))
-        self.assertEqual([each["hart"] for each in said["parted"]][0], 2)
-        for each in said["parted"]:
-            for log, load, giver in zip(logs, each["loads"], each["givers"]):
-                word = re.search(r"load 0*(\w+)=", load["row"])[1]
-                before = common.output("joint", log, elf).decode().partition(load["row"])[0].split("\n")
-                self.assertEqual(giver, [line for line in before if f"store 000{word}=" in line][-1])
+        """Of a fault, and of two locks that are taken in two orders."""
+        for name, seeds, words, harts in (("filters", "9 10", ("--harts", "4"), [2, 3, 0, 1]),
+                                          ("two_locks", "1 8", ("--harts", "2", "--limit", "20000"), [0, 1])):
+            elf, logs = self.elf(name), [self.record(name, "--seed", seed, *words) for seed in seeds.split()]
+            said = json.loads(self.says("compare", *logs, elf, "--json"))
+            self.assertEqual([each["hart"] for each in said["parted"]], harts)
+            for each in said["parted"]:
+                for log, load, giver in zip(logs, each["loads"], each["givers"]):
+                    word = re.search(r"load 0*(\w+)=", load["row"])[1]
+                    before = common.output("joint", log, elf).decode().partition(load["row"])[0].split("\n")
+                    self.assertEqual(giver, ([""] + [line for line in before if f"store 000{word}=" in line])[-1])
 
     def test_refusals(self):
         log, elf = self.record("filters", "--seed", "10", "--harts", "4"), self.elf("filters")
