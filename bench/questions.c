@@ -20,6 +20,20 @@ __attribute__((noinline)) static unsigned mix(unsigned value, unsigned rounds)
     while (rounds--) value = (value ^ (value >> 3)) * 2654435761u + rounds;
     return value;
 }
+static int taken;
+static unsigned shared[64];
+/* Of several harts each but the first adds to shared words under a lock. */
+int other_harts(int hart, int harts)
+{
+    unsigned own = hart + harts;
+    for (unsigned i = 0; i < ROUNDS; i++) {
+        own = mix(own + i, 8 + i % 8);
+        while (__atomic_exchange_n(&taken, 1, __ATOMIC_ACQUIRE)) while (__atomic_load_n(&taken, __ATOMIC_RELAXED)) ;
+        shared[own % 64] += own & 1;
+        __atomic_store_n(&taken, 0, __ATOMIC_RELEASE);
+    }
+    return 0;
+}
 int main(void)
 {
     for (unsigned i = 0; i < ROUNDS; i++) {

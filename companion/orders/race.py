@@ -3,7 +3,7 @@ from __future__ import annotations
 
 import contextlib
 from contextlib import closing
-from typing import Any, Optional
+from typing import Any, Callable, List, Optional
 
 from ..call import streams
 from ..call.errors import CompanionError
@@ -14,6 +14,7 @@ from ..recording.elf import Elf, Symbol
 from ..recording.log import At
 from ..recording.naming import named_elf, places_of
 from ..recording.races import FENCED, ORDERED, TOO_MANY, Access, AccessPair, Group, Races
+from ..recording.ready import ready
 from ..recording.recent import FIRST_ROWS, LogFile, open_log
 from ..recording.sources import source_folders
 from ..recording.trace import Trace, read_trace
@@ -42,6 +43,7 @@ KINDS = ("", ORDERED, FENCED)                # in the order in which groups are 
 ON_CHAIN, CHAIN_WORD, IN_FAULT, OTHER = range(4)
 HEADS = {ORDERED: "ORDERED BY FENCES: these pairs are ordered if the fenced accesses below are meant as acquire and release",
          FENCED: "FENCED: both accesses stand beside a fence, as GCC writes acquire and release"}
+Beside = Callable[[Access], List[str]]        # what is told beside a row
 RANK_WORDS = {ON_CHAIN: "on the chain of values behind the fault", CHAIN_WORD: "touches a word of that chain",
               IN_FAULT: "in the function that faulted", OTHER: ""}
 
@@ -110,8 +112,8 @@ class Judged:
         return ", ".join(word for word in (RANK_WORDS[self.rank(group)], group.kind) if word)
 
 
-def family_lines(races: Races, family: list[Group], place: int, judged: Judged) -> list[str]:
-    """A family with a pair of its first group."""
+def family_lines(races: Races, family: list[Group], place: int, judged: Judged, beside: Beside) -> list[str]:
+    """A family with a pair of its first group, and what is told beside the later access."""
     reason = judged.reason(family[0])
     said = [f"{place:2}. {counted(pairs_of(family), 'pair')} on {family_word(races, family)}"
             f"{f'   ({reason})' if reason else ''}"]
@@ -120,7 +122,7 @@ def family_lines(races: Races, family: list[Group], place: int, judged: Judged) 
         said.append(f"      hart {access.hart} {access.verb()} in {races.places.where(access.pc)}"
                     f"{'   ' + source if source else ''}")
         said.append("        " + access.row)
-    return said
+    return said + ["        " + line for line in beside(access)]
 
 
 def pairs_of(family: list[Group]) -> int:
@@ -140,7 +142,7 @@ def brief_line(races: Races, family: list[Group]) -> str:
     return f"    {number(pairs_of(family)):>7}  {family_word(races, family):<28} {one}  and  {other}"
 
 
-def report(races: Races, judged: Judged, more: bool) -> list[str]:
+def report(races: Races, judged: Judged, more: bool, beside: Beside) -> list[str]:
     """All that is printed, as lines."""
     families: dict[str, list[list[Group]]] = {kind: [] for kind in KINDS}
     for family in judged.families():
@@ -150,7 +152,7 @@ def report(races: Races, judged: Judged, more: bool) -> list[str]:
              "own judgement; zelkuma races lists each."]
     told = families[""] if more else families[""][:GROUPS_TOLD]
     for place, family in enumerate(told, 1):
-        lines += family_lines(races, family, place, judged)
+        lines += family_lines(races, family, place, judged, beside)
     if total and not told:
         lines.append("  none but those below")
     lines += left_out(families[""], told)
@@ -207,5 +209,7 @@ def main(words: list[str]) -> int:
         if "--json" in given:
             put_answer("race", **race_answer(races, judged))
         else:
-            streams.put("\n".join(report(races, judged, "--more" in given)) + "\n")
+            def beside(access: Access) -> list[str]:
+                return ready(log_name, elf, named, access.hart, access.count)
+            streams.put("\n".join(report(races, judged, "--more" in given, beside)) + "\n")
     return 0

@@ -18,13 +18,14 @@ from ..recording.cause import cause_of
 from ..recording.elf import Elf
 from ..recording.log import Log
 from ..recording.naming import places_of
+from ..recording.ready import ready
 from ..recording.turns import pieces_of, shown, size_of
 from ..triage.bucket import bucket_of
 from ..why.facts import Byte
 from ..why.output import MOST_ROWS, numbered, writes_of
 from .same_end import Ends, Recording, Waiting, log_of
 from .search import Search
-from .switches import Teller, rows_by_piece, switches_of
+from .switches import Switch, Teller, rows_by_piece, switches_of
 from .tries import Tries
 
 MOST_TOLD = 40              # switches
@@ -66,7 +67,7 @@ def shrink(asked: Asked) -> Shrunk:
             with open(name, "rb") as file:
                 place.save(file.read())
         with closing(places_of(asked.named)) as places:
-            told = Told(found, made, Teller(asked.named, places))
+            told = Told(found, made, Teller(asked.named, places), asked)
             said = Shrunk(told.lines(), told.answer(), signals.status)
     if found.tries.is_ended():
         streams.say("the search was ended before it was done: the list may be longer than it need be")
@@ -124,8 +125,8 @@ def search(asked: Asked, folder: str) -> tuple[Search, Recording, Signals]:
 class Told:
     """What is told of a search."""
 
-    def __init__(self, found: Search, made: Recording, teller: Teller) -> None:
-        self.found, self.teller, elf = found, teller, found.tries.ends.elf
+    def __init__(self, found: Search, made: Recording, teller: Teller, asked: Asked) -> None:
+        self.found, self.teller, self.asked, elf = found, teller, asked, asked.elf
         log = log_of(made.log)
         self.pieces, self.turns = pieces_of(made.turns()), found.recorded_turns
         rows = rows_by_piece(log, elf.name, self.pieces, min(len(found.core), MOST_TOLD + 1))
@@ -143,13 +144,18 @@ class Told:
                 f"{number(len(self.pieces) - 1)} and {number(size_of(self.pieces)[1])}, by {number(found.tries.count)} recordings",
                 f"order: {self.order()}"]
         for place, switch in enumerate(self.switches, 1):
-            said += self.teller.lines(place, switch)
+            said += self.teller.lines(place, switch) + self.beside(switch)
         more = len(found.core) - 1 - len(self.switches)
         said += [f"  .. {counted(more, 'more switch')} .."] if more > 0 else []
         if self.waiting:
             harts = ", ".join(map(str, self.waiting))
             said.append(f"from then on {'harts' if len(self.waiting) > 1 else 'hart'} {harts} wait{'s' * (len(self.waiting) == 1)}")
         return said + [f"end: {self.bucket.line()}"]
+
+    def beside(self, switch: Switch) -> list[str]:
+        """The command that looks at where a hart stops."""
+        row, asked = switch.stopped, self.asked
+        return ["     " + line for line in ready(asked.new_log.path, asked.elf, asked.named, row.hart, row.ic)] if row else []
 
     def answer(self) -> dict[str, Any]:
         return {"order": self.order(), "pieces": [list(piece) for piece in self.pieces[:LONGEST]],

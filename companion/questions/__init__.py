@@ -1,7 +1,7 @@
 """Questions in time: each reads the text of `joint` in pieces, and looks at the rows that it asks of alone.
 
     history, calls, find    the words: the stores to a variable, the calls of a function, the places of a value
-    compare, paths          the word that compares two logs, and the ways of their harts
+    compare, ways           the word that compares two logs, and the ways of their harts
     export                  the word that saves files for other tools: callgrind, lcov, perfetto have their formats
     flow                    calls and returns of all harts, and how often each address was done
     functions, registers    what FUNCTION is; what a register held at a row

@@ -2,8 +2,9 @@
 from __future__ import annotations
 
 import contextlib
-from dataclasses import dataclass
-from typing import Any, Iterable, Optional
+import functools
+from dataclasses import dataclass, field
+from typing import Any, Dict, Iterable, Iterator, List, NamedTuple, Optional
 
 from ..call import streams
 from ..call.errors import NO_INTERVAL, CompanionError
@@ -11,9 +12,10 @@ from ..call.options import parse, whole
 from ..call.text import counted, number
 from ..recording.answers import place_of, put_answer
 from ..recording.chunks import STORE, rows_between, rows_with, touching
+from ..recording.elf import Elf
 from ..recording.instruction import NAMES, Instruction
-from .paths import Path, paths_of
 from .reading import HIGHEST, Asked, asked_of
+from .ways import Lane, Way
 
 HELP = """Compares two logs of one program, as of two seeds or two inputs: of each hart the first branch that went another way
 though all was the same before, the load behind it, and who had stored that word in each run.
@@ -21,14 +23,14 @@ though all was the same before, the load behind it, and who had stored that word
     zelkuma compare GOOD BAD ELF [--names ELF] [--rows N] [--json]
 
 --names  the same program with names and lines, if ELF was stripped
---rows   how many of the first rows of each log are read, 3 million without it
+--rows   how many of the first rows of each log are read, 25 million without it
 --json   prints one JSON object in place of the text (docs/JSON.md)
 
-Rounds of a loop that waits, which loads the same words again and stores nothing, are no difference. Harts come in the order in
-which they parted in BAD. A log that has lost its beginning can't be compared. Companions show; the program proves."""
+What a hart does while it waits, in a loop that loads but stores and counts nothing, is no difference. Harts come in the order
+in which they parted in BAD. A log that has lost its beginning can't be compared. Companions show; the program proves."""
 FORM = "compare GOOD BAD ELF [--names ELF] [--rows N] [--json]"
 OPTIONS = {"--names": True, "--rows": True, "--json": False}
-MOST_ROWS, LOOKED_BACK, MOST_FRAMES = 3000000, 4000, 3
+MOST_ROWS, LOOKED_BACK, READ_BACK, MOST_FRAMES = 25000000, 4000, 500, 3
 
 
 @dataclass(frozen=True)
@@ -41,80 +43,98 @@ class Row:
 
 @dataclass
 class Run:
-    """A log, and the ways of its harts."""
+    """A log, and the rows of harts that were asked for."""
     asked: Asked
-    paths: dict[int, Path]
+    known: Dict[int, Dict[int, Row]] = field(default_factory=dict)
 
-    def row(self, hart: int, count: int) -> Row:
-        return self.rows(hart, count, count + 1)[count]
+    def reason(self, hart: int) -> str:
+        """Why a hart ended."""
+        end = self.asked.log.ends.get(hart)
+        return end.reason if end else "stopped"
 
-    def rows(self, hart: int, first: int, end: int) -> dict[int, Row]:
-        found = {}
-        for text in rows_between(self.asked.log, self.asked.elf.name, hart, first, end):
-            for row in text[1:].split(b"\n"):
-                head = row.split(b" | ")[0].split(b" ", 2)
-                found[int(head[1])] = Row(int(head[1]), row.decode("ascii", "replace"), Instruction(0, head[2]))
-        return found
-
-    def giver(self, hart: int, count: int, word: int) -> str:
-        """The row that had stored a word before a row, or nothing."""
-        last, pattern = b"", touching(word, word + 4, STORE)
-        for text in self.asked.chunks():
-            end = text.find(b"\n%d %d " % (hart, count))
-            for last in rows_with(text if end < 0 else text[:end], pattern):
-                pass
-            if end >= 0:
-                break
-        return last.decode("ascii", "replace")
+    def row(self, hart: int, count: int) -> Optional[Row]:
+        """A row; those before it and the next one are read with it."""
+        rows = self.known.setdefault(hart, {})
+        if count not in rows and count >= 0:
+            for text in rows_between(self.asked.log, self.asked.elf.name, hart, max(0, count - READ_BACK), count + 2):
+                for row in text[1:].split(b"\n"):
+                    head = row.split(b" | ")[0].split(b" ", 2)
+                    rows[int(head[1])] = Row(int(head[1]), row.decode("ascii", "replace"), Instruction(0, head[2]))
+        return rows.get(count)
 
 
 @dataclass
 class Parting:
     """The branch at which a hart went another way: its last row in each run that is the same, and the first that isn't, if it
-    has one. `loads` are the loads behind it, and `givers` the rows that had stored what they got."""
-    hart: int
-    place: int
+    has one. `loads` are the loads behind it, and `givers` the rows that had stored what they got. `place` is that of the row
+    in the order of BAD."""
+    lane: Lane
     same: list[Row]
     other: list[Optional[Row]]
     loads: list[Optional[Row]]
-    givers: list[str]
+    givers: list[str] = field(default_factory=lambda: ["", ""])
+    place: int = 0
+
+    @property
+    def hart(self) -> int:
+        return self.lane.hart
 
 
-def parting_of(runs: list[Run], hart: int) -> Optional[Parting]:
-    """The place at which a hart went another way, or None if it didn't."""
-    paths = [run.paths.get(hart, Path()) for run in runs]
-    shorter = min(len(path.pcs) for path in paths)
-    at = first_difference(paths, shorter)
-    if not at or at == shorter and all(len(path.pcs) == shorter for path in paths):
+def instruction(elf: Elf, pc: int) -> Instruction:
+    return Instruction(0, b"%08x %08x x" % (pc, elf.word(pc) or 0))
+
+
+def lanes_of(runs: list[Run], most: int) -> tuple[list[Lane], bool]:
+    """The harts, compared up to so many rows of each run, and whether that left some out. Beginnings that are the same text are
+    passed by."""
+    code_of = functools.lru_cache(maxsize=None)(functools.partial(instruction, runs[0].asked.elf))
+    lanes = [Lane(hart, code_of) for hart in range(max(run.asked.log.harts for run in runs))]
+    texts = [run.asked.chunks() for run in runs]
+    rows, now = [0, 0], [next(each, b"") for each in texts]
+    while now[0] and now[0] == now[1] and max(rows) < most:
+        for lane in lanes:
+            lane.good.pass_by(now[0])
+            lane.bad.pass_by(now[0])
+        rows, now = [rows[0] + now[0].count(b"\n")] * 2, [next(each, b"") for each in texts]
+    while any(now) and not all(lane.is_over for lane in lanes) and max(rows) < most:
+        at = 0 if now[0] and (rows[0] <= rows[1] or not now[1]) else 1
+        for lane in lanes:
+            if not lane.is_over:
+                (lane.bad if at else lane.good).add(now[at])
+                lane.advance()
+        rows[at] += now[at].count(b"\n")
+        now[at] = next(texts[at], b"")
+    is_cut = any(now) and not all(lane.is_over for lane in lanes)
+    for lane in lanes:
+        for way, run in zip((lane.good, lane.bad), runs):
+            way.ended, way.stopped = not is_cut, run.reason(lane.hart) in ("stopped", "limit")
+        lane.advance()
+    return lanes, is_cut
+
+
+def has_parted(lane: Lane, runs: list[Run]) -> bool:
+    """Whether a hart went another way. One that another hart or the limit has stopped did not, but for one that waited until then."""
+    for way, run in zip((lane.good, lane.bad), runs):
+        if lane.parted and not way.pcs:
+            return run.reason(lane.hart) == "limit" if lane.waits else not way.stopped
+    return lane.parted
+
+
+def parting_of(runs: list[Run], lane: Lane) -> Optional[Parting]:
+    """Where a hart went another way, or None if it didn't."""
+    ways = lane.good, lane.bad
+    same = [run.row(lane.hart, way.first - 1) for run, way in zip(runs, ways)]
+    if not has_parted(lane, runs) or not same[0] or not same[1]:
         return None
-    same = [run.row(hart, path.counts[at - 1]) for run, path in zip(runs, paths)]
-    other = [run.row(hart, path.counts[at]) if at < len(path.counts) else None for run, path in zip(runs, paths)]
-    bad = paths[1]
-    loads = loads_behind(runs, hart, paths, at - 1)
-    givers = [run.giver(hart, load.count, word_of(load)) if load else "" for run, load in zip(runs, loads)]
-    return Parting(hart, bad.places[min(at, len(bad.places) - 1)], same, other, loads, givers)
+    other = [run.row(lane.hart, way.first) if way.pcs else None for run, way in zip(runs, ways)]
+    return Parting(lane, [same[0], same[1]], other, loads_behind(runs, lane, same[0].code))
 
 
-def first_difference(paths: list[Path], shorter: int) -> int:
-    """The first row that isn't the same in both, by halves of what is known to be the same."""
-    low, high, (one, other) = 0, shorter, [memoryview(path.pcs) for path in paths]
-    if one[:shorter] == other[:shorter]:
-        return shorter
-    while low + 1 < high:
-        middle = (low + high) // 2
-        low, high = (middle, high) if one[low:middle] == other[low:middle] else (low, middle)
-    return low
-
-
-def loads_behind(runs: list[Run], hart: int, paths: list[Path], at: int) -> list[Optional[Row]]:
+def loads_behind(runs: list[Run], lane: Lane, branch: Instruction) -> list[Optional[Row]]:
     """The latest loads, in both runs the same instruction, that gave what a branch compared, and got different values."""
-    begin = max(0, at - LOOKED_BACK)
-    near = [run.rows(hart, path.counts[begin], path.counts[at] + 1) for run, path in zip(runs, paths)]
-    branch = near[0][paths[0].counts[at]].code
     wanted = {branch.rs1, branch.rs2} - {0}
-    for place in range(at - 1, begin - 1, -1):
-        one, other = (rows.get(path.counts[place]) for rows, path in zip(near, paths))
-        if not one or not other or one.code.rd not in wanted:
+    for one, other in rows_back(runs, lane):
+        if one.code.rd not in wanted:
             continue
         wanted.discard(one.code.rd)
         if result_of(one) == result_of(other):
@@ -125,20 +145,67 @@ def loads_behind(runs: list[Run], hart: int, paths: list[Path], at: int) -> list
     return [None, None]
 
 
+def rows_back(runs: list[Run], lane: Lane) -> Iterator[tuple[Row, Row]]:
+    """The rows that are the same in both runs, backwards from the last but one. What one of them waited longer is left out."""
+    good, bad, skips = lane.good.first - 2, lane.bad.first - 2, list(lane.skips)
+    for _ in range(LOOKED_BACK):
+        one, other = runs[0].row(lane.hart, good), runs[1].row(lane.hart, bad)
+        if not one or not other:
+            return
+        if one.code.pc == other.code.pc:
+            yield one, other
+            good, bad = good - 1, bad - 1
+        elif skips:
+            skip = skips.pop()
+            good, bad = (good, good - skip.good + skip.bad) if skip.is_bad else (bad - skip.bad + skip.good, bad)
+        else:
+            return
+
+
+class Search:
+    """Looks in the order of a run for the row that had stored what was loaded, and for the place at which a hart parted."""
+
+    def __init__(self, found: Parting, at: int) -> None:
+        self.found, self.at, load, row = found, at, found.loads[at], found.same[at]
+        self.branch = b"\n%d %d " % (found.hart, row.count)
+        self.load = b"\n%d %d " % (found.hart, load.count) if load else b""
+        self.stored = touching(word_of(load), word_of(load) + 4, STORE) if load else None
+
+    def take(self, text: bytes, rows: int) -> bool:
+        """Whether it goes on behind a chunk, before which there are so many rows."""
+        if self.stored:
+            end = text.find(self.load)
+            for row in rows_with(text if end < 0 else text[:end], self.stored):
+                self.found.givers[self.at] = row.decode("ascii", "replace")
+            self.stored = None if end >= 0 else self.stored
+        end = text.find(self.branch)
+        self.found.place = rows + text.count(b"\n", 0, max(0, end))
+        return end < 0
+
+
+def find_givers(run: Run, at: int, partings: list[Parting]) -> None:
+    rows, left = 0, [Search(found, at) for found in partings]
+    for text in run.asked.chunks() if left else ():
+        left = [search for search in left if search.take(text, rows)]
+        rows += text.count(b"\n")
+        if not left:
+            break
+
+
 def result_of(row: Row) -> str:
     """What a row put into its register."""
     found = [told for told in row.text.split(" | ")[1:] if told.startswith(NAMES[row.code.rd] + "=")]
     return found[0] if found else ""
 
 
-def word_of(load: Row) -> int:
-    return int(load.text.partition(" | load ")[2][:8], 16) & ~3
+def word_of(load: Optional[Row]) -> int:
+    return int(load.text.partition(" | load ")[2][:8], 16) & ~3 if load else 0
 
 
-def row_lines(title: str, row: Optional[Row], run: Run) -> list[str]:
+def row_lines(title: str, row: Optional[Row], run: Run, waits: bool) -> list[str]:
     places = run.asked.places
     if row is None:
-        return [f"    {title:<5} has no further row of it"]
+        return [f"    {title:<5} " + ("waits there until its limit" if waits else "has no further row of it")]
     return [f"    {title:<5} {places.chain([row.code.pc], MOST_FRAMES)}", f"          {row.text}"]
 
 
@@ -149,7 +216,7 @@ def parting_lines(found: Parting, runs: list[Run]) -> list[str]:
     lines = [f"hart {found.hart} went another way after count {number(good.count)} in GOOD, {number(bad.count)} in BAD",
              f"  behind {places.chain([good.code.pc], MOST_FRAMES)}{'   ' + source if source else ''}"]
     for title, row, run in zip(("GOOD", "BAD"), found.other, runs):
-        lines += row_lines(title, row, run)
+        lines += row_lines(title, row, run, found.lane.waits)
     if found.loads[0]:
         lines.append(f"  it had loaded, in {places.chain([found.loads[0].code.pc], MOST_FRAMES)}")
     for title, load, giver in zip(("GOOD", "BAD"), found.loads, found.givers):
@@ -171,12 +238,30 @@ def ends(title: str, run: Run) -> list[str]:
     return [f"  {title:<5} " + "; ".join(said)]
 
 
-def report(partings: list[Parting], runs: list[Run], harts: int, cut: bool) -> list[str]:
-    lines = [f"COMPARE: {counted(len(partings), 'hart')} of {harts} went another way"]
-    for found in partings:
-        lines += parting_lines(found, runs)
-    lines += ["ENDS"] + ends("GOOD", runs[0]) + ends("BAD", runs[1])
-    return lines + (["  Only the first rows were compared; --rows N reads more."] if cut else [])
+class Compared(NamedTuple):
+    """What is told of two runs. `is_cut`: whether later rows weren't compared."""
+    runs: List[Run]
+    partings: List[Parting]
+    harts: int
+    is_cut: bool
+
+    def lines(self) -> list[str]:
+        lines = [f"COMPARE: {counted(len(self.partings), 'hart')} of {self.harts} went another way"]
+        for found in self.partings:
+            lines += parting_lines(found, self.runs)
+        lines += ["ENDS"] + ends("GOOD", self.runs[0]) + ends("BAD", self.runs[1])
+        return lines + (["  Only the first rows were compared; --rows N reads more."] if self.is_cut else [])
+
+    def answer(self) -> dict[str, Any]:
+        return {"harts": self.harts, "parted": [parting_answer(found, self.runs) for found in self.partings], "is_cut": self.is_cut}
+
+
+def compared(runs: list[Run], most: int = MOST_ROWS) -> Compared:
+    lanes, is_cut = lanes_of(runs, most)
+    partings = [found for found in (parting_of(runs, lane) for lane in lanes) if found]
+    for at, run in enumerate(runs):
+        find_givers(run, at, partings)
+    return Compared(runs, sorted(partings, key=lambda found: found.place), len(lanes), is_cut)
 
 
 def parting_answer(found: Parting, runs: list[Run]) -> dict[str, Any]:
@@ -185,7 +270,7 @@ def parting_answer(found: Parting, runs: list[Run]) -> dict[str, Any]:
             return None
         return {"hart": found.hart, "count": row.count, "row": row.text, "place": place_of(runs[0].asked.places, row.code.pc)}
     return {"hart": found.hart, "same": list(map(point, found.same)), "other": list(map(point, found.other)),
-            "loads": list(map(point, found.loads)), "givers": found.givers}
+            "loads": list(map(point, found.loads)), "givers": found.givers, "waits": found.lane.waits}
 
 
 def check(runs: Iterable[Asked]) -> None:
@@ -202,13 +287,9 @@ def main(words: list[str]) -> int:
     with contextlib.ExitStack() as opened:
         both = [opened.enter_context(asked_of(log, elf_name, {**files, "--rows": str(HIGHEST)})) for log in (good, bad)]
         check(both)
-        runs = [Run(asked, paths_of(asked.chunks(), most)) for asked in both]
-        harts = sorted({hart for run in runs for hart in run.paths})
-        found = sorted((it for it in (parting_of(runs, hart) for hart in harts) if it), key=lambda it: it.place)
+        found = compared([Run(asked) for asked in both], most)
         if "--json" in given:
-            put_answer("compare", harts=len(harts), parted=[parting_answer(it, runs) for it in found],
-                       is_cut=any(asked.log.rows() > most for asked in both))
+            put_answer("compare", **found.answer())
         else:
-            lines = report(found, runs, len(harts), any(asked.log.rows() > most for asked in both))
-            streams.put("".join(line + "\n" for line in lines))
+            streams.put("".join(line + "\n" for line in found.lines()))
     return 0

@@ -42,7 +42,7 @@ class Asked(NamedTuple):
         return self.named.data_name(address)
 
     def ready(self, hart: int, count: int) -> list[str]:
-        return ready(self.log, self.elf, self.named, hart, count)
+        return ready(self.log.shown, self.elf, self.named, hart, count)
 
     def left_out(self) -> list[str]:
         """What of the run isn't among the rows, as lines."""

@@ -20,6 +20,7 @@ from ..recording.log import READ_CALL, WRITE_CALL, Log, SystemCall
 from ..recording.memory import Memory, quoted
 from ..recording.naming import named_elf, places_of
 from ..recording.places import Places
+from ..recording.ready import ready
 from ..recording.recent import open_log
 
 HELP = """Lists what the guest wrote: each write with its row, its place and its text.
@@ -221,7 +222,9 @@ def main(words: list[str]) -> int:
                 if "--json" in given:
                     listed.append(write_answer(places, write))
                 else:
-                    streams.put(said_of(places, tree, write))
+                    hart, at, _ = write.row.split(" ", 2)
+                    beside = ready(log_name, elf, named, int(hart), int(at))
+                    streams.put(said_of(places, tree, write) + "".join(f"     {line}\n" for line in beside))
                 count, size, unknown = count + 1, size + len(write.data), unknown + write.data.count(None)
     before = len(numbers) - count
     if "--json" in given:

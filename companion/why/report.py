@@ -124,7 +124,7 @@ def one_suspect(facts: Analysis, place: int, item: Suspect) -> list[str]:
                  "      " + short(facts.rows.text(item.load)) + data_words(facts, item.load)]
     times = f" ({number(item.rows)} such pairs)" if item.rows > 1 else ""
     reasons = item.why if item.kind == "exit" else [distance(item)] + item.why
-    guilty = ready(facts.log, facts.elf, facts.named, facts.rows.hart[item.guilty], facts.rows.count_of(item.guilty))
+    guilty = ready(facts.log.shown, facts.elf, facts.named, facts.rows.hart[item.guilty], facts.rows.count_of(item.guilty))
     return said + ["   because: " + "; ".join(reasons) + times] + ["   " + line for line in guilty]
 
 

@@ -9,9 +9,11 @@ import unittest
 sys.path.insert(0, os.path.join(os.path.dirname(os.path.abspath(__file__)), "lib"))
 import case
 import common
+from gdb.recordings import A0, T0, T1, T2, addi, atomic, branch_unless_equal, load, store
 
 from companion.questions import compare
-from companion.questions.paths import paths_of
+from companion.questions.ways import Lane
+from companion.recording.instruction import Instruction
 
 
 def pcs(log, elf):
@@ -50,15 +52,17 @@ class CompareTest(case.Case):
         self.assertEqual(parted["givers"], ["", ""])
 
     def test_who_had_stored_what_was_loaded(self):
-        elf = self.elf("filters")
-        logs = [self.record("filters", "--seed", seed, "--harts", "4") for seed in ("9", "10")]
-        said = json.loads(self.says("compare", *logs, elf, "--json"))
-        self.assertEqual([each["hart"] for each in said["parted"]][0], 2)
-        for each in said["parted"]:
-            for log, load, giver in zip(logs, each["loads"], each["givers"]):
-                word = re.search(r"load 0*(\w+)=", load["row"])[1]
-                before = common.output("joint", log, elf).decode().partition(load["row"])[0].split("\n")
-                self.assertEqual(giver, [line for line in before if f"store 000{word}=" in line][-1])
+        """Of a fault, and of two locks that are taken in two orders."""
+        for name, seeds, words, harts in (("filters", "9 10", ("--harts", "4"), [2, 3, 0, 1]),
+                                          ("two_locks", "1 8", ("--harts", "2", "--limit", "20000"), [0, 1])):
+            elf, logs = self.elf(name), [self.record(name, "--seed", seed, *words) for seed in seeds.split()]
+            said = json.loads(self.says("compare", *logs, elf, "--json"))
+            self.assertEqual([each["hart"] for each in said["parted"]], harts)
+            for each in said["parted"]:
+                for log, load, giver in zip(logs, each["loads"], each["givers"]):
+                    word = re.search(r"load 0*(\w+)=", load["row"])[1]
+                    before = common.output("joint", log, elf).decode().partition(load["row"])[0].split("\n")
+                    self.assertEqual(giver, ([""] + [line for line in before if f"store 000{word}=" in line])[-1])
 
     def test_refusals(self):
         log, elf = self.record("filters", "--seed", "10", "--harts", "4"), self.elf("filters")
@@ -71,27 +75,63 @@ class CompareTest(case.Case):
         self.assertIn("program differs", self.refuses(8, "compare", log, other, elf))
 
 
-class PathTest(unittest.TestCase):
-    def ways(self, *rows):
-        """The addresses that are left of rows, each an address, a mnemonic, and the word that it loads."""
-        text = b"".join(b"\n0 %d %08x 00000000 %s x%s" % (at, pc, what, b" | load %08x=00000000" % word if word else b"")
-                        for at, (pc, what, word) in enumerate(rows))
-        path = paths_of([text], 1000)[0]
-        return list(zip(path.pcs, path.counts))
+S0 = 8
+LOAD, LEAVE, AGAIN, STORE_IT, COUNT, SWAP, SWAP_2, LEAVE_2, ADD, OUT, OTHER = range(0x10000, 0x10000 + 44, 4)
+WORDS = {LOAD: load(T0, S0), LEAVE: branch_unless_equal(T0, 0, 8), AGAIN: branch_unless_equal(T0, T1, -8), STORE_IT: store(T0, S0),
+         COUNT: addi(T2, T2, 1), SWAP: atomic(1, T0, S0, T1), SWAP_2: atomic(1, T0, S0, T1), LEAVE_2: branch_unless_equal(T0, 0, 8), ADD: atomic(0, T0, S0, T1), OUT: addi(A0, 0, 1), OTHER: addi(A0, 0, 2)}
 
-    def test_rounds_that_wait_are_folded_into_the_last(self):
-        wait, out = [(1, b"lw", 8), (2, b"bne", 0)], [(3, b"addi", 0)]
-        for rounds in (1, 2, 3, 9):
-            self.assertEqual(self.ways(*wait * rounds, *out), [(1, 2 * rounds - 2), (2, 2 * rounds - 1), (3, 2 * rounds)])
 
-    def test_other_loops_are_not(self):
-        for rows in ([(1, b"lw", 8), (2, b"sw", 0)] * 3, [(1, b"addi", 0), (2, b"bne", 0)] * 3,
-                     [(1, b"lb", 8), (1, b"lb", 12), (1, b"lb", 16)]):
-            self.assertEqual(len(self.ways(*rows)), len(rows))
+def ways(good, bad, size, stopped=False):
+    """How a hart parts whose rows are at these addresses and come so many at a time: whether, at which counts, and whether it waits."""
+    lane = Lane(0, lambda pc: Instruction(0, b"%08x %08x x" % (pc, WORDS[pc])))
+    for begin in range(0, max(len(good), len(bad)), size):
+        for way, pcs in ((lane.good, good), (lane.bad, bad)):
+            way.add(b"".join(b"\n0 %d %08x x" % (begin + at, pc) for at, pc in enumerate(pcs[begin:begin + size])))
+            lane.advance()
+    lane.good.ended = lane.bad.ended = True
+    lane.bad.stopped = stopped
+    lane.advance()
+    return lane.parted, lane.good.first, lane.bad.first, lane.waits
 
-    def test_a_wait_within_a_loop(self):
-        rows = ([(1, b"sw", 0)] + [(2, b"lw", 8), (3, b"beq", 0)] * 4) * 2
-        self.assertEqual([pc for pc, _ in self.ways(*rows)], [1, 2, 3, 1, 2, 3])
+
+class WaysTest(unittest.TestCase):
+    def both(self, good, bad, **more):
+        """It, which is the same however the rows come, and the other way round."""
+        found = {ways(good, bad, size, **more) for size in (1, 2, 3, 7, 1000)}
+        self.assertEqual(len(found), 1, found)
+        if not more:
+            self.assertEqual({ways(bad, good, size) for size in (1, 3, 1000)}, {(one[0], one[2], one[1], False) for one in found})
+        return found.pop()
+
+    def test_a_hart_that_waited_longer_went_no_other_way(self):
+        spin, lock = [LOAD, AGAIN], [SWAP, LEAVE]
+        for begin, wait, end in (([OTHER, *spin], spin, [OUT]), ([SWAP, LEAVE], [*spin, *spin, *lock], [OUT]), (lock, lock, [OUT, STORE_IT])):
+            for rounds in (1, 2, 40):
+                for other in (0, 1, 3):
+                    good, bad = begin + wait * other + end, begin + wait * rounds + end
+                    self.assertEqual(self.both(good, bad), (False, len(good), len(bad), False))
+
+    def test_a_copy_of_the_lock_behind_it(self):
+        """A compiler puts the first try before the loop. What is loaded for the branch is loaded again; else it is a difference."""
+        self.assertEqual(self.both([SWAP, LEAVE, OUT], [SWAP, LEAVE, *[LOAD, AGAIN] * 9, SWAP_2, LEAVE_2, OUT]), (False, 3, 23, False))
+        self.assertEqual(self.both([SWAP, LEAVE, OUT], [SWAP, LEAVE, LOAD, AGAIN, OUT]), (True, 2, 2, False))
+
+    def test_other_loops_are_a_difference(self):
+        for loop in ([LOAD, STORE_IT, AGAIN], [LOAD, COUNT, AGAIN], [OUT, AGAIN], [ADD, AGAIN]):
+            self.assertEqual(self.both(loop + [OTHER], loop * 3 + [OTHER]), (True, len(loop), len(loop), False))
+
+    def test_a_difference_behind_a_wait(self):
+        begin, wait = [COUNT, LOAD, AGAIN], [LOAD, AGAIN]
+        self.assertEqual(self.both(begin + [OUT, LEAVE, OUT], begin + wait * 5 + [OUT, LEAVE, OTHER]), (True, 5, 15, False))
+
+    def test_a_wait_up_to_the_limit(self):
+        begin, wait = [COUNT, LOAD, AGAIN], [LOAD, AGAIN]
+        for rest in ([], [LOAD]):
+            self.assertEqual(self.both(begin + [OUT], begin + wait * 50 + rest, stopped=True), (True, 3, 103, True))
+
+    def test_one_that_ends_sooner(self):
+        self.assertEqual(self.both([OUT, OTHER], [OUT]), (True, 1, 1, False))
+        self.assertEqual(self.both([OUT], [OUT]), (False, 1, 1, False))
 
 
 if __name__ == "__main__":

@@ -1,0 +1,176 @@
+"""The ways of a hart through two runs, compared as their rows come. What a hart did while it waited is no difference."""
+from __future__ import annotations
+
+import re
+from array import array
+from binascii import unhexlify
+from collections import deque
+from typing import Callable, Deque, Generator, Iterable, Iterator, NamedTuple
+
+from ..recording.instruction import AMO, CALL, LOAD, OP_AMO, STORE, Instruction
+
+MOST_LOOP = 32              # addresses of a loop that waits
+PIECE, MOST_SKIPS, LOOKED_BACK = 4096, 1000, 16
+AMO_ADD, AMO_XOR = 0, 4     # these change the word each time, so a loop with one of them does more than wait
+CodeOf = Callable[[int], Instruction]
+
+
+class Way:
+    """The rows of a hart that aren't compared yet.
+
+    pcs     their addresses; first: the count of the first one; before: the addresses of the last rows before it
+    ended   whether no more come; stopped: because another hart or the limit ended them"""
+
+    def __init__(self, hart: int) -> None:
+        self.pcs, self.before = array("I"), array("I")
+        self.first, self.ended, self.stopped = 0, False, False
+        self.pattern, self.start = re.compile(rb"\n%d \d+ (\w{8}) " % hart), b"\n%d " % hart
+
+    def add(self, text: bytes) -> None:
+        found = array("I", unhexlify(b"".join(self.pattern.findall(text))))
+        found.byteswap()
+        self.pcs += found
+
+    def pass_by(self, text: bytes) -> None:
+        """Takes rows that are the same in both runs."""
+        at = text.rfind(self.start)
+        if at >= 0:
+            _, count, pc, _ = text[at + 1:at + 60].split(b" ", 3)
+            self.first, self.before = int(count) + 1, array("I", [int(pc, 16)])
+
+    def drop(self, rows: int) -> None:
+        if rows:
+            self.before = (self.before + self.pcs[max(0, rows - LOOKED_BACK):rows])[-LOOKED_BACK:]
+            self.first += rows
+            del self.pcs[:rows]
+
+
+class Skip(NamedTuple):
+    """Where a hart had gone another way, but only to wait: the counts of both runs there."""
+    good: int
+    bad: int
+    is_bad: bool                # whether it waited in BAD
+
+
+def common(one: memoryview, other: memoryview) -> int:
+    """How many rows from the first on are the same, by halves."""
+    low, high = 0, min(len(one), len(other))
+    if one[:high] == other[:high]:
+        return high
+    while low + 1 < high:
+        middle = (low + high) // 2
+        low, high = (middle, high) if one[low:middle] == other[low:middle] else (low, middle)
+    return low
+
+
+class Lane:
+    """A hart in GOOD and in BAD.
+
+    parted   whether it went another way; if so, the ways stand at the first rows that aren't the same
+    is_over  whether no more rows are looked at
+    waits    whether it waited until a run ended, in which it had gone another way to do so
+    skips    where it waited longer in one run than in the other, the last ones"""
+
+    def __init__(self, hart: int, code_of: CodeOf) -> None:
+        self.hart, self.code_of = hart, code_of
+        self.good, self.bad = Way(hart), Way(hart)
+        self.parted = self.is_over = self.waits = False
+        self.skips: Deque[Skip] = deque(maxlen=MOST_SKIPS)
+        self.waiting: dict[tuple[int, ...], bool] = {}
+        self.steps = self.compare()
+
+    def advance(self) -> None:
+        """Compares what is known."""
+        if not self.is_over:
+            self.is_over = next(self.steps, True)
+
+    def compare(self) -> Iterator[bool]:
+        good, bad = self.good, self.bad
+        while True:
+            with memoryview(good.pcs) as one, memoryview(bad.pcs) as other:
+                same = common(one, other)
+            good.drop(same)
+            bad.drop(same)
+            if good.pcs and bad.pcs:
+                yield from self.skip_waits(bad, True)
+                if self.differs():
+                    yield from self.skip_waits(good, False)
+                if self.waits or self.differs():
+                    self.parted = True
+                    return
+            elif good.ended and not good.pcs or bad.ended and not bad.pcs:
+                self.parted = len(good.pcs) != len(bad.pcs)
+                return
+            else:
+                yield False
+
+    def differs(self) -> bool:
+        return bool(self.good.pcs and self.bad.pcs) and self.good.pcs[0] != self.bad.pcs[0]
+
+    def skip_waits(self, way: Way, is_bad: bool) -> Iterator[bool]:
+        """Leaves out rounds of a loop that waits, until a hart goes as in the other run, or does something else."""
+        skip, begin = Skip(self.good.first, self.bad.first, is_bad), way.first
+        target = (self.good if is_bad else self.bad).pcs[0]
+        while self.differs():
+            rows = yield from self.waited(way, target, way.first > begin)
+            if not rows:
+                break
+            way.drop(rows + (self.repeated(way, rows) if way.pcs[rows - 1] == way.before[-1] else 0))
+            while not way.pcs and not way.ended:
+                yield False
+            self.waits = not way.pcs and way.stopped
+        if way.first > begin:
+            self.skips.append(skip)
+
+    def repeated(self, way: Way, size: int) -> int:
+        """How many rows are the first so many again and again."""
+        with memoryview(way.pcs) as pcs, pcs[size:] as behind:
+            return common(pcs, behind) // size * size
+
+    def waited(self, way: Way, target: int, has_waited: bool) -> Generator[bool, None, int]:
+        """How many rows do nothing but wait: up to the branch at which the ways parted, or up to where the other run went on, if
+        what had been loaded for the branch is loaded again; else 0."""
+        looked, branch = 0, way.before[-1]
+        addresses: dict[int, None] = {}
+        while True:
+            part = way.pcs[looked:looked + PIECE]
+            ends = [part.index(address) + more for address, more in ((branch, 1), (target, 0)) if address in part]
+            addresses.update(dict.fromkeys(part[:min(ends)] if ends else part))
+            if len(addresses) > MOST_LOOP:
+                return 0
+            if ends:
+                rows = looked + min(ends)
+                is_round = way.pcs[rows - 1] == branch
+                return rows if self.is_waiting(tuple(addresses)) and (is_round or self.loads_again(way, addresses)) else 0
+            looked += len(part)
+            if looked == len(way.pcs):
+                if way.ended:
+                    self.waits = has_waited and way.stopped and self.is_waiting((*addresses, branch))
+                    if self.waits:
+                        del way.pcs[:]
+                    return 0
+                yield False
+
+    def loads_again(self, way: Way, addresses: Iterable[int]) -> bool:
+        """Whether one of these instructions is the load behind the branch, or a copy of it elsewhere."""
+        *before, branch = map(self.code_of, way.before)
+        load = next((code for code in reversed(before) if code.rd in (branch.rs1, branch.rs2) and code.rd), branch)
+        return load.kind in (LOAD, AMO) and any(self.code_of(address).word == load.word for address in addresses)
+
+    def is_waiting(self, addresses: tuple[int, ...]) -> bool:
+        """Whether a round of these instructions loads, stores nothing, and counts nothing: none of its registers tells of the
+        round before."""
+        if addresses not in self.waiting:
+            codes = [self.code_of(address) for address in addresses]
+            carried: set[int] = set()
+            written: set[int] = {0}
+            for code in codes:
+                carried |= {code.rs1, code.rs2} - written
+                written.add(code.rd)
+            self.waiting[addresses] = (any(code.kind in (LOAD, AMO) for code in codes) and not any(map(does_more, codes))
+                                       and not carried & written)
+        return self.waiting[addresses]
+
+
+def does_more(code: Instruction) -> bool:
+    return code.kind in (STORE, CALL) or code.word & 127 == OP_AMO and code.word >> 27 in (AMO_ADD, AMO_XOR)
