@@ -5,7 +5,7 @@ import contextlib
 import os
 import signal
 import subprocess
-from typing import Any, Mapping, Sequence
+from typing import Any, Callable, Mapping, Sequence
 
 from .streams import on_interrupt, uninterrupted
 
@@ -82,23 +82,37 @@ class Process:
 
 
 class Guard:
-    """A process that ends others once this one has ended: they are in its group. To start one of those is cheaper than by
-    `start`, since no python runs in it first; so it is for many short ones."""
+    """A process that does something once this one has ended, however that ends, or has closed it."""
 
-    def __init__(self) -> None:
+    def __init__(self, work: Callable[[], None]) -> None:
         watched, self.pipe = os.pipe()
-        self.pid = os.fork()
-        if not self.pid:
-            try:
-                os.close(self.pipe)
-                os.setpgid(0, 0)
-                os.read(watched, 1)             # nothing comes but the end
-                os.killpg(0, signal.SIGKILL)
-            finally:
-                os._exit(0)
+        with uninterrupted():                   # the new process stays so
+            self.pid = os.fork()
+            if not self.pid:
+                try:
+                    os.close(self.pipe)
+                    os.setpgid(0, 0)
+                    os.read(watched, 1)
+                    work()
+                finally:
+                    os._exit(0)
         os.close(watched)
         with contextlib.suppress(OSError):      # it has done so itself
             os.setpgid(self.pid, self.pid)
+
+    def close(self) -> None:
+        with contextlib.suppress(OSError):      # somebody may have ended it
+            os.write(self.pipe, b"\0")          # to close the pipe isn't enough: other processes may have it, too
+            os.waitpid(self.pid, 0)
+        os.close(self.pipe)
+
+
+class Group(Guard):
+    """Processes that end with this one. To start one of them is cheaper than by `start`, since no python runs in it first; so
+    it is for many short ones."""
+
+    def __init__(self) -> None:
+        super().__init__(lambda: os.killpg(0, signal.SIGKILL))
 
     def start(self, words: Sequence[str], said: str, err: str, environment: Mapping[str, str]) -> Process:
         """A process whose output and err go into files."""
@@ -107,7 +121,3 @@ class Guard:
                   for number, name in ((1, said), (2, err))]
         return Process(os.posix_spawn(words[0], list(words), environment, file_actions=files, setpgroup=self.pid,
                                       setsigdef=[signal.SIGPIPE, signal.SIGXFSZ]))
-
-    def close(self) -> None:
-        os.close(self.pipe)
-        os.waitpid(self.pid, 0)

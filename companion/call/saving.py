@@ -8,12 +8,11 @@ import io
 import os
 import shutil
 import stat
-import tempfile
 from dataclasses import dataclass
 from typing import BinaryIO, Callable, NamedTuple, NoReturn, Optional, Sequence
 
-from . import streams
 from .errors import REFUSED, UNREADABLE, UNWRITABLE, CompanionError
+from .scratch import Scratch
 
 HEAD_BYTES = 4096
 ELF_MAGIC, LOG_MAGIC = b"\x7fELF", b"BUGNETLG"
@@ -80,13 +79,12 @@ class Target:
     def folder(self) -> str:
         return os.path.dirname(os.path.abspath(self.path))
 
-    def scratch(self) -> tempfile.TemporaryDirectory[str]:
+    def scratch(self) -> Scratch:
         """A folder beside it, for files that `take` moves to their places. No other user can read them there."""
         if os.path.exists(self.path) and not os.path.isfile(self.path):
             self.refuse("it is no file that can be replaced", UNREADABLE)
         try:
-            with streams.uninterrupted():       # once there is the object, it is removed however this ends
-                return tempfile.TemporaryDirectory(prefix=".zelkuma-", dir=self.folder())
+            return Scratch(self.folder(), ".zelkuma-")
         except OSError as error:
             self.refuse(f"{self.folder()}: {error.strerror}", UNREADABLE)
 

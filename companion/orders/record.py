@@ -6,7 +6,6 @@ import os
 import shlex
 import signal
 import subprocess
-import tempfile
 from enum import IntEnum
 from typing import Mapping, NamedTuple, Sequence
 
@@ -16,6 +15,7 @@ from ..call.errors import REFUSED, CompanionError
 from ..call.files import check_regular
 from ..call.options import decimal, parse
 from ..call.saving import LOG, TURNS, Target, target
+from ..call.scratch import Scratch
 
 RECORD_FORM = "[OPTION..] ELF LOG BOOK, as for record, but for --seed"
 ELF_FORM = "[OPTION..] ELF, as for record, but for --seed; with --all no LOG and BOOK are named"
@@ -76,7 +76,7 @@ class RecordWords:
     def targets(self, plan: Plan) -> list[Target]:
         return self.saved(self.outputs_of(plan)) if self.folder else self.named_targets
 
-    def scratch(self) -> list[tempfile.TemporaryDirectory[str]]:
+    def scratch(self) -> list[Scratch]:
         """A folder for trials beside each output."""
         targets = self.named_targets or self.targets(Plan(0, Kind.SEED))
         return [target.scratch() for target in targets]

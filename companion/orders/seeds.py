@@ -201,5 +201,5 @@ def main(words: list[str]) -> int:
         find(search, "--json" in options, "--shrink" in options)
     finally:
         for folder in folders:
-            folder.cleanup()
+            folder.close()
     return status_of(search, [name for name, kind in KINDS.items() if kind in kinds])

@@ -6,6 +6,7 @@ from typing import Mapping, Sequence
 
 from ..call import streams
 from ..call.errors import REFUSED, CompanionError
+from ..call.files import check_regular
 from ..call.options import decimal, parse, whole
 from ..call.saving import LOG, TURNS, target
 from ..recording.answers import put_answer
@@ -74,6 +75,7 @@ def main(words: list[str]) -> int:
     byte = asked_byte(given["--output"]) if "--output" in given else None
     seconds = whole(given.get("--seconds", "0"), 0, LONGEST_SEARCH, "--seconds")
     read = [log, elf_name, book, options.get("--input", "")]
+    check_regular(*read)
     targets = target(new_log, LOG, read), target(new_book, TURNS, [*read, new_log])
     check(log, elf_name, book, options, byte is not None)
     elf = Elf(elf_name)

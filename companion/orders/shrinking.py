@@ -3,7 +3,6 @@ from __future__ import annotations
 
 import os
 import signal
-import tempfile
 from contextlib import closing
 from dataclasses import dataclass
 from typing import Any, Mapping, NamedTuple, Optional
@@ -11,6 +10,7 @@ from typing import Any, Mapping, NamedTuple, Optional
 from ..call import streams
 from ..call.errors import NO_INTERVAL, CompanionError
 from ..call.saving import Target
+from ..call.scratch import Scratch
 from ..call.text import counted, number
 from ..recording.answers import LONGEST
 from ..recording.calls import CallTree
@@ -60,9 +60,8 @@ class Shrunk(NamedTuple):
 
 
 def shrink(asked: Asked) -> Shrunk:
-    folder = MEMORY_FOLDER if os.access(MEMORY_FOLDER, os.W_OK) else None
-    with tempfile.TemporaryDirectory(prefix="zelkuma-", dir=folder) as scratch:
-        found, made, signals = search(asked, scratch)
+    with Scratch(MEMORY_FOLDER if os.access(MEMORY_FOLDER, os.W_OK) else "") as folder:
+        found, made, signals = search(asked, folder)
         for name, place in ((made.log, asked.new_log), (made.book, asked.new_book)):
             with open(name, "rb") as file:
                 place.save(file.read())

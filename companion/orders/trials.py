@@ -8,7 +8,7 @@ from contextlib import closing
 from typing import Iterator, NamedTuple, Optional, Sequence
 
 from ..call import streams
-from ..call.children import Guard, Process
+from ..call.children import Group, Process
 from ..call.errors import UNREADABLE, CompanionError
 from ..recording.cause import Cause, cause_of
 from ..recording.elf import Elf
@@ -78,12 +78,12 @@ class Trial:
 
     status  that of the recording, once it is done"""
 
-    def __init__(self, words: RecordWords, plan: Plan, folders: Sequence[str], guard: Guard) -> None:
+    def __init__(self, words: RecordWords, plan: Plan, folders: Sequence[str], group: Group) -> None:
         self.plan, self.words, self.status = plan, words, -1
         name = str(plan).replace(" ", "-")
         self.outputs = [os.path.join(folder, f"{name}.{number}") for number, folder in enumerate(folders)]
         self.said, self.err = self.outputs[0] + ".said", self.outputs[0] + ".err"
-        self.child: Process = guard.start(words.command(plan, self.outputs), os.devnull, self.err, environment(plan.schedule()))
+        self.child: Process = group.start(words.command(plan, self.outputs), os.devnull, self.err, environment(plan.schedule()))
 
     def look_for_cause(self) -> None:
         self.child = Forked(self.find_cause, self.said, self.err)
@@ -151,7 +151,7 @@ class Search:
         self.kept: dict[Ending, Trial] = {}
         self.stopped = 0
         self.endings, self.buckets = Endings(), Buckets(words.elf)
-        self.guard: Guard
+        self.group: Group
         self.at = numbers.first
         self.progress, self.began = streams.Progress(), time.monotonic()
 
@@ -185,7 +185,7 @@ class Search:
             plan = next(plans, None)
             if plan is None:
                 return
-            self.watch(Trial(self.words, plan, self.folders, self.guard))
+            self.watch(Trial(self.words, plan, self.folders, self.group))
 
     def keep(self, trial: Trial) -> None:
         if self.found is not None:
@@ -244,7 +244,7 @@ class Search:
 
     def run(self) -> None:
         plans = self.plans()
-        self.guard = Guard()
+        self.group = Group()
         streams.on_interrupt(self.stop)
         try:
             self.start(plans)
@@ -263,7 +263,7 @@ class Search:
                 trial.child.kill()
                 trial.child.wait()
             self.buckets.close()
-            self.guard.close()
+            self.group.close()
             self.count_rest()
 
     def count(self) -> None:

@@ -10,11 +10,11 @@ import hashlib
 import mmap
 import os
 import struct
-import tempfile
 from typing import Iterator, Optional
 
 from ..call import program, streams
 from ..call.errors import NO_INTERVAL, UNREADABLE, CompanionError
+from ..call.scratch import Scratch
 from .log import END, FIRST_FAULT, HEAD_2, HEADER, REASONS, SEAL, SIZES, At, End, Log, changed, check, runs_of
 
 VERSION_1, LARGEST_SMALL = 1, 1 << 20   # a file of version 1 that is larger isn't read whole
@@ -37,8 +37,7 @@ class LogFile:
         """The name of a file that is kept until the end."""
         if not self.folder:
             try:
-                with streams.uninterrupted():
-                    self.folder = self.files.enter_context(tempfile.TemporaryDirectory(prefix="zelkuma-"))
+                self.folder = self.files.enter_context(Scratch())
             except OSError as error:
                 raise CompanionError(f"no place for the end of {self.name}: {error.strerror or error}", UNREADABLE)
         return os.path.join(self.folder, name)

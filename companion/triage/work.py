@@ -5,12 +5,12 @@ import contextlib
 import os
 import resource
 import signal
-import tempfile
 from contextlib import closing
 from typing import Callable, Iterator, NamedTuple, TypeVar
 
 from ..call import program
 from ..call.errors import BAD_LOG, NO_MEMORY, CompanionError
+from ..call.scratch import Scratch
 from ..recording.cause import cause_of
 from ..recording.elf import Elf
 from ..recording.places import Places
@@ -59,7 +59,7 @@ def unread(words: str) -> Answer:
 @contextlib.contextmanager
 def salvaged(name: str) -> Iterator[LogFile]:
     """What can be saved of a damaged log, in a temporary place."""
-    with tempfile.TemporaryDirectory(prefix="zelkuma-") as folder:
+    with Scratch() as folder:
         saved = os.path.join(folder, "log")
         try:
             program.output("salvage", name, saved)

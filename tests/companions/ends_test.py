@@ -17,9 +17,26 @@ BOUND = 60                  # seconds after which a call hangs
 STATUSES = {signal.SIGINT: 130, signal.SIGTERM: 143, signal.SIGHUP: 129}
 
 
-def children(process):
-    with open(f"/proc/{process}/task/{process}/children", encoding="ascii") as file:
-        return [int(word) for word in file.read().split()]
+def below(process):
+    """All processes that stem from one."""
+    try:
+        with open(f"/proc/{process}/task/{process}/children", encoding="ascii") as file:
+            found = [int(word) for word in file.read().split()]
+    except OSError:
+        return []
+    return found + [each for child in found for each in below(child)]
+
+
+def programs(process):
+    """Those of them that a companion waits for."""
+    found = []
+    for child in below(process):
+        try:
+            with open(f"/proc/{child}/cmdline", "rb") as file:
+                found += [child] * file.read().startswith(b"sleep\0")
+        except OSError:
+            pass
+    return found
 
 
 def is_running(process):
@@ -56,18 +73,20 @@ class Calls:
         os.chmod(self.script, 0o755)
 
     def start(self, *words):
-        """A companion, once it waits for a process."""
+        """A companion, once it waits for the program."""
         process = subprocess.Popen([sys.executable, COMPANION, *words], stdin=subprocess.PIPE, stdout=subprocess.PIPE,
                                    stderr=subprocess.PIPE, start_new_session=True,
                                    env=dict(os.environ, ZELKUMA_PROGRAM=self.script, TMPDIR=self.temporary))
-        awaits(lambda: process.poll() is not None or children(process.pid))
-        time.sleep(0.1)
+        awaits(lambda: process.poll() is not None or programs(process.pid))
         return process
 
     def words(self):
         names = self.log, self.elf
         return [(word, *names) for word in ("why", "race", "view", "bucket", "output", "gdb")] + [
-            ("again", *names, self.book, self.new), ("seeds", "1", "9", "--", self.elf, self.new, self.new + "2")]
+            ("history", *names, "0x12000"), ("calls", *names, "main"), ("find", *names, "1"), ("compare", self.log, *names),
+            ("export", *names, "--lcov", self.new), ("triage", self.folder, "--elfs", self.elf),
+            ("again", *names, self.book, self.new), ("shrink", *names, self.book, self.new, self.new + "2"),
+            ("seeds", "1", "9", "--", self.elf, self.new, self.new + "2")]
 
     def check_clean(self, words):
         left = [name for name in os.listdir(self.folder) if name not in ("LOG", "BOOK", "program")]
@@ -81,7 +100,7 @@ def case_each_signal_ends_all(recordings):
     for words in calls.words():
         for number, status in STATUSES.items():
             process = calls.start(*words)
-            began = children(process.pid)
+            began = below(process.pid)
             process.send_signal(number)
             out, err = process.communicate(timeout=BOUND)
             assert (process.returncode, out, err) == (status, b"", b""), (words, process.returncode, out, err)
@@ -89,16 +108,33 @@ def case_each_signal_ends_all(recordings):
             calls.check_clean(words)
 
 
-def case_who_is_killed_takes_its_processes_along(recordings):
+def case_who_is_killed_takes_its_processes_and_folders_along(recordings):
     calls = Calls(recordings, "killed")
     calls.program("")
     for words in calls.words():
         process = calls.start(*words)
-        began = children(process.pid)
+        began = below(process.pid)
         process.kill()
         process.communicate(timeout=BOUND)
         awaits(lambda: not any(map(is_running, began)))
         assert began
+        calls.check_clean(words)
+
+
+def case_a_large_log_leaves_no_folder(recordings):
+    """The end of one is a log of its own."""
+    calls = Calls(recordings, "large")
+    with open(calls.log, "r+b") as log:
+        log.truncate((1 << 20) + 1)
+    for word in "why", "triage":
+        calls.program('[ "$1" = check ] && exit')   # it is to be converted then
+        process = calls.start(*[words for words in calls.words() if words[0] == word][0])
+        assert os.listdir(calls.temporary)
+        began = below(process.pid)
+        process.kill()
+        process.communicate(timeout=BOUND)
+        awaits(lambda: not any(map(is_running, began)))
+        calls.check_clean(word)
 
 
 def case_what_searches_for_a_place_ends_too(recordings):
@@ -109,9 +145,8 @@ def case_what_searches_for_a_place_ends_too(recordings):
     began = []
 
     def has_begun():
-        began[:] = children(process.pid)
-        began.extend(each for child in list(began) if is_running(child) for each in children(child))
-        return len(began) > 1
+        began[:] = below(process.pid)
+        return len(programs(process.pid)) > 0
 
     awaits(has_begun)
     process.kill()
@@ -129,8 +164,8 @@ def case_the_tool_for_lines_ends_too(recordings):
                                env=dict(os.environ, PATH=f"{tools}:{os.environ['PATH']}"))
     process.stdin.write(b"0 0 00010074 00000013 addi zero,zero,0\n")
     process.stdin.flush()
-    awaits(lambda: children(process.pid))
-    began = children(process.pid)
+    awaits(lambda: programs(process.pid))
+    began = below(process.pid)
     process.kill()
     process.communicate(timeout=BOUND)
     awaits(lambda: not any(map(is_running, began)))
@@ -143,7 +178,7 @@ def case_what_seeds_has_found_is_kept(recordings):
         process = calls.start("seeds", "-j2", "--only", "seeds,sleepers", "--until", "0", "0", "9", "--", calls.elf, calls.new,
                               calls.new + "2")
         awaits(lambda: any("sleeper-0.1" in names for _, _, names in os.walk(calls.folder))
-               and len(children(process.pid)) == 2)     # one is the guard
+               and len(programs(process.pid)) == 1)
         process.send_signal(number)
         out, err = process.communicate(timeout=BOUND)
         assert process.returncode == status and out.startswith(b"sleeper 0: status 0\n") and err == b"", (out, err)
@@ -175,7 +210,7 @@ def case_a_pipe_is_refused_at_once(recordings):
     os.mkfifo(pipe)
     for words in calls.words():
         for at, name in enumerate(words):
-            if name in (calls.log, calls.elf, calls.book):
+            if name in (calls.log, calls.elf, calls.book) and words[0] != "triage":     # that passes over others
                 done = companion(*words[:at], pipe, *words[at + 1:], bound=BOUND)
                 assert done[0] == 3 and done[2] == f"zelkuma: {pipe} is no regular file, and it is read several times: copy it into one\n", done
     done = companion("names", pipe, bound=BOUND)

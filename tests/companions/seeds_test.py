@@ -339,7 +339,7 @@ def case_interrupted_when_one_is_found(recordings):
 
     def is_found(process):
         with open(f"/proc/{process.pid}/task/{process.pid}/children", encoding="ascii") as children:
-            return "sleeper-0.1" in trials(folder) and len(children.read().split()) == 2     # one is the guard
+            return "sleeper-0.1" in trials(folder) and len(children.read().split()) == 4     # three are guards
 
     words = ["-j2", "--only", "seeds,sleepers", "--until", "0", "0", "9", "--", TWO_LOCKS]
     out = interrupted(folder, is_found, *words, program=script)
