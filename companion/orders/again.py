@@ -11,6 +11,7 @@ from ..call.files import check_regular
 from ..call.options import parse, whole
 from ..call.saving import LOG, TURNS, Target, target
 from ..call.text import counted, number
+from ..recording.book import DIFFERS, check_book
 from .record import ENDS, Child, last_line
 
 HELP = """zelkuma again LOG ELF BOOK NEWLOG [--input FILE] [--log-size N] [--interval N]
@@ -33,7 +34,6 @@ given; an input that was recorded is needed again. The summary of the new record
 
 Companions show; the program proves. `audit NEWLOG ELF BOOK` tells whether NEWLOG is the recording of its turns."""
 FORM = "again LOG ELF BOOK NEWLOG [--input FILE] [--log-size N] [--interval N]"
-DIFFERS, NO_WHOLE_RUN = 16, 17          # statuses of audit; the first is that of another run here, too
 LARGEST = 2**64 - 1                     # the program knows the ranges of its settings
 
 
@@ -50,19 +50,6 @@ def settings_of(name: str) -> dict[str, str]:
              "--memory": memory, "--sets": sets, "--ways": ways, "--line": line}
     found.update({"--sets2": sets2, "--ways2": ways2} if sets2 else {})
     return {option: str(value) for option, value in found.items()}
-
-
-def check_book(log: str, elf: str, book: str, source: Sequence[str]) -> None:
-    """Refuses unless LOG is the recording of BOOK's turns."""
-    try:
-        program.output("audit", log, elf, book, options=source)
-    except CompanionError as error:
-        if error.status == DIFFERS:
-            raise CompanionError(f"LOG isn't the recording of BOOK's turns ({error}): BOOK is of another run, or the input "
-                                 f"isn't that of the recording", DIFFERS)
-        if error.status == NO_WHOLE_RUN:
-            raise CompanionError(f"BOOK is no list of turns of a whole run of ELF ({error})", NO_WHOLE_RUN)
-        raise
 
 
 def record(options: Mapping[str, str], elf: str, book: str, folder: str) -> tuple[str, str, str]:

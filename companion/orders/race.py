@@ -17,17 +17,20 @@ from ..recording.races import FENCED, ORDERED, TOO_MANY, Access, AccessPair, Gro
 from ..recording.ready import ready
 from ..recording.recent import FIRST_ROWS, LogFile, open_log
 from ..recording.sources import source_folders
+from ..recording.story import STORY_HEAD, STORY_OPTIONS, Teller, asked_story
 from ..recording.trace import Trace, read_trace
 from ..why.history import History
 
 HELP = """Groups the races of a log by the two places and the word, the likeliest cause of its fault first. Words of one object
 with the same places, as an array's, are told together.
 
-    zelkuma race LOG ELF [--names ELF] [--source DIR] [--max N] [--more] [--json]
+    zelkuma race LOG ELF [--names ELF] [--source DIR] [--max N] [--book BOOK [--input FILE]] [--more] [--json]
 
 --names   the program with its names and lines, if ELF was stripped
 --source  shows sources below this folder too, not only below ELF's and the current one; may be given several times
 --max     how many pairs are asked for at most, 1 to 1000000 (200000 without it)
+--book    tells first the switches between harts, if BOOK has no more than 40 of them, as that of `zelkuma shrink`
+--input   what the run read: with BOOK it is run again, to see that this is LOG's
 --more    tells all groups; without it the first twelve
 --json    prints one JSON object in place of the text (docs/JSON.md)
 
@@ -35,8 +38,8 @@ First come groups on the chain of values behind the fault, then those in the fun
 behind them groups that fences order if they are meant so, and last the fenced accesses themselves: loads and stores
 beside a `fence`, as GCC writes acquire and release. That order and the grouping are this command's own judgement.
 The exact list is that of `zelkuma races`: pairs of accesses that no atomic instruction orders."""
-FORM = "race LOG ELF [--names ELF] [--source DIR] [--max N] [--more] [--json]"
-OPTIONS = {"--names": True, "--source": True, "--max": True, "--more": False, "--json": False}
+FORM = "race LOG ELF [--names ELF] [--source DIR] [--max N] [--book BOOK [--input FILE]] [--more] [--json]"
+OPTIONS = {"--names": True, "--source": True, "--max": True, **STORY_OPTIONS, "--more": False, "--json": False}
 FAR = 1 << 20                                # what a row costs that isn't on the chain
 MOST, GROUPS_TOLD, BRIEF_TOLD = 200000, 12, 6
 KINDS = ("", ORDERED, FENCED)                # in the order in which groups are told
@@ -205,11 +208,13 @@ def main(words: list[str]) -> int:
         races = Races(named, opened.enter_context(closing(places_of(named, folders)))).read(source.harts(), log_name, elf_name, most)
         if races.over:
             raise CompanionError(f"races: more than {most} pairs; --max takes up to 1000000", TOO_MANY)
-        judged = judge(source, elf_name, races)
+        judged, teller = judge(source, elf_name, races), Teller(named, races.places)
+        story = asked_story(given, source.end(FIRST_ROWS), elf_name) if "--book" in given else None
         if "--json" in given:
-            put_answer("race", **race_answer(races, judged))
+            put_answer("race", **race_answer(races, judged), book=teller.story_answer(story))
         else:
             def beside(access: Access) -> list[str]:
                 return ready(log_name, elf, named, access.hart, access.count)
-            streams.put("\n".join(report(races, judged, "--more" in given, beside)) + "\n")
+            told = [STORY_HEAD] + ["  " + line for line in teller.story(story)] if story else []
+            streams.put("\n".join(told + report(races, judged, "--more" in given, beside)) + "\n")
     return 0

@@ -3,27 +3,19 @@
 Each is told in two parts: one that costs nothing, and one that takes the last rows."""
 from __future__ import annotations
 
-import re
-from dataclasses import dataclass, field
-from typing import AbstractSet, Hashable, Mapping, Optional, Sequence, Union
+from dataclasses import dataclass
+from typing import AbstractSet, Hashable, Mapping, Optional, Union
 
 from ..call.errors import NO_INTERVAL, CompanionError
-from ..call.program import Output
 from ..recording.cause import MOST_FRAMES, cause_along
 from ..recording.elf import Elf
-from ..recording.instruction import STORE
 from ..recording.log import End, Log, is_fault
-from ..recording.trace import Trace, trace_of
-from ..why.control import load_behind
-from ..why.loops import Loop
+from .quick import Quick
 from .record import FAULT, LIMIT
+from .waiting import STAY_ROWS, Stay, Waiting, stay_like, stay_of
 
 CALLS_ROWS = 100000         # so many of a hart's last rows are read for its calls, as whole intervals
-STAY_ROWS = 200000          # and for how long it is in its loop
-LOOP_ROWS = 1500, 10000     # in so many of them its loop is looked for
-LONGEST_ROW = 160           # bytes
 MOST_INTERVALS = 16         # of a hart are replayed
-MOST_SPILLS = 8             # so often is a value followed through the stack
 
 
 @dataclass(frozen=True)
@@ -55,26 +47,6 @@ class Faulted:
 
 
 @dataclass(frozen=True)
-class Waiting:
-    """words  of each hart at its limit those whose values would have ended its loop
-    stays  {hart: how many of its last turns are in that loop}"""
-    words: Mapping[int, tuple[int, ...]]
-    stays: dict[int, int] = field(compare=False)
-
-    def is_like(self, other: object) -> bool:
-        return self == other
-
-    def begin(self, turns: bytes) -> int:
-        """How many turns there are before all these harts are in their loops."""
-        left, at = dict(self.stays), len(turns)
-        while at and left.get(turns[at - 1]) != 0:
-            at -= 1
-            if turns[at] in left:
-                left[turns[at]] -= 1
-        return at
-
-
-@dataclass(frozen=True)
 class Over:
     """An end that needs no row to be told."""
 
@@ -91,8 +63,8 @@ class Ends:
     offset   of the byte of the output that is asked of, or None.
     waiting  the harts at their limit that are looked at, or None for all. Under a lower limit more may come to it."""
 
-    def __init__(self, elf: Elf, offset: Optional[int] = None) -> None:
-        self.elf, self.offset = elf, offset
+    def __init__(self, quick: Quick, elf: Elf, offset: Optional[int] = None) -> None:
+        self.quick, self.elf, self.offset = quick, elf, offset
         self.waiting: Optional[AbstractSet[int]] = None
 
     def rough(self, made: Recording) -> Hashable:
@@ -106,16 +78,22 @@ class Ends:
             return made.status, tuple(self.limited(ends))
         return made.status, exit_code(ends)
 
-    def exact(self, made: Recording) -> Exact:
+    def exact(self, made: Recording, wanted: Optional[Exact] = None) -> Exact:
+        """How it ends. If it doesn't wait as another that is wanted, that alone."""
         if self.offset is not None or made.status not in (FAULT, LIMIT):
             return Over()
         log = log_of(made.log)
         if made.status == FAULT:
             return self.faulted(log, next(hart for hart, end in log.ends.items() if is_fault(end.reason)))
-        words, stays = {}, {}
+        stays: dict[int, Stay] = {}
         for hart in self.limited(log.ends):
-            words[hart], stays[hart] = self.waits(log, hart)
-        return Waiting(words, stays)
+            text, _ = self.last_text(log, hart, STAY_ROWS)
+            known = wanted.stays.get(hart) if isinstance(wanted, Waiting) else None
+            stay = stay_like(log, hart, text, known) if known and known.places else stay_of(log, hart, text)
+            if not stay:
+                return Over()
+            stays[hart] = stay
+        return Waiting(stays)
 
     def limited(self, ends: Mapping[int, End]) -> list[int]:
         return sorted(hart for hart, end in ends.items()
@@ -127,25 +105,12 @@ class Ends:
         cause = cause_along([rows], hart, log.ends[hart])
         return Faulted(cause.reason, cause.pc, cause.functions(self.elf), is_cut)
 
-    def waits(self, log: Log, hart: int) -> tuple[tuple[int, ...], int]:
-        """The words for which a hart waits, and how many of its last turns are in its loop."""
-        text, _ = self.last_text(log, hart, STAY_ROWS)
-        for most in LOOP_ROWS:
-            trace = trace_of(log, b"".join(text[-most * LONGEST_ROW:].splitlines(True)[-most:]))
-            loop = Loop(trace, hart)
-            if loop.places:
-                break
-        loads = [operand.load for item in loop.exits if item.leads_out for operand in item.operands]
-        words = {trace.rows.access(unspilled(trace, load)).address & ~3 for load in loads if load}
-        return tuple(sorted(words)), turns_in(text, [trace.rows.codes[at].pc for at in loop.places])
-
     def last_text(self, log: Log, hart: int, most: int) -> tuple[bytes, bool]:
         """What `replay` prints of a hart's last intervals, until they have so many rows, and whether there are rows before."""
         pieces: list[bytes] = []
         mine = [interval for interval in log.intervals if interval.hart == hart]
         for interval in reversed(mine[-MOST_INTERVALS:]):
-            with Output("replay", log.name, self.elf.name, str(hart), str(interval.number)) as output:
-                pieces.append(output.read())
+            pieces.append(self.quick.text("replay", "--", log.name, self.elf.name, str(hart), str(interval.number)))
             most -= interval.end - interval.start
             if most <= 0:
                 break
@@ -170,25 +135,3 @@ def byte_at(name: str, offset: int) -> bytes:
     with open(name, "rb") as file:
         file.seek(offset)
         return file.read(1)
-
-
-def turns_in(text: bytes, places: Sequence[int]) -> int:
-    """How many of the last turns ended at some places. It is fast, and may leave out some that end with no access."""
-    others, end = b"|".join(b"%08x" % pc for pc in places), 0
-    for found in re.finditer(rb"^\d+ \d+ (?!%s)" % others, text, re.M) if places else ():
-        end = found.end()
-    last = text[text.rfind(b"\n", 0, text.rfind(b"\nend ")):]
-    atomics = len(re.findall(rb" load \w+=\w+ \| store ", text[end:]))
-    has_rest = b" load " not in last and b" store " not in last     # the last turn ended at the limit
-    return text.count(b" | load ", end) + text.count(b" | store ", end) - atomics + has_rest if places else 0
-
-
-def unspilled(trace: Trace, load: int) -> int:
-    """The load behind a load: one that takes back what this hart put on the stack leads to where that came from."""
-    for _ in range(MOST_SPILLS):
-        store = trace.writers.word[load]
-        source = load_behind(trace, trace.writers.second[store]) if store and trace.rows.code_of(store).kind == STORE else 0
-        if not source:
-            break
-        load = source
-    return load

@@ -6,11 +6,14 @@ from typing import Callable, Iterator
 from ..recording.turns import Pieces, pieces_of, size_of, turns_of
 from . import moves
 from .moves import Move
-from .same_end import Recording, Waiting
+from .rounds import Rounds
+from .same_end import Recording
 from .tries import ANY, Tries
+from .waiting import Waiting
 from .windows import Window, windows_of
 
 MORE_COUNTS = 10000         # a hart may do twice as many instructions as in the recording, and so many more
+ENOUGH = 13                 # pieces; with more an earlier round is looked for
 LEAST_LIMIT = 1000          # to which the limit of a run that hangs is lowered
 
 
@@ -33,18 +36,32 @@ class Search:
             self.leave_waiting()
         else:
             self.tries.options["--limit"] = str(min(self.limit, 2 * self.tries.most_counts + MORE_COUNTS))
-        self.group()
-        while True:
-            if self.tries.leaves_rest:
-                self.lower_limit()              # a shorter list needs less
-            if not self.drop() | self.follow(moves.moved) | self.follow(moves.shorter):
-                break
+        self.shorten()
+        if len(self.best) > ENOUGH and self.begin_earlier():
+            self.shorten()
         self.core = self.best
         self.windows = windows_of(self.tries, self.best)
         self.tries.options["--limit"] = str(self.limit)
         if self.tries.leaves_rest:
             self.tries.leaves_rest = False
             self.end_waiting()
+
+    def shorten(self) -> None:
+        self.group()
+        while True:
+            if self.tries.leaves_rest:
+                self.lower_limit()              # a shorter list needs less
+            if not self.drop() | self.follow(moves.moved) | self.follow(moves.shorter):
+                break
+
+    def begin_earlier(self) -> bool:
+        """Takes the shortest list by which the last switches come in an earlier round, if one is short enough."""
+        for pieces in Rounds(self.tries, self.best).shorter(ENOUGH):
+            held = self.tries.first([pieces], size_of(self.best))
+            if held is not None or self.tries.is_ended():
+                self.best = held.pieces if held else self.best
+                return held is not None
+        return False
 
     def follow(self, near: Callable[[Pieces, int], Iterator[Move]]) -> bool:
         """Takes each move that holds, and continues from its place. Whether there was one."""
@@ -78,7 +95,7 @@ class Search:
     def lower_limit(self) -> None:
         """Harts that wait for ever wait under a lower limit as well, and a try is done sooner. Others may come to it too."""
         if isinstance(self.tries.exact, Waiting):
-            self.tries.ends.waiting = set(self.tries.exact.words)
+            self.tries.ends.waiting = set(self.tries.exact.stays)
         limit = int(self.tries.options["--limit"])
         while limit > LEAST_LIMIT:
             self.tries.options["--limit"] = str(limit // 2)

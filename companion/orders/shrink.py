@@ -10,11 +10,12 @@ from ..call.files import check_regular
 from ..call.options import decimal, parse, whole
 from ..call.saving import LOG, TURNS, target
 from ..recording.answers import put_answer
+from ..recording.book import check_book
 from ..recording.elf import Elf
 from ..recording.log import is_fault, read_log
 from ..recording.naming import named_elf
 from ..why.facts import asked_byte
-from .again import check_book, settings_of
+from .again import settings_of
 from .record import RECORD_OPTIONS
 from .same_end import exit_code, log_of
 from .shrinking import Asked, shrink

@@ -19,16 +19,18 @@ from ..recording.elf import Elf
 from ..recording.log import Log
 from ..recording.naming import places_of
 from ..recording.ready import ready
+from ..recording.story import MOST_TOLD, Switch, Teller, lines_by_piece
 from ..recording.turns import pieces_of, shown, size_of
 from ..triage.bucket import bucket_of
 from ..why.facts import Byte
 from ..why.output import MOST_ROWS, numbered, writes_of
-from .same_end import Ends, Recording, Waiting, log_of
+from .quick import Quick
+from .same_end import Ends, Recording, log_of
 from .search import Search
-from .switches import Switch, Teller, rows_by_piece, switches_of
+from .switches import answer_of, bounded, window_lines
 from .tries import Tries
+from .waiting import Waiting
 
-MOST_TOLD = 40              # switches
 MEMORY_FOLDER = "/dev/shm"  # files of tries needn't reach a disk
 
 
@@ -111,14 +113,15 @@ def offset_of(log: Log, elf: Elf, byte: Byte) -> int:
 def search(asked: Asked, folder: str) -> tuple[Search, Recording, Signals]:
     """Searches, and makes the recording of the shortest list that is found."""
     offset = offset_of(log_of(asked.log), asked.elf, asked.byte) if asked.byte else None
-    tries = Tries(asked.options, Ends(asked.elf, offset), len(os.sched_getaffinity(0)), folder)
     with open(asked.book, "rb") as file:
         turns = pieces_of(file.read())
-    found = Search(tries, tries.record(turns))
-    with Signals(tries, asked.seconds) as signals:
-        found.run()
-    tries.options = dict(asked.options)
-    return found, tries.record(found.best), signals
+    with Quick(folder) as quick:
+        tries = Tries(asked.options, Ends(quick, asked.elf, offset), len(os.sched_getaffinity(0)))
+        found = Search(tries, tries.record(turns))
+        with Signals(tries, asked.seconds) as signals:
+            found.run()
+        tries.options = dict(asked.options)
+        return found, tries.record(found.best), signals
 
 
 class Told:
@@ -128,10 +131,10 @@ class Told:
         self.found, self.teller, self.asked, elf = found, teller, asked, asked.elf
         log = log_of(made.log)
         self.pieces, self.turns = pieces_of(made.turns()), found.recorded_turns
-        rows = rows_by_piece(log, elf.name, self.pieces, min(len(found.core), MOST_TOLD + 1))
-        self.switches = switches_of(self.pieces, rows, found.windows)
+        lines = lines_by_piece(log, elf.name, self.pieces, min(len(found.core), MOST_TOLD + 1))
+        self.switches = bounded(self.pieces, lines, found.windows)
         self.bucket = bucket_of(cause_of(log, elf.name), elf, teller.places)
-        self.waiting = tuple(found.tries.exact.words) if isinstance(found.tries.exact, Waiting) else ()
+        self.waiting = tuple(found.tries.exact.stays) if isinstance(found.tries.exact, Waiting) else ()
 
     def order(self) -> str:
         """The pieces that matter."""
@@ -142,8 +145,8 @@ class Told:
         said = [f"{counted(found.recorded_pieces - 1, 'switch')} and {counted(found.recorded_turns, 'turn')} are cut to "
                 f"{number(len(self.pieces) - 1)} and {number(size_of(self.pieces)[1])}, by {number(found.tries.count)} recordings",
                 f"order: {self.order()}"]
-        for place, switch in enumerate(self.switches, 1):
-            said += self.teller.lines(place, switch) + self.beside(switch)
+        for place, one in enumerate(self.switches, 1):
+            said += self.teller.lines(place, one.switch) + window_lines(self.teller, one) + self.beside(one.switch)
         more = len(found.core) - 1 - len(self.switches)
         said += [f"  .. {counted(more, 'more switch')} .."] if more > 0 else []
         if self.waiting:
@@ -161,4 +164,4 @@ class Told:
                 "recorded_pieces": self.found.recorded_pieces, "recorded_turns": self.found.recorded_turns,
                 "turns": size_of(self.pieces)[1], "recordings": self.found.tries.count, "waiting": list(self.waiting),
                 "is_done": not self.found.tries.is_ended(), "end": self.bucket.line(),
-                "switches": [self.teller.answer(switch) for switch in self.switches[:LONGEST]]}
+                "switches": [answer_of(self.teller, one) for one in self.switches[:LONGEST]]}

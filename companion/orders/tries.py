@@ -6,11 +6,13 @@ import os
 from contextlib import closing
 from typing import Generator, Hashable, Iterable, Iterator, Mapping, NamedTuple, Optional, Sequence
 
-from ..call import program, streams
-from ..call.errors import NO_INTERVAL, UNREADABLE, CompanionError
+from ..call import streams
+from ..call.errors import NO_INTERVAL, CompanionError
 from ..recording.turns import Pieces, pieces_of, size_of, turns_of
-from .record import ENDS, Child, last_line
-from .same_end import Ends, Exact, Over, Recording, Waiting, log_of
+from .quick import Quick, refusal
+from .record import ENDS, environment
+from .same_end import Ends, Exact, Over, Recording, log_of
+from .waiting import Waiting
 
 ANY = 1 << 62, 0            # a size that no list has
 MOST_TRIES = 20000
@@ -28,22 +30,24 @@ class Try:
 
     asked  the list"""
 
-    def __init__(self, options: Mapping[str, str], elf: str, folder: str, number: int, asked: Pieces) -> None:
+    def __init__(self, quick: Quick, options: Mapping[str, str], elf: str, number: int, asked: Pieces) -> None:
         self.asked, self.number = asked, number
         self.log, self.book, self.said, self.err, turns = (
-            os.path.join(folder, f"{number}.{name}") for name in ("log", "book", "said", "err", "turns"))
+            os.path.join(quick.folder, f"{number}.{name}") for name in ("log", "book", "said", "err", "turns"))
         self.files = [self.log, self.book, self.said, self.err, turns]
         with open(turns, "wb") as file:
             file.write(turns_of(asked))
-        words = [program.path(), "record", *(f"{name}={value}" for name, value in options.items()), "--", elf, self.log, self.book]
-        self.child = Child(words, self.said, self.err, f"book:{turns}")
+        words = ["record", *(f"{name}={value}" for name, value in options.items()), "--", elf, self.log, self.book]
+        self.child = quick.start(self.said, self.err, *words, environment=environment(f"book:{turns}"))
         self.status = 0
+
+    def wait(self) -> None:
+        self.status = self.child.end(os.waitpid(self.child.pid, 0)[1])
 
     def made(self) -> Recording:
         """The recording that it made, if it did."""
         if self.status not in ENDS:
-            why = last_line(self.err).split(": ", 1)[-1] or f"a recording ended with {self.status}"
-            raise CompanionError(why, self.status if self.status > 0 else UNREADABLE)
+            raise refusal(self.err, self.status)
         return Recording(self.status, self.log, self.book, self.said)
 
     def remove(self) -> None:
@@ -60,8 +64,8 @@ class Tries:
     most_counts  how many instructions a hart did at most in the recording that is wanted
     stopped      whether the search is to end"""
 
-    def __init__(self, options: Mapping[str, str], ends: Ends, jobs: int, folder: str) -> None:
-        self.options, self.ends, self.jobs, self.folder = dict(options), ends, jobs, folder
+    def __init__(self, options: Mapping[str, str], ends: Ends, jobs: int) -> None:
+        self.options, self.ends, self.jobs = dict(options), ends, jobs
         self.leaves_rest = self.ends_within = self.stopped = False
         self.rough: Hashable = None
         self.exact: Exact = Over()
@@ -87,13 +91,13 @@ class Tries:
 
     def record(self, pieces: Pieces) -> Recording:
         """A recording by a list of turns, whose files stay."""
-        one = Try(self.options, self.ends.elf.name, self.folder, self.started, pieces)
-        self.started += 1
-        try:
-            one.status = one.child.process.wait()
-        finally:
-            one.child.process.kill()
+        one = self.begin(pieces)
+        one.wait()
         return one.made()
+
+    def begin(self, pieces: Pieces) -> Try:
+        self.started += 1
+        return Try(self.ends.quick, self.options, self.ends.elf.name, self.started - 1, pieces)
 
     def first(self, candidates: Iterable[Pieces], most: tuple[int, int]) -> Optional[Held]:
         """The first candidate that ends as wanted and is smaller than `most` says."""
@@ -130,15 +134,13 @@ class Tries:
             asked = next(left, None)
             if asked is None:
                 return
-            one = Try(self.options, self.ends.elf.name, self.folder, self.started, asked)
-            self.running[one.child.process.pid] = one
-            self.started += 1
+            one = self.begin(asked)
+            self.running[one.child.pid] = one
 
     def wait(self, ended: dict[int, Try]) -> None:
         process, status = os.wait()
         one = self.running.pop(process)
         one.status = one.child.end(status)
-        self.stopped |= -one.status in streams.STOPS
         ended[one.number] = one
 
     def judged(self, one: Try, most: tuple[int, int]) -> Optional[Pieces]:
@@ -167,19 +169,16 @@ class Tries:
 
     def exact_of(self, made: Recording) -> Optional[Exact]:
         try:
-            return self.ends.exact(made)
+            return self.ends.exact(made, self.exact)
         except CompanionError as error:
             if error.status == NO_INTERVAL:     # the log lost the interval of the end
                 return None
             raise
-        except KeyboardInterrupt:               # Ctrl-C ended the program that replays
-            self.stopped = True
-            return None
 
     def clear(self, ended: Mapping[int, Try]) -> None:
         for one in self.running.values():
             one.child.kill()
-            one.child.process.wait()
+            one.child.wait()
         for one in [*self.running.values(), *ended.values()]:
             one.remove()
         self.running.clear()

@@ -6,7 +6,7 @@ from typing import Iterator, NamedTuple, Optional
 
 from ..recording.row import Row, parse_row
 from ..recording.turn_ends import turn_lines
-from ..recording.turns import Piece, Pieces, joined
+from ..recording.turns import Piece, Pieces, again_at, joined
 from .same_end import Faulted, log_of
 from .tries import Tries
 
@@ -45,11 +45,6 @@ class Side:
             self.low = way
         else:
             self.high = way
-
-
-def again_at(pieces: Pieces, at: int) -> int:
-    """The piece with which a piece's hart continues, or -1."""
-    return next((i for i in range(at + 1, len(pieces)) if pieces[i].hart == pieces[at].hart), -1)
 
 
 def shifted(pieces: Pieces, at: int, turns: int, slack: int) -> Pieces:

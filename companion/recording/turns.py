@@ -1,8 +1,11 @@
 """Lists of turns, as `record` keeps and follows them, in pieces: turns of one hart in a row."""
 from __future__ import annotations
 
-import itertools
+import re
 from typing import NamedTuple, Sequence, Tuple
+
+
+PIECE = re.compile(rb"(.)\1*", re.S)
 
 
 class Piece(NamedTuple):
@@ -15,7 +18,7 @@ Pieces = Tuple[Piece, ...]
 
 def pieces_of(turns: bytes) -> Pieces:
     """A byte is a turn, and says whose."""
-    return tuple(Piece(hart, len(list(group))) for hart, group in itertools.groupby(turns))
+    return tuple(Piece(found[0][0], found.end() - found.start()) for found in PIECE.finditer(turns))
 
 
 def turns_of(pieces: Sequence[Piece]) -> bytes:
@@ -31,6 +34,11 @@ def joined(pieces: Sequence[Piece]) -> Pieces:
         elif piece.turns:
             found.append(piece)
     return tuple(found)
+
+
+def again_at(pieces: Pieces, at: int) -> int:
+    """The piece with which a piece's hart continues, or -1."""
+    return next((i for i in range(at + 1, len(pieces)) if pieces[i].hart == pieces[at].hart), -1)
 
 
 def size_of(pieces: Sequence[Piece]) -> tuple[int, int]:

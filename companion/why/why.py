@@ -6,10 +6,11 @@ from contextlib import closing
 
 from ..call import streams
 from ..call.options import parse, whole
-from ..call.page import page
+from ..call.page import Part, page
 from ..call.saving import PAGE, target
 from ..recording.answers import put_answer
 from ..recording.sources import source_folders
+from ..recording.story import STORY_HEAD, STORY_OPTIONS, Teller, asked_story
 from .analysis import analysed
 from .answer import why_answer
 from .facts import asked_byte
@@ -17,22 +18,26 @@ from .report import report
 
 HELP = """Explains a crash: what happened, where, and which store, call or branch is behind it, likeliest first.
 
-    zelkuma why LOG ELF [--names ELF] [--source DIR] [--row HART:IC] [--output N:BYTE] [--rows N] [--more] [--html FILE] [--json]
+    zelkuma why LOG ELF [--names ELF] [--source DIR] [--row HART:IC] [--output N:BYTE] [--rows N] [--book BOOK [--input FILE]]
+                [--more] [--html FILE] [--json]
 
 --names   the same program with names and lines, if ELF was stripped
 --source  shows sources below this folder too, not only below ELF's and the current one; may be given several times
 --row     asks of another row than the fault's
 --output  asks of a byte that the guest wrote, as `zelkuma output` numbers them
 --rows    how many of the last rows are read; without it a million, and 2.6 million if values near the fault come from before
+--book    tells first the switches between harts, if BOOK has no more than 40 of them, as that of `zelkuma shrink`
+--input   what the run read: with BOOK it is run again, to see that this is LOG's
 --more    longer lists
 --html    saves the same text as a page, too
 --json    prints one JSON object in place of the text (docs/JSON.md)
 
 It reads the rows of `joint`, keeps some 30 bytes of each, and shows what they say; the ranking is its own judgement.
 Companions show; the program proves."""
-FORM = "why LOG ELF [--names ELF] [--source DIR] [--row HART:IC] [--output N:BYTE] [--rows N] [--more] [--html FILE] [--json]"
-OPTIONS = {"--names": True, "--source": True, "--row": True, "--output": True, "--rows": True, "--more": False, "--html": True,
-           "--json": False}
+FORM = ("why LOG ELF [--names ELF] [--source DIR] [--row HART:IC] [--output N:BYTE] [--rows N] [--book BOOK [--input FILE]] "
+        "[--more] [--html FILE] [--json]")
+OPTIONS = {"--names": True, "--source": True, "--row": True, "--output": True, "--rows": True, **STORY_OPTIONS, "--more": False,
+           "--html": True, "--json": False}
 
 
 def main(words: list[str]) -> int:
@@ -42,9 +47,11 @@ def main(words: list[str]) -> int:
     names = given.get("--names", "")
     saved = target(given["--html"], PAGE, [log, elf, names]) if "--html" in given else None
     with closing(analysed(log, elf, names, given.get("--row", ""), rows, byte, source_folders(given))) as analysis:
-        parts = report(analysis, "--more" in given)
+        story, teller = asked_story(given, analysis.log, elf), Teller(analysis.named, analysis.places)
+        parts = [Part(STORY_HEAD, teller.story(story))] if story else []
+        parts += report(analysis, "--more" in given)
         if "--json" in given:
-            put_answer("why", **why_answer(analysis))
+            put_answer("why", **why_answer(analysis), book=teller.story_answer(story))
     if saved:
         saved.save(page(f"Why {os.path.basename(elf)} ended", parts).encode("utf-8", "backslashreplace"))
     if "--json" in given:

@@ -39,6 +39,7 @@ function draw() {
   for (const interval of intervalsToDraw()) drawInterval(clipped, interval);
   D.strips.forEach(([hart, end, runs]) => drawStrip(clipped, hart, end, runs));
   drawRaces(clipped);
+  drawStory(clipped);
   drawSuspects(svg, clipped);
   drawFault(svg);
   drawChosen(svg);

@@ -1,0 +1,47 @@
+"""The program, started many times one after the other and side by side. What it prints goes into files: so a start costs
+little, and its group ends what is under way when this process ends."""
+from __future__ import annotations
+
+import os
+from types import TracebackType
+from typing import Mapping, Optional
+
+from ..call import program
+from ..call.children import Group, Process
+from ..call.errors import UNREADABLE, CompanionError
+from .record import last_line
+
+
+class Quick:
+    """Use it by `with`. `folder` is for its files."""
+
+    def __init__(self, folder: str) -> None:
+        self.folder = folder
+        self.group: Group
+
+    def __enter__(self) -> Quick:
+        self.group = Group()
+        return self
+
+    def __exit__(self, _type: Optional[type[BaseException]], _error: Optional[BaseException],
+                 _where: Optional[TracebackType]) -> None:
+        self.group.close()
+
+    def start(self, said: str, err: str, *words: str, environment: Mapping[str, str]) -> Process:
+        return self.group.start([program.path(), *words], said, err, environment)
+
+    def text(self, *words: str) -> bytes:
+        """What a command prints."""
+        said, err = (os.path.join(self.folder, name) for name in ("text", "text.err"))
+        child = self.start(said, err, *words, environment=os.environ)
+        status = child.end(os.waitpid(child.pid, 0)[1])
+        if status:
+            raise refusal(err, status)
+        with open(said, "rb") as file:
+            return file.read()
+
+
+def refusal(err: str, status: int) -> CompanionError:
+    """What the program said when it ended with a status."""
+    why = last_line(err).split(": ", 1)[-1] or f"the program ended with {status}"
+    return CompanionError(why, status if status > 0 else UNREADABLE)

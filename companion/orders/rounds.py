@@ -1,0 +1,65 @@
+"""The last switches of a list of turns, looked for in an earlier round of the program's loops.
+
+Where a race waits for its hart's tenth round, each round costs switches that nobody needs. No piece can be left out then
+without the others coming to other places. So the last pieces are run again behind fewer of the first ones, each up to the
+place where its hart stopped."""
+from __future__ import annotations
+
+from typing import Iterator, Optional
+
+from ..recording.turn_ends import turn_lines
+from ..recording.turns import Piece, Pieces, joined
+from .same_end import log_of
+from .tries import Tries
+
+LONGEST_END = 6             # pieces of the end that are run again
+
+
+class Rounds:
+    """places  of each piece the one where its hart stopped"""
+
+    def __init__(self, tries: Tries, pieces: Pieces) -> None:
+        self.tries, self.pieces = tries, pieces
+        self.most = {hart: sum(piece.turns for piece in pieces if piece.hart == hart) for hart, _ in pieces}
+        lines = {hart: self.lines(pieces, hart) for hart in self.most}
+        done = dict.fromkeys(self.most, 0)
+        self.places: list[bytes] = []
+        for hart, turns in pieces:
+            done[hart] += turns
+            self.places.append(place_of(lines[hart][done[hart] - 1]))
+
+    def lines(self, pieces: Pieces, hart: int) -> list[bytes]:
+        """The line with which each turn of a hart ended, in a run that begins with some pieces."""
+        one = self.tries.begin(pieces)
+        try:
+            one.wait()
+            made = one.made()
+            return turn_lines(log_of(made.log), self.tries.ends.elf.name, hart, made.turns().count(hart))
+        finally:
+            one.remove()
+
+    def shorter(self, most: int) -> Iterator[Pieces]:
+        """Lists with no more than so many pieces, the shortest first."""
+        for size in range(2, most + 1):
+            for end in range(2, min(size, LONGEST_END) + 1):
+                found = self.behind(self.pieces[:size - end], len(self.pieces) - end)
+                if found:
+                    yield found
+
+    def behind(self, first: Pieces, begin: int) -> Optional[Pieces]:
+        """Behind some pieces those from a place of the list on, each up to where its hart stopped; None if one doesn't come
+        there."""
+        for at in range(begin, len(self.pieces)):
+            hart = self.pieces[at].hart
+            done = sum(piece.turns for piece in first if piece.hart == hart)
+            lines = self.lines(joined((*first, Piece(hart, 2 * self.most[hart]))), hart)[done:done + 2 * self.most[hart]]
+            turns = next((turn for turn, line in enumerate(lines, 1) if place_of(line) == self.places[at]), 0)
+            if not turns:
+                return None
+            first = joined((*first, Piece(hart, turns)))
+        return first
+
+
+def place_of(line: bytes) -> bytes:
+    """The address of the code, with which a row begins behind its hart and count."""
+    return line.split(b" ", 3)[2] if line[:1].isdigit() else b""
