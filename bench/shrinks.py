@@ -50,11 +50,20 @@ def lines_in(switch):
     points = [switch[key] for key in ("stopped", "next", "store", "load", "after", "before") if switch[key]]
     found = {f"{point['place']['file']}:{point['place']['line']}" for point in points}
     found.update(place.split(" ")[1] for point in points for place in point["inlined"])
-    ends = [switch[key]["place"] for key in ("after", "before") if switch[key]]
-    if len(ends) == 2 and ends[0]["file"] == ends[1]["file"]:
-        low, high = sorted(place["line"] for place in ends)
-        found.update(f"{ends[0]['file']}:{line}" for line in range(low, high + 1))
+    ends = [told_last(switch[key]) for key in ("after", "before") if switch[key]]
+    if len(ends) == 2 and ends[0][:2] == ends[1][:2]:
+        low, high = sorted(line for _, _, line in ends)
+        found.update(f"{ends[0][1]}:{line}" for line in range(low, high + 1))
     return found
+
+
+def told_last(point):
+    """The function, the file and the line that are told last of a row."""
+    place = point["place"]
+    if not point["inlined"]:
+        return place["function"], place["file"], place["line"]
+    function, at = point["inlined"][-1].split(" ")
+    return (function, *at.split(":")[:1], int(at.split(":")[1]))
 
 
 def processor_seconds():

@@ -59,12 +59,16 @@ why --source DIR
 why --row HART:IC
 why --output N:BYTE
 why --rows N
+why --book BOOK
+why --input FILE
 why --more
 why --html FILE
 why --json
 race --names ELF
 race --source DIR
 race --max N
+race --book BOOK
+race --input FILE
 race --more
 race --json
 view --names ELF
@@ -72,6 +76,8 @@ view --source DIR
 view --row HART:IC
 view --output N:BYTE
 view --rows N
+view --book BOOK
+view --input FILE
 gdb --run
 gdb --names ELF
 gdb --at HART:IC

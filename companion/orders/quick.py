@@ -4,19 +4,19 @@ from __future__ import annotations
 
 import os
 from types import TracebackType
-from typing import Mapping, Optional
+from typing import Optional
 
 from ..call import program
 from ..call.children import Group, Process
 from ..call.errors import UNREADABLE, CompanionError
-from .record import last_line
+from .record import SCHEDULE, environment, last_line
 
 
 class Quick:
     """Use it by `with`. `folder` is for its files."""
 
     def __init__(self, folder: str) -> None:
-        self.folder = folder
+        self.folder, self.environment = folder, environment("")
         self.group: Group
 
     def __enter__(self) -> Quick:
@@ -27,13 +27,14 @@ class Quick:
                  _where: Optional[TracebackType]) -> None:
         self.group.close()
 
-    def start(self, said: str, err: str, *words: str, environment: Mapping[str, str]) -> Process:
+    def start(self, said: str, err: str, *words: str, schedule: str = "") -> Process:
+        environment = {**self.environment, SCHEDULE: schedule} if schedule else self.environment
         return self.group.start([program.path(), *words], said, err, environment)
 
     def text(self, *words: str) -> bytes:
         """What a command prints."""
         said, err = (os.path.join(self.folder, name) for name in ("text", "text.err"))
-        child = self.start(said, err, *words, environment=os.environ)
+        child = self.start(said, err, *words)
         status = child.end(os.waitpid(child.pid, 0)[1])
         if status:
             raise refusal(err, status)

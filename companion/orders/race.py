@@ -24,7 +24,7 @@ from ..why.history import History
 HELP = """Groups the races of a log by the two places and the word, the likeliest cause of its fault first. Words of one object
 with the same places, as an array's, are told together.
 
-    zelkuma race LOG ELF [--names ELF] [--source DIR] [--max N] [--book BOOK [--input FILE]] [--more] [--json]
+    zelkuma race LOG ELF [--names ELF] [--source DIR] [--max N] [--book BOOK] [--input FILE] [--more] [--json]
 
 --names   the program with its names and lines, if ELF was stripped
 --source  shows sources below this folder too, not only below ELF's and the current one; may be given several times
@@ -38,7 +38,7 @@ First come groups on the chain of values behind the fault, then those in the fun
 behind them groups that fences order if they are meant so, and last the fenced accesses themselves: loads and stores
 beside a `fence`, as GCC writes acquire and release. That order and the grouping are this command's own judgement.
 The exact list is that of `zelkuma races`: pairs of accesses that no atomic instruction orders."""
-FORM = "race LOG ELF [--names ELF] [--source DIR] [--max N] [--book BOOK [--input FILE]] [--more] [--json]"
+FORM = "race LOG ELF [--names ELF] [--source DIR] [--max N] [--book BOOK] [--input FILE] [--more] [--json]"
 OPTIONS = {"--names": True, "--source": True, "--max": True, **STORY_OPTIONS, "--more": False, "--json": False}
 FAR = 1 << 20                                # what a row costs that isn't on the chain
 MOST, GROUPS_TOLD, BRIEF_TOLD = 200000, 12, 6

@@ -55,6 +55,7 @@ class RecordWords:
     def __init__(self, words: Sequence[str], folder: str = "") -> None:
         self.names, options = parse(words, RECORD_OPTIONS, 1 if folder else range(2, 4), ELF_FORM if folder else RECORD_FORM)
         self.folder, self.is_lean = folder, "--lean" in options
+        self.has_one_hart = decimal(options.get("--harts", "1")) == "1"
         if "--seed" in options:
             raise CompanionError("the seeds are FROM to TO, so --seed can't be given", REFUSED)
         if len(self.names) == 2 and not self.is_lean:

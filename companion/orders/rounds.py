@@ -9,7 +9,6 @@ from typing import Iterator, Optional
 
 from ..recording.turn_ends import turn_lines
 from ..recording.turns import Piece, Pieces, joined
-from .same_end import log_of
 from .tries import Tries
 
 LONGEST_END = 6             # pieces of the end that are run again
@@ -34,7 +33,7 @@ class Rounds:
         try:
             one.wait()
             made = one.made()
-            return turn_lines(log_of(made.log), self.tries.ends.elf.name, hart, made.turns().count(hart))
+            return turn_lines(made.read, self.tries.ends.elf.name, hart, made.turns().count(hart))
         finally:
             one.remove()
 

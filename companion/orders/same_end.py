@@ -4,6 +4,7 @@ Each is told in two parts: one that costs nothing, and one that takes the last r
 from __future__ import annotations
 
 from dataclasses import dataclass
+from functools import cached_property
 from typing import AbstractSet, Hashable, Mapping, Optional, Union
 
 from ..call.errors import NO_INTERVAL, CompanionError
@@ -25,6 +26,10 @@ class Recording:
     log: str
     book: str
     said: str
+
+    @cached_property
+    def read(self) -> Log:
+        return log_of(self.log)
 
     def turns(self) -> bytes:
         with open(self.book, "rb") as file:
@@ -71,7 +76,7 @@ class Ends:
         """The byte that is asked of; else the fault's name, the harts at their limit, or the exit code."""
         if self.offset is not None:
             return made.status, byte_at(made.said, self.offset)
-        ends = log_of(made.log).ends
+        ends = made.read.ends
         if made.status == FAULT:
             return made.status, tuple(sorted(end.reason for end in ends.values() if is_fault(end.reason)))
         if made.status == LIMIT:
@@ -82,7 +87,7 @@ class Ends:
         """How it ends. If it doesn't wait as another that is wanted, that alone."""
         if self.offset is not None or made.status not in (FAULT, LIMIT):
             return Over()
-        log = log_of(made.log)
+        log = made.read
         if made.status == FAULT:
             return self.faulted(log, next(hart for hart, end in log.ends.items() if is_fault(end.reason)))
         stays: dict[int, Stay] = {}

@@ -182,14 +182,23 @@ def until_of(options: Mapping[str, str]) -> Optional[int]:
     return until
 
 
+def check_shrinks(record: RecordWords, until: Optional[int]) -> None:
+    """Refuses what can't be shrunk, before a run is made."""
+    if record.is_lean:
+        raise CompanionError("--shrink needs BOOK, and with --lean there is none", REFUSED)
+    if until not in (FAULT, LIMIT):
+        raise CompanionError("--shrink needs one run with a fault or a hang: not --all or --until 0", REFUSED)
+    if record.has_one_hart:
+        raise CompanionError("one hart has one order, so --shrink has nothing to shrink: --harts isn't given, or is 1", REFUSED)
+
+
 def main(words: list[str]) -> int:
     own, rest = split(words)
     (low, high), options = parse(own, OPTIONS, 2, FORM)
     numbers, until = numbers_of(low, high, options.get("--part", "1/1")), until_of(options)
     record = RecordWords(rest, options.get("--all", ""))
-    if "--shrink" in options and (record.is_lean or until not in (FAULT, LIMIT)):
-        raise CompanionError("--shrink needs a BOOK, so not --lean, and one run with a fault or a hang: not --all or --until 0",
-                             REFUSED)
+    if "--shrink" in options:
+        check_shrinks(record, until)
     kinds = kinds_of(options, record.is_lean, until)
     processors = 1 if kinds == [Kind.THREADS] else len(os.sched_getaffinity(0))
     jobs = whole(options["--jobs"], 1, 1024, "-j") if "--jobs" in options else processors

@@ -129,7 +129,7 @@ class Told:
 
     def __init__(self, found: Search, made: Recording, teller: Teller, asked: Asked) -> None:
         self.found, self.teller, self.asked, elf = found, teller, asked, asked.elf
-        log = log_of(made.log)
+        log = made.read
         self.pieces, self.turns = pieces_of(made.turns()), found.recorded_turns
         lines = lines_by_piece(log, elf.name, self.pieces, min(len(found.core), MOST_TOLD + 1))
         self.switches = bounded(self.pieces, lines, found.windows)

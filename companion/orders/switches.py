@@ -4,7 +4,7 @@ from __future__ import annotations
 from typing import Any, NamedTuple, Optional, Sequence
 
 from ..recording.row import Row, parse_row
-from ..recording.story import Switch, Teller, switches_of
+from ..recording.story import Switch, Teller, frame_text, switches_of
 from ..recording.turns import Pieces
 from .windows import Window
 
@@ -34,14 +34,23 @@ def window_lines(teller: Teller, one: Bounded) -> list[str]:
         return []
     if one.before is None:
         return [f"     it has to come after {teller.where(one.after)}"]
-    rows = one.after, one.before
-    is_one_function = len({teller.places.function(row.pc) for row in rows}) == 1
-    ends = [teller.where(row) for row in rows]
-    if ends[0] == ends[1] or not is_one_function:
-        ends = [teller.in_lines(row) for row in rows]
-    return [f"     it has to come between {ends[0]} and {ends[1]}"]
+    after, before = (teller.where(row) + "".join(f" (in {place})" for place in inlined)
+                     for row, inlined in zip((one.after, one.before), parted(teller, one.after, one.before)))
+    return [f"     it has to come between {after} and {before}"]
+
+
+def parted(teller: Teller, *rows: Row) -> list[list[str]]:
+    """Of each row the outermost place into which it is inlined, and another isn't, if that isn't its own."""
+    frames = [list(teller.places.frames(row.pc)) for row in rows]
+    while all(frames) and len({each[-1] for each in frames}) == 1:
+        for each in frames:
+            each.pop()
+    return [[frame_text(each[-1])] if len(each) > 1 else [] for each in frames]
 
 
 def answer_of(teller: Teller, one: Bounded) -> dict[str, Any]:
     """A switch for other programs."""
-    return {**teller.answer(one.switch), "after": teller.point(one.after), "before": teller.point(one.before)}
+    after, before = teller.point(one.after), teller.point(one.before)
+    if one.after and one.before and after and before:
+        after["inlined"], before["inlined"] = parted(teller, one.after, one.before)
+    return {**teller.answer(one.switch), "after": after, "before": before}

@@ -10,8 +10,8 @@ from ..call import streams
 from ..call.errors import NO_INTERVAL, CompanionError
 from ..recording.turns import Pieces, pieces_of, size_of, turns_of
 from .quick import Quick, refusal
-from .record import ENDS, environment
-from .same_end import Ends, Exact, Over, Recording, log_of
+from .record import ENDS
+from .same_end import Ends, Exact, Over, Recording
 from .waiting import Waiting
 
 ANY = 1 << 62, 0            # a size that no list has
@@ -38,7 +38,7 @@ class Try:
         with open(turns, "wb") as file:
             file.write(turns_of(asked))
         words = ["record", *(f"{name}={value}" for name, value in options.items()), "--", elf, self.log, self.book]
-        self.child = quick.start(self.said, self.err, *words, environment=environment(f"book:{turns}"))
+        self.child = quick.start(self.said, self.err, *words, schedule=f"book:{turns}")
         self.status = 0
 
     def wait(self) -> None:
@@ -87,7 +87,7 @@ class Tries:
     def want(self, made: Recording) -> None:
         """From here on a try is wanted that ends as this recording."""
         self.rough, self.exact = self.ends.rough(made), self.ends.exact(made)
-        self.most_counts = max(end.count for end in log_of(made.log).ends.values())
+        self.most_counts = max(end.count for end in made.read.ends.values())
 
     def record(self, pieces: Pieces) -> Recording:
         """A recording by a list of turns, whose files stay."""

@@ -15,8 +15,8 @@ from ..why.loops import LONGER, Loop
 
 STAY_ROWS = 200000          # of a hart's last rows are read for how long it is in its loop
 LOOP_ROWS = 1500, 10000     # in so many of them its loop is looked for
-NEAR_ROWS = 300             # so many are looked at first
-LONGEST_ROW = 160           # bytes
+NEAR_ROWS = 300             # about so many are looked at first
+LONGEST_ROW, MEAN_ROW = 160, 70     # bytes
 MOST_SPILLS = 8             # so often is a value followed through the stack
 PC = re.compile(rb"^\d+ \d+ (\w{8}) ", re.M)
 
@@ -72,12 +72,15 @@ def stay_of(log: Log, hart: int, text: bytes) -> Stay:
     words = {(trace.rows.code_of(load).pc, trace.rows.access(load).address & ~3)
              for load in (unspilled(trace, load) for load in loads if load)}
     known = Stay(tuple(sorted(trace.rows.codes[at].pc for at in loop.places)), tuple(sorted(words)), 0)
-    return known._replace(turns=turns_of_stay(behind(text, hart, list(map(int, known.outside().findall(text)))))) if known.places else known
+    if not known.places:
+        return known
+    outside = list(map(int, known.outside().findall(text)))
+    return known._replace(turns=turns_of_stay(behind(text, hart, outside)))
 
 
 def stay_like(log: Log, hart: int, text: bytes, known: Stay) -> Optional[Stay]:
     """The stay of a hart, if it is in a loop that is known; None if it isn't, or isn't near it."""
-    near = [int(pc, 16) in known.places for pc in PC.findall(text[-NEAR_ROWS * LONGEST_ROW:])][-NEAR_ROWS:]
+    near = [int(pc, 16) in known.places for pc in PC.findall(text[-NEAR_ROWS * MEAN_ROW:])]
     if all(near):
         counts = [*map(int, known.outside().findall(text)), log.ends[hart].count]
         stay = behind(text, hart, counts[:-1])

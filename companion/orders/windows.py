@@ -7,7 +7,7 @@ from typing import Iterator, NamedTuple, Optional
 from ..recording.row import Row, parse_row
 from ..recording.turn_ends import turn_lines
 from ..recording.turns import Piece, Pieces, again_at, joined
-from .same_end import Faulted, log_of
+from .same_end import Faulted
 from .tries import Tries
 
 MOST_PIECES = 41
@@ -91,5 +91,5 @@ def row_behind(tries: Tries, pieces: Pieces, at: int, later: Side) -> Optional[R
     hart = pieces[at].hart
     made = tries.record(shifted(pieces, at, later.low + 1, 0))
     number = sum(piece.turns for piece in pieces[:at + 1] if piece.hart == hart) + later.low
-    lines = turn_lines(log_of(made.log), tries.ends.elf.name, hart, made.turns().count(hart))
+    lines = turn_lines(made.read, tries.ends.elf.name, hart, made.turns().count(hart))
     return parse_row(lines[number]) if number < len(lines) else None

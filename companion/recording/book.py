@@ -39,5 +39,6 @@ def check_book(log: str, elf: str, book: str, source: Sequence[str]) -> None:
             raise CompanionError(f"LOG isn't the recording of BOOK's turns ({error}): BOOK is of another run, or the input "
                                  f"isn't that of the recording", DIFFERS)
         if error.status == NO_WHOLE_RUN:
-            raise CompanionError(f"BOOK is no list of turns of a whole run of ELF ({error})", NO_WHOLE_RUN)
+            raise CompanionError(f"BOOK is no list of turns of a whole run of ELF ({error}), or the input isn't that of the recording",
+                                 NO_WHOLE_RUN)
         raise

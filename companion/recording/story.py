@@ -10,7 +10,7 @@ from .answers import place_of
 from .book import check_book, read_book
 from .elf import Elf
 from .log import Log
-from .places import Places
+from .places import Frame, Places
 from .row import Row, parse_row
 from .turn_ends import turn_lines
 from .turns import Pieces, again_at, pieces_of, shown
@@ -105,6 +105,10 @@ def read_story(log: Log, elf_name: str, book: str, input_name: str) -> Story:
     return Story(switches, pieces, switches_of(pieces, lines_by_piece(log, elf_name, pieces, len(pieces))))
 
 
+def frame_text(frame: Frame) -> str:
+    return f"{frame.function} {frame.file}:{frame.line}"
+
+
 class Teller:
     """Tells switches in words."""
 
@@ -120,7 +124,7 @@ class Teller:
 
     def inlined(self, row: Optional[Row]) -> list[str]:
         frames = self.places.frames(row.pc)[1:1 + MOST_INLINED] if row else []
-        return [f"{frame.function} {frame.file}:{frame.line}" for frame in frames]
+        return [frame_text(frame) for frame in frames]
 
     def with_source(self, row: Optional[Row]) -> str:
         text = self.places.source(row.pc) if row else ""

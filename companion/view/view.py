@@ -33,7 +33,7 @@ from .story import story_data
 
 HELP = """Draws a log as one page, to look at in a browser: harts, intervals, Edges, races, the fault, and the chain behind it.
 
-    zelkuma view LOG ELF [--names ELF] [--source DIR] [--row HART:IC] [--output N:BYTE] [--rows N] [--book BOOK [--input FILE]]
+    zelkuma view LOG ELF [--names ELF] [--source DIR] [--row HART:IC] [--output N:BYTE] [--rows N] [--book BOOK] [--input FILE]
                  > page.html
 
 --names   the program with its names and lines, if ELF was stripped
@@ -46,7 +46,7 @@ HELP = """Draws a log as one page, to look at in a browser: harts, intervals, Ed
 
 The page is one file that needs no network and no other file. It holds names and lines of source of the program.
 Companions show; the program proves: rows, intervals, Edges and races are the program's, suspects are a judgement."""
-FORM = "view LOG ELF [--names ELF] [--source DIR] [--row HART:IC] [--output N:BYTE] [--rows N] [--book BOOK [--input FILE]]"
+FORM = "view LOG ELF [--names ELF] [--source DIR] [--row HART:IC] [--output N:BYTE] [--rows N] [--book BOOK] [--input FILE]"
 OPTIONS = {"--names": True, "--source": True, "--row": True, "--output": True, "--rows": True, **STORY_OPTIONS}
 SCRIPTS = ("model.js", "timeline.js", "arrows.js", "story.js", "rows.js", "panels.js", "chain.js", "controls.js")
 RACES_ASKED, RACE_GROUPS, ARCS = 20000, 40, 12

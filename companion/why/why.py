@@ -18,7 +18,7 @@ from .report import report
 
 HELP = """Explains a crash: what happened, where, and which store, call or branch is behind it, likeliest first.
 
-    zelkuma why LOG ELF [--names ELF] [--source DIR] [--row HART:IC] [--output N:BYTE] [--rows N] [--book BOOK [--input FILE]]
+    zelkuma why LOG ELF [--names ELF] [--source DIR] [--row HART:IC] [--output N:BYTE] [--rows N] [--book BOOK] [--input FILE]
                 [--more] [--html FILE] [--json]
 
 --names   the same program with names and lines, if ELF was stripped
@@ -34,8 +34,7 @@ HELP = """Explains a crash: what happened, where, and which store, call or branc
 
 It reads the rows of `joint`, keeps some 30 bytes of each, and shows what they say; the ranking is its own judgement.
 Companions show; the program proves."""
-FORM = ("why LOG ELF [--names ELF] [--source DIR] [--row HART:IC] [--output N:BYTE] [--rows N] [--book BOOK [--input FILE]] "
-        "[--more] [--html FILE] [--json]")
+FORM = "why LOG ELF [--names ELF] [--source DIR] [--row HART:IC] [--output N:BYTE] [--rows N] [--book BOOK] [--input FILE] [--more] [--html FILE] [--json]"
 OPTIONS = {"--names": True, "--source": True, "--row": True, "--output": True, "--rows": True, **STORY_OPTIONS, "--more": False,
            "--html": True, "--json": False}
 

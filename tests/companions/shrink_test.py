@@ -11,6 +11,7 @@ sys.path.insert(0, os.path.join(os.path.dirname(os.path.abspath(__file__)), "lib
 import case
 import common
 
+EIGHTH_ROUND = "0x15 1x11 0x13 2x11 0x13 1x12 0x13 1x12 0x13 1x12 0x13 1x12 0x13 2x12 0x14 1x20 0x15 2x17 0x13 2x3"
 LOCKS = "--harts", "2", "--seed", "8", "--limit", "20000"
 MOST_SWITCHES = 12
 
@@ -23,6 +24,11 @@ def content(name):
 def pieces_of(turns):
     """As docs/COMMANDS.md says of BOOK: a byte a turn."""
     return [(found[0][0], len(found[0])) for found in re.finditer(rb"(.)\1*", turns, re.S)]
+
+
+def turns_of(order):
+    """The turns of an order as it is printed."""
+    return b"".join(bytes([int(hart)]) * int(turns) for hart, turns in (piece.split("x") for piece in order.split()))
 
 
 def is_searching(process):
@@ -115,13 +121,29 @@ class ShrinkTest(case.Case):
         order = re.search(r"^order: (.*) \.\.$", said, re.M)[1]
         turns = common.path("hang.turns")
         with open(turns, "wb") as file:
-            file.write(b"".join(bytes([int(hart)]) * int(n) for hart, n in (piece.split("x") for piece in order.split())))
+            file.write(turns_of(order))
         # The rest is drawn by seed 0, which lets no hart wait for long.
         done = subprocess.run([common.PROGRAM, "record", "--format", "2", "--harts", "2", "--limit", "100000", recording[1],
                                common.path("again.log"), common.path("again.book")], stdout=subprocess.DEVNULL,
                               stderr=subprocess.DEVNULL, env=dict(os.environ, ZELKUMA_SCHEDULE="book:" + turns), check=False)
         self.assertEqual(done.returncode, 11)
         self.assertLessEqual(len(pieces_of(content(book))) - 1, MOST_SWITCHES)
+
+    def test_a_hang_of_three_harts_in_an_earlier_round(self):
+        """A worker of hang_signal.c falls asleep after its last look into its box, here in the eighth round. Each round costs
+        two switches, so the same has to be found in an earlier one."""
+        self.needs_addr2line()
+        log, book, asked = (common.path(f"signal.{kind}") for kind in ("log", "book", "asked"))
+        crash = common.crashes()["hang_signal"]
+        with open(asked, "wb") as file:
+            file.write(turns_of(EIGHTH_ROUND))
+        subprocess.run([common.PROGRAM, "record", "--format", "2", "--harts", crash.harts, "--limit", "2500", crash.elf, log, book],
+                       env=dict(os.environ, ZELKUMA_SCHEDULE="book:" + asked), stdout=subprocess.DEVNULL, stderr=subprocess.DEVNULL,
+                       check=False)
+        said, _, new_book = self.shrunk((log, crash.elf, book), "round")
+        self.assertLessEqual(len(pieces_of(content(new_book))) - 1, MOST_SWITCHES)
+        self.assertIn("\nfrom then on harts 0, 1, 2 wait\n", said)
+        self.assertRegex(said, rf"\n +it has to come between release .*\) and nap {re.escape(crash.guilty)} \(in work ")
 
     def test_a_byte_of_the_output(self):
         """counter.c loses counts of `plain` if a hart stops between its load and its store."""
@@ -163,7 +185,17 @@ class ShrinkTest(case.Case):
         self.assertRegex(said, r"\norder: 0x2 1x3\n(.*\n)+end: LoadOutside ")
         self.assertEqual(pieces_of(content(book)), [(0, 2), (1, 3)])
         self.assertEqual(common.output("audit", log, elf, book), b"agree\n")
-        self.refuses(2, "seeds", "--shrink", "--until", "0", *words)
+
+    def test_what_seeds_can_not_shrink(self):
+        """It is said before a run is made."""
+        names = self.elf("hand_over"), common.path("none.log"), common.path("none.book")
+        for said, own, words in (
+                ("--shrink needs one run with a fault or a hang", ["--until", "0"], ["--harts", "2"]),
+                ("--shrink needs BOOK, and with --lean there is none", [], ["--harts", "2", "--lean"]),
+                ("one hart has one order, so --shrink has nothing to shrink", [], []),
+                ("one hart has one order, so --shrink has nothing to shrink", [], ["--harts", "0x1"])):
+            self.assertIn(said, self.refuses(2, "seeds", "--shrink", *own, "1", "40", "--", *words, *names))
+        self.assertFalse(any(map(os.path.exists, names[1:])))
 
     def test_refusals(self):
         log, elf, book = self.filters()
