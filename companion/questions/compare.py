@@ -2,7 +2,6 @@
 from __future__ import annotations
 
 import contextlib
-import functools
 from dataclasses import dataclass, field
 from typing import Any, Dict, Iterable, Iterator, List, NamedTuple, Optional
 
@@ -12,10 +11,10 @@ from ..call.options import parse, whole
 from ..call.text import counted, number
 from ..recording.answers import place_of, put_answer
 from ..recording.chunks import STORE, rows_between, rows_with, touching
-from ..recording.elf import Elf
 from ..recording.instruction import NAMES, Instruction
 from .reading import HIGHEST, Asked, asked_of
-from .ways import Lane, Way
+from .waiting import Loops
+from .ways import Lane
 
 HELP = """Compares two logs of one program, as of two seeds or two inputs: of each hart the first branch that went another way
 though all was the same before, the load behind it, and who had stored that word in each run.
@@ -80,15 +79,11 @@ class Parting:
         return self.lane.hart
 
 
-def instruction(elf: Elf, pc: int) -> Instruction:
-    return Instruction(0, b"%08x %08x x" % (pc, elf.word(pc) or 0))
-
-
 def lanes_of(runs: list[Run], most: int) -> tuple[list[Lane], bool]:
     """The harts, compared up to so many rows of each run, and whether that left some out. Beginnings that are the same text are
     passed by."""
-    code_of = functools.lru_cache(maxsize=None)(functools.partial(instruction, runs[0].asked.elf))
-    lanes = [Lane(hart, code_of) for hart in range(max(run.asked.log.harts for run in runs))]
+    loops = Loops(runs[0].asked.elf)
+    lanes = [Lane(hart, loops) for hart in range(max(run.asked.log.harts for run in runs))]
     texts = [run.asked.chunks() for run in runs]
     rows, now = [0, 0], [next(each, b"") for each in texts]
     while now[0] and now[0] == now[1] and max(rows) < most:
