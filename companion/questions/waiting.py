@@ -75,7 +75,7 @@ class Stretch(NamedTuple):
 class Waits:
     """The waits in the order of `joint`. What is between two rounds of the same loop, as another loop around it, is part of them.
 
-    open   {hart: the wait that may go on, and how many of the hart's rows came since}"""
+    open   {hart: the wait that may continue, and how many of the hart's rows came since}"""
 
     def __init__(self, loops: Loops, harts: int, most: int) -> None:
         self.loops, self.harts, self.most, self.rows = loops, harts, most, 0
@@ -95,7 +95,7 @@ class Waits:
         self.rows += text.count(b"\n")
 
     def stretches(self, pcs: array[int]) -> Iterator[Stretch]:
-        """Where a branch leads back to the same row again and again, and no row between does more than wait."""
+        """The rows of loops that come again and again, and of which none does more than wait."""
         first = rounds = 0
         before = -1
         for at in [*compress(range(len(pcs)), map(operator.le, pcs[1:], pcs)), -1]:

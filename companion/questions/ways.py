@@ -12,7 +12,7 @@ PIECE, MOST_SKIPS, LOOKED_BACK = 4096, 1000, 16
 
 
 class Way:
-    """The rows of a hart that aren't compared yet.
+    """The rows of a hart that are still to be compared.
 
     pcs     their addresses; first: the count of the first one; before: the addresses of the last rows before it
     ended   whether no more come; stopped: because another hart or the limit ended them"""
@@ -40,7 +40,7 @@ class Way:
 
 
 class Skip(NamedTuple):
-    """Where a hart had gone another way, but only to wait: the counts of both runs there."""
+    """A place at which a hart had gone another way, but only to wait: the counts of both runs there."""
     good: int
     bad: int
     is_bad: bool                # whether it waited in BAD
@@ -63,7 +63,7 @@ class Lane:
     parted   whether it went another way; if so, the ways stand at the first rows that aren't the same
     is_over  whether no more rows are looked at
     waits    whether it waited until a run ended, in which it had gone another way to do so
-    skips    where it waited longer in one run than in the other, the last ones"""
+    skips    the last places at which it waited longer in one run than in the other"""
 
     def __init__(self, hart: int, loops: Loops) -> None:
         self.hart, self.loops = hart, loops
@@ -121,8 +121,8 @@ class Lane:
             return common(pcs, behind) // size * size
 
     def waited(self, way: Way, target: int, has_waited: bool) -> Generator[bool, None, int]:
-        """How many rows do nothing but wait: up to the branch at which the ways parted, or up to where the other run went on, if
-        what had been loaded for the branch is loaded again; else 0."""
+        """How many rows do nothing but wait, else 0. They lead back to the branch at which the ways parted, or to the row with
+        which the other run continued. Then one of them loads again what had been loaded for the branch."""
         looked, branch = 0, way.before[-1]
         addresses: dict[int, None] = {}
         while True:
