@@ -56,8 +56,7 @@ Over machines, each of which has a part; `triage` joins what they found:
 
     parallel --sshloginfile MACHINES zelkuma seeds --all found/{} --part {}/8 1 1000 -- program.elf ::: 1 2 3 4 5 6 7 8
     zelkuma triage found --elfs ."""
-FORM = ("seeds [-j N] [--until STATUS] [--only KIND,..] [--all DIR] [--part K/N] [--shrink] [--compare] [--json] FROM TO "
-        "-- RECORD-WORDS")
+FORM = "seeds [-j N] [--until STATUS] [--only KIND,..] [--all DIR] [--part K/N] [--shrink] [--compare] [--json] FROM TO -- RECORD-WORDS"
 OPTIONS = {"--jobs": True, "--until": True, "--only": True, "--all": True, "--part": True, "--shrink": False,
            "--compare": False, "--json": False}
 KINDS = {"seeds": Kind.SEED, "bursts": Kind.BURSTS, "sleepers": Kind.SLEEPER, "threads": Kind.THREADS}
