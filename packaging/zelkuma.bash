@@ -99,6 +99,7 @@ seeds --only KIND,..
 seeds --all DIR
 seeds --part K/N
 seeds --shrink
+seeds --compare
 seeds --json
 again --input FILE
 again --log-size N

@@ -6,17 +6,20 @@ import signal
 from typing import Mapping, Optional, Sequence
 
 from ..call import streams
-from ..call.errors import REFUSED, CompanionError
+from ..call.errors import NO_INTERVAL, REFUSED, CompanionError
 from ..call.options import parse, whole
+from ..call.saving import LOG, TURNS, Target, target
 from ..call.text import number
 from ..recording.answers import LONGEST, put_answer
 from ..recording.elf import Elf
+from ..questions.compare import compared
 from .again import settings_of
 from .record import ENDS, FAULT, LIMIT, Kind, Plan, RecordWords
 from .shrinking import Asked, Shrunk, shrink
 from .trials import MOST_KEPT, Count, Ending, Numbers, Search
 
-HELP = """zelkuma seeds [-j N] [--until STATUS] [--only KIND,..] [--all DIR] [--part K/N] [--shrink] [--json] FROM TO -- RECORD-WORDS
+HELP = """zelkuma seeds [-j N] [--until STATUS] [--only KIND,..] [--all DIR] [--part K/N] [--shrink] [--compare] [--json] FROM TO
+              -- RECORD-WORDS
 
 Records a program by one order of turns after another, on all processors, until a run ends as wanted.
 
@@ -42,6 +45,8 @@ Ctrl-C (or TERM, HUP) ends the search: the table is printed, what was found is k
                      an ending is a line of the table. RECORD-WORDS end with ELF then
     --part K/N       every Nth number alone, from the Kth on: the parts 1/N to N/N together are all numbers
     --shrink         does what `zelkuma shrink` does with what was found: LOG and BOOK are those of the short run
+    --compare        does that, moves one switch of the short run as far as it takes for a run that ends well, saves that as
+                     LOG.good and BOOK.good, and does what `zelkuma compare` does with both
     --json           prints one JSON object in place of the text (docs/JSON.md)
 
 One recording in threads is under way at a time. One that spins on a busy machine takes long: give a --limit.
@@ -51,8 +56,9 @@ Over machines, each of which has a part; `triage` joins what they found:
 
     parallel --sshloginfile MACHINES zelkuma seeds --all found/{} --part {}/8 1 1000 -- program.elf ::: 1 2 3 4 5 6 7 8
     zelkuma triage found --elfs ."""
-FORM = "seeds [-j N] [--until STATUS] [--only KIND,..] [--all DIR] [--part K/N] [--shrink] [--json] FROM TO -- RECORD-WORDS"
-OPTIONS = {"--jobs": True, "--until": True, "--only": True, "--all": True, "--part": True, "--shrink": False, "--json": False}
+FORM = "seeds [-j N] [--until STATUS] [--only KIND,..] [--all DIR] [--part K/N] [--shrink] [--compare] [--json] FROM TO -- RECORD-WORDS"
+OPTIONS = {"--jobs": True, "--until": True, "--only": True, "--all": True, "--part": True, "--shrink": False,
+           "--compare": False, "--json": False}
 KINDS = {"seeds": Kind.SEED, "bursts": Kind.BURSTS, "sleepers": Kind.SLEEPER, "threads": Kind.THREADS}
 HEAD = "status", "count", "first", "place"
 NOT_FOUND = 22
@@ -104,15 +110,38 @@ def fields_of(plan: Optional[Plan]) -> dict[str, object]:
     return {"kind": plan.kind.name.lower() if plan else None, "number": plan.number if plan else None}
 
 
-def shrunk(words: RecordWords, plan: Plan) -> Shrunk:
-    """Shrinks the recording that was saved, in its place."""
+def shrunk(words: RecordWords, plan: Plan, good: Sequence[Target]) -> Shrunk:
+    """Shrinks the recording that was saved, in its place, and looks for a run that ends well if it has a place."""
     log, book = words.targets(plan)
     source = {option: value for option, _, value in (word.partition("=") for word in words.options) if option == "--input"}
     elf = Elf(words.elf)
-    return shrink(Asked(log.path, book.path, elf, {**settings_of(log.path), **source}, log, book, elf))
+    return shrink(Asked(log.path, book.path, elf, {**settings_of(log.path), **source}, log, book, elf, good=good))
 
 
-def tell_json(search: Search, short: Optional[Shrunk]) -> None:
+def goods_of(words: RecordWords) -> list[Target]:
+    """The targets of the nearest run that ends well."""
+    log, book = words.outputs
+    return [target(name + ".good", kind, [*words.read, log, book]) for name, kind in ((log, LOG), (book, TURNS))]
+
+
+def tell_difference(short: Shrunk, words: RecordWords, good: Sequence[Target], is_json: bool) -> Optional[dict[str, object]]:
+    """Tells what is different in the nearest run that ends well."""
+    if not short.nearest:
+        streams.say("no run that ends well is found near: one switch moved out of its window leads to no such run")
+        return None
+    try:
+        with compared(good[0].path, words.outputs[0], words.elf) as found:
+            if not is_json:
+                streams.put("".join(line + "\n" for line in [short.nearest.line(), *found.lines()]))
+            return {"switch": short.nearest.switch, "turns": short.nearest.turns, **found.answer()}
+    except CompanionError as error:
+        if error.status != NO_INTERVAL:
+            raise
+        streams.say(f"nothing is compared: {error}; a larger --log-size keeps all")
+        return None
+
+
+def tell_json(search: Search, short: Optional[Shrunk], difference: Optional[dict[str, object]]) -> None:
     plan, counts, numbers = search.found.plan if search.found else None, search.endings.counts, search.numbers
     endings = [{"status": ending.status, "place": ending.place, "count": count.count, **fields_of(count.first),
                 "files": list(filter(os.path.exists, search.words.outputs_of(count.first))) if ending in search.kept else []}
@@ -121,12 +150,12 @@ def tell_json(search: Search, short: Optional[Shrunk]) -> None:
                command=search.words.shown(plan) if plan else None, status=search.until,
                **{"from": numbers.first}, to=numbers.last, part=numbers.part, parts=numbers.parts,
                tried=sum(count.count for count in counts.values()), endings=endings[:LONGEST],
-               shrunk=short.answer if short else None)
+               shrunk=short.answer if short else None, compared=difference)
 
 
-def find(search: Search, is_json: bool, shrinks: bool) -> None:
+def find(search: Search, is_json: bool, shrinks: bool, good: Sequence[Target]) -> None:
     """Searches, saves what was found, and tells how the runs ended: as text also those before a refusal."""
-    short = None
+    short = difference = None
     try:
         search.run()
     finally:
@@ -138,11 +167,13 @@ def find(search: Search, is_json: bool, shrinks: bool) -> None:
             if not is_json:
                 tell(search)
     if shrinks and search.found is not None and not search.stopped:
-        short = shrunk(search.words, search.found.plan)
-    if is_json:
-        tell_json(search, short)
-    elif short:
+        short = shrunk(search.words, search.found.plan, good)
+    if short and not is_json:
         streams.put("".join(line + "\n" for line in short.lines))
+    if short and good and not short.status:
+        difference = tell_difference(short, search.words, good, is_json)
+    if is_json:
+        tell_json(search, short, difference)
 
 
 def status_of(search: Search, names: Sequence[str]) -> int:
@@ -182,14 +213,14 @@ def until_of(options: Mapping[str, str]) -> Optional[int]:
     return until
 
 
-def check_shrinks(record: RecordWords, until: Optional[int]) -> None:
-    """Refuses what can't be shrunk, before a run is made."""
+def check_shrinks(asked: str, record: RecordWords, until: Optional[int]) -> None:
+    """Refuses what can't be shrunk, before a run is made: `asked` is the option that asks for it."""
     if record.is_lean:
-        raise CompanionError("--shrink needs BOOK, and with --lean there is none", REFUSED)
+        raise CompanionError(f"{asked} needs BOOK, and with --lean there is none", REFUSED)
     if until not in (FAULT, LIMIT):
-        raise CompanionError("--shrink needs one run with a fault or a hang: not --all or --until 0", REFUSED)
+        raise CompanionError(f"{asked} needs one run with a fault or a hang: not --all or --until 0", REFUSED)
     if record.has_one_hart:
-        raise CompanionError("one hart has one order, so --shrink has nothing to shrink: --harts isn't given, or is 1", REFUSED)
+        raise CompanionError(f"one hart has one order, so {asked} has nothing to shrink: --harts isn't given, or is 1", REFUSED)
 
 
 def main(words: list[str]) -> int:
@@ -197,8 +228,10 @@ def main(words: list[str]) -> int:
     (low, high), options = parse(own, OPTIONS, 2, FORM)
     numbers, until = numbers_of(low, high, options.get("--part", "1/1")), until_of(options)
     record = RecordWords(rest, options.get("--all", ""))
-    if "--shrink" in options:
-        check_shrinks(record, until)
+    shrinks = "--compare" if "--compare" in options else "--shrink" if "--shrink" in options else ""
+    if shrinks:
+        check_shrinks(shrinks, record, until)
+    good = goods_of(record) if "--compare" in options else []
     kinds = kinds_of(options, record.is_lean, until)
     processors = 1 if kinds == [Kind.THREADS] else len(os.sched_getaffinity(0))
     jobs = whole(options["--jobs"], 1, 1024, "-j") if "--jobs" in options else processors
@@ -207,7 +240,7 @@ def main(words: list[str]) -> int:
     folders = record.scratch()
     search = Search(record, numbers, kinds, until, jobs, [folder.name for folder in folders])
     try:
-        find(search, "--json" in options, "--shrink" in options)
+        find(search, "--json" in options, bool(shrinks), good)
     finally:
         for folder in folders:
             folder.close()

@@ -5,7 +5,7 @@ import os
 import signal
 from contextlib import closing
 from dataclasses import dataclass
-from typing import Any, Mapping, NamedTuple, Optional
+from typing import Any, Mapping, NamedTuple, Optional, Sequence
 
 from ..call import streams
 from ..call.errors import NO_INTERVAL, CompanionError
@@ -24,6 +24,7 @@ from ..recording.turns import pieces_of, shown, size_of
 from ..triage.bucket import bucket_of
 from ..why.facts import Byte
 from ..why.output import MOST_ROWS, numbered, writes_of
+from .nearest import Nearest, nearest_good
 from .quick import Quick
 from .same_end import Ends, Recording, log_of
 from .search import Search
@@ -42,7 +43,8 @@ class Asked:
     new_log, new_book   where the short one is saved
     named    the program with its names
     byte     of the output that is asked of, or None
-    seconds  after which the search ends, or 0"""
+    seconds  after which the search ends, or 0
+    good     where log and list of the nearest run that ends well are saved, if it is wanted"""
     log: str
     book: str
     elf: Elf
@@ -52,27 +54,37 @@ class Asked:
     named: Elf
     byte: Optional[Byte] = None
     seconds: int = 0
+    good: Sequence[Target] = ()
 
 
 class Shrunk(NamedTuple):
-    """What is told, as lines and for other programs, and the status to end with."""
+    """What is told, as lines and for other programs, the status to end with, and the nearest run that ends well, if it was
+    wanted and is found."""
     lines: list[str]
     answer: dict[str, Any]
     status: int
+    nearest: Optional[Nearest]
 
 
 def shrink(asked: Asked) -> Shrunk:
-    with Scratch(MEMORY_FOLDER if os.access(MEMORY_FOLDER, os.W_OK) else "") as folder:
-        found, made, signals = search(asked, folder)
-        for name, place in ((made.log, asked.new_log), (made.book, asked.new_book)):
-            with open(name, "rb") as file:
-                place.save(file.read())
+    with Scratch(MEMORY_FOLDER if os.access(MEMORY_FOLDER, os.W_OK) else "") as folder, Quick(folder) as quick:
+        found, made, signals = search(asked, quick)
+        save(made, (asked.new_log, asked.new_book))
+        nearest = nearest_good(found) if asked.good else None
+        if nearest:
+            save(nearest.made, asked.good)
         with closing(places_of(asked.named)) as places:
             told = Told(found, made, Teller(asked.named, places), asked)
-            said = Shrunk(told.lines(), told.answer(), signals.status)
+            said = Shrunk(told.lines(), told.answer(), signals.status, nearest)
     if found.tries.is_ended():
         streams.say("the search was ended before it was done: the list may be longer than it need be")
     return said
+
+
+def save(made: Recording, targets: Sequence[Target]) -> None:
+    for name, place in zip((made.log, made.book), targets):
+        with open(name, "rb") as file:
+            place.save(file.read())
 
 
 class Signals:
@@ -110,18 +122,17 @@ def offset_of(log: Log, elf: Elf, byte: Byte) -> int:
                          NO_INTERVAL)
 
 
-def search(asked: Asked, folder: str) -> tuple[Search, Recording, Signals]:
+def search(asked: Asked, quick: Quick) -> tuple[Search, Recording, Signals]:
     """Searches, and makes the recording of the shortest list that is found."""
     offset = offset_of(log_of(asked.log), asked.elf, asked.byte) if asked.byte else None
     with open(asked.book, "rb") as file:
         turns = pieces_of(file.read())
-    with Quick(folder) as quick:
-        tries = Tries(asked.options, Ends(quick, asked.elf, offset), len(os.sched_getaffinity(0)))
-        found = Search(tries, tries.record(turns))
-        with Signals(tries, asked.seconds) as signals:
-            found.run()
-        tries.options = dict(asked.options)
-        return found, tries.record(found.best), signals
+    tries = Tries(asked.options, Ends(quick, asked.elf, offset), len(os.sched_getaffinity(0)))
+    found = Search(tries, tries.record(turns))
+    with Signals(tries, asked.seconds) as signals:
+        found.run()
+    tries.options = dict(asked.options)
+    return found, tries.record(found.best), signals
 
 
 class Told:
@@ -155,7 +166,7 @@ class Told:
         return said + [f"end: {self.bucket.line()}"]
 
     def beside(self, switch: Switch) -> list[str]:
-        """The command that looks at where a hart stops."""
+        """The command that opens the row after which a hart stops."""
         row, asked = switch.stopped, self.asked
         return ["     " + line for line in ready(asked.new_log.path, asked.elf, asked.named, row.hart, row.ic)] if row else []
 

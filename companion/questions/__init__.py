@@ -2,6 +2,7 @@
 
     history, calls, find    the words: the stores to a variable, the calls of a function, the places of a value
     compare, ways           the word that compares two logs, and the ways of their harts
+    waiting                 loops that do nothing but wait, and when harts are in them
     export                  the word that saves files for other tools: callgrind, lcov, perfetto have their formats
     flow                    calls and returns of all harts, and how often each address was done
     functions, registers    what FUNCTION is; what a register held at a row

@@ -2,7 +2,6 @@
 from __future__ import annotations
 
 import contextlib
-import functools
 from dataclasses import dataclass, field
 from typing import Any, Dict, Iterable, Iterator, List, NamedTuple, Optional
 
@@ -12,10 +11,10 @@ from ..call.options import parse, whole
 from ..call.text import counted, number
 from ..recording.answers import place_of, put_answer
 from ..recording.chunks import STORE, rows_between, rows_with, touching
-from ..recording.elf import Elf
 from ..recording.instruction import NAMES, Instruction
 from .reading import HIGHEST, Asked, asked_of
-from .ways import Lane, Way
+from .waiting import Loops
+from .ways import Lane
 
 HELP = """Compares two logs of one program, as of two seeds or two inputs: of each hart the first branch that went another way
 though all was the same before, the load behind it, and who had stored that word in each run.
@@ -52,6 +51,10 @@ class Run:
         end = self.asked.log.ends.get(hart)
         return end.reason if end else "stopped"
 
+    def end(self, hart: int) -> str:
+        end = self.asked.log.ends[hart]
+        return f"{end.reason} {end.value:08x} at count {number(end.count)}"
+
     def row(self, hart: int, count: int) -> Optional[Row]:
         """A row; those before it and the next one are read with it."""
         rows = self.known.setdefault(hart, {})
@@ -80,15 +83,11 @@ class Parting:
         return self.lane.hart
 
 
-def instruction(elf: Elf, pc: int) -> Instruction:
-    return Instruction(0, b"%08x %08x x" % (pc, elf.word(pc) or 0))
-
-
 def lanes_of(runs: list[Run], most: int) -> tuple[list[Lane], bool]:
     """The harts, compared up to so many rows of each run, and whether that left some out. Beginnings that are the same text are
     passed by."""
-    code_of = functools.lru_cache(maxsize=None)(functools.partial(instruction, runs[0].asked.elf))
-    lanes = [Lane(hart, code_of) for hart in range(max(run.asked.log.harts for run in runs))]
+    loops = Loops(runs[0].asked.elf)
+    lanes = [Lane(hart, loops) for hart in range(max(run.asked.log.harts for run in runs))]
     texts = [run.asked.chunks() for run in runs]
     rows, now = [0, 0], [next(each, b"") for each in texts]
     while now[0] and now[0] == now[1] and max(rows) < most:
@@ -121,7 +120,7 @@ def has_parted(lane: Lane, runs: list[Run]) -> bool:
 
 
 def parting_of(runs: list[Run], lane: Lane) -> Optional[Parting]:
-    """Where a hart went another way, or None if it didn't."""
+    """The branch at which a hart went another way, or None if it didn't."""
     ways = lane.good, lane.bad
     same = [run.row(lane.hart, way.first - 1) for run, way in zip(runs, ways)]
     if not has_parted(lane, runs) or not same[0] or not same[1]:
@@ -172,7 +171,7 @@ class Search:
         self.stored = touching(word_of(load), word_of(load) + 4, STORE) if load else None
 
     def take(self, text: bytes, rows: int) -> bool:
-        """Whether it goes on behind a chunk, before which there are so many rows."""
+        """Whether it has to look further than a chunk, before which there are so many rows."""
         if self.stored:
             end = text.find(self.load)
             for row in rows_with(text if end < 0 else text[:end], self.stored):
@@ -202,10 +201,10 @@ def word_of(load: Optional[Row]) -> int:
     return int(load.text.partition(" | load ")[2][:8], 16) & ~3 if load else 0
 
 
-def row_lines(title: str, row: Optional[Row], run: Run, waits: bool) -> list[str]:
+def row_lines(title: str, row: Optional[Row], run: Run, found: Parting) -> list[str]:
     places = run.asked.places
     if row is None:
-        return [f"    {title:<5} " + ("waits there until its limit" if waits else "has no further row of it")]
+        return [f"    {title:<5} " + ("waits there until its limit" if found.lane.waits else f"ends with {run.end(found.hart)}")]
     return [f"    {title:<5} {places.chain([row.code.pc], MOST_FRAMES)}", f"          {row.text}"]
 
 
@@ -216,7 +215,7 @@ def parting_lines(found: Parting, runs: list[Run]) -> list[str]:
     lines = [f"hart {found.hart} went another way after count {number(good.count)} in GOOD, {number(bad.count)} in BAD",
              f"  behind {places.chain([good.code.pc], MOST_FRAMES)}{'   ' + source if source else ''}"]
     for title, row, run in zip(("GOOD", "BAD"), found.other, runs):
-        lines += row_lines(title, row, run, found.lane.waits)
+        lines += row_lines(title, row, run, found)
     if found.loads[0]:
         lines.append(f"  it had loaded, in {places.chain([found.loads[0].code.pc], MOST_FRAMES)}")
     for title, load, giver in zip(("GOOD", "BAD"), found.loads, found.givers):
@@ -234,8 +233,7 @@ def giver_text(row: str, run: Run) -> str:
 
 
 def ends(title: str, run: Run) -> list[str]:
-    said = [f"hart {hart} {end.reason} {end.value:08x} at count {number(end.count)}" for hart, end in sorted(run.asked.log.ends.items())]
-    return [f"  {title:<5} " + "; ".join(said)]
+    return [f"  {title:<5} " + "; ".join(f"hart {hart} {run.end(hart)}" for hart in sorted(run.asked.log.ends))]
 
 
 class Compared(NamedTuple):
@@ -256,12 +254,19 @@ class Compared(NamedTuple):
         return {"harts": self.harts, "parted": [parting_answer(found, self.runs) for found in self.partings], "is_cut": self.is_cut}
 
 
-def compared(runs: list[Run], most: int = MOST_ROWS) -> Compared:
-    lanes, is_cut = lanes_of(runs, most)
-    partings = [found for found in (parting_of(runs, lane) for lane in lanes) if found]
-    for at, run in enumerate(runs):
-        find_givers(run, at, partings)
-    return Compared(runs, sorted(partings, key=lambda found: found.place), len(lanes), is_cut)
+@contextlib.contextmanager
+def compared(good: str, bad: str, elf_name: str, names: str = "", most: int = MOST_ROWS) -> Iterator[Compared]:
+    """Compares two logs up to so many rows of each."""
+    given = {"--rows": str(HIGHEST), **({"--names": names} if names else {})}
+    with contextlib.ExitStack() as opened:
+        both = [opened.enter_context(asked_of(log, elf_name, given)) for log in (good, bad)]
+        check(both)
+        runs = [Run(asked) for asked in both]
+        lanes, is_cut = lanes_of(runs, most)
+        partings = [found for found in (parting_of(runs, lane) for lane in lanes) if found]
+        for at, run in enumerate(runs):
+            find_givers(run, at, partings)
+        yield Compared(runs, sorted(partings, key=lambda found: found.place), len(lanes), is_cut)
 
 
 def parting_answer(found: Parting, runs: list[Run]) -> dict[str, Any]:
@@ -283,11 +288,7 @@ def check(runs: Iterable[Asked]) -> None:
 def main(words: list[str]) -> int:
     (good, bad, elf_name), given = parse(words, OPTIONS, 3, FORM)
     most = whole(given.get("--rows", str(MOST_ROWS)), 1, HIGHEST, "--rows")
-    files = {"--names": given["--names"]} if "--names" in given else {}
-    with contextlib.ExitStack() as opened:
-        both = [opened.enter_context(asked_of(log, elf_name, {**files, "--rows": str(HIGHEST)})) for log in (good, bad)]
-        check(both)
-        found = compared([Run(asked) for asked in both], most)
+    with compared(good, bad, elf_name, given.get("--names", ""), most) as found:
         if "--json" in given:
             put_answer("compare", **found.answer())
         else:

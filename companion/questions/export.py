@@ -19,7 +19,7 @@ HELP = """Saves what a recording did for other tools.
 
 --callgrind  instructions by function and line, and calls with theirs: kcachegrind, callgrind_annotate
 --lcov       how often each line was done: genhtml
---perfetto   the harts with their functions, Edges and faults, in the order of `joint`: ui.perfetto.dev
+--perfetto   the harts with their functions, waits, Edges and faults, in the order of `joint`: ui.perfetto.dev
 --names      the same program with names and lines, if ELF was stripped
 --rows       how many of the last rows are read, 80 million without it
 

@@ -9,9 +9,10 @@ from typing import Any, Iterable, Iterator
 from ..recording.log import is_fault
 from .flow import Flow, Open
 from .reading import Asked
+from .waiting import Loops, Waits
 
-MOST_EVENTS, MOST_EDGES, MOST_TURNS = 500000, 2000, 50000
-PROCESS, ORDER = 1, 2       # of the harts; of the order of `joint`
+MOST_EVENTS, MOST_EDGES, MOST_TURNS, MOST_WAITS = 500000, 2000, 50000, 50000
+PROCESS, ORDER, WAITS = 1, 2, 3         # of the harts; of the order of `joint`; of the harts' waits
 
 
 class Events:
@@ -36,10 +37,11 @@ class Events:
 
 
 class Turns:
-    """When each hart's rows stand together in the order of `joint`, and the rows of Edges."""
+    """When each hart's rows stand together in the order of `joint`, when it waits, and the rows of Edges."""
 
     def __init__(self, asked: Asked) -> None:
         self.asked, self.rows, self.hart = asked, 0, b""
+        self.waits = Waits(Loops(asked.elf), asked.log.harts, MOST_WAITS)
         self.begins, self.harts = array("Q"), array("B")
         self.wanted = {(hart, count): -1 for pair in self.edges() for hart, count in pair}
         self.order = {hart: sorted(count for of, count in self.wanted if of == hart) for hart in range(asked.log.harts)}
@@ -53,6 +55,7 @@ class Turns:
     def pass_on(self, texts: Iterable[bytes]) -> Iterator[bytes]:
         for text in texts:
             self.turns(text)
+            self.waits.read(text)
             for hart, counts in self.order.items():
                 last = text.rfind(b"\n%d " % hart)
                 known = int(text[last:last + 40].split(b" ", 2)[1]) if last >= 0 and counts else -1
@@ -77,6 +80,11 @@ class Turns:
         ends = list(self.begins[1:]) + [self.rows]
         for begin, end, hart in zip(self.begins, ends, self.harts):
             yield {"name": f"hart {hart}", "ph": "X", "pid": ORDER, "tid": 0, "ts": begin, "dur": max(1, end - begin)}
+        waits = self.waits.all()
+        self.asked.places.fetch(wait.address for wait in waits)
+        for wait in waits:
+            yield {"name": f"waits in {self.asked.places.where(wait.address)}", "ph": "X", "pid": WAITS, "tid": wait.hart,
+                   "ts": wait.begin, "dur": wait.end - wait.begin, "args": {"rows": wait.rows}}
         for number, (source, other) in enumerate(self.edges()):
             if self.wanted[source] >= 0 and self.wanted[other] >= 0:
                 for kind, (hart, count) in (("s", source), ("f", other)):
@@ -93,9 +101,9 @@ def perfetto(asked: Asked) -> str:
             events.left(hart, call, end.count, flow.rows)
         events.add(end.reason, "i", hart, flow.rows, s="t", args={"value": f"{end.value:08x}", "count": end.count,
                                                                 "fault": is_fault(end.reason)})
-    names = [{"name": "thread_name", "ph": "M", "pid": PROCESS, "tid": hart, "args": {"name": f"hart {hart}"}}
-             for hart in range(asked.log.harts)]
+    names = [{"name": "thread_name", "ph": "M", "pid": pid, "tid": hart, "args": {"name": f"hart {hart}"}}
+             for pid in (PROCESS, WAITS) for hart in range(asked.log.harts)]
     names += [{"name": "process_name", "ph": "M", "pid": pid, "tid": 0, "args": {"name": name}}
-              for pid, name in ((PROCESS, "harts"), (ORDER, "order of joint"))]
+              for pid, name in ((PROCESS, "harts"), (ORDER, "order of joint"), (WAITS, "waits"))]
     return json.dumps({"traceEvents": names + events.events + list(turns.events()), "displayTimeUnit": "ns",
                        "otherData": {"events left out": events.left_out}}) + "\n"

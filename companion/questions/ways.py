@@ -1,22 +1,18 @@
 """The ways of a hart through two runs, compared as their rows come. What a hart did while it waited is no difference."""
 from __future__ import annotations
 
-import re
 from array import array
-from binascii import unhexlify
 from collections import deque
-from typing import Callable, Deque, Generator, Iterable, Iterator, NamedTuple
+from typing import Deque, Generator, Iterable, Iterator, NamedTuple
 
-from ..recording.instruction import AMO, CALL, LOAD, OP_AMO, STORE, Instruction
+from ..recording.instruction import AMO, LOAD
+from .waiting import MOST_LOOP, Loops, addresses_of
 
-MOST_LOOP = 32              # addresses of a loop that waits
 PIECE, MOST_SKIPS, LOOKED_BACK = 4096, 1000, 16
-AMO_ADD, AMO_XOR = 0, 4     # these change the word each time, so a loop with one of them does more than wait
-CodeOf = Callable[[int], Instruction]
 
 
 class Way:
-    """The rows of a hart that aren't compared yet.
+    """The rows of a hart that are still to be compared.
 
     pcs     their addresses; first: the count of the first one; before: the addresses of the last rows before it
     ended   whether no more come; stopped: because another hart or the limit ended them"""
@@ -24,16 +20,14 @@ class Way:
     def __init__(self, hart: int) -> None:
         self.pcs, self.before = array("I"), array("I")
         self.first, self.ended, self.stopped = 0, False, False
-        self.pattern, self.start = re.compile(rb"\n%d \d+ (\w{8}) " % hart), b"\n%d " % hart
+        self.hart = hart
 
     def add(self, text: bytes) -> None:
-        found = array("I", unhexlify(b"".join(self.pattern.findall(text))))
-        found.byteswap()
-        self.pcs += found
+        self.pcs += addresses_of(text, self.hart)
 
     def pass_by(self, text: bytes) -> None:
         """Takes rows that are the same in both runs."""
-        at = text.rfind(self.start)
+        at = text.rfind(b"\n%d " % self.hart)
         if at >= 0:
             _, count, pc, _ = text[at + 1:at + 60].split(b" ", 3)
             self.first, self.before = int(count) + 1, array("I", [int(pc, 16)])
@@ -46,7 +40,7 @@ class Way:
 
 
 class Skip(NamedTuple):
-    """Where a hart had gone another way, but only to wait: the counts of both runs there."""
+    """A place at which a hart had gone another way, but only to wait: the counts of both runs there."""
     good: int
     bad: int
     is_bad: bool                # whether it waited in BAD
@@ -69,14 +63,13 @@ class Lane:
     parted   whether it went another way; if so, the ways stand at the first rows that aren't the same
     is_over  whether no more rows are looked at
     waits    whether it waited until a run ended, in which it had gone another way to do so
-    skips    where it waited longer in one run than in the other, the last ones"""
+    skips    the last places at which it waited longer in one run than in the other"""
 
-    def __init__(self, hart: int, code_of: CodeOf) -> None:
-        self.hart, self.code_of = hart, code_of
+    def __init__(self, hart: int, loops: Loops) -> None:
+        self.hart, self.loops = hart, loops
         self.good, self.bad = Way(hart), Way(hart)
         self.parted = self.is_over = self.waits = False
         self.skips: Deque[Skip] = deque(maxlen=MOST_SKIPS)
-        self.waiting: dict[tuple[int, ...], bool] = {}
         self.steps = self.compare()
 
     def advance(self) -> None:
@@ -128,8 +121,8 @@ class Lane:
             return common(pcs, behind) // size * size
 
     def waited(self, way: Way, target: int, has_waited: bool) -> Generator[bool, None, int]:
-        """How many rows do nothing but wait: up to the branch at which the ways parted, or up to where the other run went on, if
-        what had been loaded for the branch is loaded again; else 0."""
+        """How many rows do nothing but wait, else 0. They lead back to the branch at which the ways parted, or to the row with
+        which the other run continued. Then one of them loads again what had been loaded for the branch."""
         looked, branch = 0, way.before[-1]
         addresses: dict[int, None] = {}
         while True:
@@ -141,11 +134,11 @@ class Lane:
             if ends:
                 rows = looked + min(ends)
                 is_round = way.pcs[rows - 1] == branch
-                return rows if self.is_waiting(tuple(addresses)) and (is_round or self.loads_again(way, addresses)) else 0
+                return rows if self.loops.is_waiting(tuple(addresses)) and (is_round or self.loads_again(way, addresses)) else 0
             looked += len(part)
             if looked == len(way.pcs):
                 if way.ended:
-                    self.waits = has_waited and way.stopped and self.is_waiting((*addresses, branch))
+                    self.waits = has_waited and way.stopped and self.loops.is_waiting((*addresses, branch))
                     if self.waits:
                         del way.pcs[:]
                     return 0
@@ -153,24 +146,6 @@ class Lane:
 
     def loads_again(self, way: Way, addresses: Iterable[int]) -> bool:
         """Whether one of these instructions is the load behind the branch, or a copy of it elsewhere."""
-        *before, branch = map(self.code_of, way.before)
+        *before, branch = map(self.loops.code, way.before)
         load = next((code for code in reversed(before) if code.rd in (branch.rs1, branch.rs2) and code.rd), branch)
-        return load.kind in (LOAD, AMO) and any(self.code_of(address).word == load.word for address in addresses)
-
-    def is_waiting(self, addresses: tuple[int, ...]) -> bool:
-        """Whether a round of these instructions loads, stores nothing, and counts nothing: none of its registers tells of the
-        round before."""
-        if addresses not in self.waiting:
-            codes = [self.code_of(address) for address in addresses]
-            carried: set[int] = set()
-            written: set[int] = {0}
-            for code in codes:
-                carried |= {code.rs1, code.rs2} - written
-                written.add(code.rd)
-            self.waiting[addresses] = (any(code.kind in (LOAD, AMO) for code in codes) and not any(map(does_more, codes))
-                                       and not carried & written)
-        return self.waiting[addresses]
-
-
-def does_more(code: Instruction) -> bool:
-    return code.kind in (STORE, CALL) or code.word & 127 == OP_AMO and code.word >> 27 in (AMO_ADD, AMO_XOR)
+        return load.kind in (LOAD, AMO) and any(self.loops.code(address).word == load.word for address in addresses)

@@ -12,8 +12,8 @@ import common
 from gdb.recordings import A0, T0, T1, T2, addi, atomic, branch_unless_equal, load, store
 
 from companion.questions import compare
+from companion.questions.waiting import Loops
 from companion.questions.ways import Lane
-from companion.recording.instruction import Instruction
 
 
 def pcs(log, elf):
@@ -81,9 +81,16 @@ WORDS = {LOAD: load(T0, S0), LEAVE: branch_unless_equal(T0, 0, 8), AGAIN: branch
          COUNT: addi(T2, T2, 1), SWAP: atomic(1, T0, S0, T1), SWAP_2: atomic(1, T0, S0, T1), LEAVE_2: branch_unless_equal(T0, 0, 8), ADD: atomic(0, T0, S0, T1), OUT: addi(A0, 0, 1), OTHER: addi(A0, 0, 2)}
 
 
+class Code:
+    """A program of these words."""
+
+    def word(self, address):
+        return WORDS[address]
+
+
 def ways(good, bad, size, stopped=False):
     """How a hart parts whose rows are at these addresses and come so many at a time: whether, at which counts, and whether it waits."""
-    lane = Lane(0, lambda pc: Instruction(0, b"%08x %08x x" % (pc, WORDS[pc])))
+    lane = Lane(0, Loops(Code()))
     for begin in range(0, max(len(good), len(bad)), size):
         for way, pcs in ((lane.good, good), (lane.bad, bad)):
             way.add(b"".join(b"\n0 %d %08x x" % (begin + at, pc) for at, pc in enumerate(pcs[begin:begin + size])))

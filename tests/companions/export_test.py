@@ -98,6 +98,21 @@ class ExportTest(case.Case):
             if event["ph"] == "f":
                 self.assertLess(starts[event["id"]], event["ts"])       # what comes after is told after
 
+    def test_waits(self):
+        """Two harts wait for two locks up to their limit; those that got theirs wait a moment at most."""
+        for seed, many in (("8", 2), ("1", 0)):
+            log, elf, file = self.exported("--perfetto", "two_locks", "--seed", seed, "--harts", "2", "--limit", "20000")
+            with open(file) as opened:
+                waits = [event for event in json.load(opened)["traceEvents"] if event["pid"] == 3 and event["ph"] == "X"]
+            long = [wait for wait in waits if wait["dur"] > 1000]
+            self.assertEqual([wait["tid"] for wait in long], list(range(many)))
+            rows = [line.split(" ")[0] for line in common.output("joint", log, elf).decode().split("\n") if line[:1].isdigit()]
+            for wait in long:
+                self.assertTrue(wait["name"].startswith("waits in "))
+                last = max(at for at, hart in enumerate(rows) if int(hart) == wait["tid"])
+                self.assertLess(last - wait["ts"] - wait["dur"], 64)
+                self.assertEqual(rows[wait["ts"]:wait["ts"] + wait["dur"]].count(str(wait["tid"])), wait["args"]["rows"])
+
     def test_refusals(self):
         log, elf = self.record("heap", "--seed", "1"), self.elf("heap")
         self.refuses_here(2, export, log, elf)

@@ -195,7 +195,36 @@ class ShrinkTest(case.Case):
                 ("one hart has one order, so --shrink has nothing to shrink", [], []),
                 ("one hart has one order, so --shrink has nothing to shrink", [], ["--harts", "0x1"])):
             self.assertIn(said, self.refuses(2, "seeds", "--shrink", *own, "1", "40", "--", *words, *names))
+        self.assertIn("--compare needs one run", self.refuses(2, "seeds", "--compare", "--until", "0", "1", "40", "--", "--harts", "2", *names))
         self.assertFalse(any(map(os.path.exists, names[1:])))
+
+    def test_seeds_compares_the_short_run_with_a_good_one_that_is_near(self):
+        """The good run is the short one with one switch moved, and both are told apart by what `compare` tells."""
+        elf, log, book = self.elf("filters"), common.path("near.log"), common.path("near.book")
+        words = "--only", "seeds", "10", "10", "--", "--format", "2", "--harts", "4", elf, log, book
+        said = self.says("seeds", "--compare", *words)
+        told = re.search(r"\nnearest run that ends well: switch (\d+) comes (\d+) turns? (earlier|later)\n", said)
+        self.assertEqual(said[told.end():], self.says("compare", log + ".good", log, elf))
+        self.assertIn("stored by 3:93 in hold ", re.sub(r"in 0001\w+", "in hold ", said[told.end():]))
+        self.assertEqual({line.split(" ")[1] for line in common.output("list", log + ".good").decode().splitlines()} & {"fault"}, set())
+        with open(book, "rb") as bad, open(book + ".good", "rb") as good:
+            turns = bad.read(), good.read()
+        same = next(at for at, (one, other) in enumerate(zip(*turns)) if one != other)
+        switches = [at + 1 for at in range(len(turns[0]) - 1) if turns[0][at] != turns[0][at + 1]]
+        moved = switches[int(told[1]) - 1]
+        self.assertEqual(same, moved - int(told[2]) if told[3] == "earlier" else moved)
+        answer = json.loads(self.says("seeds", "--compare", "--json", *words))["compared"]
+        self.assertEqual((answer["switch"], abs(answer["turns"]), answer["harts"]), (int(told[1]), int(told[2]), 4))
+        self.assertEqual([each["hart"] for each in answer["parted"]], [0, 3])
+
+    def test_seeds_finds_no_good_run_near_one_that_always_crashes(self):
+        log, book = common.path("always.log"), common.path("always.book")
+        status, said, err = common.companion("seeds", "--only", "seeds", "--compare", "1", "1", "--", "--harts", "2",
+                                             self.elf("wild_store"), log, book)
+        self.assertEqual(status, 0, err)
+        self.assertIn("no run that ends well is found near", err)
+        self.assertNotIn("COMPARE", said)
+        self.assertFalse(os.path.exists(log + ".good"))
 
     def test_refusals(self):
         log, elf, book = self.filters()
