@@ -5,7 +5,7 @@ import os
 import signal
 from contextlib import closing
 from dataclasses import dataclass
-from typing import Any, Mapping, NamedTuple, Optional
+from typing import Any, Mapping, NamedTuple, Optional, Sequence
 
 from ..call import streams
 from ..call.errors import NO_INTERVAL, CompanionError
@@ -40,7 +40,8 @@ class Asked:
     new_log, new_book   where the short one is saved
     named    the program with its names
     byte     of the output that is asked of, or None
-    seconds  after which the search ends, or 0"""
+    seconds  after which the search ends, or 0
+    folders  whose sources are shown, too"""
     log: str
     book: str
     elf: Elf
@@ -50,6 +51,7 @@ class Asked:
     named: Elf
     byte: Optional[Byte] = None
     seconds: int = 0
+    folders: Sequence[str] = ()
 
 
 class Shrunk(NamedTuple):
@@ -65,7 +67,7 @@ def shrink(asked: Asked) -> Shrunk:
         for name, place in ((made.log, asked.new_log), (made.book, asked.new_book)):
             with open(name, "rb") as file:
                 place.save(file.read())
-        with closing(places_of(asked.named)) as places:
+        with closing(places_of(asked.named, asked.folders)) as places:
             told = Told(found, made, Teller(asked.named, places), asked)
             said = Shrunk(told.lines(), told.answer(), signals.status)
     if found.tries.is_ended():
@@ -149,7 +151,7 @@ class Told:
         if self.waiting:
             harts = ", ".join(map(str, self.waiting))
             said.append(f"from then on {'harts' if len(self.waiting) > 1 else 'hart'} {harts} wait{'s' * (len(self.waiting) == 1)}")
-        return said + [f"end: {self.bucket.line()}"]
+        return said + [f"end: {self.bucket.line()}", *self.teller.places.trouble()]
 
     def beside(self, switch: Switch) -> list[str]:
         """The command that looks at where a hart stops."""

@@ -29,7 +29,7 @@ def may_use(part: str) -> set[str]:
 
 
 def used(part: str) -> dict[str, str]:
-    """The other parts that modules of a part import from, and where."""
+    """The other parts that modules of a part import from, each with its place."""
     there = {}
     for name in sorted(os.listdir(os.path.join(COMPANION, part))):
         for node in ast.walk(parsed(part, name)) if name.endswith(".py") else ():

@@ -31,6 +31,8 @@ HEAD, LOG_HEAD = PAGE_BEGINS + b'<meta name="generator" content="zelkuma">', b"B
 HEADS = {"why": HEAD, "seeds": LOG_HEAD, "again": LOG_HEAD, "shrink": LOG_HEAD, "export": b"TN:", "triage --html": HEAD,
          "triage --json": b'{"answer": "triage"', "triage --junit": b'<?xml version="1.0" encoding="utf-8"?>\n<testsuite name="zelkuma triage"'}
 
+FEW = "why", "seeds", "again"
+
 
 class Call:
     """A folder with a recording, and a call that saves the file `target` of it."""
@@ -83,12 +85,12 @@ class Call:
         assert not [name for name in os.listdir(self.folder) if name.startswith(".")]
 
 
-def each(recordings, name):
-    return [Call(recordings, f"{name}-{word}", word) for word in HEADS]
+def each(recordings, name, words=tuple(HEADS)):
+    return [Call(recordings, f"{name}-{word}", word) for word in words]
 
 
 def case_what_is_read_is_never_overwritten(recordings):
-    for call in each(recordings, "read"):
+    for call in each(recordings, "read", tuple(HEADS)[:6]):
         os.link(call.elf, call.path("linked"))
         os.symlink("linked", call.path("symbolic"))
         read = [call.elf] + [call.log] * (call.word != "seeds") + [call.book] * (call.word in ("again", "shrink"))
@@ -101,7 +103,7 @@ def case_what_is_read_is_never_overwritten(recordings):
 
 
 def case_what_is_no_older_one_is_never_overwritten(recordings):
-    for call in each(recordings, "other"):
+    for call in each(recordings, "other", tuple(HEADS)[:6]):
         shutil.copy(os.path.join(EXAMPLES, "heap.elf"), call.path("v.elf"))
         for name, data in (("notes", b"my notes\n"), ("log.gz", b"\x1f\x8b\x08"), ("turns", b"\0\1")):
             with open(call.path(name), "wb") as file:
@@ -144,7 +146,7 @@ def case_mode_and_attributes_stay(recordings):
 
 
 def case_links_stay(recordings):
-    for call in each(recordings, "links"):
+    for call in each(recordings, "links", FEW):
         other, link = call.path("other"), call.path("link")
         os.link(call.old(), other)
         call.saves()
@@ -162,7 +164,7 @@ def case_links_stay(recordings):
 def case_an_owner_stays(recordings):
     if os.geteuid():
         raise cases.Skipped("another owner's file can be made by root alone")
-    for call in each(recordings, "owner"):
+    for call in each(recordings, "owner", FEW):
         os.chown(call.old(0o640), 12345, 54321)
         call.saves()
         found = os.stat(call.target)
