@@ -107,6 +107,7 @@ again --interval N
 shrink --seconds N
 shrink --output N:BYTE
 shrink --names ELF
+shrink --source DIR
 shrink --json
 shrink -- WORD..
 history --names ELF
@@ -123,6 +124,7 @@ find --names ELF
 find --rows N
 find --json
 compare --names ELF
+compare --source DIR
 compare --rows N
 compare --json
 export --names ELF

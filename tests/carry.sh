@@ -144,6 +144,15 @@ laid_under "$work/no/where" | sort >"$work/wanted"
 sort "$work/out" >"$work/files"
 equals "$work/wanted" "$work/files"
 [ -z "$(files_in "$work/no")" ] && [ ! -e "$work/no/where/lib/zelkuma" ] || fails "it left $(files_in "$work/no")"
+if unshare -rm true 2>/dev/null; then
+    runs 0 "$sources/zelkuma" install "$work/no/where"
+    runs 0 unshare -rm bash -c 'mount -t tmpfs proc /proc && exec "$@"' bash "$sources/zelkuma" uninstall "$work/no/where" # no /dev/fd
+    [ ! -s "$work/err" ] || fails "it says something without /dev/fd"
+    sort "$work/out" >"$work/files"
+    equals "$work/wanted" "$work/files"
+else
+    skips "no /dev/fd: there is no unshare"
+fi
 runs 3 "$sources/zelkuma" uninstall "$work/nothing"
 runs 2 "$sources/zelkuma" uninstall
 

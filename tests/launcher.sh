@@ -36,7 +36,7 @@ records() { # WORD..
 
 what="the script as a text"
 lines=$(cat "$top/zelkuma" "$top"/tools/launcher/* | wc -l)
-[ "$lines" -le 431 ] || fails "it has $lines lines, and may have 431"
+[ "$lines" -le 444 ] || fails "it has $lines lines, and may have 444"
 
 what="numbers of options"
 runs 11 "$zelkuma" record --seed 0x10 --limit 2K --log-size=0x10000 --memory 1M ELF LOG BOOK
@@ -138,6 +138,41 @@ records ELF dangling BOOK
 [ -s LOG4 ] || fails "the link wasn't followed"
 runs 4 "$zelkuma" record no-file LOG BOOK
 says "bugnet: missing: no-file"
+
+what="access lists and other attributes of files that are there"
+# A file with both, which the user 12345 may read and the group may not.
+with_attributes() { # FILE
+    cp LOG "$1" && chmod 660 "$1" && python3 -c 'import os, struct, sys
+os.setxattr(sys.argv[1], "user.note", b"mine")
+os.setxattr(sys.argv[1], "system.posix_acl_access", struct.pack("<I", 2) + b"".join(struct.pack("<HHI", *entry) for entry in (
+    (1, 6, 0xffffffff), (2, 6, 12345), (4, 0, 0xffffffff), (16, 6, 0xffffffff), (32, 0, 0xffffffff))))' "$1"
+}
+attributes() { python3 -c 'import os, sys; print(*((name, os.getxattr(sys.argv[1], name)) for name in sorted(os.listxattr(sys.argv[1]))))' "$1"; } # FILE
+keeps() { # STATUS WORD..
+    runs "$1" "${@:2}"
+    [ "$(attributes listed)" = "$all" ] || fails "the attributes are others"
+    [ -z "$(find . -name '.zelkuma-*')" ] || fails "it left a file"
+}
+records ELF LOG BOOK
+if ! with_attributes listed 2>/dev/null; then
+    skips "access lists: there are none here"
+else
+    all=$(attributes listed) tools=$(type -P getfattr)
+    for more in ls ${tools:+getfattr}; do
+        only bash stat readlink ln rm "$more"
+        keeps 0 "$zelkuma" convert LOG listed
+        "$program" check listed | cmp -s - "$work/out" || fails "another file was saved"
+        keeps 11 "$zelkuma" record --seed 1 --limit 2000 ELF listed BOOK
+        keeps 2 "$zelkuma" record ELF listed notes
+        keeps 143 bash -c '"$0" record --seed 1 "$1" listed BOOK & for try in {1..100}; do compgen -G ".zelkuma-held-*" >/dev/null && break; sleep 0.1; done; kill $!; wait $!' \
+            "$zelkuma" "$top/tests/crashes/hang.elf"
+        terminal=()
+        keeps 0 "$zelkuma" convert LOG listed
+        [ ! -s "$work/err" ] || fails "it says something where err is no terminal"
+        err_is_terminal
+    done
+    only bash stat readlink
+fi
 
 what="turns that the environment names"
 odd=(bursts sleeper: bursts:x sleeper:-1 bursts:18446744073709551616 list:LOG $'book:\xff' $'bursts:\xff')

@@ -130,7 +130,7 @@ def tell_difference(short: Shrunk, words: RecordWords, good: Sequence[Target], i
         streams.say("no run that ends well is found near: one switch moved out of its window leads to no such run")
         return None
     try:
-        with compared(good[0].path, words.outputs[0], words.elf) as found:
+        with compared(good[0].path, words.outputs[0], words.elf, {}) as found:
             if not is_json:
                 streams.put("".join(line + "\n" for line in [short.nearest.line(), *found.lines()]))
             return {"switch": short.nearest.switch, "turns": short.nearest.turns, **found.answer()}

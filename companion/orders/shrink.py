@@ -14,13 +14,14 @@ from ..recording.book import check_book
 from ..recording.elf import Elf
 from ..recording.log import is_fault, read_log
 from ..recording.naming import named_elf
+from ..recording.sources import source_folders
 from ..why.facts import asked_byte
 from .again import settings_of
 from .record import RECORD_OPTIONS
 from .same_end import exit_code, log_of
 from .shrinking import Asked, shrink
 
-HELP = """zelkuma shrink LOG ELF BOOK NEWLOG NEWBOOK [--seconds N] [--output N:BYTE] [--names ELF] [--json] [-- WORD..]
+HELP = """zelkuma shrink LOG ELF BOOK NEWLOG NEWBOOK [--seconds N] [--output N:BYTE] [--names ELF] [--source DIR] [--json] [-- WORD..]
 
 Finds the shortest order of harts that still ends as LOG does, and saves a recording of it as NEWLOG and NEWBOOK.
 
@@ -33,13 +34,14 @@ hartxturns, and then its switches: who stops where, who continues where, and wha
     --seconds N      ends the search after so long; what it has by then is saved
     --output N:BYTE  a run ends the same if this byte of the output is the same, as `zelkuma output` numbers them
     --names ELF      the program with its names and lines, if ELF was stripped
+    --source DIR     shows sources below this folder too, not only below ELF's and the current one; may be given several times
     --json           prints one JSON object in place of the text (docs/JSON.md)
     -- WORD..        options of `record`: --input FILE is needed if LOG has one; others have to be those of LOG
 
 The answer is the same on each machine. Ctrl-C, TERM and HUP end the search (130, 143, 129): the shortest that
 was found is saved. BOOK has to be LOG's, as `audit` says. Companions show; the program proves."""
-FORM = "shrink LOG ELF BOOK NEWLOG NEWBOOK [--seconds N] [--output N:BYTE] [--names ELF] [--json] [-- WORD..]"
-OPTIONS = {"--seconds": True, "--output": True, "--names": True, "--json": False}
+FORM = "shrink LOG ELF BOOK NEWLOG NEWBOOK [--seconds N] [--output N:BYTE] [--names ELF] [--source DIR] [--json] [-- WORD..]"
+OPTIONS = {"--seconds": True, "--output": True, "--names": True, "--source": True, "--json": False}
 LONGEST_SEARCH = 1 << 20    # seconds
 
 
@@ -80,7 +82,8 @@ def main(words: list[str]) -> int:
     targets = target(new_log, LOG, read), target(new_book, TURNS, [*read, new_log])
     check(log, elf_name, book, options, byte is not None)
     elf = Elf(elf_name)
-    shrunk = shrink(Asked(log, book, elf, options, *targets, named_elf(elf, given.get("--names", "")), byte, seconds))
+    shrunk = shrink(Asked(log, book, elf, options, *targets, named_elf(elf, given.get("--names", "")), byte, seconds,
+                          folders=source_folders(given)))
     if "--json" in given:
         put_answer("shrink", **shrunk.answer)
     else:

@@ -44,7 +44,8 @@ class Asked:
     named    the program with its names
     byte     of the output that is asked of, or None
     seconds  after which the search ends, or 0
-    good     where log and list of the nearest run that ends well are saved, if it is wanted"""
+    good     where log and list of the nearest run that ends well are saved, if it is wanted
+    folders  whose sources are shown, too"""
     log: str
     book: str
     elf: Elf
@@ -55,6 +56,7 @@ class Asked:
     byte: Optional[Byte] = None
     seconds: int = 0
     good: Sequence[Target] = ()
+    folders: Sequence[str] = ()
 
 
 class Shrunk(NamedTuple):
@@ -73,7 +75,7 @@ def shrink(asked: Asked) -> Shrunk:
         nearest = nearest_good(found) if asked.good else None
         if nearest:
             save(nearest.made, asked.good)
-        with closing(places_of(asked.named)) as places:
+        with closing(places_of(asked.named, asked.folders)) as places:
             told = Told(found, made, Teller(asked.named, places), asked)
             said = Shrunk(told.lines(), told.answer(), signals.status, nearest)
     if found.tries.is_ended():
@@ -163,7 +165,7 @@ class Told:
         if self.waiting:
             harts = ", ".join(map(str, self.waiting))
             said.append(f"from then on {'harts' if len(self.waiting) > 1 else 'hart'} {harts} wait{'s' * (len(self.waiting) == 1)}")
-        return said + [f"end: {self.bucket.line()}"]
+        return said + [f"end: {self.bucket.line()}", *self.teller.places.trouble()]
 
     def beside(self, switch: Switch) -> list[str]:
         """The command that opens the row after which a hart stops."""

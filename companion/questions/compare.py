@@ -3,7 +3,7 @@ from __future__ import annotations
 
 import contextlib
 from dataclasses import dataclass, field
-from typing import Any, Dict, Iterable, Iterator, List, NamedTuple, Optional
+from typing import Any, Dict, Iterable, Iterator, List, Mapping, NamedTuple, Optional
 
 from ..call import streams
 from ..call.errors import NO_INTERVAL, CompanionError
@@ -19,16 +19,17 @@ from .ways import Lane
 HELP = """Compares two logs of one program, as of two seeds or two inputs: of each hart the first branch that went another way
 though all was the same before, the load behind it, and who had stored that word in each run.
 
-    zelkuma compare GOOD BAD ELF [--names ELF] [--rows N] [--json]
+    zelkuma compare GOOD BAD ELF [--names ELF] [--source DIR] [--rows N] [--json]
 
---names  the same program with names and lines, if ELF was stripped
---rows   how many of the first rows of each log are read, 25 million without it
---json   prints one JSON object in place of the text (docs/JSON.md)
+--names   the same program with names and lines, if ELF was stripped
+--source  shows sources below this folder too, not only below ELF's and the current one; may be given several times
+--rows    how many of the first rows of each log are read, 25 million without it
+--json    prints one JSON object in place of the text (docs/JSON.md)
 
 What a hart does while it waits, in a loop that loads but stores and counts nothing, is no difference. Harts come in the order
 in which they parted in BAD. A log that has lost its beginning can't be compared. Companions show; the program proves."""
-FORM = "compare GOOD BAD ELF [--names ELF] [--rows N] [--json]"
-OPTIONS = {"--names": True, "--rows": True, "--json": False}
+FORM = "compare GOOD BAD ELF [--names ELF] [--source DIR] [--rows N] [--json]"
+OPTIONS = {"--names": True, "--source": True, "--rows": True, "--json": False}
 MOST_ROWS, LOOKED_BACK, READ_BACK, MOST_FRAMES = 25000000, 4000, 500, 3
 
 
@@ -248,18 +249,18 @@ class Compared(NamedTuple):
         for found in self.partings:
             lines += parting_lines(found, self.runs)
         lines += ["ENDS"] + ends("GOOD", self.runs[0]) + ends("BAD", self.runs[1])
-        return lines + (["  Only the first rows were compared; --rows N reads more."] if self.is_cut else [])
+        lines += ["  Only the first rows were compared; --rows N reads more."] if self.is_cut else []
+        return lines + self.runs[0].asked.places.trouble()
 
     def answer(self) -> dict[str, Any]:
         return {"harts": self.harts, "parted": [parting_answer(found, self.runs) for found in self.partings], "is_cut": self.is_cut}
 
 
 @contextlib.contextmanager
-def compared(good: str, bad: str, elf_name: str, names: str = "", most: int = MOST_ROWS) -> Iterator[Compared]:
-    """Compares two logs up to so many rows of each."""
-    given = {"--rows": str(HIGHEST), **({"--names": names} if names else {})}
+def compared(good: str, bad: str, elf_name: str, files: Mapping[str, str], most: int = MOST_ROWS) -> Iterator[Compared]:
+    """Compares two logs up to so many rows of each. `files` are --names and --source."""
     with contextlib.ExitStack() as opened:
-        both = [opened.enter_context(asked_of(log, elf_name, given)) for log in (good, bad)]
+        both = [opened.enter_context(asked_of(log, elf_name, {**files, "--rows": str(HIGHEST)})) for log in (good, bad)]
         check(both)
         runs = [Run(asked) for asked in both]
         lanes, is_cut = lanes_of(runs, most)
@@ -288,7 +289,8 @@ def check(runs: Iterable[Asked]) -> None:
 def main(words: list[str]) -> int:
     (good, bad, elf_name), given = parse(words, OPTIONS, 3, FORM)
     most = whole(given.get("--rows", str(MOST_ROWS)), 1, HIGHEST, "--rows")
-    with compared(good, bad, elf_name, given.get("--names", ""), most) as found:
+    files = {option: given[option] for option in ("--names", "--source") if option in given}
+    with compared(good, bad, elf_name, files, most) as found:
         if "--json" in given:
             put_answer("compare", **found.answer())
         else:

@@ -12,6 +12,7 @@ from ..recording.elf import Elf, last_before
 from ..recording.log import Log
 from ..recording.naming import named_elf, places_of
 from ..recording.places import Places
+from ..recording.sources import source_folders
 from ..recording.ready import ready
 from ..recording.recent import open_log
 
@@ -60,4 +61,4 @@ def asked_of(log_name: str, elf_name: str, given: Mapping[str, str]) -> Iterator
         log = opened.enter_context(closing(open_log(log_name))).end(rows)
         elf = Elf(elf_name)
         named = named_elf(elf, given.get("--names", ""))
-        yield Asked(log, elf, named, opened.enter_context(closing(places_of(named))))
+        yield Asked(log, elf, named, opened.enter_context(closing(places_of(named, source_folders(given)))))

@@ -125,7 +125,10 @@ def main(words: list[str]) -> int:
     folders, given = parse(words, OPTIONS, range(1, MOST_NAMES), FORM)
     if "--elfs" not in given:
         raise CompanionError(f"--elfs isn't given; the words are: {FORM}")
-    targets = {option: target(given[option], kind, []) for option, kind in KINDS.items() if option in given}
+    targets: dict[str, Target] = {}
+    for option, kind in KINDS.items():
+        if option in given:
+            targets[option] = target(given[option], kind, [other.name for other in targets.values()])
     logs = find_logs(folders)
     if not logs.files:
         raise CompanionError(f"there is no log below {', '.join(map(shlex.quote, folders))}", MISSING)

@@ -26,6 +26,14 @@ def content(name):
         return file.read()
 
 
+# Of each companion that saves how an older file of its kind begins.
+HEAD, LOG_HEAD = PAGE_BEGINS + b'<meta name="generator" content="zelkuma">', b"BUGNETLG"
+HEADS = {"why": HEAD, "seeds": LOG_HEAD, "again": LOG_HEAD, "shrink": LOG_HEAD, "export": b"TN:", "triage --html": HEAD,
+         "triage --json": b'{"answer": "triage"', "triage --junit": b'<?xml version="1.0" encoding="utf-8"?>\n<testsuite name="zelkuma triage"'}
+
+FEW = "why", "seeds", "again"
+
+
 class Call:
     """A folder with a recording, and a call that saves the file `target` of it."""
 
@@ -35,51 +43,57 @@ class Call:
         log, _ = recordings.example("hand_over", *HARTS, "--seed", "3")
         self.log, self.elf = shutil.copy(log, self.path("L")), shutil.copy(HAND_OVER, self.path("elf"))
         self.target = self.path("target")
-        self.word, self.begins = word, PAGE_BEGINS if word == "why" else b"BUGNETLG"
-        if word == "again":
-            self.book = shutil.copy(recordings.path("book"), self.path("book"))
+        self.book, self.word, self.head = shutil.copy(recordings.path("book"), self.path("book")), word, HEADS[word]
+        self.environment = {"XDG_CACHE_HOME": recordings.path("cache")}
 
     def path(self, name):
         return os.path.join(self.folder, name)
 
     def words(self, target):
-        if self.word == "why":
-            return ["why", self.log, self.elf, "--html", target]
-        if self.word == "again":
-            return ["again", self.log, self.elf, self.book, target]
-        return ["seeds", "--only", "seeds", "3", "3", "--", *HARTS, self.elf, target, self.path("book")]
+        word, *option = self.word.split()
+        return [word] + {"why": [self.log, self.elf, "--html", target], "again": [self.log, self.elf, self.book, target],
+                         "shrink": ["--seconds", "1", self.log, self.elf, self.book, target, self.path("short")],
+                         "seeds": ["--only", "seeds", "3", "3", "--", *HARTS, self.elf, target, self.book],
+                         "export": [self.log, self.elf, "--lcov", target],
+                         "triage": [self.folder, "--elfs", self.elf, *option, target]}[word]
+
+    def run(self, target, *more):
+        return companion(*self.words(target), *more, environment=self.environment)
 
     def old(self, mode=0o644):
         """What may be overwritten: an older file of the same kind."""
         with open(self.target, "wb") as file:
-            file.write(self.begins + b'<meta name="generator" content="zelkuma">of before')
+            file.write(self.head + b"of before")
         os.chmod(self.target, mode)
         return self.target
 
     def saves(self, target=""):
-        done = companion(*self.words(target or self.target))
+        done = self.run(target or self.target)
         assert done[0] == 0, done
-        assert content(target or self.target).startswith(self.begins) and b"of before" not in content(target or self.target)
+        self.check_saved(target or self.target)
         assert not [name for name in os.listdir(self.folder) if name.startswith(".")]
 
-    def refuses(self, target, status=2):
+    def check_saved(self, name):
+        assert content(name).startswith(self.head[:len(PAGE_BEGINS)]) and b"of before" not in content(name), name
+
+    def refuses(self, target, status=2, *more):
         names = [name for name in map(self.path, os.listdir(self.folder)) if os.path.isfile(name)]
         before = {name: content(name) for name in names}
-        done = companion(*self.words(target))
+        done = self.run(target, *more)
         assert done[0] == status and done[1] == "" and done[2].count("\n") == 1, done
         assert {name: content(name) for name in names} == before and not os.path.exists(self.path("nowhere"))
         assert not [name for name in os.listdir(self.folder) if name.startswith(".")]
 
 
-def each(recordings, name):
-    return [Call(recordings, f"{name}-{word}", word) for word in ("why", "seeds", "again")]
+def each(recordings, name, words=tuple(HEADS)):
+    return [Call(recordings, f"{name}-{word}", word) for word in words]
 
 
 def case_what_is_read_is_never_overwritten(recordings):
-    for call in each(recordings, "read"):
+    for call in each(recordings, "read", tuple(HEADS)[:6]):
         os.link(call.elf, call.path("linked"))
         os.symlink("linked", call.path("symbolic"))
-        read = [call.elf] + [call.log] * (call.word != "seeds")
+        read = [call.elf] + [call.log] * (call.word != "seeds") + [call.book] * (call.word in ("again", "shrink"))
         for target in read + [os.path.join(call.folder, ".", "elf"), call.path("linked"), call.path("symbolic")]:
             call.refuses(target)
     names = call.path("names")
@@ -89,7 +103,7 @@ def case_what_is_read_is_never_overwritten(recordings):
 
 
 def case_what_is_no_older_one_is_never_overwritten(recordings):
-    for call in each(recordings, "other"):
+    for call in each(recordings, "other", tuple(HEADS)[:6]):
         shutil.copy(os.path.join(EXAMPLES, "heap.elf"), call.path("v.elf"))
         for name, data in (("notes", b"my notes\n"), ("log.gz", b"\x1f\x8b\x08"), ("turns", b"\0\1")):
             with open(call.path(name), "wb") as file:
@@ -109,16 +123,18 @@ def case_two_outputs_are_two_files(recordings):
         make(call.path("book"), call.target)
         call.refuses(call.target)
         os.remove(call.target)
+    call = Call(recordings, "two-of-triage", "triage --json")
+    call.refuses(call.target, 2, "--html", call.target)
+    assert not os.path.exists(call.target)
 
 
 def case_mode_and_attributes_stay(recordings):
-    for call in each(recordings, "mode"):
-        for mode in (0o600, 0o640, 0o666):
-            call.old(mode)
-            os.setxattr(call.target, "user.note", b"mine")
-            call.saves()
-            assert stat.S_IMODE(os.stat(call.target).st_mode) == mode
-            assert os.getxattr(call.target, "user.note") == b"mine"
+    for at, call in enumerate(each(recordings, "mode")):
+        mode = (0o600, 0o640, 0o666)[at % 3]
+        os.setxattr(call.old(mode), "user.note", b"mine")
+        call.saves()
+        assert stat.S_IMODE(os.stat(call.target).st_mode) == mode
+        assert os.getxattr(call.target, "user.note") == b"mine"
         os.setxattr(call.old(), "system.posix_acl_access", ACCESS_LIST)
         call.saves()
         assert os.getxattr(call.target, "system.posix_acl_access") == ACCESS_LIST
@@ -130,24 +146,25 @@ def case_mode_and_attributes_stay(recordings):
 
 
 def case_links_stay(recordings):
-    for call in each(recordings, "links"):
+    for call in each(recordings, "links", FEW):
         other, link = call.path("other"), call.path("link")
         os.link(call.old(), other)
         call.saves()
-        assert os.path.samefile(call.target, other) and content(other).startswith(call.begins)
+        assert os.path.samefile(call.target, other)
         os.symlink("target", link)
         call.saves(link)
         assert os.readlink(link) == "target"
         os.remove(link)
         os.symlink("new", link)
         call.saves(link)
-        assert os.readlink(link) == "new" and content(call.path("new")).startswith(call.begins)
+        assert os.readlink(link) == "new"
+        call.check_saved(call.path("new"))
 
 
 def case_an_owner_stays(recordings):
     if os.geteuid():
         raise cases.Skipped("another owner's file can be made by root alone")
-    for call in each(recordings, "owner"):
+    for call in each(recordings, "owner", FEW):
         os.chown(call.old(0o640), 12345, 54321)
         call.saves()
         found = os.stat(call.target)

@@ -2,6 +2,7 @@
 """Which files are shown as sources: what an ELF file or an archive names is its own matter, what a user has isn't."""
 import os
 import shutil
+import subprocess
 import sys
 import tempfile
 
@@ -125,6 +126,26 @@ class SourcesTest(case.Case):
         self.assertTrue(SECRET not in said and "--source DIR allows" in said)
         said = self.says_of("race", "--source", self.outside)
         self.assertTrue(SECRET in said and "--source DIR allows" not in said)
+
+    def test_switches_and_partings_have_the_same_sources(self):
+        bad, elf = self.crash("race_list")
+        good, elf = common.record("good", elf, "--harts", "3", "--seed", "2", "--limit", "300000"), shutil.copy(elf, self.folder)
+        with open(os.path.join(common.CRASHES, "race_list.c"), encoding="ascii") as file:
+            self.text = file.read().replace("\n", f" /* {SECRET} */\n")
+        os.symlink(self.write(self.outside, "race_list.c"), os.path.join(self.folder, "race_list.c"))
+        short = common.path("short")
+        for words in (["shrink", "--seconds", "2", bad, elf, bad[:-4] + ".book", short, short + ".book"], ["compare", good, bad, elf]):
+            for given, expected in (([], (False, True)), (["--source", self.outside], (True, False))):
+                status, said, err = common.companion(*words, *given, bound=BOUND)
+                self.assertEqual((status, (SECRET in said, "--source DIR allows" in said)), (0, expected), (said, err))
+
+    def test_a_suspect_of_many_logs(self):
+        for target, is_shown in ((self.write(self.outside, "other.c"), False), (self.write(self.folder, "real.c"), True)):
+            os.symlink(target, self.source)
+            status, said, err = common.companion("triage", self.folder, "--elfs", self.folder, bound=BOUND,
+                                                 environment={"XDG_CACHE_HOME": common.path("cache")})
+            self.assertEqual((status, err, "suspect:" in said, SECRET in said), (0, "", True, is_shown), said)
+            os.remove(self.source)
 
 
 if __name__ == "__main__":

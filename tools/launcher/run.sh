@@ -49,20 +49,20 @@ await_program() {
 }
 
 run() { # WORD..
-    local words=("$@") wanted=() child='' shower='' caught='' signal status
+    local words=("$@") wanted=() held=() child='' shower='' caught='' signal status
     if [[ $1 == @(record|convert|salvage) ]]; then
         . "$top/tools/launcher/targets.sh"
         read_words
         [ -n "$complaint" ] || { check_schedule && check_targets; }
     fi
     # who reads err elsewhere wants the program's own lines
-    [ -t 2 ] || exec "$program" "${words[@]}"
+    [[ -t 2 || ${#held[@]} -gt 0 ]] || exec "$program" "${words[@]}"
     for signal in HUP INT QUIT TERM USR1 USR2 ALRM; do
         # shellcheck disable=SC2064 # it is this signal
         trap "pass_on $signal" "$signal"
     done
     # a terminal waits for what may take long: a recording, or a replay into a file
-    if [[ ${TERM:-dumb} != dumb && ($1 == record || ($1 == @(replay|joint) && -f /dev/fd/1)) ]] && hash cat 2>/dev/null; then
+    if [[ -t 2 && ${TERM:-dumb} != dumb && ($1 == record || ($1 == @(replay|joint) && -f /dev/fd/1)) ]] && hash cat 2>/dev/null; then
         . "$top/tools/launcher/progress.sh"
         start_shown "${words[@]}"
     else
@@ -75,7 +75,7 @@ run() { # WORD..
     [ -z "$shower" ] || wait "$shower"
     # whatever becomes of the advice (nobody may read err any more), the status is the program's; with format 2 a log has
     # the end of its run
-    [[ $status -eq 0 || ($status == 1[01] && ${values[format]-} == 2) ]] ||
+    [[ ! -t $err || $status -eq 0 || ($status == 1[01] && ${values[format]-} == 2) ]] ||
         (. "$top/tools/launcher/advice.sh" && advise "$status")
     if [ "$status" -gt 128 ]; then
         # ends as a program ends that a signal has killed

@@ -15,6 +15,18 @@ is_older() { # NAME
     [[ -z $head || ($1 != BOOK && $head == BUGNETLG*) || ($1 == BOOK && $head != *[!$'\x01'-$'\x0f']*) ]]
 }
 
+# Gives a file that has extended attributes, as an access list, a further name until the call is over. The program can't see
+# them, and would replace the file; one with further names it writes in place.
+hold_attributes() { # FILE
+    local kept file further
+    kept=$(getfattr -m '^(user|system|trusted)[.]' -- "$1" || ls -dlL -- "$1")
+    [[ $kept == "# "* || $kept == ??????????+* ]] || return 0
+    file=$(readlink -f -- "$1")
+    further=${file%/*}/.zelkuma-held-$$-${#held[@]}
+    trap 'rm -f -- "${held[@]}"' EXIT
+    ! ln -- "$file" "$further" || held+=("$further")
+} 2>/dev/null
+
 # Stops if a file that is there can't be written, or is one of those that would be missed.
 check_old_target() { # NAME FILE
     [ ! -d "$2" ] || stop 3 "$1 can't be saved: ${2@Q} is a folder"
@@ -29,6 +41,7 @@ check_old_target() { # NAME FILE
     read_head "$2"
     [[ $head != $'\x7fELF'* ]] || stop 2 "$1 would destroy ${2@Q}, which is an ELF file; the order is ${wanted[*]}"
     is_older "$1" || stop 2 "$1 would destroy ${2@Q}, which is no older $1; remove it first, or give another name"
+    hold_attributes "$2"
 }
 
 # Whether the last part of a name has more bytes than a file's name can have.
