@@ -10,8 +10,8 @@ ghost use Rattle.first_load_bits.specs.Lines.{place_of};
 ghost use Rattle.first_load_bits.specs.Ways.{empty_way};
 ghost use Rattle.first_load_bits.specs.Steps.{IsListed, IsTouch, IsBitsBelow, IsTakenBelow, IsPutBelow, IsFallen, IsTakenListed};
 
-use crate::warm::{Warm, answer};
 use crate::power::Power;
+use crate::warm::{Warm, answer};
 use crate::way::{Way, bits, find, has_other, known_bits, place_for};
 use bn_base::{Addr, Settings};
 use std::alloc::{AllocError, Global};
