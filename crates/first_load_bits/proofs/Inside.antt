@@ -6,7 +6,7 @@ use Rattle.first_load_bits.specs.Cached.{contents, sets_below}
 use Rattle.first_load_bits.proofs.Both.{HasSets}
 
 pub has_sets : (c : Inside) → HasSets (contents c)
-has_sets c some = let e : (c.width_below == 0) ≡ false = ne_eqb c.width_below 0 (λ q. omega (arith, q, some)) in rw (e, sets_below) (pow_pos c.set_bits_below)
+has_sets c some = let e : (c.width_below == 0) ≡ false = ne_eqb c.width_below 0 (λ q. omega (arith, q, some)) in rw (e, sets_below) (pow_pos c.set_bits_below.bits)
 
 pub no_sets : (c : Inside) → c.width_below ≡ 0 → (contents c).geometry.sets2 ≡ 0
 no_sets c h = rw (eq-eqb c.width_below 0 h, sets_below) refl

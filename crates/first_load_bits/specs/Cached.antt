@@ -6,11 +6,11 @@ use Rattle.first_load_bits.specs.Ways.{AreApart}
 
 -- the number of sets of the second level: none if they would have no ways
 abbrev pub sets_below : Inside → ℕ
-sets_below c = elim (c.width_below == 0) [ true ↦ 0 | false ↦ 2 ^ c.set_bits_below ]
+sets_below c = elim (c.width_below == 0) [ true ↦ 0 | false ↦ 2 ^ c.set_bits_below.bits ]
 
 abbrev pub contents : Inside → Contents
 contents c = record {
-  geometry = record { sets = 2 ^ c.set_bits; ways = c.width; line = 2 ^ c.word_bits; sets2 = sets_below c; ways2 = c.width_below };
+  geometry = record { sets = 2 ^ c.set_bits.bits; ways = c.width; line = 2 ^ c.word_bits.bits; sets2 = sets_below c; ways2 = c.width_below };
   steps = c.steps;
   generation = c.generation;
   ways = c.ways.items;
@@ -28,10 +28,10 @@ pub record AreKept (v : Level) : Type 0 where
 -- there are at most 1,024 sets, 4,096 of the second level, and 16 words in a line, and ways for each set
 pub record IsCache (c : Inside) : Type 0 where
   pub some : 0 < c.width
-  pub sets : c.set_bits ≤ 10
-  pub sets_below : c.set_bits_below ≤ 12
-  pub words : c.word_bits ≤ 4
-  pub count : vec_len c.ways ≡ 2 ^ c.set_bits * c.width
-  pub count_below : vec_len c.ways_below ≡ 2 ^ c.set_bits_below * c.width_below
+  pub sets : c.set_bits.bits ≤ 10
+  pub sets_below : c.set_bits_below.bits ≤ 12
+  pub words : c.word_bits.bits ≤ 4
+  pub count : vec_len c.ways ≡ 2 ^ c.set_bits.bits * c.width
+  pub count_below : vec_len c.ways_below ≡ 2 ^ c.set_bits_below.bits * c.width_below
   pub kept : AreKept (first_level (contents c))
   pub kept_below : AreKept (second_level (contents c))

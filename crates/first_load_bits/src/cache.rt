@@ -10,6 +10,7 @@ ghost use Rattle.first_load_bits.specs.Lines.{place_of};
 ghost use Rattle.first_load_bits.specs.Ways.{empty_way};
 ghost use Rattle.first_load_bits.specs.Steps.{IsListed, IsTouch, IsBitsBelow, IsTakenBelow, IsPutBelow, IsFallen, IsTakenListed};
 
+use crate::power::Power;
 use crate::warm::{Warm, answer};
 use crate::way::{Way, bits, find, has_other, known_bits, place_for};
 use bn_base::{Addr, Settings};
@@ -33,9 +34,9 @@ pub struct Cache {
     width_below: usize,
     // The numbers of sets are these powers of two, and so is the number of words in a line.
     // So sets and words are found by shifts, without a division.
-    set_bits: u32,
-    set_bits_below: u32,
-    word_bits: u32,
+    set_bits: Power,
+    set_bits_below: Power,
+    word_bits: Power,
     // How many touches and clears there were.
     steps: u64,
     // The number of the latest clear among them, 0 before the first.
@@ -102,9 +103,9 @@ impl Cache {
             ways_below,
             width,
             width_below,
-            set_bits,
-            set_bits_below,
-            word_bits,
+            set_bits: Power::of(set_bits),
+            set_bits_below: Power::of(set_bits_below),
+            word_bits: Power::of(word_bits),
             steps: 0,
             generation: 0,
         })
@@ -114,7 +115,7 @@ impl Cache {
     pub fn line_of(&self, addr: Addr) -> u32
         ensures { result ≡ line_of self.now.geometry addr }
     {
-        addr >> (self.word_bits + 2)
+        addr >> (self.word_bits.bits + 2)
     }
 
     // The place of an address's word in its line.
@@ -122,7 +123,7 @@ impl Cache {
         ensures value { result ≡ place_of self.now.geometry addr }
         ensures within { result < 16 }
     {
-        (addr >> 2) % (1 << self.word_bits)
+        self.word_bits.rest(addr >> 2)
     }
 
     // The place of the first way of a line's set.
@@ -130,7 +131,7 @@ impl Cache {
         ensures value { result ≡ set_of self.now.geometry line * self.now.geometry.ways }
         ensures within { result + self.now.geometry.ways ≤ length self.now.ways }
     {
-        (line % (1 << self.set_bits)) as usize * self.width
+        self.set_bits.rest(line) as usize * self.width
     }
 
     // The place of the first way of a line's second set.
@@ -138,7 +139,7 @@ impl Cache {
         ensures value { result ≡ set_of (second_of self.now.geometry) line * self.now.geometry.ways2 }
         ensures within { result + self.now.geometry.ways2 ≤ length self.now.ways_below }
     {
-        (line % (1 << self.set_bits_below)) as usize * self.width_below
+        self.set_bits_below.rest(line) as usize * self.width_below
     }
 
     // Takes a line out of the second level, and gives its bits, none set if it isn't there.
@@ -205,15 +206,13 @@ impl Cache {
     {
         let line = self.line_of(addr);
         let place = self.place_of(addr);
-        let old = self.ways[first + at];
-        let bits = bits(&old, self.generation);
+        let way = &mut self.ways[first + at];
+        let bits = bits(way, self.generation);
         self.steps += 1;
-        self.ways[first + at] = Way {
-            line,
-            mask: bits | (1 << place),
-            age: self.steps,
-            generation: self.generation,
-        };
+        way.line = line;
+        way.mask = bits | (1 << place);
+        way.age = self.steps;
+        way.generation = self.generation;
         answer(bits, place)
     }
 

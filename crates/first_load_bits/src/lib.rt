@@ -21,6 +21,7 @@
 
 pub mod cache;
 pub mod laws;
+pub mod power;
 pub mod warm;
 pub mod way;
 

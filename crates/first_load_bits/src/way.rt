@@ -53,11 +53,27 @@ pub(crate) fn known_bits(way: &Way, line: u32, generation: u64, below: u16) -> u
 }
 
 // The place of the way that has a line, if one has it.
+#[inline(always)]
 pub(crate) fn find(set: &[Way], line: u32) -> Option<usize>
     ensures found { IfSome result (λ at. HasLine line at set.now) }
     ensures none { IfNone result (All (λ w. has_line line w ≡ false) set.now) }
 {
-    for at in 0..set.len() {
+    // Four, as most sets have, apart: so they are compared without a loop.
+    if set.len() == 4 {
+        find_among(set, 4, line)
+    } else {
+        find_among(set, set.len(), line)
+    }
+}
+
+// The same, of so many ways.
+#[inline(always)]
+fn find_among(set: &[Way], count: usize, line: u32) -> Option<usize>
+    requires { count ≡ length set.now }
+    ensures found { IfSome result (λ at. HasLine line at set.now) }
+    ensures none { IfNone result (All (λ w. has_line line w ≡ false) set.now) }
+{
+    for at in 0..count {
         if has_line(&set[at], line) {
             return Some(at);
         }

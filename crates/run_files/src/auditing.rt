@@ -1,5 +1,5 @@
 //! Audits: the run of a list of turns is made again, and its file compared with a log.
-ghost use Rattle.std.specs.Prelude.{◌≡◌, ◌⊎◌, ℕ, None, Some, IfOk, IfErr, OnOk};
+ghost use Rattle.std.specs.Prelude.{◌≡◌, ◌⊎◌, ◌≤◌, ℕ, All, None, Some, IfOk, IfErr, OnOk};
 ghost use Rattle.run_model.specs.declared.error.TurnError.TheVariants.{OutOfMemory};
 ghost use Rattle.run_model.specs.Turn.{Run};
 ghost use Rattle.run_model.specs.Runs.{start, run_from, run_of, live_harts};
@@ -14,10 +14,24 @@ use run_model::{Plain, Start, TurnError};
 use rv_meaning::DecodedImage;
 use std::alloc::{AllocError, Global};
 
+// The greatest hart of a list, 0 if it has none. Many of its bytes are compared at once.
+fn greatest(list: &[u8]) -> u8
+    ensures { All (λ hart. hart ≤ result) list.now }
+{
+    let mut most = 0u8;
+    for hart in list {
+        most = most.max(*hart);
+    }
+    most
+}
+
 // How many turns of hart 0 a list begins with.
 fn turns_of_zero(list: &[u8]) -> u64
     ensures { BeginsWithZeros list.now result }
 {
+    if greatest(list) == 0 {
+        return list.len() as u64;
+    }
     for at in 0..list.len() {
         if list[at] != 0 {
             return at as u64;

@@ -1,5 +1,5 @@
 -- Turns of a hart that is alone, in its own place.
-use Rattle.std.proofs.Common.{◌≡◌, ◌≢◌, ℕ, zero, suc, ◌+◌, ◌-◌, ◌*◌, ◌<◌, ◌≤◌, ◌^◌, ◌==◌, ◌++◌, Bool, true, false, List, [], ◌∷◌, length, sym, ◌∙◌, ap, subst, arith, refl, inl, inr, length-set, min}
+use Rattle.std.proofs.Common.{◌≡◌, ◌≢◌, ℕ, zero, suc, ◌+◌, ◌-◌, ◌*◌, ◌/◌, ◌<◌, ◌≤◌, ◌^◌, ◌==◌, ◌++◌, Bool, true, false, List, [], ◌∷◌, length, sym, ◌∙◌, ap, subst, arith, refl, inl, inr, length-set, min}
 use Rattle.std.specs.Prelude.{IsTrue, slice_set, Option, Some, None, slice_get, nat_le, nat_lt, ◌&&◌, if◌then◌else◌}
 use Rattle.std.proofs.lemmas.List.{append-nil}
 use Rattle.bn_base.specs.Programs.{Program}
@@ -26,12 +26,12 @@ use Rattle.std.proofs.lemmas.Bool.Decides.{eqb_tells}
 use Rattle.rv_meaning.specs.declared.asks.Want.{Want}
 use Rattle.rv_meaning.specs.declared.asks.Reply.{Reply}
 use Rattle.run_model.specs.declared.trace.Trace.{Trace}
-use Rattle.run_model.specs.Turn.{Run, turn, serve, served_if, ask_at, budget, counted, is_orderly, is_guarded, serve_call, guarded_run, by_guard, span_of, point_of, edge_records, load_record, sc_record, next_records, run_over_records, warmth, loading, word_before, bytes_since, hart_after, harts_after, other_after, skipped_after, events_after, next_of}
+use Rattle.run_model.specs.Turn.{Run, turn, serve, served_if, ask_at, budget, counted, is_orderly, is_guarded, serve_call, guarded_run, by_guard, span_of, point_of, edge_records, load_record, sc_record, next_records, run_over_records, warmth, loading, word_before, bytes_since, header_size, hart_after, harts_after, other_after, skipped_after, events_after, next_of}
 use Rattle.run_model.specs.Represents.Accessed.{IsFinished, IsTaken}
 use Rattle.run_model.specs.Represents.EachCache.{steps_in, AreCaches}
 use Rattle.run_model.specs.Represents.Harts.{hart_in, is_live_hart, no_hart}
 use Rattle.std.proofs.lemmas.List.{get_or-set_same}
-use Rattle.run_model.specs.Represents.Alone.{IsNoCall, IsOneOn, IsOnWay, IsMovedAlone, CanTakeAlone, IsTakenAlone, IsTurnedAlone, CanTurn, HasTurned, HaveTurned, HaveStopped, run_alone}
+use Rattle.run_model.specs.Represents.Alone.{IsNoCall, IsOneOn, IsOnWay, IsMovedAlone, CanTakeAlone, IsTakenAlone, IsTurnedAlone, IsUnguarded, CanTurn, HasTurned, HaveTurned, HaveStopped, run_alone}
 use Rattle.run_model.specs.Represents.Turning.{is_live}
 use Rattle.run_model.specs.Represents.InPlace.{in_state, ask_here, moved_harts, moved_run, IsMoved}
 use Rattle.run_model.specs.Represents.Logs.{IsLog, taken}
@@ -307,7 +307,7 @@ taken_alone p new on s want within alone moved no_call ea own taken run is =
 pub one_on : (h g : Hart) (next : TurnEnd) (s : HartState) (sk bytes : ℕ) → next ≡ GoesOn → g ≡ hart_after next s sk bytes h → s.pc ≡ add h.state.pc 4 → s.ic ≡ h.state.ic + 1 → IsOneOn h g
 one_on h g next s sk bytes e at pc ic =
     let is : g ≡ record h { state = s; skipped = sk } = at ∙ ap (λ (n : TurnEnd). hart_after n s sk bytes h) e in
-    record { pc = ap (λ (y : Hart). y.state.pc) is ∙ pc; ic = ap (λ (y : Hart). y.state.ic) is ∙ ic; live = ap (λ (y : Hart). y.live) is; begun = ap (λ (y : Hart). y.begun) is }
+    record { pc = ap (λ (y : Hart). y.state.pc) is ∙ pc; ic = ap (λ (y : Hart). y.state.ic) is ∙ ic; live = ap (λ (y : Hart). y.live) is; begun = ap (λ (y : Hart). y.begun) is; headed = ap (λ (y : Hart). y.headed) is }
 
 -- the list's first hart is live
 pub first_live : (hs : List Hart) → 0 < length hs → (hart_in hs 0).live ≡ true → is_live_hart (slice_get hs 0) ≡ true
@@ -470,6 +470,7 @@ turned_alone each p new on first w end g k within =
       start = k.taken.start;
       turns = k.turns;
       live = first_live new.trace.harts.items within (k.on.live ∙ ap (λ (y : Hart). y.live) t.at ∙ t.live);
+      headed = k.on.headed ∙ ap (λ (y : Hart). y.headed) t.at;
       run = taken_alone p new on (hart_in on.harts.items 0).state k.want t.within g.alone g.moved k.no_call (asked_there p on first w end k.want g k.there) (own_orderly each p on first w end k.want g k.there) k.taken;
     }
 
@@ -487,6 +488,40 @@ still_on_way p new on first w end g left one es =
       end_is = omega (arith, g.end_is, one.ic, left);
       budget = budget_by c h n (w.left - 1) end begun (omega (arith, t.rested.fit.skipped)) (omega (arith, one.ic, t.by.from)) (omega (arith, g.end_is, one.ic, left)) (omega (arith, g.way.budget, g.way.end_is));
     })
+
+-- the bytes from the present Header on
+pub bytes_here : (p : PlainParts) (run : Run) → IsRun p run → 0 < length p.trace.harts.items → bytes_since run 0 ≡ header_size + (p.trace.log.bytes - (hart_in p.trace.harts.items 0).headed)
+bytes_here p run is within =
+    let there = hart_of_run p.trace.harts.items 0 run.harts is.trace.harts within in
+    sym (ap (λ (n : ℕ). header_size + (n - (hart_in p.trace.harts.items 0).headed)) is.trace.bytes ∙ ap (λ (y : Hart). header_size + (run.bytes - y.headed)) there)
+
+pub below_from : (bytes limit : ℕ) → nat_le limit bytes ≡ false → bytes < limit
+below_from bytes limit e = grind arith
+
+pub below_none : (c : RawSettings) (headed : ℕ) → IsUnguarded c headed 0
+below_none c headed bytes below = absurd (none bytes below)
+  where
+    none : (n : ℕ) → n < 0 → ⊥
+    none n e = omega (arith, e)
+
+not_past : (a b : ℕ) → b ≤ a → nat_lt a b ≡ false
+not_past a b below = grind arith
+
+-- as long as the bytes are so many fewer than half of the log's, no more than half are there
+pub fewer_than_half : (c : RawSettings) (half headed limit : ℕ) → half ≡ c.log_size / 2 → 146 ≤ half → limit ≤ headed + (half - 145) → IsUnguarded c headed limit
+fewer_than_half c half headed limit is most low bytes below =
+    let few : 2 * (header_size + (bytes - headed)) ≤ c.log_size = omega (arith, is, most, low, below) in
+    none_and (c.format == 2) (nat_lt c.log_size (2 * (header_size + (bytes - headed)))) (not_past c.log_size (2 * (header_size + (bytes - headed))) few)
+  where
+    none_and : (b e : Bool) → e ≡ false → b && e ≡ false
+    none_and true e none = none
+    none_and false e none = refl
+
+-- the limit of guards is that of the hart where it was moved on to
+pub still_unguarded : (p : PlainParts) (on : Trace) (first w : Walking) (end limit : ℕ) → HasGoneOn p on first w end → IsUnguarded p.start.settings (hart_in p.trace.harts.items 0).headed limit → IsUnguarded p.start.settings (hart_in on.harts.items 0).headed limit
+still_unguarded p on first w end limit g below =
+    let t = stands_there p on first w end g in
+    subst (λ (n : ℕ). IsUnguarded p.start.settings n limit) (sym (ap (λ (y : Hart). y.headed) t.at)) below
 
 -- ---- many turns
 

@@ -24,7 +24,7 @@ ghost use Rattle.run_model.specs.declared.span.Span.{Span};
 ghost use Rattle.run_model.specs.declared.turn_end.TurnEnd.TheVariants.{GoesOn};
 ghost use Rattle.run_model.specs.Turn.{Run, span, bytes_since, warmth, point_of, edge_records, counted, turn};
 ghost use Rattle.run_model.specs.Represents.Accessed.{CanFinish, IsAccessed, IsFinished, IsNoted, IsTurnedHere, AsksHere};
-ghost use Rattle.run_model.specs.Represents.Alone.{CanNoteAlone, CanAccessAlone, IsOneOn, IsOnWay, CanTakeAlone, TakesAlone, TurnsAlone, HaveTurned, HaveStopped};
+ghost use Rattle.run_model.specs.Represents.Alone.{CanNoteAlone, CanAccessAlone, IsOneOn, IsOnWay, CanTakeAlone, IsUnguarded, TakesAlone, TurnsAlone, HaveTurned, HaveStopped};
 ghost use Rattle.run_model.specs.Represents.EachCache.{AreCaches};
 ghost use Rattle.run_model.specs.Represents.Harts.{AreHarts, hart_in};
 ghost use Rattle.run_model.specs.Represents.InPlace.{ask_here, IsMoved};
@@ -34,7 +34,7 @@ ghost use Rattle.run_model.specs.Represents.Plain.{IsRun, everyone};
 ghost use Rattle.run_model.specs.Represents.Tracing.{CachesGoOn, next_by, harts_by, with_ends};
 ghost use Rattle.run_model.specs.Represents.Turning.{parts, is_live};
 
-use crate::hart::skipped_after;
+use crate::hart::{HEADER_SIZE, skipped_after};
 use crate::laws::each_turn_moves_on;
 use crate::plain::Plain;
 use crate::records::append_load;
@@ -279,14 +279,41 @@ impl Plain {
         }
     }
 
+    // How many bytes the log has taken when a guard may cut an ask of the one hart, as long as its interval continues.
+    fn guards_from(&self) -> u64
+        requires { 0 < length self.now.trace.harts.items }
+        ensures { IsUnguarded self.now.start.settings (hart_in self.now.trace.harts.items 0).headed result }
+    {
+        let half = u64::from(self.start.settings.log_size()) / 2;
+        if self.start.settings.format() != 2 {
+            return u64::MAX;
+        }
+        if half < HEADER_SIZE {
+            return 0;
+        }
+        let own = &self.trace.harts[0];
+        own.headed.saturating_add(half - (HEADER_SIZE - 1))
+    }
+
+    // Whether a guard may cut the ask of the one hart.
+    #[inline(always)]
+    fn may_guard(&self, limit: u64) -> bool
+        requires hart { 0 < length self.now.trace.harts.items }
+        requires limit { IsUnguarded self.now.start.settings (hart_in self.now.trace.harts.items 0).headed limit }
+        ensures { result ≡ false → (run : Run) → IsRun (parts self.now) run → (self.now.start.settings.format == 2) && nat_lt self.now.start.settings.log_size (2 * bytes_since run 0) ≡ false }
+    {
+        self.trace.log.bytes >= limit
+    }
+
     // Takes a turn of the one hart, if its interval continues after it and it needs no memory. Else its quiet instructions
     // are done.
     #[inline(always)]
-    fn turn_alone(&mut self, walk: &mut Walk, end: Ic) -> bool
+    fn turn_alone(&mut self, walk: &mut Walk, end: Ic, limit: u64) -> bool
         requires live { is_live (parts self.old) 0 ≡ true }
         requires alone { self.old.start.settings.harts ≡ 1 }
         requires code { walk.old.program ≡ self.old.start.image }
         requires way { IsOnWay self.old.start.settings (hart_in self.old.trace.harts.items 0) walk.old end }
+        requires limit { IsUnguarded self.old.start.settings (hart_in self.old.trace.harts.items 0).headed limit }
         ensures turns { TurnsAlone result (parts self.old) (parts self.new) walk.new end }
         ensures code { walk.new.program ≡ walk.old.program }
     {
@@ -295,7 +322,7 @@ impl Plain {
         if walk.left() == 0 {
             return false;
         }
-        if self.guards(0) {
+        if self.may_guard(limit) {
             return false;
         }
         match walk.op() {
@@ -356,9 +383,10 @@ impl Plain {
     {
         each_ask_is_orderly();
         let last = self.turns.saturating_add(most - 1);
+        let limit = self.guards_from();
         let mut walk = from;
         'turns: while self.turns < last {
-            if !self.turn_alone(&mut walk, end) {
+            if !self.turn_alone(&mut walk, end, limit) {
                 return self.turn_moved(code);
             }
         }

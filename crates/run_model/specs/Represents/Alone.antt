@@ -1,5 +1,5 @@
 -- Turns of a hart that is alone, one after another, done in its own place.
-use Rattle.std.specs.Prelude.{◌≡◌, ◌≤◌, ◌<◌, ◌+◌, ◌*◌, ◌^◌, ◌==◌, ◌&&◌, nat_lt, ℕ, Bool, IsTrue, List, length, true, false, None, replicate}
+use Rattle.std.specs.Prelude.{◌≡◌, ◌≤◌, ◌<◌, ◌+◌, ◌-◌, ◌*◌, ◌^◌, ◌==◌, ◌&&◌, nat_lt, ℕ, Bool, IsTrue, List, length, true, false, None, replicate}
 use Rattle.bn_base.specs.Programs.{Program}
 use Rattle.bn_base.specs.declared.settings.RawSettings.{RawSettings}
 use Rattle.rv_meaning.specs.Ahead.{Walking, AsksThere}
@@ -14,7 +14,7 @@ use Rattle.run_model.specs.declared.span.Span.{Span}
 use Rattle.run_model.specs.declared.turn_end.TurnEnd.TheVariants.{GoesOn}
 use Rattle.run_model.specs.declared.trace.Trace.{Trace}
 use Rattle.run_model.specs.Machine.{Machine, call_of}
-use Rattle.run_model.specs.Turn.{Run, turn, ask_at, budget, counted, bytes_since, is_orderly}
+use Rattle.run_model.specs.Turn.{Run, turn, ask_at, budget, counted, bytes_since, header_size, is_orderly}
 use Rattle.run_model.specs.Runs.{run_from}
 use Rattle.run_model.specs.Runs as runs
 use Rattle.run_model.specs.Represents.Accessed.{AsksHere, IsTaken}
@@ -49,6 +49,7 @@ pub record IsOneOn (old new : Hart) : Type 0 where
   pub ic : new.state.ic ≡ old.state.ic + 1
   pub live : new.live ≡ old.live
   pub begun : new.begun ≡ old.begun
+  pub headed : new.headed ≡ old.headed
 
 -- a hart's way through its code, which ends at this count: it is where the hart is, and then one instruction is left of the
 -- hart's budget
@@ -56,6 +57,10 @@ pub record IsOnWay (c : RawSettings) (h : Hart) (w : Walking) (end : ℕ) : Type
   pub pc : w.pc ≡ h.state.pc
   pub end_is : end ≡ h.state.ic + w.left
   pub budget : budget c h ≡ w.left + 1
+
+-- no ask of a hart whose interval began at this count of the log's bytes is guarded, as long as they are fewer than a limit
+abbrev pub IsUnguarded : RawSettings → (headed limit : ℕ) → Type 0
+IsUnguarded c headed limit = (bytes : ℕ) → bytes < limit → (c.format == 2) && nat_lt c.log_size (2 * (header_size + (bytes - headed))) ≡ false
 
 -- neither a cut nor a system call
 pub record IsNoCall (want : Want) : Type 0 where
@@ -98,6 +103,7 @@ pub record IsTurnedAlone (old new : PlainParts) : Type 0 where
   pub start : new.start ≡ old.start
   pub turns : new.turns ≡ old.turns + 1
   pub live : is_live new 0 ≡ true
+  pub headed : (hart_in new.trace.harts.items 0).headed ≡ (hart_in old.trace.harts.items 0).headed
   pub run : (run : Run) → IsRun old run → IsRun new (turn old.start.settings old.start.image run 0)
 
 -- a turn was taken, and the hart is on its way; or it was moved

@@ -4,4 +4,4 @@ use Rattle.first_load_bits.specs.Represents.{Contents}
 use Rattle.first_load_bits.proofs.cache.Cache.line_of.Goals as goal
 
 pub returns : goal.returns
-returns c = let k = c.self.inside.word_bits in subst (λ (x : Contents). c.args.addr / 2 ^ (k + 2) ≡ line_of x.geometry c.args.addr) c.self.view_is (ap (λ n. c.args.addr / n) (pow-add 2 k 2 ∙ mul_comm (2 ^ k) 4))
+returns c = let k = c.self.inside.word_bits.bits in subst (λ (x : Contents). c.args.addr / 2 ^ (k + 2) ≡ line_of x.geometry c.args.addr) c.self.view_is (ap (λ n. c.args.addr / n) (pow-add 2 k 2 ∙ mul_comm (2 ^ k) 4))

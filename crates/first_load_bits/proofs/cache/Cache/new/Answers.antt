@@ -1,4 +1,4 @@
-use Rattle.std.proofs.Common.{◌≡◌, ◌^◌, ◌<◌, ◌≤◌, ◌==◌, ◌∙◌, ℕ, Bool, true, false, ap, sym, subst, arith, refl}
+use Rattle.std.proofs.Common.{◌≡◌, ◌*◌, ◌^◌, ◌<◌, ◌≤◌, ◌==◌, ◌∙◌, ℕ, Bool, true, false, ap, sym, subst, arith, refl}
 use Rattle.std.specs.Prelude.{IsTrue, ◌&&◌, ◌||◌, if◌then◌else◌}
 use Rattle.std.specs.Int.{is_power_of_two}
 use Rattle.std.proofs.lemmas.Bool.{eqb-true}
@@ -29,17 +29,31 @@ empty_ways-requires-clause-sets c =
     let few : c.ilog2-set_bits.result ≤ 10 = power_low 10 c.ilog2-set_bits.result (let p = c.ilog2-set_bits.ensures.power_le in let h = is.sets_high in omega (arith, p, h)) in
     omega (arith, few)
 
+pub of-requires : goal.of-requires
+of-requires c =
+    let is : IsSetting c.raw-raw.result = subst IsSetting (sym c.raw-raw.ensures.value) c.raw-raw.ensures.in_range in
+    let few : c.ilog2-set_bits.result ≤ 10 = power_low 10 c.ilog2-set_bits.result (let p = c.ilog2-set_bits.ensures.power_le in let h = is.sets_high in omega (arith, p, h)) in
+    omega (arith, few)
+
+pub of-requires-3 : goal.of-requires-3
+of-requires-3 c =
+    let is : IsSetting c.raw-raw.result = subst IsSetting (sym c.raw-raw.ensures.value) c.raw-raw.ensures.in_range in
+    let few : c.ilog2-word_bits.result ≤ 4 = power_low 4 c.ilog2-word_bits.result (let p = c.ilog2-word_bits.ensures.power_le in let h = is.line_high in omega (arith, p, h)) in
+    omega (arith, few)
+
 pub invariant_of-result : goal.invariant_of-result
 invariant_of-result c =
     let raw = c.raw-raw.result in
     let is : IsSetting raw = subst IsSetting (sym c.raw-raw.ensures.value) c.raw-raw.ensures.in_range in
+    let few : c.ilog2-set_bits.result ≤ 10 = power_low 10 c.ilog2-set_bits.result (let p = c.ilog2-set_bits.ensures.power_le in let h = is.sets_high in omega (arith, p, h)) in
+    let short : c.ilog2-word_bits.result ≤ 4 = power_low 4 c.ilog2-word_bits.result (let p = c.ilog2-word_bits.ensures.power_le in let h = is.line_high in omega (arith, p, h)) in
     record {
       some = omega (arith, c.ways-width.ensures.low);
-      sets = power_low 10 c.ilog2-set_bits.result (let p = c.ilog2-set_bits.ensures.power_le in let h = is.sets_high in omega (arith, p, h));
-      sets_below = c.power_of-set_bits_below.ensures.few;
-      words = power_low 4 c.ilog2-word_bits.result (let p = c.ilog2-word_bits.ensures.power_le in let h = is.line_high in omega (arith, p, h));
-      count = c.in_ok-ways.ensures.count;
-      count_below = c.in_ok-ways_below.ensures.count;
+      sets = omega (arith, few, c.of.ensures);
+      sets_below = omega (arith, c.power_of-set_bits_below.ensures.few, c.of-2.ensures);
+      words = omega (arith, short, c.of-3.ensures);
+      count = c.in_ok-ways.ensures.count ∙ ap (λ (n : ℕ). 2 ^ n * c.ways-width.result) (sym c.of.ensures);
+      count_below = c.in_ok-ways_below.ensures.count ∙ ap (λ (n : ℕ). 2 ^ n * c.second_ways-width_below.result) (sym c.of-2.ensures);
       kept = new_kept _ refl (All-same (λ w. (w.age ≡ 0) × (w.generation ≡ 0)) _ _ c.in_ok-ways.ensures.items (All-replicate (λ w. (w.age ≡ 0) × (w.generation ≡ 0)) _ _ (refl, refl)));
       kept_below = new_kept _ refl (All-same (λ w. (w.age ≡ 0) × (w.generation ≡ 0)) _ _ c.in_ok-ways_below.ensures.items (All-replicate (λ w. (w.age ≡ 0) × (w.generation ≡ 0)) _ _ (refl, refl)));
     }
@@ -78,6 +92,7 @@ returns-clause-geometry c =
     let width : c.second_ways-width_below.result ≡ raw.ways2 = c.second_ways-width_below.ensures.value ∙ sym (ap (λ (r : RawSettings). r.ways2) known) in
     let ways : IsTrue (if raw.sets2 == 0 then c.second_ways-width_below.result == 0 else is_between 1 16 c.second_ways-width_below.result) =
     subst (λ (n : ℕ). IsTrue (if raw.sets2 == 0 then n == 0 else is_between 1 16 n)) (sym width) is.second_ways in
-    same_geometry _ _ _ _ _ _ (sets ∙ ap (λ (r : RawSettings). r.sets) known) c.ways-width.ensures.value (line ∙ ap (λ (r : RawSettings). r.line) known)
-    (sets_below c.second_ways-width_below.result c.power_of-set_bits_below.result raw.sets2 (raw.sets2 == 0) (raw.format == 2) refl is.second_sets ways c.power_of-set_bits_below.ensures.power ∙ ap (λ (r : RawSettings). r.sets2) known)
+    same_geometry _ _ _ _ _ _ (ap (λ (n : ℕ). 2 ^ n) c.of.ensures ∙ sets ∙ ap (λ (r : RawSettings). r.sets) known) c.ways-width.ensures.value (ap (λ (n : ℕ). 2 ^ n) c.of-3.ensures ∙ line ∙ ap (λ (r : RawSettings). r.line) known)
+    (ap (λ (n : ℕ). elim (c.second_ways-width_below.result == 0) as (λ x. ℕ) [ true ↦ 0 | false ↦ 2 ^ n ]) c.of-2.ensures
+    ∙ sets_below c.second_ways-width_below.result c.power_of-set_bits_below.result raw.sets2 (raw.sets2 == 0) (raw.format == 2) refl is.second_sets ways c.power_of-set_bits_below.ensures.power ∙ ap (λ (r : RawSettings). r.sets2) known)
     c.second_ways-width_below.ensures.value

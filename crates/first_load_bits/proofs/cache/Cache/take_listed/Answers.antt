@@ -8,7 +8,7 @@ use Rattle.first_load_bits.proofs.Both.{read_first}
 use Rattle.first_load_bits.proofs.cache.Cache.take_listed.Goals as goal
 
 read : (c : goal.After-self-1) → IsRead (first_level (contents c.self.inside)) c.args.line c.first_way-first.result (take (c.first_way-first.result + c.self.inside.width - c.first_way-first.result) (drop c.first_way-first.result c.deref.result.now))
-read c = read_first (contents c.self.inside) c.args.self.now c.args.line _ c.deref.result.now c.self.view_is (pow_pos c.self.inside.set_bits) c.first_way-first.ensures.value c.first_way-first.ensures.within c.deref.ensures.value
+read c = read_first (contents c.self.inside) c.args.self.now c.args.line _ c.deref.result.now c.self.view_is (pow_pos c.self.inside.set_bits.bits) c.first_way-first.ensures.value c.first_way-first.ensures.within c.deref.ensures.value
 
 -- the way that is written
 abbrev emptied : Way → Way
@@ -40,5 +40,5 @@ returns-in-Some c = let after : Contents = with_ways (contents c.self.inside) (s
 
 pub returns-in-None : goal.returns-in-None
 returns-in-None c =
-    let read = read_first (contents c.self.inside) c.args.self.now c.args.line _ c.deref.result.now c.self.view_is (pow_pos c.self.inside.set_bits) c.first_way-first.ensures.value c.first_way-first.ensures.within c.deref.ensures.value in
+    let read = read_first (contents c.self.inside) c.args.self.now c.args.line _ c.deref.result.now c.self.view_is (pow_pos c.self.inside.set_bits.bits) c.first_way-first.ensures.value c.first_way-first.ensures.within c.deref.ensures.value in
     subst (λ (x : Contents). IsTakenListed x c.args.line x) c.self.view_is (record { same = refl; lines = λ k m. out_absent (first_level (contents c.self.inside)) c.args.line _ k _ read c.in-None.ensures.none })

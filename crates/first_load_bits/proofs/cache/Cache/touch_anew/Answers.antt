@@ -13,7 +13,7 @@ use Rattle.first_load_bits.proofs.cache.Cache.touch_anew.Goals as goal
 pub invariant_of-self : goal.invariant_of-self
 invariant_of-self c =
     let level = first_level (contents c.self.inside) in
-    let read = read_first (contents c.self.inside) c.take_below-below.new.self c.line_of-line.result _ c.deref.result.now c.self.view_is (pow_pos c.self.inside.set_bits) c.first_way-first.ensures.value c.first_way-first.ensures.within c.deref.ensures.value in
+    let read = read_first (contents c.self.inside) c.take_below-below.new.self c.line_of-line.result _ c.deref.result.now c.self.view_is (pow_pos c.self.inside.set_bits.bits) c.first_way-first.ensures.value c.first_way-first.ensures.within c.deref.ensures.value in
     record {
       some = c.self.invariant.some;
       sets = c.self.invariant.sets;
@@ -37,7 +37,7 @@ touched c =
       sets = has_sets c.self.inside;
       kept = c.self.invariant.kept;
       kept_below = c.self.invariant.kept_below;
-      read = read_first x c.take_below-below.new.self line _ c.deref.result.now c.self.view_is (pow_pos c.self.inside.set_bits) c.first_way-first.ensures.value c.first_way-first.ensures.within c.deref.ensures.value;
+      read = read_first x c.take_below-below.new.self line _ c.deref.result.now c.self.view_is (pow_pos c.self.inside.set_bits.bits) c.first_way-first.ensures.value c.first_way-first.ensures.within c.deref.ensures.value;
       at = c.place_for.ensures;
       way = c.index.ensures;
       line_is = c.line_of-line.ensures;

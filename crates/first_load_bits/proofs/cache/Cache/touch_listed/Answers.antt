@@ -32,7 +32,7 @@ line_is c = c.line_of-line.ensures ∙ ap (λ (x : Contents). line_of x.geometry
 read : (c : goal.After-answer) → IsRead (first_level (contents c.self.inside)) c.line_of-line.result c.args.first (ways c)
 read c =
     let x : Contents = contents c.self.inside in
-    read_first x x c.line_of-line.result c.args.first c.self.inside.ways.items refl (pow_pos c.self.inside.set_bits)
+    read_first x x c.line_of-line.result c.args.first c.self.inside.ways.items refl (pow_pos c.self.inside.set_bits.bits)
     ((listed c).first_is ∙ ap (λ k. set_of x.geometry k * x.geometry.ways) (sym (line_is c))) (listed c).within refl
 
 has : (c : goal.After-answer) → HasLine c.line_of-line.result c.args.at (ways c)
@@ -55,13 +55,13 @@ pub returns : goal.returns
 returns c =
     let x : Contents = contents c.self.inside in
     let line = c.line_of-line.result in
-    let w = c.index.result.now in
+    let w = c.index_mut-way.result.now in
     let alone = (listed c).alone in
     let place_is = c.place_of-place.ensures.value ∙ ap (λ (y : Contents). place_of y.geometry c.args.addr) (sym c.self.view_is) in
-    let known = c.bits-bits.ensures ∙ known_read (first_level x) line c.args.first c.args.at 0 (ways c) w (read c) (has c) c.index.ensures in
+    let known = c.bits-bits.ensures ∙ known_read (first_level x) line c.args.first c.args.at 0 (ways c) w (read c) (has c) c.index_mut-way.ensures.value in
     let mask = mask_is c.bits-bits.result (known_bits x.generation line 0 w) c.place_of-place.result c.place_of-place.ensures.within known in
     let told = c.answer.ensures ∙ ap (λ m. if bit_at m c.place_of-place.result == 1 then Answer.Warm else Answer.Cold) c.bits-bits.ensures in
     subst (λ (y : Contents). IsTouch y c.args.addr c.answer.result (after c (bit_or c.bits-bits.result (1 * 2 ^ c.place_of-place.result % 2 ^ 16)))) c.self.view_is
     (subst (λ m. IsTouch x c.args.addr c.answer.result (after c m)) (sym mask)
-    (listed_is x c.args.addr line c.args.first c.args.at c.place_of-place.result w c.answer.result c.self.invariant.some (pow_pos c.self.inside.set_bits) (no_sets c.self.inside alone)
-    c.self.invariant.kept c.self.invariant.kept_below (listed c) (line_is c) place_is c.index.ensures told))
+    (listed_is x c.args.addr line c.args.first c.args.at c.place_of-place.result w c.answer.result c.self.invariant.some (pow_pos c.self.inside.set_bits.bits) (no_sets c.self.inside alone)
+    c.self.invariant.kept c.self.invariant.kept_below (listed c) (line_is c) place_is c.index_mut-way.ensures.value told))

@@ -1,4 +1,4 @@
-use Rattle.std.proofs.Common.{◌≡◌, ◌≤◌, ◌<◌, ◌+◌, ℕ, length, true, sym, ap, subst, arith, ◌∙◌}
+use Rattle.std.proofs.Common.{◌≡◌, ◌≤◌, ◌<◌, ◌+◌, ℕ, length, true, sym, ap, subst, arith}
 use Rattle.rv_meaning.specs.Ahead.{Walking}
 use Rattle.rv_meaning.specs.Execute.{ask_of}
 use Rattle.run_model.specs.declared.start.Start.{Start}
@@ -8,7 +8,7 @@ use Rattle.run_model.specs.Represents.Harts.{hart_in}
 use Rattle.run_model.specs.Represents.InPlace.{IsMoved}
 use Rattle.run_model.specs.Represents.Plain.{PlainParts, IsTraceFit}
 use Rattle.run_model.specs.Represents.Turning.{parts, is_live}
-use Rattle.run_model.proofs.LoneTurns.{HasGoneOn, gone_fits, gone_moved, can_take, turned_alone, still_on_way}
+use Rattle.run_model.proofs.LoneTurns.{HasGoneOn, gone_fits, gone_moved, can_take, turned_alone, still_on_way, still_unguarded}
 use Rattle.run_model.proofs.OneTurn.{live_within}
 use Rattle.run_model.proofs.plain.Plain.turn_alone.Goals as goal
 
@@ -38,8 +38,8 @@ returns-then-left-eq0-clause-turns c =
     c.move_alone.ensures.moved c.move_alone.ensures.pc c.move_alone.ensures.end c.move_alone.ensures.left c.move_alone.ensures.program c.move_alone.ensures.asks in
     gone_moved (parts c.args.self.now) c.move_alone.new.self c.args.walk.now c.move_alone.new.walk c.args.end g
 
-pub returns-then-guards-clause-turns : goal.returns-then-guards-clause-turns
-returns-then-guards-clause-turns c =
+pub returns-then-may_guard-clause-turns : goal.returns-then-may_guard-clause-turns
+returns-then-may_guard-clause-turns c =
     let g : HasGoneOn (parts c.args.self.now) c.move_alone.new.self c.args.walk.now c.move_alone.new.walk c.args.end = gone (parts c.args.self.now) c.move_alone.new.self c.args.walk.now c.move_alone.new.walk c.args.end c.args.self.now.fits c.requires.alone c.requires.live c.requires.code c.requires.way
     c.move_alone.ensures.moved c.move_alone.ensures.pc c.move_alone.ensures.end c.move_alone.ensures.left c.move_alone.ensures.program c.move_alone.ensures.asks in
     gone_moved (parts c.args.self.now) c.move_alone.new.self c.args.walk.now c.move_alone.new.walk c.args.end g
@@ -50,11 +50,24 @@ returns-in-None-clause-turns c =
     c.move_alone.ensures.moved c.move_alone.ensures.pc c.move_alone.ensures.end c.move_alone.ensures.left c.move_alone.ensures.program c.move_alone.ensures.asks in
     gone_moved (parts c.args.self.now) c.move_alone.new.self c.args.walk.now c.move_alone.new.walk c.args.end g
 
+pub may_guard-requires-clause-hart : goal.may_guard-requires-clause-hart
+may_guard-requires-clause-hart c =
+    let g : HasGoneOn (parts c.args.self.now) c.move_alone.new.self c.args.walk.now c.move_alone.new.walk c.args.end = gone (parts c.args.self.now) c.move_alone.new.self c.args.walk.now c.move_alone.new.walk c.args.end c.args.self.now.fits c.requires.alone c.requires.live c.requires.code c.requires.way
+    c.move_alone.ensures.moved c.move_alone.ensures.pc c.move_alone.ensures.end c.move_alone.ensures.left c.move_alone.ensures.program c.move_alone.ensures.asks in
+    let fits = gone_fits (parts c.args.self.now) c.move_alone.new.self c.args.walk.now c.move_alone.new.walk c.args.end g in
+    omega (arith, fits.harts, c.requires.alone)
+
+pub may_guard-requires-clause-limit : goal.may_guard-requires-clause-limit
+may_guard-requires-clause-limit c =
+    let g : HasGoneOn (parts c.args.self.now) c.move_alone.new.self c.args.walk.now c.move_alone.new.walk c.args.end = gone (parts c.args.self.now) c.move_alone.new.self c.args.walk.now c.move_alone.new.walk c.args.end c.args.self.now.fits c.requires.alone c.requires.live c.requires.code c.requires.way
+    c.move_alone.ensures.moved c.move_alone.ensures.pc c.move_alone.ensures.end c.move_alone.ensures.left c.move_alone.ensures.program c.move_alone.ensures.asks in
+    still_unguarded (parts c.args.self.now) c.move_alone.new.self c.args.walk.now c.move_alone.new.walk c.args.end c.args.limit g c.requires.limit
+
 pub access_alone-requires-clause-can : goal.access_alone-requires-clause-can
 access_alone-requires-clause-can c =
     let g : HasGoneOn (parts c.args.self.now) c.move_alone.new.self c.args.walk.now c.move_alone.new.walk c.args.end = gone (parts c.args.self.now) c.move_alone.new.self c.args.walk.now c.move_alone.new.walk c.args.end c.args.self.now.fits c.requires.alone c.requires.live c.requires.code c.requires.way
     c.move_alone.ensures.moved c.move_alone.ensures.pc c.move_alone.ensures.end c.move_alone.ensures.left c.move_alone.ensures.program c.move_alone.ensures.asks in
-    can_take c.each_ask_is_orderly.ensures.orderly (parts c.args.self.now) c.move_alone.new.self c.args.walk.now c.move_alone.new.walk c.args.end g (omega (arith, c.left.ensures, c.if-left-eq0.false)) (λ run is. sym (c.guards.ensures.run run is) ∙ c.if-guards.false)
+    can_take c.each_ask_is_orderly.ensures.orderly (parts c.args.self.now) c.move_alone.new.self c.args.walk.now c.move_alone.new.walk c.args.end g (omega (arith, c.left.ensures, c.if-left-eq0.false)) (c.may_guard.ensures c.if-may_guard.false)
 
 pub returns-then-access_alone-clause-turns : goal.returns-then-access_alone-clause-turns
 returns-then-access_alone-clause-turns c =

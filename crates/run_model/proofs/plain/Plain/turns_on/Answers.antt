@@ -1,10 +1,14 @@
 use Rattle.std.proofs.Common.{◌≡◌, ◌+◌, ◌-◌, ℕ, refl, sym, ap, subst, arith, ◌∙◌}
 use Rattle.std.proofs.lemmas.Result.{on_ok_weaker, on_err_weaker}
 use Rattle.run_model.specs.declared.start.Start.{Start}
-use Rattle.run_model.specs.Represents.Alone.{HasTurned}
+use Rattle.run_model.specs.Represents.Alone.{IsUnguarded, HasTurned}
+use Rattle.run_model.specs.Represents.Harts.{hart_in}
 use Rattle.run_model.specs.Represents.Turning.{parts}
 use Rattle.run_model.proofs.LoneTurns.{none_turned, one_turned, moved_turn, moved_stays, could_more, can_turn}
 use Rattle.run_model.proofs.plain.Plain.turns_on.Goals as goal
+
+pub guards_from-limit-requires : goal.guards_from-limit-requires
+guards_from-limit-requires c = omega (arith, c.args.self.now.fits.harts, c.requires.alone)
 
 pub turns-init : goal.turns-init
 turns-init c = record {
@@ -15,6 +19,7 @@ turns-init c = record {
   turned = λ run is. let none : c.args.self.now.turns - c.args.self.now.turns ≡ 0 = omega arith in subst (λ (n : ℕ). HasTurned (parts c.args.self.now) (parts c.args.self.now) run n) (sym none) (none_turned (parts c.args.self.now) run is);
   program = c.requires.program;
   way = c.requires.way;
+  limit = c.guards_from-limit.ensures;
 }
 
 pub turns-preserved : goal.turns-preserved
@@ -34,6 +39,8 @@ turns-preserved c =
           subst (λ (n : ℕ). HasTurned p r run n) up (one_turned p q r run (q.turns - p.turns) had inv.start (can_turn c.each_ask_is_orderly.ensures.orderly q _ c.turns.self.fits alone inv.live had.is) t.0.run);
       program = c.turn_alone.ensures.code ∙ inv.program ∙ ap (λ (x : Start). x.image) (sym t.0.start);
       way = t.1;
+      limit = subst (λ (x : Start). IsUnguarded x.settings (hart_in r.trace.harts.items 0).headed c.guards_from-limit.result) (sym t.0.start)
+          (subst (λ (n : ℕ). IsUnguarded q.start.settings n c.guards_from-limit.result) (sym t.0.headed) inv.limit);
     }
 
 pub returns-clause-turned : goal.returns-clause-turned

@@ -1,6 +1,6 @@
 use Rattle.std.proofs.Common.{◌≡◌, ◌≤◌, ◌-◌, true}
 use Rattle.run_model.specs.Turn.{Run}
-use Rattle.run_model.specs.Represents.Alone.{IsOnWay, HasTurned}
+use Rattle.run_model.specs.Represents.Alone.{IsOnWay, IsUnguarded, HasTurned}
 use Rattle.run_model.specs.Represents.Harts.{hart_in}
 use Rattle.run_model.specs.Represents.Plain.{IsRun}
 use Rattle.run_model.specs.Represents.Turning.{parts, is_live}
@@ -15,6 +15,7 @@ invariant-turns l = record {
   turned : (run : Run) → IsRun (parts l.initial.self) run → HasTurned (parts l.initial.self) (parts l.self) run (l.self.turns - l.initial.self.turns);
   program : l.walk.program ≡ l.self.start.image;
   way : IsOnWay l.self.start.settings (hart_in l.self.trace.harts.items 0) l.walk l.end;
+  limit : IsUnguarded l.self.start.settings (hart_in l.self.trace.harts.items 0).headed l.limit;
 }
 
 abbrev pub decreases-turns : goal.decreases-turns
