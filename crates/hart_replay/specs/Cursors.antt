@@ -1,5 +1,5 @@
 -- What the definition says of a replay at its cursor: what its next instruction does, and what is to come.
-use Rattle.std.specs.Prelude.{◌≡◌, ℕ, false, Option, Result}
+use Rattle.std.specs.Prelude.{◌≡◌, ℕ, Bool, true, false, Option, Some, Result, Ok, Err}
 use Rattle.bn_base.specs.declared.row.Row.{Row}
 use Rattle.rv_meaning.specs.Execute.{after}
 use Rattle.rv_meaning.specs.declared.asks.Reply.{Reply}
@@ -32,6 +32,12 @@ next_of c = one_step c.image.now c.hart (interval_of_cursor c) (position_of c)
 -- the instruction is done as the definition says, with its row, from one cursor to another
 abbrev pub CursorDoes : IntervalCursor → Next → Result (Unit {0}) ReplayError → Row → IntervalCursor → Type 0
 CursorDoes old n result row new = Does (side_of old) n old.state result row new.state new.called (side_of new)
+
+-- an instruction was done, or else this refusal is kept
+abbrev pub answered : Bool → Option (Result (Unit {0}) ReplayError) → Result (Unit {0}) ReplayError
+answered true kept = Ok tt
+answered false (Some (Err e)) = Err e
+answered false kept = Ok tt
 
 -- the row of an asking instruction that got this reply
 abbrev pub replied_row : IntervalCursor → Want → Reply → Option (ℕ × ℕ) → Option (ℕ × ℕ) → Row

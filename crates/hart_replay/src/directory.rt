@@ -126,6 +126,7 @@ impl Directory {
     }
 
     /// Makes room for so many more numbers. The places stay.
+    #[inline(always)]
     pub(crate) fn make_room(&mut self, numbers: usize) -> Result<(), AllocError>
         ensures room { OnOk result (numbers ≤ self.new.room) }
         ensures same { (n : ℕ) → place_for self.new n ≡ place_for self.old n }

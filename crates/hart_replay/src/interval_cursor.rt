@@ -1,15 +1,16 @@
 //! The instructions of an interval, one by one: here the log's records are met. `Replayer` adds the end.
-ghost use Rattle.std.specs.Prelude.{◌≡◌, ◌<◌, ◌/◌, ◌==◌, ◌&&◌, ◌||◌, ℕ, true, false, Some, None, if◌then◌else◌, IsTrue, IfOk, IfErr, OnOk};
+ghost use Rattle.std.specs.Prelude.{◌≡◌, ◌<◌, ◌/◌, ◌==◌, ◌&&◌, ◌||◌, ℕ, true, false, Some, None, Err, if◌then◌else◌, IsTrue, IfOk, IfErr, OnOk};
 ghost use Rattle.rv_meaning.specs.Execute.{after};
 ghost use Rattle.rv_meaning.specs.Orderly.{is_reply_to, is_aligned, is_cut, passes};
 ghost use Rattle.rv_meaning.specs.declared.asks.Want.TheVariants.{Load, LoadReserved, Amo, Store, StoreConditional, System};
 ghost use Rattle.rv_meaning.specs.Rows.{call_row};
 ghost use Rattle.rv_meaning.specs.Lookups.{fetched};
+ghost use Rattle.hart_replay.specs.declared.error.ReplayError.{ReplayError};
 ghost use Rattle.hart_replay.specs.declared.error.ReplayError.TheVariants.{LoadMissing, EndDiffers, OutOfMemory};
 ghost use Rattle.hart_replay.specs.Replay.{call_reason, found};
 ghost use Rattle.hart_replay.specs.Pages.{word_at};
 ghost use Rattle.hart_replay.specs.Sides.{IsSystem, call_reg, call_answer, fault_in, word_due, outcome_of, rows_if};
-ghost use Rattle.hart_replay.specs.Cursors.{CursorDoes, DoneAndKept, next_asked, next_of, replied_row, replied, left_of, end_of};
+ghost use Rattle.hart_replay.specs.Cursors.{CursorDoes, DoneAndKept, answered, next_asked, next_of, replied_row, replied, left_of, end_of};
 ghost use Rattle.hart_replay.specs.Scans.{met, IsWaiting};
 
 use crate::code::Code;
@@ -427,6 +428,28 @@ impl<'a> IntervalCursor<'a> {
     {
         let here = self.image.fetch(self.hart, &self.state);
         self.go_on_at(&here, row)
+    }
+
+    /// As `go_on`, but an error is put in `over`: an answer that could hold one would be copied for each row.
+    #[inline(never)]
+    pub(crate) fn goes_on(
+        &mut self,
+        over: &mut Option<Result<(), ReplayError>>,
+        row: &mut Row,
+    ) -> bool
+        requires { self.old.state.ic < self.old.mark.ic }
+        ensures answer { CursorDoes self.old (next_of self.old) (answered result over.new) row.new self.new }
+        ensures same { (self.new.image ≡ self.old.image) × (self.new.hart ≡ self.old.hart) × (self.new.mark ≡ self.old.mark) }
+        ensures kept { IsTrue result → over.new ≡ over.old }
+        ensures refused { result ≡ false → (e : ReplayError) × (over.new ≡ Some (Err e)) }
+    {
+        match self.go_on(row) {
+            Ok(()) => true,
+            Err(error) => {
+                *over = Some(Err(error));
+                false
+            }
+        }
     }
 
     // The same, for an instruction that was looked up.

@@ -108,6 +108,7 @@ impl<'a> Replayer<'a> {
     }
 
     /// As `step`, with the row written to `row`; `false` if `step` gives none.
+    #[inline(always)]
     pub fn advance(&mut self, row: &mut Row) -> Result<bool, ReplayError>
         ensures { Stepped self.old (given result row.new) self.new }
     {
@@ -116,12 +117,13 @@ impl<'a> Replayer<'a> {
             Some(Err(error)) => Err(error),
             None => {
                 if self.cursor.state.ic < self.cursor.mark.ic {
-                    match self.cursor.go_on(row) {
-                        Ok(()) => Ok(true),
-                        Err(error) => {
-                            self.over = Some(Err(error));
-                            Err(error)
-                        }
+                    if self.cursor.goes_on(&mut self.over, row) {
+                        return Ok(true);
+                    }
+                    match self.over {
+                        Some(Err(error)) => Err(error),
+                        Some(Ok(())) => unreachable!(),
+                        None => unreachable!(),
                     }
                 } else {
                     let (faults, outcome) = self.cursor.end(row);

@@ -100,6 +100,7 @@ impl Words {
     }
 
     /// Makes room for so many more pages. The words stay.
+    #[inline(always)]
     pub fn make_room(&mut self, pages: usize) -> Result<(), AllocError>
         ensures room { OnOk result (pages ≤ self.new.room) }
         ensures same { (k : ℕ) → word_at self.new.pages k ≡ word_at self.old.pages k }

@@ -78,6 +78,7 @@ pub fn write_step(stepped: &Stepped, text: &mut Text) -> Result<(), AllocError>
 
 /// Appends the line of a hart's step, as [`write_step`]; that of a row is one of `lines`, which keeps the
 /// texts of code that is done again.
+#[inline(always)]
 pub(crate) fn write_moved(
     lines: &mut RowLines,
     hart: HartId,

@@ -10,7 +10,7 @@ use crate::send::{send, send_block, send_short};
 use crate::texts::push_begin;
 use bn_base::{EndMark, Row};
 use bn_outside::Sink;
-use hart_replay::{ReplayError, Replayer};
+use hart_replay::{ReplayError, Replayer, blank_row};
 use rv_text::{RowLines, Text, write_end};
 use std::alloc::Global;
 
@@ -63,10 +63,11 @@ fn send_left<O: Sink>(
     requires { text.old ≡ [] }
     ensures { let r = replayer.old.left in SendsReplay (rows_text r.rows) r.outcome replayer.new (O.stream out.old) (O.stream out.new) result }
 {
+    let mut row = blank_row();
     'rows: loop {
-        match replayer.step() {
-            Ok(Some(row)) => gather_row(lines, text, &row, out)?,
-            Ok(None) => {
+        match replayer.advance(&mut row) {
+            Ok(true) => gather_row(lines, text, &row, out)?,
+            Ok(false) => {
                 send(out, text)?;
                 return Ok(ReplayEnd::Done);
             }

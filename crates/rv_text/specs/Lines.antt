@@ -1,5 +1,5 @@
 -- The parts of the line of a row that has no fault.
-use Rattle.std.specs.Prelude.{◌≡◌, ◌<◌, ℕ, List, ◌++◌, codes, decimal, length}
+use Rattle.std.specs.Prelude.{◌≡◌, ◌<◌, ◌==◌, ℕ, List, [], ◌++◌, codes, decimal, length, if◌then◌else◌, Option, Some, None}
 use Rattle.bn_base.specs.declared.row.Row.{Row}
 use Rattle.rv_decode.specs.Table.{decoded}
 use Rattle.rv_text.specs.Instructions.{hex8}
@@ -14,17 +14,22 @@ count_text hart ic = decimal hart ++ codes " " ++ decimal ic
 unfoldable pub place_text : ℕ → ℕ → List ℕ
 place_text pc word = codes " " ++ hex8 pc ++ word_text pc word (decoded word)
 
--- there is no text, or it is that of the pc and the word
-abbrev pub NoneOrText : ℕ → ℕ → List ℕ → Type 0
-NoneOrText pc word text = 0 < length text → text ≡ place_text pc word
-
 -- there is no text, or it is that of the hart and the count
 abbrev pub NoneOrCount : ℕ → ℕ → List ℕ → Type 0
 NoneOrCount hart ic text = 0 < length text → text ≡ count_text hart ic
 
--- a register's name between ` | ` and `=`
+-- a register's name between ` | ` and `=`; nothing for 32, which is none
 unfoldable pub label_text : ℕ → List ℕ
-label_text register = codes " | " ++ register_name register ++ codes "="
+label_text register = if register == 32 then [] else codes " | " ++ register_name register ++ codes "="
+
+-- there is no text, or it is that of the pc, the word and the register
+abbrev pub NoneOrText : ℕ → ℕ → ℕ → List ℕ → Type 0
+NoneOrText pc word register text = 0 < length text → text ≡ place_text pc word ++ label_text register
+
+-- the new contents of a register, if one was written
+abbrev pub contents_text : Option (ℕ × ℕ) → List ℕ
+contents_text None = []
+contents_text (Some written) = hex8 written.1
 
 -- the line of a row with this word
 unfoldable pub joined_text : Row → ℕ → List ℕ

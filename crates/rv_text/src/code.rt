@@ -1,23 +1,27 @@
-//! The text of a pc and its code word, kept for rows of instructions that are done again.
-ghost use Rattle.std.specs.Prelude.{◌≡◌, ◌++◌, OnOk, codes, option_map};
+//! The text of a pc, its code word and the label of the register that it writes, kept for rows of instructions that are
+//! done again.
+ghost use Rattle.std.specs.Prelude.{◌≡◌, ◌<◌, ◌++◌, OnOk, codes, option_map};
 ghost use Rattle.rv_decode.specs.Seen.{seen};
 ghost use Rattle.rv_decode.specs.Table.{decoded};
 ghost use Rattle.rv_text.specs.Rows.{text_or_illegal, word_text};
 ghost use Rattle.rv_text.specs.Texts.{BeginsWith};
-ghost use Rattle.rv_text.specs.Lines.{place_text, NoneOrText};
+ghost use Rattle.rv_text.specs.Lines.{place_text, label_text, NoneOrText};
 
+use crate::effects::label_of;
+use crate::piece::Piece;
 use crate::{Text, write_instr};
 use bn_base::Addr;
 use rv_decode::{Instr, decode};
-use std::alloc::{AllocError, Global};
+use std::alloc::AllocError;
 use std::marker::Model;
 
-/// The text of a pc and of the code word there. It is empty until one is kept.
+/// The text of a pc, of the code word there and of the label of a register. It is empty until one is kept.
 #[derive(Drop)]
 pub struct CodeText {
     pc: Addr,
     word: u32,
-    text: Text,
+    register: u8,
+    piece: Piece,
 }
 
 impl Model for CodeText {
@@ -25,7 +29,7 @@ impl Model for CodeText {
 
     ghost view = { λ _. tt };
 
-    ghost invariant = { λ k. NoneOrText k.pc k.word k.text };
+    ghost invariant = { λ k. NoneOrText k.pc k.word k.register k.piece };
 }
 
 // The text of an instruction, if there is one. After an error it may be incomplete.
@@ -64,9 +68,9 @@ fn write_plain(pc: Addr, word: u32, text: &mut Text) -> Result<(), AllocError>
     write_word(pc, word, decode(word), text)
 }
 
-/// Appends a pc, the word there and what it spells. An error may leave a part of it.
+// A pc, the word there and what it spells. An error may leave a part of it.
 #[tactic(auto, unfolding(crate::specs::Lines::place_text))]
-pub fn write_place(pc: Addr, word: u32, text: &mut Text) -> Result<(), AllocError>
+fn write_place(pc: Addr, word: u32, text: &mut Text) -> Result<(), AllocError>
     ensures ok { OnOk result (text.new ≡ text.old ++ place_text pc word) }
     ensures begins { BeginsWith text.old text.new }
 {
@@ -75,47 +79,73 @@ pub fn write_place(pc: Addr, word: u32, text: &mut Text) -> Result<(), AllocErro
     write_plain(pc, word, text)
 }
 
+/// Appends a pc, the word there, what it spells and the label of a register. An error may leave a part of it.
+pub fn write_labelled(pc: Addr, word: u32, register: u8, text: &mut Text) -> Result<(), AllocError>
+    requires { register < 33 }
+    ensures ok { OnOk result (text.new ≡ text.old ++ (place_text pc word ++ label_text register)) }
+    ensures begins { BeginsWith text.old text.new }
+{
+    write_place(pc, word, text)?;
+    text.push_str(label_of(register))
+}
+
 impl CodeText {
     /// No text.
-    pub fn none(alloc: Global) -> CodeText {
+    pub fn none() -> CodeText {
         CodeText {
             pc: 0,
             word: 0,
-            text: Text::new(alloc),
+            register: 0,
+            piece: Piece::none(),
         }
     }
 
-    // The text of this pc and word, or no byte if it isn't kept here.
-    fn bytes_of(&self, pc: Addr, word: u32) -> &[u8]
-        ensures { NoneOrText pc word result.now }
-    {
-        if self.pc == pc && self.word == word {
-            self.text.as_bytes()
-        } else {
-            &[]
-        }
-    }
-
-    // Keeps the text of this pc and word in place of the other, or none when out of memory.
-    fn renew(&mut self, pc: Addr, word: u32) {
-        self.text.clear();
-        self.pc = pc;
-        self.word = word;
-        if write_place(pc, word, &mut self.text).is_err() {
-            self.text.clear();
-        }
-    }
-
-    /// Appends the text of this pc and word, and keeps it. An error may leave a part of it.
-    pub fn write(&mut self, pc: Addr, word: u32, text: &mut Text) -> Result<(), AllocError>
-        ensures ok { OnOk result (text.new ≡ text.old ++ place_text pc word) }
+    // Appends the text of this pc, word and register, and keeps it in place of the other. An error may leave a part
+    // of it.
+    #[cold]
+    #[inline(never)]
+    fn renew(
+        &mut self,
+        pc: Addr,
+        word: u32,
+        register: u8,
+        text: &mut Text,
+    ) -> Result<(), AllocError>
+        requires { register < 33 }
+        ensures ok { OnOk result (text.new ≡ text.old ++ (place_text pc word ++ label_text register)) }
         ensures begins { BeginsWith text.old text.new }
     {
-        let kept = self.bytes_of(pc, word);
-        if !kept.is_empty() {
-            return text.push_bytes(kept);
+        let mark = text.len();
+        write_labelled(pc, word, register, text)?;
+        *self = CodeText {
+            pc,
+            word,
+            register,
+            piece: Piece::of(&text.as_bytes()[mark..]),
+        };
+        Ok(())
+    }
+
+    /// Appends the text of this pc, word and register, and keeps it. An error may leave a part of it.
+    #[inline(always)]
+    pub fn write(
+        &mut self,
+        pc: Addr,
+        word: u32,
+        register: u8,
+        text: &mut Text,
+    ) -> Result<(), AllocError>
+        requires { register < 33 }
+        ensures ok { OnOk result (text.new ≡ text.old ++ (place_text pc word ++ label_text register)) }
+        ensures begins { BeginsWith text.old text.new }
+    {
+        if self.pc == pc
+            && self.word == word
+            && self.register == register
+            && !self.piece.is_empty()
+        {
+            return self.piece.append_to(text);
         }
-        self.renew(pc, word);
-        write_place(pc, word, text)
+        self.renew(pc, word, register, text)
     }
 }

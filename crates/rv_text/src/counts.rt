@@ -4,8 +4,9 @@ ghost use Rattle.rv_text.specs.Texts.{BeginsWith};
 ghost use Rattle.rv_text.specs.Lines.{count_text, NoneOrCount};
 
 use crate::Text;
+use crate::piece::Piece;
 use bn_base::{HartId, Ic};
-use std::alloc::{AllocError, Global};
+use std::alloc::AllocError;
 use std::marker::Model;
 
 /// The text of a hart and of a count without its last digit. It is empty until one is kept.
@@ -13,7 +14,7 @@ use std::marker::Model;
 pub struct CountText {
     hart: HartId,
     tens: Ic,
-    text: Text,
+    piece: Piece,
 }
 
 impl Model for CountText {
@@ -21,7 +22,7 @@ impl Model for CountText {
 
     ghost view = { λ _. tt };
 
-    ghost invariant = { λ k. NoneOrCount k.hart k.tens k.text };
+    ghost invariant = { λ k. NoneOrCount k.hart k.tens k.piece };
 }
 
 // The hart and its count. An error may leave a part of it.
@@ -35,49 +36,48 @@ fn write_count(hart: HartId, ic: Ic, text: &mut Text) -> Result<(), AllocError>
     text.push_decimal(ic)
 }
 
-// Bytes and a digit after them. An error may leave a part of it.
-fn write_last(bytes: &[u8], digit: u64, text: &mut Text) -> Result<(), AllocError>
-    requires { digit < 10 }
-    ensures ok { OnOk result (text.new ≡ text.old ++ (bytes.now ++ ((48 + digit) ∷ []))) }
-    ensures begins { BeginsWith text.old text.new }
-{
-    text.push_bytes(bytes)?;
-    text.push_bytes(&[48 + digit as u8])
-}
-
 impl CountText {
     /// No text.
-    pub fn none(alloc: Global) -> CountText {
+    pub fn none() -> CountText {
         CountText {
             hart: 0,
             tens: 0,
-            text: Text::new(alloc),
+            piece: Piece::none(),
         }
     }
 
-    // The text of this hart and count, or no byte if it isn't kept here.
-    fn bytes_of(&self, hart: HartId, tens: Ic) -> &[u8]
-        ensures { NoneOrCount hart tens result.now }
+    // Appends a hart and a count, and keeps the text in place of the other. An error may leave a part of it.
+    #[cold]
+    #[inline(never)]
+    fn renew(&mut self, hart: HartId, tens: Ic, text: &mut Text) -> Result<(), AllocError>
+        ensures ok { OnOk result (text.new ≡ text.old ++ count_text hart tens) }
+        ensures begins { BeginsWith text.old text.new }
     {
-        if self.hart == hart && self.tens == tens {
-            self.text.as_bytes()
-        } else {
-            &[]
-        }
+        let mark = text.len();
+        write_count(hart, tens, text)?;
+        *self = CountText {
+            hart,
+            tens,
+            piece: Piece::of(&text.as_bytes()[mark..]),
+        };
+        Ok(())
     }
 
-    // Keeps the text of this hart and count in place of the other, or none when out of memory.
-    fn renew(&mut self, hart: HartId, tens: Ic) {
-        self.text.clear();
-        self.hart = hart;
-        self.tens = tens;
-        if write_count(hart, tens, &mut self.text).is_err() {
-            self.text.clear();
+    // A hart and a count, by the text that is kept. An error may leave a part of it.
+    #[inline(always)]
+    fn write_kept(&mut self, hart: HartId, tens: Ic, text: &mut Text) -> Result<(), AllocError>
+        ensures ok { OnOk result (text.new ≡ text.old ++ count_text hart tens) }
+        ensures begins { BeginsWith text.old text.new }
+    {
+        if self.hart == hart && self.tens == tens && !self.piece.is_empty() {
+            return self.piece.append_to(text);
         }
+        self.renew(hart, tens, text)
     }
 
     // The text of a hart and a count, by its last digit and what comes before that, which is kept. An
     // error may leave a part of it.
+    #[inline(always)]
     fn write_tens(
         &mut self,
         hart: HartId,
@@ -89,16 +89,12 @@ impl CountText {
         ensures ok { OnOk result (text.new ≡ text.old ++ (count_text hart tens ++ ((48 + digit) ∷ []))) }
         ensures begins { BeginsWith text.old text.new }
     {
-        let kept = self.bytes_of(hart, tens);
-        if !kept.is_empty() {
-            return write_last(kept, digit, text);
-        }
-        self.renew(hart, tens);
-        write_count(hart, tens, text)?;
+        self.write_kept(hart, tens, text)?;
         text.push_bytes(&[48 + digit as u8])
     }
 
     // The text of a hart and a count of two digits or more. An error may leave a part of it.
+    #[inline(always)]
     fn write_long(&mut self, hart: HartId, ic: Ic, text: &mut Text) -> Result<(), AllocError>
         requires { (10 ≤ ic) × (ic < 2 ^ 64) }
         ensures ok { OnOk result (text.new ≡ text.old ++ count_text hart ic) }
@@ -109,6 +105,7 @@ impl CountText {
 
     /// Appends a hart and its count, and keeps what comes before the last digit. An error may leave a
     /// part of it.
+    #[inline(always)]
     pub fn write(&mut self, hart: HartId, ic: Ic, text: &mut Text) -> Result<(), AllocError>
         ensures ok { OnOk result (text.new ≡ text.old ++ count_text hart ic) }
         ensures begins { BeginsWith text.old text.new }

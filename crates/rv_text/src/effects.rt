@@ -2,16 +2,16 @@
 ghost use Rattle.std.specs.Prelude.{◌≡◌, ◌<◌, ◌++◌, OnOk, codes};
 ghost use Rattle.rv_text.specs.Rows.{register_text, labelled, changes_text};
 ghost use Rattle.rv_text.specs.Texts.{BeginsWith};
-ghost use Rattle.rv_text.specs.Lines.{label_text};
+ghost use Rattle.rv_text.specs.Lines.{label_text, contents_text};
 
 use crate::Text;
 use bn_base::{Addr, Register, Row};
 use std::alloc::AllocError;
 
-// The name of a register between ` | ` and `=`.
+/// The name of a register between ` | ` and `=`; nothing for 32, which is none.
 #[tactic(auto, unfolding(crate::specs::Names::register_name, crate::specs::Lines::label_text))]
-fn label_of(register: u8) -> &'static str
-    requires { register < 32 }
+pub fn label_of(register: u8) -> &'static str
+    requires { register < 33 }
     ensures { result.now ≡ label_text register }
 {
     match register {
@@ -46,7 +46,33 @@ fn label_of(register: u8) -> &'static str
         28 => " | t3=",
         29 => " | t4=",
         30 => " | t5=",
-        _ => " | t6=",
+        31 => " | t6=",
+        _ => "",
+    }
+}
+
+/// The register that a row writes; 32 if it writes none.
+#[inline(always)]
+#[tactic(auto, unfolding(crate::specs::Rows::register_text, crate::specs::Lines::label_text))]
+pub fn register_of(reg: Option<(Register, u32)>) -> u8
+    ensures bound { result < 33 }
+    ensures text { register_text reg ≡ label_text result ++ contents_text reg }
+{
+    match reg {
+        Some((register, _)) => register.number(),
+        None => 32,
+    }
+}
+
+/// Appends the new contents of a register, if one was written. An error may leave a part of it.
+#[inline(always)]
+pub fn write_contents(reg: Option<(Register, u32)>, text: &mut Text) -> Result<(), AllocError>
+    ensures ok { OnOk result (text.new ≡ text.old ++ contents_text reg) }
+    ensures begins { BeginsWith text.old text.new }
+{
+    match reg {
+        Some((_, value)) => text.push_hex8(value),
+        None => Ok(()),
     }
 }
 
@@ -66,6 +92,7 @@ fn write_register(reg: Option<(Register, u32)>, text: &mut Text) -> Result<(), A
 }
 
 // An access after its label: the address and the whole word. An error may leave a part of it.
+#[inline(always)]
 #[tactic(auto, unfolding(crate::specs::Rows::labelled))]
 fn write_access(label: &str, access: Option<(Addr, u32)>, text: &mut Text) -> Result<(), AllocError>
     ensures ok { OnOk result (text.new ≡ text.old ++ labelled label.now access) }
@@ -82,6 +109,16 @@ fn write_access(label: &str, access: Option<(Addr, u32)>, text: &mut Text) -> Re
     }
 }
 
+/// Appends what the instruction of a row loaded and stored. An error may leave a part of it.
+#[inline(always)]
+pub fn write_accesses(row: &Row, text: &mut Text) -> Result<(), AllocError>
+    ensures ok { OnOk result (text.new ≡ text.old ++ (labelled (codes " | load ") row.now.load ++ labelled (codes " | store ") row.now.store)) }
+    ensures begins { BeginsWith text.old text.new }
+{
+    write_access(" | load ", row.load, text)?;
+    write_access(" | store ", row.store, text)
+}
+
 /// Appends what the instruction of a row changed or read. An error may leave a part of it.
 #[tactic(auto, unfolding(crate::specs::Rows::changes_text))]
 pub fn write_changes(row: &Row, text: &mut Text) -> Result<(), AllocError>
@@ -89,6 +126,5 @@ pub fn write_changes(row: &Row, text: &mut Text) -> Result<(), AllocError>
     ensures begins { BeginsWith text.old text.new }
 {
     write_register(row.reg, text)?;
-    write_access(" | load ", row.load, text)?;
-    write_access(" | store ", row.store, text)
+    write_accesses(row, text)
 }

@@ -21,6 +21,7 @@ mod lines;
 mod marks;
 mod names;
 mod operands;
+mod piece;
 mod rows;
 mod text;
 

@@ -1,12 +1,12 @@
 //! Lines of many rows, as `write_row` writes them. A replay prints its rows by it.
-ghost use Rattle.std.specs.Prelude.{◌≡◌, ◌++◌, ◌/◌, ◌%◌, Some, None, OnOk, OnErr, codes};
+ghost use Rattle.std.specs.Prelude.{◌≡◌, ◌<◌, ◌++◌, ◌/◌, ◌%◌, Some, None, OnOk, OnErr, codes};
 ghost use Rattle.rv_text.specs.Rows.{row_text};
 ghost use Rattle.rv_text.specs.Texts.{BeginsWith};
-ghost use Rattle.rv_text.specs.Lines.{count_text, place_text, joined_text};
+ghost use Rattle.rv_text.specs.Lines.{count_text, place_text, label_text, joined_text};
 
-use crate::code::{CodeText, write_place};
+use crate::code::{CodeText, write_labelled};
 use crate::counts::CountText;
-use crate::effects::write_changes;
+use crate::effects::{register_of, write_accesses, write_contents};
 use crate::{Text, write_row};
 use bn_base::{Addr, Row};
 use std::alloc::{AllocError, Global};
@@ -17,8 +17,7 @@ const KEPT: usize = 1024;
 /// Writes lines of rows, and keeps the texts of their code: of the pcs that have the same place in a
 /// table of 1,024, the latest with its word. Of the last hart and count it keeps all but a digit.
 ///
-/// The table takes some 40 KiB, and some 50 bytes more for each text in it. When out of memory, it
-/// keeps less or nothing.
+/// The table takes some 90 KiB. When out of memory, it keeps less or nothing.
 #[derive(Drop)]
 pub struct RowLines {
     count: CountText,
@@ -36,7 +35,7 @@ fn place_of(pc: Addr) -> usize
 fn empty_table(alloc: Global) -> Vec<CodeText> {
     let mut kept = Vec::new(alloc);
     'places: for _place in 0..KEPT {
-        if kept.push(CodeText::none(alloc)).is_err() {
+        if kept.push(CodeText::none()).is_err() {
             break 'places;
         }
     }
@@ -47,32 +46,42 @@ impl RowLines {
     /// A writer that keeps no text at first.
     pub fn new(alloc: Global) -> RowLines {
         RowLines {
-            count: CountText::none(alloc),
+            count: CountText::none(),
             kept: empty_table(alloc),
         }
     }
 
-    // The text of a pc and a word, by the table. An error may leave a part of it.
-    fn write_code(&mut self, pc: Addr, word: u32, text: &mut Text) -> Result<(), AllocError>
-        ensures ok { OnOk result (text.new ≡ text.old ++ place_text pc word) }
+    // The text of a pc, a word and a register, by the table. An error may leave a part of it.
+    #[inline(always)]
+    fn write_code(
+        &mut self,
+        pc: Addr,
+        word: u32,
+        register: u8,
+        text: &mut Text,
+    ) -> Result<(), AllocError>
+        requires { register < 33 }
+        ensures ok { OnOk result (text.new ≡ text.old ++ (place_text pc word ++ label_text register)) }
         ensures begins { BeginsWith text.old text.new }
     {
         let place = place_of(pc);
         if place < self.kept.len() {
-            return self.kept[place].write(pc, word, text);
+            return self.kept[place].write(pc, word, register, text);
         }
-        write_place(pc, word, text)
+        write_labelled(pc, word, register, text)
     }
 
     // The line of a row with this word, in its parts. An error may leave a part of it.
-    #[tactic(auto, unfolding(crate::specs::Lines::joined_text))]
+    #[inline(always)]
+    #[tactic(auto, unfolding(crate::specs::Lines::joined_text, crate::specs::Rows::changes_text))]
     fn write_parts(&mut self, row: &Row, word: u32, text: &mut Text) -> Result<(), AllocError>
         ensures ok { OnOk result (text.new ≡ text.old ++ joined_text row.now word) }
         ensures begins { BeginsWith text.old text.new }
     {
         self.count.write(row.hart, row.ic, text)?;
-        self.write_code(row.pc, word, text)?;
-        write_changes(row, text)?;
+        self.write_code(row.pc, word, register_of(row.reg), text)?;
+        write_contents(row.reg, text)?;
+        write_accesses(row, text)?;
         text.push_str("\n")
     }
 

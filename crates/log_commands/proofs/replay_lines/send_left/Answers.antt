@@ -1,5 +1,6 @@
-use Rattle.log_commands.proofs.Common.{IfErr, IsCutShort, Replaying, ◌≡◌, ℕ, ap, inr, List, Option, sym, subst, arith, Result, Ok, Row, Stepped, rows_text, outcome_of, SendsReplay, Sent, ReplayEnd, Refusal}
+use Rattle.log_commands.proofs.Common.{IfErr, IsCutShort, Replaying, ◌≡◌, ℕ, Bool, ap, inr, List, sym, subst, arith, Result, Ok, Stepped, rows_text, outcome_of, SendsReplay, Sent, ReplayEnd, Refusal}
 use Rattle.std.specs.Prelude.{Some, None}
+use Rattle.hart_replay.specs.Coming.{given}
 use Rattle.log_commands.proofs.Answering.{passed-on}
 use Rattle.log_commands.proofs.Rows.{RowsSoFar, stands-none, stands-more, stands-stopped, stands-sent, stands-short, stands-done, stands-refused, stands-lacking, ends-without}
 use Rattle.log_commands.proofs.Prints.{not-memory}
@@ -10,57 +11,57 @@ rows-preserved g c =
     let old = g.O.Sink.stream c.args.out.now in
     let here = g.O.Sink.stream c.rows.out in
     let there = g.O.Sink.stream c.gather_row.new.out in
-    let step : Stepped c.rows.replayer (Ok (Some c.in-Ok-Some.row)) c.step.new.self = subst (λ (o : Option Row). Stepped c.rows.replayer (Ok o) c.step.new.self) c.in-Ok-Some.field-0-is c.in-Ok-Some.ensures in
-    stands-more c.args.replayer.now.left c.rows.replayer.left c.step.new.self.left c.in-Ok-Some.row c.rows.text c.gather_row.new.text old.text here.text there.text old.faults here.faults there.faults
-    step.0 c.rows.invariant c.in_ok-gather_row-in-Ok-Some.ensures.gathers.sent c.gather_row.ensures.gathers.later
+    let step : Stepped c.rows.replayer (Ok (Some c.advance.new.row)) c.advance.new.self = subst (λ (b : Bool). Stepped c.rows.replayer (given (Ok b) c.advance.new.row) c.advance.new.self) c.in-Ok-true.field-0-test c.in-Ok-true.ensures in
+    stands-more c.args.replayer.now.left c.rows.replayer.left c.advance.new.self.left c.advance.new.row c.rows.text c.gather_row.new.text old.text here.text there.text old.faults here.faults there.faults
+    step.0 c.rows.invariant c.in_ok-gather_row-in-Ok-true.ensures.gathers.sent c.gather_row.ensures.gathers.later
 
-pub returns-in_err-gather_row-in-Ok-Some : goal.returns-in_err-gather_row-in-Ok-Some
-returns-in_err-gather_row-in-Ok-Some g c =
+pub returns-in_err-gather_row-in-Ok-true : goal.returns-in_err-gather_row-in-Ok-true
+returns-in_err-gather_row-in-Ok-true g c =
     let left = c.args.replayer.now.left in
     let old = g.O.Sink.stream c.args.out.now in
     let here = g.O.Sink.stream c.rows.out in
     let there = g.O.Sink.stream c.gather_row.new.out in
-    let x = c.in_err-gather_row-in-Ok-Some.field-0.0 in
-    let step : Stepped c.rows.replayer (Ok (Some c.in-Ok-Some.row)) c.step.new.self = subst (λ (o : Option Row). Stepped c.rows.replayer (Ok o) c.step.new.self) c.in-Ok-Some.field-0-is c.in-Ok-Some.ensures in
-    passed-on (SendsReplay (rows_text left.rows) left.outcome c.step.new.self old there) x c.from_residual.result c.from_residual.ensures.1
+    let x = c.in_err-gather_row-in-Ok-true.field-0.0 in
+    let step : Stepped c.rows.replayer (Ok (Some c.advance.new.row)) c.advance.new.self = subst (λ (b : Bool). Stepped c.rows.replayer (given (Ok b) c.advance.new.row) c.advance.new.self) c.in-Ok-true.field-0-test c.in-Ok-true.ensures in
+    passed-on (SendsReplay (rows_text left.rows) left.outcome c.advance.new.self old there) x c.from_residual.result c.from_residual.ensures.1
     (record {
       sends = record {
-        sent = stands-stopped left c.rows.replayer.left c.step.new.self.left c.in-Ok-Some.row c.rows.text old.text here.text there.text old.faults here.faults there.faults x step.0 c.rows.invariant c.in_err-gather_row-in-Ok-Some.ensures.gathers.sent;
+        sent = stands-stopped left c.rows.replayer.left c.advance.new.self.left c.advance.new.row c.rows.text old.text here.text there.text old.faults here.faults there.faults x step.0 c.rows.invariant c.in_err-gather_row-in-Ok-true.ensures.gathers.sent;
         later = omega (arith, c.rows.invariant.sent.later, c.gather_row.ensures.gathers.later);
       };
-      memory = λ m. inr (stands-lacking left c.rows.replayer.left c.step.new.self.left c.in-Ok-Some.row c.rows.text old here there step.0 c.rows.invariant (c.in_err-gather_row-in-Ok-Some.ensures.memory m));
+      memory = λ m. inr (stands-lacking left c.rows.replayer.left c.advance.new.self.left c.advance.new.row c.rows.text old here there step.0 c.rows.invariant (c.in_err-gather_row-in-Ok-true.ensures.memory m));
     })
 
-pub returns-in-Ok-None : goal.returns-in-Ok-None
-returns-in-Ok-None g c =
+pub returns-in-Ok-false : goal.returns-in-Ok-false
+returns-in-Ok-false g c =
     let left = c.args.replayer.now.left in
     let old = g.O.Sink.stream c.args.out.now in
     let here = g.O.Sink.stream c.rows.out in
     let there = g.O.Sink.stream c.send.new.sink in
-    let step : Stepped c.rows.replayer (Ok None) c.step.new.self = subst (λ (o : Option Row). Stepped c.rows.replayer (Ok o) c.step.new.self) c.in-Ok-None.field-0-is c.in-Ok-None.ensures in
+    let step : Stepped c.rows.replayer (Ok None) c.advance.new.self = subst (λ (b : Bool). Stepped c.rows.replayer (given (Ok b) c.advance.new.row) c.advance.new.self) c.in-Ok-false.field-0-test c.in-Ok-false.ensures in
     record {
       sends = record {
         sent = stands-done left c.rows.replayer.left old.text there.text old.faults there.faults step.0
-            (stands-sent left c.rows.replayer.left c.rows.text old.text here.text there.text old.faults here.faults there.faults c.rows.invariant c.in_ok-send-in-Ok-None.ensures.sends.sent.0 c.send.ensures.sends.later);
+            (stands-sent left c.rows.replayer.left c.rows.text old.text here.text there.text old.faults here.faults there.faults c.rows.invariant c.in_ok-send-in-Ok-false.ensures.sends.sent.0 c.send.ensures.sends.later);
         later = omega (arith, c.rows.invariant.sent.later, c.send.ensures.sends.later);
       };
       memory = tt;
     }
 
-pub returns-in_err-send-in-Ok-None : goal.returns-in_err-send-in-Ok-None
-returns-in_err-send-in-Ok-None g c =
+pub returns-in_err-send-in-Ok-false : goal.returns-in_err-send-in-Ok-false
+returns-in_err-send-in-Ok-false g c =
     let left = c.args.replayer.now.left in
     let old = g.O.Sink.stream c.args.out.now in
     let here = g.O.Sink.stream c.rows.out in
     let there = g.O.Sink.stream c.send.new.sink in
-    let x = c.in_err-send-in-Ok-None.field-0.0 in
-    passed-on (SendsReplay (rows_text left.rows) left.outcome c.step.new.self old there) x c.from_residual-in_err-send-in-Ok-None.result c.from_residual-in_err-send-in-Ok-None.ensures.1
+    let x = c.in_err-send-in-Ok-false.field-0.0 in
+    passed-on (SendsReplay (rows_text left.rows) left.outcome c.advance.new.self old there) x c.from_residual-in_err-send-in-Ok-false.result c.from_residual-in_err-send-in-Ok-false.ensures.1
     (record {
       sends = record {
-        sent = stands-short left c.rows.replayer.left c.rows.text old.text here.text there.text old.faults here.faults there.faults x c.rows.invariant c.in_err-send-in-Ok-None.ensures.sends.sent;
+        sent = stands-short left c.rows.replayer.left c.rows.text old.text here.text there.text old.faults here.faults there.faults x c.rows.invariant c.in_err-send-in-Ok-false.ensures.sends.sent;
         later = omega (arith, c.rows.invariant.sent.later, c.send.ensures.sends.later);
       };
-      memory = λ m. not-memory x c.in_err-send-in-Ok-None.ensures.write m;
+      memory = λ m. not-memory x c.in_err-send-in-Ok-false.ensures.write m;
     })
 
 pub returns-in-Err : goal.returns-in-Err
@@ -76,8 +77,8 @@ returns-in-Err g c =
             (stands-sent left c.rows.replayer.left c.rows.text old.text here.text there.text old.faults here.faults there.faults c.rows.invariant c.in_ok-send-in-Err.ensures.sends.sent.0 c.send-in-Err.ensures.sends.later));
         later = omega (arith, c.rows.invariant.sent.later, c.send-in-Err.ensures.sends.later);
       };
-      memory = subst (λ (r : Result ReplayEnd Refusal). IfErr r (IsCutShort (rows_text left.rows) c.step.new.self old there)) (sym c.ending_of.ensures)
-          (ends-without (rows_text left.rows) old there c.step.new.self c.in-Err.error (ap (λ (r : Replaying). r.left) c.in-Err.ensures.1));
+      memory = subst (λ (r : Result ReplayEnd Refusal). IfErr r (IsCutShort (rows_text left.rows) c.advance.new.self old there)) (sym c.ending_of.ensures)
+          (ends-without (rows_text left.rows) old there c.advance.new.self c.in-Err.error (ap (λ (r : Replaying). r.left) c.in-Err.ensures.1));
     }
 
 pub returns-in_err-send-in-Err : goal.returns-in_err-send-in-Err
@@ -87,7 +88,7 @@ returns-in_err-send-in-Err g c =
     let here = g.O.Sink.stream c.rows.out in
     let there = g.O.Sink.stream c.send-in-Err.new.sink in
     let x = c.in_err-send-in-Err.field-0.0 in
-    passed-on (SendsReplay (rows_text left.rows) left.outcome c.step.new.self old there) x c.from_residual-in_err-send-in-Err.result c.from_residual-in_err-send-in-Err.ensures.1
+    passed-on (SendsReplay (rows_text left.rows) left.outcome c.advance.new.self old there) x c.from_residual-in_err-send-in-Err.result c.from_residual-in_err-send-in-Err.ensures.1
     (record {
       sends = record {
         sent = stands-short left c.rows.replayer.left c.rows.text old.text here.text there.text old.faults here.faults there.faults x c.rows.invariant c.in_err-send-in-Err.ensures.sends.sent;
