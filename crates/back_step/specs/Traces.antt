@@ -69,6 +69,7 @@ pub record IsGoneBack (t : Trace) : Type 0 where
 
 -- ---- steps forward and back
 
+-- a trace with the entry of one more step of hart h, unless that is refused
 abbrev pub with_entry : Trace → ℕ → Result (Item × Joining) ReplayError → Result (Item × Trace) ReplayError
 with_entry t h (Err e) = Err e
 with_entry t h (Ok x) = Ok (x.0, record { start = t.start; entries = t.entries ++ entry_of h x.0 ∷ []; now = x.1 })

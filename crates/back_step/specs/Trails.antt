@@ -50,6 +50,7 @@ with_copy false j copies = copies
 abbrev pub HasCopies : ℕ → ℕ → ℕ → Type 0
 HasCopies every position copies = (copies ≡ position / every + 1) ⊎ ((copies ≡ position / every) × (position % every ≡ 0))
 
+-- a trail with a copy at each multiple of `every`
 abbrev pub trailed : ℕ → Joining → List Entry → Joining → Trailed
 trailed every start entries now = record { every = every; trace = record { start = start; entries = entries; now = now } }
 

@@ -12,12 +12,13 @@ pub trait Sink {
     ghost stream: { Self → Stream };
 
     /// Takes bytes from the beginning of `piece` and answers how many, at most the piece's length and
-    /// at least one if it has any.
+    /// at least one. No caller writes an empty piece, so each write that doesn't fail takes a byte.
     ///
     /// A failed write takes nothing. Each call counts one fault if it fails, and none else.
     fn write(&mut self, piece: &[u8]) -> Result<usize, Failed>
+        requires { 0 < length piece.now }
         ensures bound { IfOk result (λ n. n ≤ length piece.now) }
-        ensures some { IfOk result (λ n. 0 < length piece.now → 0 < n) }
+        ensures some { IfOk result (λ n. 0 < n) }
         ensures taken { IfOk result (λ n. Appends (stream self.old).text (stream self.new).text (take n piece.now)) }
         ensures kept { OnErr result (Keeps (stream self.old).text (stream self.new).text) }
         ensures later { (stream self.old).faults ≤ (stream self.new).faults }

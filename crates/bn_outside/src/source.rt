@@ -1,5 +1,5 @@
 //! Sources of bytes: the trait by which the program reads its inputs.
-ghost use Rattle.std.specs.Prelude.{◌≡◌, ◌≤◌, ℕ, List, Option, IfOk, OnErr, length, take};
+ghost use Rattle.std.specs.Prelude.{◌≡◌, ◌<◌, ◌≤◌, ℕ, List, Option, IfOk, OnErr, length, take};
 ghost use Rattle.std.specs.Io.KnownBytes.{Consumes, Keeps};
 ghost use Rattle.bn_outside.specs.Counts.{CountsFault, Rose};
 ghost use Rattle.bn_outside.specs.Streams.{EndsExactly, Supply};
@@ -17,11 +17,12 @@ pub trait Source<O: Sink> {
     ghost note: { ℕ → Option (List ℕ) → ℕ };
 
     /// Moves the first bytes that are left to the front of `buffer` and answers how many, at most
-    /// the buffer's length. For a buffer with room, 0 says that no byte is left.
+    /// the buffer's length. The buffer has room, so 0 says that no byte is left.
     ///
     /// A failed read moves nothing. Each call counts one fault if it fails, and none else. Nothing is
     /// said of the rest of the buffer, nor of the whole buffer after a failure.
     fn read(&mut self, out: &O, buffer: &mut [u8]) -> Result<usize, Failed>
+        requires { 0 < length buffer.old }
         ensures bound { IfOk result (λ n. n ≤ length buffer.new) }
         ensures moved { IfOk result (λ n. Consumes (source self.old).left (source self.new).left (take n buffer.new)) }
         ensures end { IfOk result (λ n. EndsExactly (source self.old).left n buffer.new) }

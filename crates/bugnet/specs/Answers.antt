@@ -46,6 +46,7 @@ names_in (ConvertLine log copy) = record { elf = []; log = copy; book = []; inpu
 names_in (SalvageLine log copy) = record { elf = []; log = copy; book = []; input = []; origin = log }
 names_in (DemoLine seed) = no_names
 
+-- the names in a line; words that say no line have none
 abbrev pub names_by : Option Line → FileNames
 names_by None = no_names
 names_by (Some line) = names_in line
@@ -54,10 +55,12 @@ names_by (Some line) = names_in line
 abbrev pub manner_of : RecordingLine → Manner
 manner_of r = record { seed = r.seed; lean = r.lean }
 
+-- a setting out of range comes before two files of one name
 abbrev pub setting_refusal : Option BadSetting → Bool → Option Refusal
 setting_refusal (Some bad) same = Some (OutOfRange bad)
 setting_refusal None same = name_refusal same
 
+-- why a line is refused before a file is looked at
 abbrev pub refusal_in : Line → Option Refusal
 refusal_in (RecordLine r) = setting_refusal (first_bad r.settings) (is_clash r.lean r.log r.book)
 refusal_in (ConvertLine log copy) = name_refusal (bytes_eq log copy)

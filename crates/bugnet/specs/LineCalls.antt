@@ -41,6 +41,7 @@ abbrev pub calls_of : Option Line → Option Saved → List FileCall
 calls_of None saved = []
 calls_of (Some line) saved = loads_of (line_roles line) ++ saves_of saved
 
+-- these loads of a line, in their order; words that say no line have none
 abbrev pub needed_of : Option Line → List FileCall
 needed_of None = []
 needed_of (Some line) = loads_of (needed_roles line)
@@ -68,9 +69,11 @@ line_past (JointLine log elf) = is_replayed
 line_past (DebugLine log elf) = is_begun
 line_past line = is_printed
 
+-- no status at all
 abbrev pub no_status : ℕ → Bool
 no_status status = false
 
+-- the same of words, which may be no line
 abbrev pub past_of : Option Line → ℕ → Bool
 past_of None = no_status
 past_of (Some line) = line_past line

@@ -49,5 +49,6 @@ closed k end = between k.old (with_err k.new end)
 abbrev pub RepliesTo : Line → FileNames → Note → Call → Result Status Refusal → Type 0
 RepliesTo line names note k result = (status : ℕ) (end : Stream) → IsClosed names result status k.new.err end → Replies (Some line) status note (closed k end) × (status ≢ code exit.ReadFailed)
 
+-- the same of any command
 abbrev pub DoesTo : {I : Type 0} → Line → FileNames → Note → Reading I → Call → Result Status Refusal → Type 0
 DoesTo line names note i k result = (status : ℕ) (end : Stream) → IsClosed names result status k.new.err end → Does (Some line) status note i (closed k end)

@@ -85,6 +85,7 @@ pub record Reading (I : Type 0) : Type 0 where
   pub after : Supply
   pub notes : ReadNote
 
+-- the reading from one input to another, by what is known of each and how they note
 abbrev pub reading : {I : Type 0} → (I → Supply) → ReadNote → I → I → Reading I
 reading source note i j = record { old = i; new = j; before = source i; after = source j; notes = note }
 
@@ -99,9 +100,11 @@ stop_refusal (TooMuch n) = why.CommandsTooLong
 stop_refusal (stop.Joint e) = joint_refusal e
 stop_refusal stop.OutOfMemory = why.OutOfMemory
 
+-- the status by the end of a session that stopped
 abbrev pub stop_status : DebugError → ℕ
 stop_status e = status_of (stop_refusal e)
 
+-- the status of a session: 0, or by its end
 abbrev pub session_status : Result (Unit {0}) DebugError → ℕ
 session_status (Ok u) = code exit.Done
 session_status (Err e) = stop_status e

@@ -39,6 +39,7 @@ pub record SessionEnds {I : Type 0} (names : FileNames) (j : Joining) (status : 
   pub out_later : out.faults ≤ printed.faults
   pub err_later : err.faults ≤ end.faults
 
+-- whatever its line on err is, if it is refused: so it is once that is told
 abbrev pub SessionTo : {I : Type 0} → Joining → Reading I → (out printed : Stream) → Result (Unit {0}) Refusal → Type 0
 SessionTo j i out printed result = (names : FileNames) (status : ℕ) (err end : Stream) → IsClosed names (done_of result) status err end → SessionEnds names j status i out printed err end
 
@@ -62,5 +63,6 @@ pub record DebugsEnds {I : Type 0} (names : FileNames) (status : ℕ) (note : No
   pub counted : IsCounted status k
   pub read_later : i.before.faults ≤ i.after.faults
 
+-- whatever its line on err is, if it is refused: so it is once that is told
 abbrev pub DebugsTo : {I : Type 0} → FileNames → Note → Reading I → (old new : Stored) → (out printed : Stream) → Result (Unit {0}) Refusal → Type 0
 DebugsTo names note i old new out printed result = (status : ℕ) (err end : Stream) → IsClosed names (done_of result) status err end → DebugsEnds names status note i (between (world old out err) (world new printed end))

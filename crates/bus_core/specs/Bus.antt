@@ -31,6 +31,7 @@ pub record Began : Type 0 where
   pub input : List ℕ
   pub digest : List ℕ
 
+-- what a run begins with that has this start
 abbrev pub began_of : Start → Began
 began_of s = record { image = s.image; settings = s.settings; input = s.input.items; digest = s.digest }
 
@@ -123,6 +124,7 @@ served_reply b run hart ask = (serve b.settings b.image run hart ask).reply
 abbrev pub served_guarded : Began → Run → ℕ → Ask → Bool
 served_guarded b run hart ask = (serve b.settings b.image run hart ask).guarded
 
+-- the row of a turn
 abbrev pub row : ℕ → Ask → Reply → Bool → TurnRow
 row hart ask reply guarded = record { hart = hart; ask = ask; reply = reply; guarded = guarded }
 

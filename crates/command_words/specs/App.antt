@@ -35,6 +35,7 @@ number_word id = record (word id) { parser = Some (value_parser.Unsigned 0 18446
 abbrev pub most_word : Text → Rule
 most_word id = record (word id) { parser = Some (value_parser.Unsigned 1 1000000) }
 
+-- a command with these arguments
 abbrev pub with_rules : App → List Rule → App
 with_rules a [] = a
 with_rules a (r ∷ rs) = with_rules (with_rule a r) rs
@@ -93,6 +94,7 @@ top_app = record (new_app (codes "bugnet")) {
   top = record (new_app (codes "bugnet")).top { subcommand_required = true };
 }
 
+-- a command with these subcommands
 abbrev pub with_subcommands : App → List Shape → App
 with_subcommands a [] = a
 with_subcommands a (s ∷ ss) = with_subcommands (with_subcommand a s) ss

@@ -89,6 +89,7 @@ number_of t = if is_unsigned_in 0 18446744073709551615 t
 abbrev pub number_at : Text → List Row → Option ℕ
 number_at id rows = option_and_then number_of (first_of id rows)
 
+-- the number that a value says, or the default if there is no value
 abbrev pub number_or_default : ℕ → Option Text → Option ℕ
 number_or_default default None = Some default
 number_or_default default (Some t) = number_of t
@@ -97,6 +98,7 @@ number_or_default default (Some t) = number_of t
 abbrev pub number_or : ℕ → Text → List Row → Option ℕ
 number_or default id rows = number_or_default default (first_of id rows)
 
+-- the number that a value says, if there is a value
 abbrev pub number_if_given : Option Text → Option (Option ℕ)
 number_if_given None = Some None
 number_if_given (Some t) = option_map Some (number_of t)
@@ -105,10 +107,12 @@ number_if_given (Some t) = option_map Some (number_of t)
 abbrev pub number_if : Text → List Row → Option (Option ℕ)
 number_if id rows = number_if_given (first_of id rows)
 
+-- continues with what was found, if it was
 abbrev pub and_then : {X Y : Type 0} → Option X → (X → Option Y) → Option Y
 and_then None f = None
 and_then (Some x) f = f x
 
+-- the value of a flag is that it is given
 abbrev pub is_set : Option Text → Bool
 is_set None = false
 is_set (Some t) = bytes_eq t (codes "true")
@@ -169,6 +173,7 @@ settings_in rows =
       ways2 = second.1;
     })))))
 
+-- the arguments of `record`
 abbrev pub recording_in : List Row → Option RecordingLine
 recording_in rows =
     and_then (settings_in rows) (λ settings.
@@ -178,6 +183,7 @@ recording_in rows =
     and_then (first_of (codes "book") rows) (λ book.
     Some (record { settings = settings; seed = seed; lean = flag_in (codes "lean") rows; input = first_of (codes "input") rows; elf = elf; log = log; book = book }))))))
 
+-- the line of `record`
 abbrev pub record_in : List Row → Option Line
 record_in rows = option_map RecordLine (recording_in rows)
 
@@ -195,36 +201,44 @@ place_at rows =
     and_then (number_at (codes "interval") rows) (λ interval.
     Some (hart, interval)))
 
+-- the line of `replay`
 abbrev pub replay_in : List Row → Option Line
 replay_in rows =
     and_then (pair_at (codes "elf") rows) (λ files.
     and_then (place_at rows) (λ place.
     Some (ReplayLine files.0 files.1 place.0 place.1)))
 
+-- the line of `joint`
 abbrev pub joint_in : List Row → Option Line
 joint_in rows = option_map (λ files. JointLine files.0 files.1) (pair_at (codes "elf") rows)
 
+-- the line of `debug`
 abbrev pub debug_in : List Row → Option Line
 debug_in rows = option_map (λ files. DebugLine files.0 files.1) (pair_at (codes "elf") rows)
 
+-- the line of `list`
 abbrev pub list_in : List Row → Option Line
 list_in rows = option_map ListLine (first_of (codes "log") rows)
 
+-- the line of `check`
 abbrev pub check_in : List Row → Option Line
 check_in rows = option_map CheckLine (first_of (codes "log") rows)
 
+-- the line of `audit`
 abbrev pub audit_in : List Row → Option Line
 audit_in rows =
     and_then (pair_at (codes "elf") rows) (λ files.
     and_then (first_of (codes "book") rows) (λ book.
     Some (AuditLine files.0 files.1 book (first_of (codes "input") rows))))
 
+-- the line of `races`
 abbrev pub races_in : List Row → Option Line
 races_in rows =
     and_then (pair_at (codes "elf") rows) (λ files.
     and_then (number_at (codes "max") rows) (λ max.
     Some (RacesLine files.0 files.1 max)))
 
+-- the line of `slice`
 abbrev pub slice_in : List Row → Option Line
 slice_in rows =
     and_then (pair_at (codes "elf") rows) (λ files.
@@ -232,12 +246,15 @@ slice_in rows =
     and_then (number_at (codes "ic") rows) (λ ic.
     Some (SliceLine files.0 files.1 place.0 place.1 ic))))
 
+-- the line of `convert`
 abbrev pub convert_in : List Row → Option Line
 convert_in rows = option_map (λ files. ConvertLine files.0 files.1) (pair_at (codes "new") rows)
 
+-- the line of `salvage`
 abbrev pub salvage_in : List Row → Option Line
 salvage_in rows = option_map (λ files. SalvageLine files.0 files.1) (pair_at (codes "new") rows)
 
+-- the line of `demo`
 abbrev pub demo_in : List Row → Option Line
 demo_in rows = option_map DemoLine (number_at (codes "seed") rows)
 

@@ -45,6 +45,7 @@ demo_settings = record {
 abbrev pub demo_elf : ℕ → List ℕ
 demo_elf seed = guest_bytes seed Loop
 
+-- the program that the loader makes of that file
 abbrev pub demo_program : ℕ → Program
 demo_program seed = program_of (demo_elf seed) demo_settings
 
@@ -62,6 +63,7 @@ demo_log seed = content_of demo_settings (sha256 (demo_elf seed)) (recorded (dem
 
 -- ---- what is counted
 
+-- the count of a mark, 0 if there is none
 abbrev pub count_of : Option EndMark → ℕ
 count_of None = 0
 count_of (Some mark) = mark.ic

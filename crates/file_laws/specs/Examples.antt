@@ -25,6 +25,7 @@ code_header size =
 abbrev pub file_of_words : Recording → List ℕ
 file_of_words e = elf_header ++ code_header (4 * length e.words) ++ flat_map (number_bytes 4) e.words
 
+-- the run before its first turn
 abbrev pub an_exit_begun : Run
 an_exit_begun = start an_exit.settings (program_of an_exit) an_exit.input
 

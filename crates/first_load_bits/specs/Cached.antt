@@ -8,6 +8,7 @@ use Rattle.first_load_bits.specs.Ways.{AreApart}
 abbrev pub sets_below : Inside → ℕ
 sets_below c = elim (c.width_below == 0) [ true ↦ 0 | false ↦ 2 ^ c.set_bits_below.bits ]
 
+-- a cache by its fields, which keep the sets, and the line, as exponents of 2
 abbrev pub contents : Inside → Contents
 contents c = record {
   geometry = record { sets = 2 ^ c.set_bits.bits; ways = c.width; line = 2 ^ c.word_bits.bits; sets2 = sets_below c; ways2 = c.width_below };

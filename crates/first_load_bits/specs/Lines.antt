@@ -93,6 +93,7 @@ levels g (Clear ∷ es) = let ls = levels g es in record { first = λ k. map cle
 abbrev pub lines : Geometry → ℕ → List Event → List Line
 lines g k es = (levels g es).first k
 
+-- the list of set k of the second level, the latest line first
 abbrev pub lines_below : Geometry → ℕ → List Event → List Line
 lines_below g k es = (levels g es).second k
 

@@ -46,9 +46,11 @@ pub record Contents : Type 0 where
 abbrev pub no_contents : Contents
 no_contents = record { geometry = record { sets = 0; ways = 0; line = 0; sets2 = 0; ways2 = 0 }; steps = 0; generation = 0; ways = []; ways_below = [] }
 
+-- the first level by itself
 abbrev pub first_level : Contents → Level
 first_level c = record { geometry = c.geometry; steps = c.steps; generation = c.generation; ways = c.ways }
 
+-- the second level by itself
 abbrev pub second_level : Contents → Level
 second_level c = record { geometry = second_of c.geometry; steps = c.steps; generation = c.generation; ways = c.ways_below }
 

@@ -35,6 +35,7 @@ IsBitsBelow c l bits = bits ≡ bits_of l (lines_of (second_level c) (set_of (se
 abbrev pub with_ways : Contents → List Way → Contents
 with_ways c ws = record { geometry = c.geometry; steps = c.steps; generation = c.generation; ways = ws; ways_below = c.ways_below }
 
+-- a cache with other ways on its second level
 abbrev pub with_ways_below : Contents → List Way → Contents
 with_ways_below c ws = record { geometry = c.geometry; steps = c.steps; generation = c.generation; ways = c.ways; ways_below = ws }
 

@@ -11,15 +11,19 @@ use Rattle.guest_gen.specs.declared.kind.Kind.TheVariants.{Loop, Crash}
 abbrev pub t1 : ℕ
 t1 = 6
 
+-- the number of register t2
 abbrev pub t2 : ℕ
 t2 = 7
 
+-- the number of register s0
 abbrev pub s0 : ℕ
 s0 = 8
 
+-- the number of register s1
 abbrev pub s1 : ℕ
 s1 = 9
 
+-- the number of register a0
 abbrev pub a0 : ℕ
 a0 = 10
 

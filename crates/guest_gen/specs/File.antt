@@ -11,6 +11,7 @@ use Rattle.guest_gen.specs.Code.{code}
 abbrev pub words : List ℕ → List ℕ
 words = flat_map (number_bytes 4)
 
+-- numbers of two bytes each, one after another
 abbrev pub halves : List ℕ → List ℕ
 halves = flat_map (number_bytes 2)
 

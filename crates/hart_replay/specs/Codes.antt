@@ -16,5 +16,6 @@ abbrev pub IsLookup : Program → Lookup → Type 0
 IsLookup i l =
     (l.word ≡ code_at i l.pc) × (l.rd ≡ destination (instruction_in (code_at i l.pc))) × (option_map seen l.instr ≡ instruction_in (code_at i l.pc))
 
+-- each look-up is one of the program
 abbrev pub AreLookups : Program → List Lookup → Type 0
 AreLookups i ls = (n : ℕ) (l : Lookup) → slice_get ls n ≡ Some l → IsLookup i l

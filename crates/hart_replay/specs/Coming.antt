@@ -21,14 +21,17 @@ abbrev pub word_reply : Option (ℕ × ℕ) → Reply
 word_reply None = Over
 word_reply (Some access) = Word access.1
 
+-- the reply to a store-conditional, by what its row stored: it failed if that is nothing
 abbrev pub conditional_reply : Option (ℕ × ℕ) → Reply
 conditional_reply None = ScFailed
 conditional_reply (Some access) = ScOk
 
+-- the reply to a system call, by what its row wrote: all is over if that is nothing
 abbrev pub call_reply : Option (ℕ × ℕ) → Reply
 call_reply None = Over
 call_reply (Some result) = Answer result.1
 
+-- the reply to a request, by the row of its instruction
 abbrev pub reply_in : Row → Want → Reply
 reply_in r (Load a w s rd) = word_reply r.load
 reply_in r (LoadReserved a rd) = word_reply r.load
@@ -48,6 +51,7 @@ after_row i s r = elim (r.fault) [
 
 -- ---- what is to come
 
+-- a replay after these rows
 abbrev pub with_rows : List Row → Replayed → Replayed
 with_rows rs x = record { rows = rs ++ x.rows; outcome = x.outcome }
 

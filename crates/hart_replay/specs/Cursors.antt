@@ -15,9 +15,11 @@ use Rattle.hart_replay.specs.Sides.{Side, Does, Keeps, interval_at, position_at,
 abbrev pub side_of : IntervalCursor → Side
 side_of c = side c.loads c.conditionals c.words.pages
 
+-- the interval from the cursor's state on
 abbrev pub interval_of_cursor : IntervalCursor → Interval
 interval_of_cursor c = interval_at c.state c.mark (side_of c)
 
+-- its position in that interval
 abbrev pub position_of : IntervalCursor → Position
 position_of c = position_at c.state c.called (side_of c)
 

@@ -13,6 +13,7 @@ pub record Branches : Type 0 where
   pub branches : List Branch
   pub room : ℕ
 
+-- there is a node, and it is that of a part
 abbrev pub has_part : Option Branch → ℕ → Bool
 has_part None part = false
 has_part (Some b) part = b.part == part
@@ -44,6 +45,7 @@ place_for d n = place_at d.leaves (place_at d.mids (place_at d.tops d.root 0 (n 
 
 -- ---- the pages that are found so
 
+-- the page, if it is that of a number
 abbrev pub page_in : Option TaggedPage → ℕ → Option Frame
 page_in None n = None
 page_in (Some p) n = elim (p.number == n) [ true ↦ Some p.page | false ↦ None ]
@@ -53,6 +55,7 @@ abbrev pub is_of : Option TaggedPage → ℕ → Bool
 is_of None n = false
 is_of (Some p) n = p.number == n
 
+-- whether the page of a number is at a place of the list
 abbrev pub stands_at : List TaggedPage → (place number : ℕ) → Bool
 stands_at pages place n = is_of (slice_get pages place) n
 
@@ -65,6 +68,7 @@ abbrev pub and_page : Option Frame → ℕ → List (ℕ × Frame) → List (ℕ
 and_page None n rest = rest
 and_page (Some f) n rest = (n, f) ∷ rest
 
+-- the pages of the numbers below one, the highest number first
 abbrev pub listed : (ℕ → Option Frame) → ℕ → List (ℕ × Frame)
 listed f zero = []
 listed f (suc n) = and_page (f n) n (listed f n)

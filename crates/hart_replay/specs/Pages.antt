@@ -12,6 +12,7 @@ pub record Frame : Type 0 where
 abbrev pub word_in : Frame → ℕ → Option ℕ
 word_in f place = elim (bit_at f.known place == 1) [ true ↦ Some (slice_index f.words place) | false ↦ None ]
 
+-- the same of a page that may not be there
 abbrev pub word_of : Option Frame → ℕ → Option ℕ
 word_of None place = None
 word_of (Some f) place = word_in f place

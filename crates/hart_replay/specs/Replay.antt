@@ -106,6 +106,7 @@ pub record Position : Type 0 where
   pub rows : List Row
   pub called : Bool
 
+-- what an instruction of a replay leads to: a position, or the end of the replay
 pub data Next : Type 0 where
   On : Position → Next
   Stop : Outcome → Next

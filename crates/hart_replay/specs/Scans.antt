@@ -51,6 +51,7 @@ abbrev pub first_of : List Bool → Option Bool
 first_of [] = None
 first_of (b ∷ bs) = Some b
 
+-- all but the first, if there is one
 abbrev pub rest_of : List Bool → List Bool
 rest_of [] = []
 rest_of (b ∷ bs) = bs

@@ -27,9 +27,11 @@ pub record Side : Type 0 where
   pub tried : ℕ
   pub rows : List Row
 
+-- the interval from a state to a mark, with a side's records
 abbrev pub interval_at : HartState → EndMark → Side → Interval
 interval_at s m a = record { start = s; loads = a.loads; conditionals = a.conditionals; mark = m }
 
+-- the position at a state, with what a side has met
 abbrev pub position_at : HartState → Bool → Side → Position
 position_at s called a = record { state = s; loads = a.met; conditionals = a.tried; rows = a.rows; called = called }
 
@@ -56,6 +58,7 @@ abbrev pub word_row : ℕ → Option ℕ → Row
 word_row k None = record { hart = 0; ic = 0; pc = 0; word = None; reg = None; load = None; store = None; fault = None }
 word_row k (Some w) = record { hart = 0; ic = 0; pc = 0; word = None; reg = None; load = Some (4 * k, w); store = None; fault = None }
 
+-- the words of pages below number n, each as a row, the highest number first
 abbrev pub rows_below : List (ℕ × Frame) → ℕ → List Row
 rows_below pages zero = []
 rows_below pages (suc n) = word_row n (word_at pages n) ∷ rows_below pages n
@@ -75,6 +78,7 @@ abbrev pub Goes : Side → Next → Row → HartState → Bool → Side → Type
 Goes a (On q) row t called b = (q.state ≡ t) × (q.called ≡ called) × (take 1 q.rows ≡ row ∷ []) × Alike (later a q) b
 Goes a (Stop o) row t called b = ⊥
 
+-- how a replay ended that is done, or that stopped by an error
 abbrev pub outcome_of : Result (Unit {0}) ReplayError → Outcome
 outcome_of (Ok u) = Done
 outcome_of (Err e) = Refused e
@@ -100,6 +104,7 @@ abbrev pub Does : Side → Next → HartState → Result (Unit {0}) ReplayError 
 Does a n s (Ok u) row t called b = Goes a n row t called b × (t.ic ≡ count_up s.ic)
 Does a n s (Err e) row t called b = ((n ≡ Stop (Refused e)) ⊎ ((e ≡ OutOfMemory) × KeepsWord n)) × (t ≡ s)
 
+-- a system call is asked for
 abbrev pub IsSystem : Want → Type 0
 IsSystem (Load a w s rd) = ⊥
 IsSystem (LoadReserved a rd) = ⊥
@@ -133,5 +138,6 @@ Keeps old told new = (k : ℕ) → word_at new k ≡ (if k == told.0 / 4 then So
 abbrev pub call_reg : ℕ → ℕ → Option (ℕ × ℕ)
 call_reg reason value = elim (reason == 2) [ true ↦ Some (10, value) | false ↦ None ]
 
+-- the reply to that call: its result, or that all is over
 abbrev pub call_answer : ℕ → ℕ → Reply
 call_answer reason value = elim (reason == 2) [ true ↦ Answer value | false ↦ Over ]

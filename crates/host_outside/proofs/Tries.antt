@@ -1,6 +1,6 @@
--- What a load answers by a try to open a file.
+-- What a load answers by a try to open a file, and what a save does.
 use Rattle.std.proofs.Common.{ℕ, List, Option, ap, subst, sym, inl, inr}
-use Rattle.std.specs.Prelude.{Bool, Result, Ok, Err, Vec}
+use Rattle.std.specs.Prelude.{◌≡◌, Bool, Result, Ok, Err, IfOk, Vec}
 use Rattle.std.specs.List.{Contains}
 use Rattle.std.specs.Io.KnownBytes.{Appends}
 use Rattle.std.specs.declared.io.Error.{Error}
@@ -8,6 +8,7 @@ use Rattle.bn_outside.specs.declared.store.LoadError.{LoadError}
 use Rattle.host_outside.specs.declared.opened.Opened.{Opened}
 use Rattle.host_outside.specs.declared.spared_files.FileId.{FileId}
 use Rattle.host_outside.specs.Answers.{AnswersTry, FileTells, IsSpared, OpensToLoad, WroteIf}
+use Rattle.host_outside.specs.Changes.{ChangeNote, NamedIf, GotNameIf}
 
 -- what could not be opened, or not be remembered, is told as it was
 pub no_file : {F : Type 0} (A : Type 0) (remaining : F → Option (List ℕ)) (limit : ℕ) (spared : List FileId) (tried : Result (Opened F) Error) (e : LoadError) → OpensToLoad spared tried (Err e) → AnswersTry {F = F} {A = A} remaining limit spared tried (Err e)
@@ -28,3 +29,13 @@ is_spared spared (Ok w) o opened = subst (λ v. IsSpared spared v) (sym opened.0
 pub wrote : {F E : Type 0} (contents : F → Option (List ℕ)) (bytes : List ℕ) (spared : List FileId) (result : Result Bool E) (before : Opened F) (after : F) → Appends (contents before.file) (contents after) bytes → Contains spared before.id → WroteIf contents bytes spared result
 wrote contents bytes spared (Ok done) before after written has = λ _. record { before = before; after = after; written = written; is_spared = λ _. has }
 wrote contents bytes spared (Err e) before after written has = tt
+
+-- a name is told as given only if it was
+pub settled : {E F : Type 0} (note : ChangeNote) (noted : ℕ) (from to : List ℕ) (named : Result Bool E) (result : Result Bool F) → NamedIf note noted from to named → IfOk result (λ done. named ≡ Ok done) → NamedIf note noted from to result
+settled note noted from to named (Ok done) has same = subst (λ r. NamedIf note noted from to r) same has
+settled note noted from to named (Err e) has same = tt
+
+-- a new file got the name, whatever its own one was
+pub got_name : {E : Type 0} (note : ChangeNote) (noted : ℕ) (from to : List ℕ) (result : Result Bool E) → NamedIf note noted from to result → GotNameIf note noted to result
+got_name note noted from to (Ok done) named = λ is. (from, named is)
+got_name note noted from to (Err e) named = tt

@@ -4,8 +4,10 @@ ghost use Rattle.std.specs.List.{Contains};
 ghost use Rattle.bn_outside.specs.Counts.{counted, NoneFell, LoadCause, SaveCause};
 ghost use Rattle.host_outside.specs.Answers.{AnswersSomeTry, AnswersTry, FileTells, OpensToLoad, WroteIf, WroteSome};
 ghost use Rattle.host_outside.specs.Kinds.{IsMissing, RanOutOfMemory};
+ghost use Rattle.host_outside.specs.Changes.{EmptiedIf, GotNameIf};
 ghost use Rattle.host_outside.specs.declared.spared_files.FileId.{FileId as AnyFile};
 
+use crate::file_changer::{FileChanger, HostChanger};
 use crate::limits::most_bytes;
 use crate::opened::{Opened, open_to_read, open_to_write, save_options};
 use crate::replacing::{
@@ -175,8 +177,10 @@ fn open_to_save<F: Drop>(
 }
 
 // Saves a file under a name that none has, as two looks for one told. Whether none had it until the save.
-fn save_first<R: Files + RandomSource>(
+#[tactic(auto, using(crate::proofs::Tries::got_name))]
+fn save_first<R: Files + RandomSource, C: FileChanger>(
     rt: &R,
+    changer: &mut C,
     alloc: Global,
     name: &str,
     found: &io::Result<Metadata>,
@@ -186,32 +190,36 @@ fn save_first<R: Files + RandomSource>(
 ) -> Result<bool, SaveError>
     requires { IsMissing found.now × IsMissing at_end.now }
     ensures saved { WroteIf R.File.contents bytes.now spared.new result }
+    ensures named { GotNameIf C.note (C.noted changer.new) name.now result }
     ensures kept { (id : AnyFile) → Contains spared.old id → Contains spared.new id }
 {
     match make_first(rt, alloc, name) {
-        Ok(fresh) => put_first(rt, fresh, name, bytes, spared),
+        Ok(fresh) => put_first(rt, changer, fresh, name, bytes, spared),
         Err(error) => Err(save_error(error.kind())),
     }
 }
 
 // Saves an open file in place of what it has, unless it is one that was loaded or saved.
-fn save_in_place<F: OpenFile + Write + Drop>(
+fn save_in_place<F: OpenFile + Write + Drop, C: FileChanger>(
+    changer: &mut C,
     mut opened: Opened<F>,
     bytes: &[u8],
     spared: &mut SparedFiles,
 ) -> Result<(), SaveError>
     ensures saved { OnOk result (WroteSome F.contents bytes.now spared.new) }
+    ensures emptied { EmptiedIf C.note (C.noted changer.new) opened.metadata result }
     ensures kept { (id : AnyFile) → Contains spared.old id → Contains spared.new id }
 {
     if spared.has(opened.id) {
         return Err(SaveError::Failed);
     }
-    overwrite(&mut opened, bytes, spared)
+    overwrite(changer, &mut opened, bytes, spared)
 }
 
 // Saves a file that is there, and open. The name is its own, and no link.
-fn save_over<R: Files + RandomSource>(
+fn save_over<R: Files + RandomSource, C: FileChanger>(
     rt: &R,
+    changer: &mut C,
     alloc: Global,
     opened: Opened<R::File>,
     name: &str,
@@ -223,19 +231,20 @@ fn save_over<R: Files + RandomSource>(
     ensures kept { (id : AnyFile) → Contains spared.old id → Contains spared.new id }
 {
     match make_like(rt, alloc, &opened, name) {
-        Ok(Some(fresh)) => match put_over(rt, fresh, name, &opened, bytes, spared) {
+        Ok(Some(fresh)) => match put_over(rt, changer, fresh, name, &opened, bytes, spared) {
             Ok(true) => Ok(()),
-            Ok(false) => save_in_place(opened, bytes, spared),
+            Ok(false) => save_in_place(changer, opened, bytes, spared),
             Err(error) => Err(error),
         },
-        Ok(None) => save_in_place(opened, bytes, spared),
+        Ok(None) => save_in_place(changer, opened, bytes, spared),
         Err(error) => Err(save_error(error.kind())),
     }
 }
 
 // Saves a file, unless the name was free and then was not. Whether it is saved.
-fn try_to_save<R: Files + RandomSource>(
+fn try_to_save<R: Files + RandomSource, C: FileChanger>(
     rt: &R,
+    changer: &mut C,
     alloc: Global,
     name: &str,
     bytes: &[u8],
@@ -248,16 +257,26 @@ fn try_to_save<R: Files + RandomSource>(
     let found = fs::metadata(rt, name);
     let at_end = fs::symlink_metadata(rt, end.as_str());
     if is_free(&found, &at_end) {
-        return save_first(rt, alloc, end.as_str(), &found, &at_end, bytes, spared);
+        return save_first(
+            rt,
+            changer,
+            alloc,
+            end.as_str(),
+            &found,
+            &at_end,
+            bytes,
+            spared,
+        );
     }
     let opened = open_to_save(open_to_write(rt, name, &save_options()), spared)?;
-    save_over(rt, alloc, opened, end.as_str(), bytes, spared)?;
+    save_over(rt, changer, alloc, opened, end.as_str(), bytes, spared)?;
     Ok(true)
 }
 
 // Saves a file. A name that was taken meanwhile is looked for once more.
-fn save_file<R: Files + RandomSource>(
+fn save_file<R: Files + RandomSource, C: FileChanger>(
     rt: &R,
+    changer: &mut C,
     alloc: Global,
     name: &str,
     bytes: &[u8],
@@ -269,10 +288,10 @@ fn save_file<R: Files + RandomSource>(
     if !has_room(rt, name, bytes.len()) {
         return Err(SaveError::Failed);
     }
-    if try_to_save(rt, alloc, name, bytes, spared)? {
+    if try_to_save(rt, changer, alloc, name, bytes, spared)? {
         return Ok(());
     }
-    if try_to_save(rt, alloc, name, bytes, spared)? {
+    if try_to_save(rt, changer, alloc, name, bytes, spared)? {
         return Ok(());
     }
     Err(SaveError::Failed)
@@ -331,7 +350,10 @@ impl<'a, R: Files + RandomSource> Store for FileStore<'a, R> {
         ensures kept { (id : AnyFile) → Contains self.old.spared id → Contains self.new.spared id }
     {
         self.saves = self.saves.saturating_add(1);
-        match save_file(self.rt, self.alloc, name, bytes, &mut self.spared) {
+        let mut changer = HostChanger::new(self.rt);
+        let spared = &mut self.spared;
+        let saved = save_file(self.rt, &mut changer, self.alloc, name, bytes, spared);
+        match saved {
             Err(SaveError::Failed) => {
                 self.faults = self.faults.saturating_add(1);
                 Err(SaveError::Failed)

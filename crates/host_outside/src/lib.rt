@@ -7,6 +7,7 @@
 //! Files that no `pub` below names may change with this crate's proofs alone.
 #![tactic(auto)]
 
+mod file_changer;
 mod file_store;
 mod limits;
 mod opened;

@@ -4,13 +4,15 @@
 //! one whose process or machine ends, leaves the old file whole. If that would change more than the bytes, the file is
 //! written in place. So it is if the file isn't regular, has further hard links, belongs to another user or group, or is
 //! mounted from elsewhere, or if the folder takes no new file.
-ghost use Rattle.std.specs.Prelude.{◌≡◌, ◌↔◌, IfOk, OnOk, OnSome, IsFalse, IsTrue};
+ghost use Rattle.std.specs.Prelude.{◌≡◌, ◌↔◌, IfOk, OnOk, OnSome, IsFalse, IsTrue, string_bytes};
 ghost use Rattle.std.specs.List.{Contains};
 ghost use Rattle.std.specs.Io.KnownBytes.{Appends};
 ghost use Rattle.host_outside.specs.Answers.{WroteIf, WroteSome};
 ghost use Rattle.host_outside.specs.Kinds.{IsMissing, IsRegular};
+ghost use Rattle.host_outside.specs.Changes.{EmptiedIf, NamedIf};
 ghost use Rattle.host_outside.specs.declared.spared_files.FileId.{FileId as AnyFile};
 
+use crate::file_changer::FileChanger;
 use crate::opened::{Opened, identified, make_new, new_options};
 use crate::spared_files::{FileId, SparedFiles, id_of};
 use bn_outside::SaveError;
@@ -223,6 +225,7 @@ fn fill<F: OpenFile + Write>(
 ) -> Result<(), SaveError>
     ensures written { OnOk result (Appends (F.contents fresh.old.opened.file) (F.contents fresh.new.opened.file) bytes.now) }
     ensures remembered { OnOk result (Contains spared.new fresh.old.opened.id) }
+    ensures name { string_bytes fresh.new.name ≡ string_bytes fresh.old.name }
     ensures kept { (id : AnyFile) → Contains spared.old id → Contains spared.new id }
 {
     spared.add(fresh.opened.id)?;
@@ -234,15 +237,22 @@ fn fill<F: OpenFile + Write>(
 
 // Gives a file a further name, unless something has that, and takes the old name away. Whether nothing had it.
 // If no file here can have two names, it is renamed: what took the name since the last look is replaced then.
-fn name_first<R: Files>(rt: &R, from: &str, to: &str) -> io::Result<bool> {
-    match fs::hard_link(rt, from, to) {
+fn name_first<R: Files, C: FileChanger>(
+    rt: &R,
+    changer: &mut C,
+    from: &str,
+    to: &str,
+) -> io::Result<bool>
+    ensures { NamedIf C.note (C.noted changer.new) from.now to.now result }
+{
+    match changer.link(from, to) {
         Ok(()) => {
             remove(rt, from);
             Ok(true)
         }
         Err(error) if error.kind() == ErrorKind::AlreadyExists => Ok(false),
         Err(_) => {
-            fs::rename(rt, from, to)?;
+            changer.rename(from, to)?;
             Ok(true)
         }
     }
@@ -250,14 +260,16 @@ fn name_first<R: Files>(rt: &R, from: &str, to: &str) -> io::Result<bool> {
 
 // Gives a file the permissions of an old one, and then its name. Whether another file can have that: no other can if
 // that one is mounted.
-fn name_over<R: Files>(
-    rt: &R,
-    fresh: &Fresh<R::File>,
+fn name_over<F: OpenFile, C: FileChanger>(
+    changer: &mut C,
+    fresh: &Fresh<F>,
     to: &str,
     old: &Metadata,
-) -> io::Result<bool> {
+) -> io::Result<bool>
+    ensures { NamedIf C.note (C.noted changer.new) (string_bytes fresh.now.name) to.now result }
+{
     fresh.opened.file.set_permissions(old.permissions())?;
-    match fs::rename(rt, fresh.name.as_str(), to) {
+    match changer.rename(fresh.name.as_str(), to) {
         Ok(()) => Ok(true),
         Err(error) if error.kind() == ErrorKind::ResourceBusy => Ok(false),
         Err(error) => Err(error),
@@ -282,20 +294,22 @@ fn settle<R: Files>(rt: &R, name: &str, named: io::Result<bool>) -> Result<bool,
 }
 
 /// Gives these bytes to a new file, and to that a name that nothing had. If something has it by now, nothing is done.
-pub fn put_first<R: Files>(
+pub fn put_first<R: Files, C: FileChanger>(
     rt: &R,
+    changer: &mut C,
     fresh: Fresh<R::File>,
     name: &str,
     bytes: &[u8],
     spared: &mut SparedFiles,
 ) -> Result<bool, SaveError>
     ensures saved { WroteIf R.File.contents bytes.now spared.new result }
+    ensures named { NamedIf C.note (C.noted changer.new) (string_bytes fresh.name) name.now result }
     ensures kept { (id : AnyFile) → Contains spared.old id → Contains spared.new id }
 {
     let mut fresh = fresh;
     match fill(&mut fresh, bytes, spared) {
         Ok(()) => {
-            let named = name_first(rt, fresh.name.as_str(), name);
+            let named = name_first(rt, changer, fresh.name.as_str(), name);
             settle(rt, fresh.name.as_str(), named)
         }
         Err(error) => {
@@ -307,8 +321,9 @@ pub fn put_first<R: Files>(
 
 /// Gives these bytes to a new file, and to that the name of an old one, which is then gone: so it must be none that is
 /// spared. If no other file can have the name, nothing is done.
-pub fn put_over<R: Files>(
+pub fn put_over<R: Files, C: FileChanger>(
     rt: &R,
+    changer: &mut C,
     fresh: Fresh<R::File>,
     name: &str,
     old: &Opened<R::File>,
@@ -317,12 +332,13 @@ pub fn put_over<R: Files>(
 ) -> Result<bool, SaveError>
     requires { Contains spared.old old.now.id → ⊥ }
     ensures saved { WroteIf R.File.contents bytes.now spared.new result }
+    ensures named { NamedIf C.note (C.noted changer.new) (string_bytes fresh.name) name.now result }
     ensures kept { (id : AnyFile) → Contains spared.old id → Contains spared.new id }
 {
     let mut fresh = fresh;
     match fill(&mut fresh, bytes, spared) {
         Ok(()) => {
-            let named = name_over(rt, &fresh, name, &old.metadata);
+            let named = name_over(changer, &fresh, name, &old.metadata);
             settle(rt, fresh.name.as_str(), named)
         }
         Err(error) => {
@@ -333,21 +349,24 @@ pub fn put_over<R: Files>(
 }
 
 // Empties a file if it is a regular one, and writes these bytes.
-fn write_over<F: OpenFile + Write>(
+fn write_over<F: OpenFile + Write, C: FileChanger>(
+    changer: &mut C,
     file: &mut F,
     metadata: &Metadata,
     bytes: &[u8],
 ) -> io::Result<()>
-    ensures { OnOk result (Appends (F.contents file.old) (F.contents file.new) bytes.now) }
+    ensures written { OnOk result (Appends (F.contents file.old) (F.contents file.new) bytes.now) }
+    ensures emptied { EmptiedIf C.note (C.noted changer.new) metadata.now result }
 {
     if metadata.is_file() {
-        file.set_len(0)?;
+        changer.empty(file)?;
     }
     file.write_all(bytes)
 }
 
 /// Gives an open file these bytes, in place of what it has.
-pub fn overwrite<F: OpenFile + Write>(
+pub fn overwrite<F: OpenFile + Write, C: FileChanger>(
+    changer: &mut C,
     opened: &mut Opened<F>,
     bytes: &[u8],
     spared: &mut SparedFiles,
@@ -356,10 +375,11 @@ pub fn overwrite<F: OpenFile + Write>(
     ensures written { OnOk result (Appends (F.contents opened.old.file) (F.contents opened.new.file) bytes.now) }
     ensures remembered { OnOk result (IsFalse opened.old.is_stream → Contains spared.new opened.old.id) }
     ensures saved { OnOk result (WroteSome F.contents bytes.now spared.new) }
+    ensures emptied { EmptiedIf C.note (C.noted changer.new) opened.old.metadata result }
     ensures kept { (id : AnyFile) → Contains spared.old id → Contains spared.new id }
 {
     opened.remember(spared)?;
-    match write_over(&mut opened.file, &opened.metadata, bytes) {
+    match write_over(changer, &mut opened.file, &opened.metadata, bytes) {
         Ok(()) => Ok(()),
         Err(error) => Err(save_error(error.kind())),
     }

@@ -9,6 +9,7 @@ use Rattle.joint_laws.specs.Examples.{joint_from}
 abbrev pub joined : Recording → List ℕ
 joined e = joint_text (run_all (joint_from 0 e))
 
+-- what `an_exit` prints
 abbrev pub text_of_an_exit : List ℕ
 text_of_an_exit =
     codes "0 0 00010054 00500513 addi a0,zero,5 | a0=00000005\n"
@@ -16,6 +17,7 @@ text_of_an_exit =
     ++ codes "0 2 0001005c 00000073 ecall\n"
     ++ codes "end 0 0 3 exit 00000005\n"
 
+-- what `two_loads_of_a_word` prints
 abbrev pub text_of_two_loads_of_a_word : List ℕ
 text_of_two_loads_of_a_word =
     codes "0 0 00010054 00020437 lui s0,0x20 | s0=00020000\n"
@@ -26,6 +28,7 @@ text_of_two_loads_of_a_word =
     ++ codes "end 0 0 5 exit 00000000\n"
     ++ codes "word 00020000=00000000\n"
 
+-- what `a_skipped_load` prints
 abbrev pub text_of_a_skipped_load : List ℕ
 text_of_a_skipped_load =
     codes "0 0 00010054 00020437 lui s0,0x20 | s0=00020000\n"
@@ -38,6 +41,7 @@ text_of_a_skipped_load =
     ++ codes "word 00020000=00000000\n"
     ++ codes "word 00020004=00000000\n"
 
+-- what `a_byte_store` prints
 abbrev pub text_of_a_byte_store : List ℕ
 text_of_a_byte_store =
     codes "0 0 00010054 00020437 lui s0,0x20 | s0=00020000\n"
@@ -48,6 +52,7 @@ text_of_a_byte_store =
     ++ codes "end 0 0 5 exit 00000000\n"
     ++ codes "word 00020000=00000001\n"
 
+-- what `a_line_put_out` prints
 abbrev pub text_of_a_line_put_out : List ℕ
 text_of_a_line_put_out =
     codes "0 0 00010054 00020437 lui s0,0x20 | s0=00020000\n"
@@ -60,6 +65,7 @@ text_of_a_line_put_out =
     ++ codes "word 00020000=00000000\n"
     ++ codes "word 00020004=00000000\n"
 
+-- what `a_conditional_store` prints
 abbrev pub text_of_a_conditional_store : List ℕ
 text_of_a_conditional_store =
     codes "0 0 00010054 00020437 lui s0,0x20 | s0=00020000\n"
@@ -70,6 +76,7 @@ text_of_a_conditional_store =
     ++ codes "end 0 0 5 exit 00000000\n"
     ++ codes "word 00020000=00000001\n"
 
+-- what `one_a_time` prints
 abbrev pub text_of_one_a_time : List ℕ
 text_of_one_a_time =
     codes "0 0 00010054 00500513 addi a0,zero,5 | a0=00000005\n"
@@ -79,6 +86,7 @@ text_of_one_a_time =
     ++ codes "0 2 0001005c 00000073 ecall\n"
     ++ codes "end 0 2 3 exit 00000005\n"
 
+-- what `a_call_at_full_length` prints
 abbrev pub text_of_a_call_at_full_length : List ℕ
 text_of_a_call_at_full_length =
     codes "0 0 00010054 0d600893 addi a7,zero,214 | a7=000000d6\n"
@@ -89,11 +97,13 @@ text_of_a_call_at_full_length =
     ++ codes "0 4 00010064 00000073 ecall\n"
     ++ codes "end 0 1 5 exit 00011000\n"
 
+-- what `a_fault` prints
 abbrev pub text_of_a_fault : List ℕ
 text_of_a_fault =
     codes "0 0 00010054 00002283 lw t0,0(zero) | fault LoadOutside 00000000\n"
     ++ codes "end 0 0 0 LoadOutside 00000000\n"
 
+-- what `a_limit` prints
 abbrev pub text_of_a_limit : List ℕ
 text_of_a_limit =
     codes "0 0 00010054 0000006f jal zero,00010054\n"
@@ -110,6 +120,7 @@ text_of_a_limit =
     ++ codes "0 9 00010054 0000006f jal zero,00010054\n"
     ++ codes "end 0 2 10 limit 00000000\n"
 
+-- what `a_line_lost` prints
 abbrev pub text_of_a_line_lost : List ℕ
 text_of_a_line_lost =
     codes "0 0 00010054 00020437 lui s0,0x20 | s0=00020000\n"
@@ -128,6 +139,7 @@ text_of_a_line_lost =
     ++ codes "word 00020000=00000000\n"
     ++ codes "word 00020004=00000002\n"
 
+-- what `a_reservation_lost` prints
 abbrev pub text_of_a_reservation_lost : List ℕ
 text_of_a_reservation_lost =
     codes "0 0 00010054 00020437 lui s0,0x20 | s0=00020000\n"
@@ -145,6 +157,7 @@ text_of_a_reservation_lost =
     ++ codes "end 1 0 5 exit 00000001\n"
     ++ codes "word 00020000=00000002\n"
 
+-- what `a_filled_word` prints
 abbrev pub text_of_a_filled_word : List ℕ
 text_of_a_filled_word =
     codes "0 0 00010054 00020437 lui s0,0x20 | s0=00020000\n"
@@ -167,6 +180,7 @@ text_of_a_filled_word =
     ++ codes "end 1 1 9 exit 00000004\n"
     ++ codes "word 00020000=7a797877\n"
 
+-- what `a_relay` prints
 abbrev pub text_of_a_relay : List ℕ
 text_of_a_relay =
     codes "0 0 00010054 00020437 lui s0,0x20 | s0=00020000\n"

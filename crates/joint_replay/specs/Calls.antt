@@ -29,6 +29,7 @@ state_at j h = elim (slice_get j.lanes h) [ None ↦ None | Some lane ↦ state_
 abbrev pub bare_cursor : Cursor → Cursor
 bare_cursor c = record c { left = over Done }
 
+-- the same of a hart's intervals
 abbrev pub bare : Lane → Lane
 bare lane = record lane { cursors = map bare_cursor lane.cursors }
 

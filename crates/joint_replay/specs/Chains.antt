@@ -22,6 +22,7 @@ pub record Did (taken : List Taken) (x hart count : ℕ) : Type 0 where
   pub hart_is : step.hart ≡ hart
   pub row : IsRowAt count step.item
 
+-- instruction k of a hart is still to be done, if there is the hart
 abbrev pub IsLeft : Option Lane → ℕ → Type 0
 IsLeft None k = ⊥
 IsLeft (Some lane) k = InCursors lane.cursors k

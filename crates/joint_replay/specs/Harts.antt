@@ -18,6 +18,7 @@ pub record Running : Type 0 where
   pub program : Program
   pub cursor : Cursor
 
+-- the interval of a number that a replayer has under way
 abbrev pub running : ℕ → Replaying → Bool → Running
 running number r faulted = record { program = r.program; cursor = record { number = number; mark = r.mark; state = r.state; left = r.left; faulted = faulted } }
 
@@ -42,6 +43,7 @@ halted before r = record {
 abbrev pub cursor_coming : Cursor → Coming
 cursor_coming c = elim (has_row c) [ true ↦ RowAt c.state.ic | false ↦ EndAt c.mark.ic ]
 
+-- the count of what comes next of an interval, if that is no end
 abbrev pub cursor_point : Cursor → Option ℕ
 cursor_point c = elim (is_within c) [ true ↦ Some c.state.ic | false ↦ None ]
 
@@ -61,6 +63,7 @@ pub record HartLane : Type 0 where
   pub hart : ℕ
   pub lane : Lane
 
+-- a hart by its ordering points, the interval under way, and those that are still to begin
 abbrev pub hart_lane : Program → List Record → ℕ → List ℕ → Option Running → List Retained → HartLane
 hart_lane i records h points cursor later = record { program = i; records = records; hart = h; lane = record { points = points; cursors = hart_cursors i records h cursor later } }
 
@@ -69,6 +72,7 @@ abbrev pub Goes : Option Running → List Retained → Type 0
 Goes None later = later ≡ []
 Goes (Some r) later = Unit {0}
 
+-- hart h of a log by its type: it is one of the log's, and its intervals are there and replayed with the program
 pub record IsHartLane (i : Program) (log : Content) (h : ℕ) (cursor : Option Running) (later : List Retained) : Type 0 where
   pub hart : h < log.head.settings.harts
   pub program : IfSome cursor (λ r. r.program ≡ i)

@@ -9,5 +9,6 @@ use Rattle.joint_replay.specs.Points.{IsThere}
 abbrev pub numbers : List Retained → List ℕ
 numbers rs = map (λ (r : Retained). r.number) (reverse rs)
 
+-- each of these intervals of hart h is there, its Header at its place
 abbrev pub AreThere : ℕ → List Record → List Retained → Type 0
 AreThere h records rs = AllByRecursion (λ (r : Retained). IsThere h records r.number r.place) rs

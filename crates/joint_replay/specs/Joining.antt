@@ -26,6 +26,7 @@ pub record Joining : Type 0 where
   pub memory : List (ℕ × ℕ)
   pub refused : Option ReplayError
 
+-- so many harts from hart h on, before their first steps
 abbrev pub lanes_from : Program → List Record → ℕ → ℕ → List Lane
 lanes_from i records h zero = []
 lanes_from i records h (suc n) = lane_of i records h ∷ lanes_from i records (h + 1) n
@@ -46,6 +47,7 @@ abbrev pub first_waited : List Lane → List (ℕ × ℕ) → Option (ℕ × ℕ
 first_waited lanes [] = None
 first_waited lanes (p ∷ ps) = elim (is_passed (slice_get lanes p.0) p.1) [ true ↦ first_waited lanes ps | false ↦ Some p ]
 
+-- ready, if it waits for nothing
 abbrev pub waits_for : Option (ℕ × ℕ) → Readiness
 waits_for None = is.Ready
 waits_for (Some p) = is.Waits p.0 p.1
@@ -81,10 +83,12 @@ choice j = choice_from j.records j.lanes 0 j.lanes false
 
 -- ---- a step
 
+-- the state after a step of hart h, or its refusal
 abbrev pub with_step : Joining → ℕ → Result (Item × Lane) ReplayError → Result (Item × Joining) ReplayError
 with_step j h (Err e) = Err e
 with_step j h (Ok x) = Ok (x.0, record j { lanes = slice_set j.lanes h x.1; memory = memory_after x.0 j.memory })
 
+-- the same, if the hart has a step
 abbrev pub move : Joining → ℕ → Option (Result (Item × Lane) ReplayError) → Option (Result (Item × Joining) ReplayError)
 move j h None = None
 move j h (Some r) = Some (with_step j h r)

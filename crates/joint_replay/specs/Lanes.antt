@@ -31,6 +31,7 @@ abbrev pub with_cursor : Option Interval → ℕ → Replayed → List Cursor �
 with_cursor None n left cursors = cursors
 with_cursor (Some v) n left cursors = record { number = n; mark = v.mark; state = v.start; left = left; faulted = false } ∷ cursors
 
+-- the intervals of these numbers before their first rows, for those whose Headers are there
 abbrev pub cursors_of : Program → List Record → ℕ → List ℕ → List Cursor
 cursors_of i records h [] = []
 cursors_of i records h (n ∷ ns) = with_cursor (interval_of h n records) n (replayed i records h n) (cursors_of i records h ns)
@@ -88,6 +89,7 @@ pub data Item : Type 0 where
 abbrev pub row_given : Program → Cursor → Row → List Row → Cursor
 row_given i c r rs = record { number = c.number; mark = c.mark; state = after_row i c.state r; left = record { rows = rs; outcome = c.left.outcome }; faulted = is_some r.fault }
 
+-- the next step of the interval under way: its next row, its end, or its refusal
 abbrev pub cursor_step : Program → Cursor → List Cursor → Result (Item × Lane) ReplayError
 cursor_step i c cs = elim c.left.rows [
   | r ∷ rs ↦ Ok (Doing c.state r, record { points = []; cursors = row_given i c r rs ∷ cs })
@@ -106,5 +108,6 @@ abbrev pub cursors_steps : List Cursor → ℕ
 cursors_steps [] = 0
 cursors_steps (c ∷ cs) = length c.left.rows + 1 + cursors_steps cs
 
+-- how many steps a hart has left at most: its ordering points, and those of its intervals
 abbrev pub lane_steps : Lane → ℕ
 lane_steps lane = length lane.points + cursors_steps lane.cursors

@@ -24,6 +24,7 @@ use Rattle.joint_replay.specs.Calls.{bare_cursor, bare}
 abbrev pub asked_by : HartState → Asked
 asked_by s = record { number = slice_index s.x 17; file = slice_index s.x 10; buffer = slice_index s.x 11 }
 
+-- the first address, and how many bytes
 abbrev pub range_of : Bytes → ℕ × ℕ
 range_of b = (b.first, b.count)
 
@@ -74,6 +75,7 @@ stepped_by h (to.Passed ic) x = has.Passed h ic
 stepped_by h to.Row x = has.Did x.row
 stepped_by h (to.Ended n m) x = has.Ended h n m
 
+-- the same, or the error
 abbrev pub told : ℕ → Result Moved JointError → Did → Result Stepped JointError
 told h (Ok m) x = Ok (stepped_by h m x)
 told h (Err e) x = Err e

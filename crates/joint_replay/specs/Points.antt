@@ -27,6 +27,7 @@ abbrev pub insert : ℕ → List ℕ → List ℕ
 insert n [] = n ∷ []
 insert n (m ∷ ms) = elim (n == m) [ true ↦ m ∷ ms | false ↦ elim (nat_lt n m) [ true ↦ n ∷ m ∷ ms | false ↦ m ∷ insert n ms ] ]
 
+-- a number in its place, if the test holds
 abbrev pub insert_if : Bool → ℕ → List ℕ → List ℕ
 insert_if true n ms = insert n ms
 insert_if false n ms = ms
@@ -61,6 +62,7 @@ number_in h (ScFailed k) = None
 number_in h (Edge k ic s j) = None
 number_in h (End k mark) = None
 
+-- a number before the others, if there is one
 abbrev pub number_before : Option ℕ → List ℕ → List ℕ
 number_before None ns = ns
 number_before (Some n) ns = n ∷ ns

@@ -47,6 +47,7 @@ IsStuck old e new = ((e ≡ why.Stuck (positions_from 0 old.lanes)) × (new ≡ 
 
 -- ---- all steps
 
+-- the error that a run ended with, if it did
 abbrev pub stopped_by : Result (Unit {0}) JointError → Option JointError
 stopped_by (Ok u) = None
 stopped_by (Err e) = Some e

@@ -20,6 +20,7 @@ pub record IsSound (now : Joining) : Type 0 where
   pub closed : (h ic s j : ℕ) (lane : Lane) → HasEdge now.records h ic s j → slice_get now.lanes h ≡ Some lane
       → is_passed (Some lane) ic ≡ true → is_passed (slice_get now.lanes s) j ≡ true
 
+-- the same of the state after a step, if there is one
 abbrev pub SoundIf : Option (Item × Joining) → Type 0
 SoundIf None = Unit {0}
 SoundIf (Some x) = IsSound x.1

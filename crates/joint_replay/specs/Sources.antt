@@ -14,6 +14,7 @@ source_in h (ScFailed k) = None
 source_in h (Edge k n s j) = elim (k == h) [ true ↦ Some (record { target = n; hart = s; ic = j }) | false ↦ None ]
 source_in h (End k mark) = None
 
+-- an Edge before the others, if there is one
 abbrev pub source_before : Option IncomingEdge → List IncomingEdge → List IncomingEdge
 source_before None sources = sources
 source_before (Some source) sources = source ∷ sources
@@ -33,5 +34,6 @@ pub record HartOf : Type 0 where
   pub log : Content
   pub hart : ℕ
 
+-- hart h of the log
 abbrev pub hart_of : Content → ℕ → HartOf
 hart_of log h = record { log = log; hart = h }

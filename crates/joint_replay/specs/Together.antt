@@ -11,9 +11,11 @@ use Rattle.joint_replay.specs.Joining.{Joining, is_passed, lanes_from}
 use Rattle.joint_replay.specs.Sources.{edges_into}
 use Rattle.joint_replay.specs.Calls.{IsReached}
 
+-- what each hart has left
 abbrev pub lanes_of : List HartLane → List Lane
 lanes_of harts = map (λ (l : HartLane). l.lane) harts
 
+-- the joint replay with these harts
 abbrev pub joining : Program → List Record → List HartLane → List (ℕ × ℕ) → Option ReplayError → Joining
 joining i records harts memory refused = record { program = i; records = records; lanes = lanes_of harts; memory = memory; refused = refused }
 

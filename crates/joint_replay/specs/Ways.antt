@@ -15,10 +15,12 @@ abbrev pub AreFrom : Program → Cursor → List Cursor → Type 0
 AreFrom i c [] = GoesOn i c
 AreFrom i c (d ∷ ds) = GoesOn i c × (d.state.ic ≡ c.mark.ic) × AreFrom i d ds
 
+-- the same of all intervals, of which there may be none
 abbrev pub AreCursors : Program → List Cursor → Type 0
 AreCursors i [] = Unit {0}
 AreCursors i (c ∷ cs) = AreFrom i c cs
 
+-- a count below the intervals'
 abbrev pub IsBelow : ℕ → List Cursor → Type 0
 IsBelow p [] = Unit {0}
 IsBelow p (c ∷ cs) = p < c.state.ic
@@ -37,14 +39,17 @@ pub record IsLane (i : Program) (lane : Lane) : Type 0 where
 
 -- ---- the points of a hart that Edges name
 
+-- a count is among these
 abbrev pub Has : List ℕ → ℕ → Type 0
 Has [] k = ⊥
 Has (p ∷ ps) k = (p ≡ k) ⊎ Has ps k
 
+-- the count at the end of the last interval
 abbrev pub last_count : Cursor → List Cursor → ℕ
 last_count c [] = c.mark.ic
 last_count c (d ∷ ds) = last_count d ds
 
+-- instruction k is still to be done in the intervals
 abbrev pub InCursors : List Cursor → ℕ → Type 0
 InCursors [] k = ⊥
 InCursors (c ∷ cs) k = (c.state.ic ≤ k) × (k < last_count c cs)
@@ -69,6 +74,7 @@ pub record Passes (i : Program) (old : Lane) (item : Item) (new : Lane) : Type 0
   pub rows : (k : ℕ) → InCursors old.cursors k → InCursors new.cursors k ⊎ IsRowAt k item
   pub at : (n : ℕ) → IsRowAt n item → (point_of old ≡ Some n) × ((k : ℕ) → k < n → is_passed (Some old) k ≡ true)
 
+-- the same of a hart that may have no step, or whose step is refused: nothing is said then
 abbrev pub PassesIf : Program → Lane → Option (Result (Item × Lane) ReplayError) → Type 0
 PassesIf i lane None = Unit {0}
 PassesIf i lane (Some (Err e)) = Unit {0}

@@ -26,6 +26,7 @@ settings_in bytes = record {
 abbrev pub program_in : List ℕ → List ℕ
 program_in bytes = take 32 (drop PROGRAM2 bytes)
 
+-- the head's settings and the program's digest
 abbrev pub head_in : List ℕ → Head
 head_in bytes = record { settings = settings_in bytes; digest = program_in bytes }
 
@@ -41,6 +42,7 @@ size_in bytes = number_at 4 N2 bytes
 abbrev pub kept_digest : List ℕ → List ℕ
 kept_digest bytes = take 32 (drop DIGEST2 bytes)
 
+-- the digest that the head should have: that of the bytes before it
 abbrev pub head_digest : List ℕ → List ℕ
 head_digest bytes = sha256 (take DIGEST2 bytes)
 

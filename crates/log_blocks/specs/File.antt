@@ -102,6 +102,7 @@ IsWalkFault bytes rest pieces e =
     ⊎ ((rest ≡ []) × (size_in bytes ≢ length (gathered pieces)) × (e ≡ File (LengthDiffers (size_in bytes) (length (gathered pieces)))))
     ⊎ ((rest ≡ []) × (size_in bytes ≡ length (gathered pieces)) × IsRecordsFault (head_in bytes) (dropped_in bytes) 136 pieces e)
 
+-- what is wrong with a file of version 2 whose head has no fault: its blocks are walked from the last one back
 pub record IsBlocksFault (bytes : List ℕ) (e : Damage) : Type 0 where
   pub rest : List ℕ
   pub pieces : List Piece

@@ -14,9 +14,11 @@ pub record Piece : Type 0 where
   pub before : ℕ
   pub left : ℕ
 
+-- a piece of these bytes and numbers
 abbrev pub piece : List ℕ → ℕ → ℕ → Piece
 piece bytes before left = record { bytes = bytes; before = before; left = left }
 
+-- a block as a piece: how many records were before it is kept in 64 bits
 abbrev pub piece_of : Block → Piece
 piece_of b = piece (flat_map bytes_of b.records) (b.before % 2 ^ 64) b.left
 
@@ -24,9 +26,11 @@ piece_of b = piece (flat_map bytes_of b.records) (b.before % 2 ^ 64) b.left
 abbrev pub piece_body : Piece → List ℕ
 piece_body p = p.bytes ++ number_bytes 8 p.before ++ number_bytes 4 p.left ++ number_bytes 4 (length p.bytes)
 
+-- the same, and then the digest of the head's digest and of them
 abbrev pub piece_bytes : List ℕ → Piece → List ℕ
 piece_bytes digest p = piece_body p ++ sha256 (digest ++ piece_body p)
 
+-- the bytes of several pieces, one after another
 abbrev pub pieces_bytes : List ℕ → List Piece → List ℕ
 pieces_bytes digest [] = []
 pieces_bytes digest (p ∷ ps) = piece_bytes digest p ++ pieces_bytes digest ps
@@ -38,12 +42,15 @@ gathered (p ∷ ps) = p.bytes ++ gathered ps
 
 -- ---- the block that ends some bytes: its fields stand before their last 32, which are its digest
 
+-- how many bytes the block's records have
 abbrev pub len_in : List ℕ → ℕ
 len_in bytes = number_at 4 (length bytes - LEN) bytes
 
+-- its number `left`, of 4 bytes
 abbrev pub left_in : List ℕ → ℕ
 left_in bytes = number_at 4 (length bytes - LEFT) bytes
 
+-- its number `before`, of 8 bytes
 abbrev pub before_in : List ℕ → ℕ
 before_in bytes = number_at 8 (length bytes - BEFORE) bytes
 
@@ -51,6 +58,7 @@ before_in bytes = number_at 8 (length bytes - BEFORE) bytes
 abbrev pub start_in : List ℕ → ℕ
 start_in bytes = length bytes - 48 - len_in bytes
 
+-- the block as a piece
 abbrev pub piece_in : List ℕ → Piece
 piece_in bytes = piece (take (len_in bytes) (drop (start_in bytes) bytes)) (before_in bytes) (left_in bytes)
 

@@ -31,6 +31,7 @@ use Rattle.log_commands.specs.declared.refusal.Refusal.TheVariants.{BookRefused,
 abbrev pub roles_of : (has_input : Bool) → List Role
 roles_of has_input = role.Log ∷ role.Elf ∷ role.Book ∷ input_roles has_input
 
+-- the log agrees, or is refused by the first byte that differs
 abbrev pub by_verdict : Verdict → Result (Unit {0}) Refusal
 by_verdict Agree = Ok tt
 by_verdict (Differ place) = Err (FileDiffers place)
@@ -44,6 +45,7 @@ by_turns None verdict = by_verdict verdict
 abbrev pub audit_by : RawSettings → Program → (digest input book log : List ℕ) → Result (Unit {0}) Refusal
 audit_by c i digest input book log = by_turns (list_error c i input book) (verdict_of (audited_file (is_version2 log) c i digest input book) log)
 
+-- what is told if the log agrees
 abbrev pub shown : Unit {0} → Told
 shown agreed = printed agree_text
 
@@ -51,6 +53,7 @@ shown agreed = printed agree_text
 abbrev pub audited : FileNames → (log book input : List ℕ) → Content → Program → Told
 audited names log book input d i = told_by shown names (audit_by d.head.settings i d.head.digest input book log)
 
+-- the answer of `audit` by the bytes of its files
 abbrev pub IsAuditOf : FileNames → (log elf book input : List ℕ) → Told → Type 0
 IsAuditOf names log elf book input what = IsByLog names log (pair_of (audited names log book input) names elf) what
 

@@ -26,6 +26,8 @@ abbrev pub Either : Bool → Type 0 → Type 0 → Type 0
 Either true A B = A
 Either false A B = B
 
+-- an answer by what a store has under a name: nothing is missing, more bytes than the limit are too long, and else it
+-- continues with the bytes
 abbrev pub IsByFile : Option (List ℕ) → FileNames → Role → ℕ → (List ℕ → Told → Type 0) → Told → Type 0
 IsByFile None names r limit Go what = what ≡ refused names (Missing r)
 IsByFile (Some bytes) names r limit Go what = Either (nat_lt limit (length bytes)) (what ≡ refused names (TooLong r)) (Go bytes what)
@@ -36,6 +38,7 @@ WithFile files names r limit Go what = IsByFile (files (name_of names r)) names 
 
 -- ---- logs
 
+-- the answer by a log that was read, or the refusal of its damage
 abbrev pub by_log : FileNames → (Content → Told) → Result Content Damage → Told
 by_log names go (Ok d) = go d
 by_log names go (Err e) = refused names (LogRefused e)
@@ -46,9 +49,11 @@ pub record IsByLog (names : FileNames) (bytes : List ℕ) (go : Content → Told
   pub reads : Reads bytes says
   pub is : what ≡ by_log names go says
 
+-- the answer of `list`: a line for each record
 abbrev pub list_of : Content → Told
 list_of d = printed (list_text d.records)
 
+-- the answer of `check`: the line of the log's counts
 abbrev pub check_of : Content → Told
 check_of d = printed (check_text d)
 
@@ -59,9 +64,11 @@ unfoldable pub ended : FileNames → (hart interval : ℕ) → EndMark → List 
 ended names hart interval mark text Done = printed (text ++ end_text hart interval mark)
 ended names hart interval mark text (Refused e) = record { status = status_of (ReplayStopped e); out = text; err = line_of names (ReplayStopped e); saved = None }
 
+-- the answer by an interval and its replay: the line of its begin, its rows, and the line of its end
 abbrev pub interval_told : FileNames → (hart interval : ℕ) → Interval → Replayed → Told
 interval_told names hart interval v r = ended names hart interval v.mark (begin_text hart interval v.start.ic ++ rows_text r.rows) r.outcome
 
+-- the same of an interval that the log keeps; another is refused
 abbrev pub replay_found : FileNames → (hart interval : ℕ) → Content → Program → Option Interval → Told
 replay_found names hart interval d i None = refused names (ReplayStopped (NoInterval hart interval))
 replay_found names hart interval d i (Some v) = interval_told names hart interval v (replayed i d.records hart interval)

@@ -21,6 +21,7 @@ pub record World : Type 0 where
   pub out : Stream
   pub err : Stream
 
+-- the world of a store, out and err
 abbrev pub world : Stored → (out err : Stream) → World
 world s out err = record { store = s; out = out; err = err }
 
@@ -29,9 +30,11 @@ pub record Call : Type 0 where
   pub old : World
   pub new : World
 
+-- the call from one world to another
 abbrev pub between : (old new : World) → Call
 between old new = record { old = old; new = new }
 
+-- the call by a store, out and err before it and after it, and by what each of them tells
 abbrev pub call : {S O X : Type 0} → (S → Stored) → (O → Stream) → (X → Stream) → S → O → X → S → O → X → Call
 call stored out err s o e t p f = between (world (stored s) (out o) (err e)) (world (stored t) (out p) (err f))
 

@@ -21,10 +21,12 @@ Makes Is (Err refusal) = (refusal ≡ OutOfMemory) ⊎ Is (Err refusal)
 
 -- ---- a log and its program
 
+-- a log with the program that the loader made, or the loader's refusal
 abbrev pub with_image : Content → Result Program ElfError → Result JointReading Refusal
 with_image d (Err e) = Err (ElfRefused e)
 with_image d (Ok i) = Ok (record { image = i; log = d })
 
+-- the same if the digests are the same; else it is refused with both
 abbrev pub where_same : Bool → List ℕ → Content → Result JointReading Refusal
 where_same true elf d = with_image d (image_of elf d.head.settings)
 where_same false elf d = Err (ProgramDiffers d.head.digest (sha256 elf))
@@ -40,6 +42,7 @@ pub record IsPairOfBytes (log elf : List ℕ) (result : Result JointReading Refu
   pub reads : Reads log says
   pub is : result ≡ pair_by elf says
 
+-- what was made is told by `show`, and a refusal by its line
 abbrev pub told_by : {A : Type 0} → (A → Told) → FileNames → Result A Refusal → Told
 told_by show names (Ok made) = show made
 told_by show names (Err refusal) = refused names refusal

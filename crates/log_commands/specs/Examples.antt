@@ -9,9 +9,10 @@ abbrev pub by_size : Note
 by_size noted (LoadCall name limit) = noted + 1
 by_size noted (SaveCall name bytes) = noted + 1 + length bytes
 
--- a log of two bytes, alone or with a list of one turn
+-- a log of two bytes, alone
 abbrev pub a_log : Option Saved
 a_log = Some (record { log = 7 ∷ 8 ∷ []; book = None })
 
+-- the same log with a list of one turn
 abbrev pub a_recording : Option Saved
 a_recording = Some (record { log = 7 ∷ 8 ∷ []; book = Some (0 ∷ []) })

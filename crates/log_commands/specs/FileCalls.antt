@@ -38,10 +38,12 @@ abbrev pub noted_after : (note : Note) → FileNames → ℕ → List FileCall �
 noted_after note names noted [] = noted
 noted_after note names noted (made ∷ calls) = noted_after note names (note noted (store_call names made)) calls
 
+-- a load for each role, in this order
 abbrev pub loads_of : List Role → List FileCall
 loads_of [] = []
 loads_of (r ∷ roles) = Loads r ∷ loads_of roles
 
+-- the save of a list of turns, if there is one
 abbrev pub book_saves : Option (List ℕ) → List FileCall
 book_saves None = []
 book_saves (Some list) = Saves role.Book list ∷ []
@@ -59,19 +61,24 @@ has_save (Saves r bytes ∷ calls) = true
 
 -- ---- the calls of a line
 
+-- LOG alone
 abbrev pub log_roles : List Role
 log_roles = role.Log ∷ []
 
+-- ELF alone
 abbrev pub elf_roles : List Role
 elf_roles = role.Elf ∷ []
 
+-- the log that another is made of
 abbrev pub origin_roles : List Role
 origin_roles = role.Origin ∷ []
 
+-- the input, if there is one
 abbrev pub input_roles : (has_input : Bool) → List Role
 input_roles true = role.Input ∷ []
 input_roles false = []
 
+-- what a recording loads: ELF, and then the input, if there is one
 abbrev pub record_roles : (has_input : Bool) → List Role
 record_roles has_input = role.Elf ∷ input_roles has_input
 
@@ -81,6 +88,7 @@ saved_in (Recorded r) = Some (saved_of r)
 saved_in (Renewed n) = Some (saved_new n.file.items)
 saved_in answer = None
 
+-- the saves of an answer
 abbrev pub saves_in : Answer → List FileCall
 saves_in answer = saves_of (saved_in answer)
 

@@ -20,12 +20,15 @@ pub record Bytes : Type 0 where
   pub input : List ℕ
   pub origin : List ℕ
 
+-- nothing was loaded
 abbrev pub no_bytes : Bytes
 no_bytes = record { elf = []; log = []; book = []; input = []; origin = [] }
 
+-- what the buffers of the loads hold
 abbrev pub bytes_of : Inputs → Bytes
 bytes_of i = record { elf = i.elf.items; log = i.log.items; book = i.book.items; input = i.input.items; origin = i.origin.items }
 
+-- the bytes of one role are replaced
 abbrev pub put : Bytes → Role → List ℕ → Bytes
 put b role.Elf bytes = record b { elf = bytes }
 put b role.Log bytes = record b { log = bytes }
@@ -43,6 +46,7 @@ limit_of role.Origin = 272629760
 
 -- ---- the loads
 
+-- the bytes, or the refusal of what is too long
 abbrev pub unless_long : Bool → Role → List ℕ → Result (List ℕ) Refusal
 unless_long true r bytes = Err (why.TooLong r)
 unless_long false r bytes = Ok bytes
@@ -52,6 +56,7 @@ abbrev pub file_bytes : Role → Option (List ℕ) → Result (List ℕ) Refusal
 file_bytes r None = Err (why.Missing r)
 file_bytes r (Some bytes) = unless_long (nat_lt (limit_of r) (length bytes)) r bytes
 
+-- continues with the bytes, if there are any
 abbrev pub on_bytes : {A : Type 0} → Result (List ℕ) Refusal → (List ℕ → Result A Refusal) → Result A Refusal
 on_bytes (Err refusal) go = Err refusal
 on_bytes (Ok bytes) go = go bytes
@@ -61,6 +66,7 @@ abbrev pub loaded_with : Files → FileNames → List Role → Bytes → Result 
 loaded_with files names [] had = Ok had
 loaded_with files names (r ∷ roles) had = on_bytes (file_bytes r (files (name_of names r))) (λ bytes. loaded_with files names roles (put had r bytes))
 
+-- the files of these roles alone
 abbrev pub loaded : Files → FileNames → List Role → Result Bytes Refusal
 loaded files names roles = loaded_with files names roles no_bytes
 

@@ -25,6 +25,7 @@ ran_told names r = printed_until names (joint_text r) (stop_of r)
 abbrev pub joined : Content → Program → Joining
 joined d i = fresh i d.head.settings.harts d.records
 
+-- the answer of `joint` by a log and its program
 abbrev pub joint_with : FileNames → Content → Program → Told
 joint_with names d i = ran_told names (run_all (joined d i))
 

@@ -12,6 +12,7 @@ use Rattle.log_commands.specs.declared.pairs.JointReading.{JointReading}
 use Rattle.log_commands.specs.declared.refusal.Refusal.{Refusal}
 use Rattle.log_commands.specs.declared.refusal.Refusal.TheVariants as why
 
+-- what `joint` tells of a log and its program that were loaded
 abbrev pub told_of_joint : FileNames → JointReading → Told
 told_of_joint names r = joint_with names r.log r.image
 

@@ -11,9 +11,11 @@ pub record FileNames : Type 0 where
   pub input : List ℕ
   pub origin : List ℕ
 
+-- every role has the empty name
 abbrev pub no_names : FileNames
 no_names = record { elf = []; log = []; book = []; input = []; origin = [] }
 
+-- the name of the file in a role
 abbrev pub name_of : FileNames → Role → List ℕ
 name_of names Elf = names.elf
 name_of names Log = names.log

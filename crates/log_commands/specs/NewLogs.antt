@@ -19,11 +19,13 @@ renewed d = record { status = code exit.Done; out = check_text d; err = []; save
 
 -- ---- what is salvaged
 
+-- the refusal by why nothing is salvaged
 abbrev pub salvage_refusal : SalvageError → Refusal
 salvage_refusal (salvage.File e) = LogRefused e
 salvage_refusal salvage.NothingLeft = NothingLeft
 salvage_refusal salvage.OutOfMemory = OutOfMemory
 
+-- the answer by what is salvaged: a new log is saved, or nothing is and it is refused
 abbrev pub by_salvage : FileNames → Result Content SalvageError → Told
 by_salvage names (Ok d) = renewed d
 by_salvage names (Err e) = refused names (salvage_refusal e)

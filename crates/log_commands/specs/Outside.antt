@@ -65,12 +65,15 @@ ProgramTells bytes c (Err refusal) = (refusal ≡ why.OutOfMemory) ⊎ ((e : Elf
 abbrev pub list_in : RunToTell → Option (List ℕ)
 list_in r = option_map (λ (list : Vec ℕ Global). list.items) r.book
 
+-- the log and the list of turns that a recording saves
 abbrev pub saved_of : RunToTell → Saved
 saved_of r = record { log = r.log.items; book = list_in r }
 
+-- a recording is told by its end's status and its outputs, and is saved
 abbrev pub told_of_recording : RunToTell → Told
 told_of_recording r = record { status = end_status r.end; out = r.out.items; err = r.err.items; saved = Some (saved_of r) }
 
+-- the replay of an interval, of a log and its program that were loaded
 abbrev pub told_of_reading : FileNames → IntervalToReplay → Told
 told_of_reading names r = replay_with names r.hart r.interval r.log r.image
 
@@ -104,9 +107,11 @@ abbrev pub GivesTo : {A : Type 0} → (A → Told) → FileNames → (Told → T
 GivesTo tells names Is (Ok made) = Is (tells made)
 GivesTo tells names Is (Err refusal) = (refusal ≡ why.OutOfMemory) ⊎ Is (refused names refusal)
 
+-- the same of an answer
 abbrev pub Gives : FileNames → (Told → Type 0) → Result Answer Refusal → Type 0
 Gives names Is result = GivesTo (told_of names) names Is result
 
+-- nothing if the test holds, else what is there
 abbrev pub unless : Bool → Option (List ℕ) → Option (List ℕ)
 unless true there = None
 unless false there = there
@@ -127,6 +132,7 @@ abbrev pub GivesOf : {A : Type 0} → (A → Told) → FileNames → (Files → 
 GivesOf tells names Is files (Ok made) = Is files (tells made)
 GivesOf tells names Is files (Err refusal) = IsEarly names Is files refusal ⊎ Is files (refused names refusal)
 
+-- the same of an answer
 abbrev pub GivesBy : FileNames → (Files → Told → Type 0) → Files → Result Answer Refusal → Type 0
 GivesBy names Is files result = GivesOf (told_of names) names Is files result
 
@@ -144,6 +150,7 @@ RefusalCause before now why.LineTooLong = ⊥
 RefusalCause before now why.CommandsTooLong = ⊥
 RefusalCause before now refusal = Unit {0}
 
+-- a refusal has its cause; what was made needs none
 abbrev pub ResultCause : {A : Type 0} → Counts → Counts → Result A Refusal → Type 0
 ResultCause before now (Ok value) = Unit {0}
 ResultCause before now (Err refusal) = RefusalCause before now refusal
@@ -212,6 +219,7 @@ pub record KeptLog (bytes : List ℕ) (log : List ℕ) (old new : Files) : Type 
   pub there : new log ≡ Some bytes
   pub others : SameElsewhere log old new
 
+-- a log is saved alone, or with a list of turns
 abbrev pub KeptSaved : (bytes : List ℕ) → Option (List ℕ) → (log book : List ℕ) → Files → Files → Type 0
 KeptSaved bytes None log book old new = KeptLog bytes log old new
 KeptSaved bytes (Some list) log book old new = KeptBoth bytes list log book old new

@@ -10,6 +10,7 @@ use Rattle.log_commands.specs.Told.{Told}
 use Rattle.log_commands.specs.declared.pairs.JointReading.{JointReading}
 use Rattle.log_commands.specs.declared.refusal.Refusal.{Refusal}
 
+-- the answer by a log and its program that were loaded
 abbrev pub by_reading : ByPair → JointReading → Told
 by_reading go r = go r.log r.image
 

@@ -24,10 +24,12 @@ pair_roles = role.Log ∷ role.Elf ∷ []
 abbrev pub ByPair : Type 0
 ByPair = Content → Program → Told
 
+-- the answer by a log and what the loader makes of its program
 abbrev pub pair_loaded : ByPair → FileNames → Content → Result Program ElfError → Told
 pair_loaded go names d (Err e) = refused names (ElfRefused e)
 pair_loaded go names d (Ok i) = go d i
 
+-- the same if the digests are the same; else it is refused with both
 abbrev pub pair_same : Bool → ByPair → FileNames → List ℕ → Content → Told
 pair_same true go names elf d = pair_loaded go names d (image_of elf d.head.settings)
 pair_same false go names elf d = refused names (ProgramDiffers d.head.digest (sha256 elf))

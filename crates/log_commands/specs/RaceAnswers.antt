@@ -28,6 +28,7 @@ abbrev pub races_unless : Option JointError → FileNames → (most harts : ℕ)
 races_unless (Some e) names most harts r = refused names (joint_refusal e)
 races_unless None names most harts r = races_listed (nat_lt most (race_count (points_in r))) names most (races_of harts (points_in r))
 
+-- those of a joint replay of so many harts, by what it ran
 abbrev pub races_in : FileNames → (most harts : ℕ) → Ran → Told
 races_in names most harts r = races_unless r.stopped names most harts r
 

@@ -26,11 +26,13 @@ use Rattle.log_commands.specs.declared.status.Status.TheVariants as exit
 
 -- ---- the status
 
+-- the status of a replay's error: no such interval, out of memory, or a replay that stopped
 abbrev pub replay_status : ReplayError → ℕ
 replay_status (replay.NoInterval hart interval) = code exit.NoInterval
 replay_status replay.OutOfMemory = code exit.OutOfMemory
 replay_status error = code exit.ReplayStopped
 
+-- the status that the program ends with
 abbrev pub status_of : Refusal → ℕ
 status_of (StoreFailed role) = code exit.StoreFailed
 status_of (Missing role) = code exit.Missing
@@ -112,6 +114,7 @@ file_said (file.BadRecord at) = counted (codes "log: BadRecord ") at
 file_said (file.BadOrder at rule) = pair_text (codes "log: BadOrder ") at rule
 file_said file.OutOfMemory = codes "out of memory"
 
+-- why a log file is refused, for either version
 unfoldable pub log_said : Damage → List ℕ
 log_said (File error) = file_said error
 log_said (BadBlock at) = counted (codes "log: BadBlock ") at
@@ -129,6 +132,7 @@ replay_said replay.OutOfMemory = codes "out of memory"
 unfoldable pub position_text : ℕ × ℕ → List ℕ
 position_text p = codes " " ++ decimal p.0 ++ codes ":" ++ decimal p.1
 
+-- the harts of a stuck replay, one after another
 unfoldable pub positions_text : List (ℕ × ℕ) → List ℕ
 positions_text ps = flat_map position_text ps
 

@@ -5,11 +5,13 @@ use Rattle.log_commands.specs.declared.answer.RunEnd.TheVariants as ends
 use Rattle.log_commands.specs.Statuses.{code}
 use Rattle.log_commands.specs.declared.status.Status.TheVariants as exit
 
+-- the status of a recording that ended so
 abbrev pub end_status : RunEnd → ℕ
 end_status ends.Done = code exit.Done
 end_status ends.Fault = code exit.Fault
 end_status ends.Limit = code exit.Limit
 
+-- the word of the summary for it
 unfoldable pub end_word : RunEnd → List ℕ
 end_word ends.Done = codes "done"
 end_word ends.Fault = codes "fault"

@@ -3,6 +3,7 @@ use Rattle.std.specs.Prelude.{ℕ}
 use Rattle.log_commands.specs.declared.status.Status.{Status}
 use Rattle.log_commands.specs.declared.status.Status.TheVariants as exit
 
+-- the number of each status
 abbrev pub code : Status → ℕ
 code exit.Done = 0
 code exit.WordsRefused = 2

@@ -5,7 +5,7 @@ ghost use Rattle.log_commands.specs.Names.{no_names, name_of};
 use std::marker::Model;
 
 /// What a file is to a command.
-#[derive(Clone, Copy, Drop)]
+#[derive(Clone, Copy, Debug, Drop)]
 pub enum Role {
     /// The program.
     Elf,

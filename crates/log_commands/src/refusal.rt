@@ -14,51 +14,74 @@ use log_blocks::Damage;
 use log_file::FileError;
 use run_model::TurnError;
 use std::alloc::AllocError;
+use thiserror::Error;
 
 /// Why a command is refused. An error held in a refusal is never its OutOfMemory.
-#[derive(Drop)]
+// The line on err has the names and numbers too: lines.rt.
+#[derive(Debug, Drop, Error)]
 pub enum Refusal {
     /// The words are no command.
+    #[error("the words are no command")]
     WordsRefused,
     /// A setting is out of range.
+    #[error("{0}")]
     OutOfRange(BadSetting),
     /// LOG and BOOK are one name, or LOG and NEW.
+    #[error("two files have one name")]
     SameName,
     /// The store failed at the file's name.
+    #[error("the store failed")]
     StoreFailed(Role),
     /// The store has nothing under the file's name.
+    #[error("no such name in the store")]
     Missing(Role),
     /// The name has more bytes than such a file may have.
+    #[error("more bytes than such a file may have")]
     TooLong(Role),
     /// The loader refuses the program file.
+    #[error("{0}")]
     ElfRefused(ElfError),
     /// The bytes are no log file.
+    #[error("{0}")]
     LogRefused(Damage),
     /// The log was recorded of a program file with another digest.
+    #[error("the log is of another program")]
     ProgramDiffers { kept: [u8; 32], found: [u8; 32] },
     /// Out of memory.
+    #[error("out of memory")]
     OutOfMemory,
     /// Writing to out or err failed.
+    #[error("a write failed")]
     WriteFailed,
     /// The log keeps no such interval, or its replay stopped.
+    #[error("{0}")]
     ReplayStopped(ReplayError),
     /// No hart of a joint replay is ready, and not all are done. Each that isn't, with its next count.
+    #[error("no hart is ready, and not all are done")]
     JointStuck { positions: List<(HartId, Ic)> },
     /// Reading commands failed.
+    #[error("a read failed")]
     ReadFailed,
     /// A line of commands has more than 256 bytes.
+    #[error("a line of commands is too long")]
     LineTooLong,
     /// The commands have more than 2^24 bytes.
+    #[error("the commands are too long")]
     CommandsTooLong,
     /// The list of turns isn't a whole run of the program.
+    #[error("{0}")]
     BookRefused(TurnError),
     /// The log isn't the file of the run: they differ first at this byte.
+    #[error("the log isn't the file of the run: byte {at_byte}")]
     FileDiffers { at_byte: u64 },
     /// No block of the log is left that could be salvaged.
+    #[error("nothing left")]
     NothingLeft,
     /// There are more races than were asked for.
+    #[error("more than {most} races")]
     TooManyRaces { most: u64 },
     /// The interval has no row of this count.
+    #[error("no row of count {ic}")]
     NoRow { ic: Ic },
 }
 

@@ -31,6 +31,7 @@ abbrev pub header_count : List Record → ℕ
 header_count [] = 0
 header_count (r ∷ rs) = headers_of r + header_count rs
 
+-- what is counted of records before which so many were given up
 abbrev pub counts_in : ℕ → List Record → LogCounts
 counts_in dropped rs = record { records = length rs; intervals = header_count rs; dropped = dropped; bytes = total rs }
 

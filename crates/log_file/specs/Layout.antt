@@ -78,6 +78,7 @@ settings_in bytes = record {
 abbrev pub digest_in : List ℕ → List ℕ
 digest_in bytes = take 32 (drop PROGRAM bytes)
 
+-- the head's settings and digest
 abbrev pub head_in : List ℕ → Head
 head_in bytes = record { settings = settings_in bytes; digest = digest_in bytes }
 

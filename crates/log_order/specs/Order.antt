@@ -13,6 +13,7 @@ use Rattle.log_order.specs.declared.rule.OrderRule.TheVariants.{HartsBelow, Hart
 use Rattle.log_order.specs.Rules.{number_of, breaks, after_one, fresh, is_unfinished}
 
 infixl 10 ◌>>=◌
+-- what comes next of a result, if it is no error
 abbrev pub ◌>>=◌ : {A B E : Type 0} → Result A E → (A → Result B E) → Result B E
 (Ok x) >>= f = f x
 (Err e) >>= f = Err e
@@ -35,9 +36,11 @@ step_at t harts r (Some v) = if has_source (length harts) r then (after_one t v 
 unfoldable pub step : OrderLimits → List HartView → Record → Result (List HartView) ℕ
 step t harts r = step_at t harts r (slice_get harts (hart_of r))
 
+-- the break of a rule by the record that begins at a place
 abbrev pub order_break : ℕ → ℕ → OrderBreak
 order_break at rule = record { at = at; rule = rule }
 
+-- a broken rule, with the place of the record that breaks it
 abbrev pub at_place : {S : Type 0} → ℕ → Result S ℕ → Result S OrderBreak
 at_place place (Ok x) = Ok x
 at_place place (Err rule) = Err (order_break place rule)
@@ -47,6 +50,7 @@ unfoldable pub after_all : OrderLimits → ℕ → List HartView → List Record
 after_all t place harts [] = Ok harts
 after_all t place harts (r ∷ rs) = at_place place (step t harts r) >>= λ next. after_all t (place + length (bytes_of r)) next rs
 
+-- there is a last count, and this one isn't below it
 abbrev pub is_from : Option ℕ → ℕ → Bool
 is_from None ic = false
 is_from (Some last) ic = nat_le last ic
@@ -76,6 +80,7 @@ ended all harts rs =
     if list_any (is_unfinished all) harts then Some (order_break (total rs) (number_of HartsDone)) else
     option_map (λ place. order_break place (number_of SourcesDone)) (late_edge harts 0 rs)
 
+-- the break that was met among the records, else the first one about the end
 abbrev pub broken_in : Bool → List Record → Result (List HartView) OrderBreak → Option OrderBreak
 broken_in all rs (Err b) = Some b
 broken_in all rs (Ok harts) = ended all harts rs

@@ -133,6 +133,7 @@ after_one t v (End h mark) = after_end t v mark
 abbrev pub fresh : Bool → HartView
 fresh all = record { phase = if all then Awaiting (Some 0) 0 else Unknown; seen = 0; met = false; last = None }
 
+-- the phase after a hart's last End
 abbrev pub is_over : Phase → Bool
 is_over Unknown = false
 is_over (Awaiting next ic) = false

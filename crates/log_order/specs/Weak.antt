@@ -11,6 +11,7 @@ IsWeakNumber None m = Unit {0}
 IsWeakNumber (Some n) None = ⊥
 IsWeakNumber (Some n) (Some m) = n ≡ m
 
+-- the first phase says no more than the second: it is unknown, or the same but for a number that it may not have
 abbrev pub IsWeakPhase : Phase → Phase → Type 0
 IsWeakPhase Unknown q = Unit {0}
 IsWeakPhase (Awaiting n c) Unknown = ⊥
@@ -34,6 +35,7 @@ pub record IsWeak (w v : HartView) : Type 0 where
   pub last : IsWeakNumber w.last v.last
   pub over : is_over v.phase ≡ true → w.met ≡ true → is_over w.phase ≡ true
 
+-- each view says no more than the one at its place, and there are as many
 abbrev pub AreWeak : List HartView → List HartView → Type 0
 AreWeak [] [] = Unit {0}
 AreWeak [] (v ∷ vs) = ⊥

@@ -14,6 +14,7 @@ first_registers harts h =
     0 ∷ 0 ∷ (1048576 - 65536 * h) ∷ 0 ∷ 0 ∷ 0 ∷ 0 ∷ 0 ∷ 0 ∷ 0 ∷ h ∷ harts ∷ 0 ∷ 0 ∷ 0 ∷ 0
     ∷ 0 ∷ 0 ∷ 0 ∷ 0 ∷ 0 ∷ 0 ∷ 0 ∷ 0 ∷ 0 ∷ 0 ∷ 0 ∷ 0 ∷ 0 ∷ 0 ∷ 0 ∷ 0 ∷ []
 
+-- the Header of hart h's first interval
 abbrev pub first_header : (harts h : ℕ) → Record
 first_header harts h = Header h 0 0 0x10054 (first_registers harts h)
 
@@ -26,6 +27,7 @@ relay = fresh (code 3 relay_words) 3 (first_header 3 0 ∷ first_header 3 1 ∷ 
 abbrev pub message_words : List ℕ
 message_words = 0x00020437 ∷ 0x00051a63 ∷ 0x00b42223 ∷ 0x00b4232f ∷ 0x05d00893 ∷ 0x00000073 ∷ 0x00b4232f ∷ 0x00442283 ∷ 0x05d00893 ∷ 0x00000073 ∷ []
 
+-- the joint replay of this program by such records
 abbrev pub message : List Record → Joining
 message records = fresh (code 2 message_words) 2 (first_header 2 0 ∷ first_header 2 1 ∷ records)
 
@@ -53,6 +55,7 @@ missed_message = received_by 0x18b4232f (FirstLoad 0 0 0 ∷ ScFailed 1 ∷ Edge
 
 -- ---- what is shown of them
 
+-- the hart and the count of both rows, and the word
 abbrev pub named : Race → ℕ × ℕ × ℕ × ℕ × ℕ
 named r = (r.first.hart, r.first.ic, r.second.hart, r.second.ic, r.word)
 
@@ -60,5 +63,6 @@ named r = (r.first.hart, r.first.ic, r.second.hart, r.second.ic, r.word)
 abbrev pub races_in : ℕ → Joining → List (ℕ × ℕ × ℕ × ℕ × ℕ)
 races_in harts j = map named (races_of harts (points_of (run_all j).walk.taken))
 
+-- how many races a joint replay has
 abbrev pub count_in : Joining → ℕ
 count_in j = race_count (points_of (run_all j).walk.taken)

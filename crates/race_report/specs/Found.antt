@@ -3,6 +3,7 @@ use Rattle.std.specs.Prelude.{ℕ, zero, suc, ◌+◌, ◌==◌, nat_lt, true, f
 use Rattle.std.specs.Global.{Global}
 use Rattle.race_report.specs.declared.meeting.Meeting.{Meeting}
 
+-- the race with place n, by its lowest word
 abbrev pub meeting : ℕ → ℕ → Meeting
 meeting n w = record { second = n; word = w }
 
@@ -16,6 +17,7 @@ abbrev pub total_of : List (List Meeting) → ℕ
 total_of [] = 0
 total_of (l ∷ ls) = length l + total_of ls
 
+-- how many races are kept
 abbrev pub total : List (Vec Meeting Global) → ℕ
 total vs = total_of (lists_in vs)
 

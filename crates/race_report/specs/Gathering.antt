@@ -15,6 +15,7 @@ use Rattle.race_report.specs.Tracks.{AreBelow}
 use Rattle.race_report.specs.Found.{total}
 use Rattle.race_report.specs.Kept.{IsTracked, lists_of}
 
+-- each hart
 abbrev pub everyone : ℕ → Bool
 everyone h = true
 
@@ -22,6 +23,7 @@ everyone h = true
 abbrev pub sync_of : ℕ → ℕ → Touch → Point
 sync_of hart place touch = with_accesses hart place (sync_accesses touch)
 
+-- the point of a hart's row
 abbrev pub point_by : ℕ → Row → Touch → Accessing
 point_by hart row touch = record { hart = hart; row = row; touch = touch }
 
@@ -31,6 +33,7 @@ point_by hart row touch = record { hart = hart; row = row; touch = touch }
 abbrev pub meets : ℕ → ℕ → Bool → Accessing → Bool
 meets h w writes p = (p.hart == h) && list_any (λ y. clashes y (record { word = w; writes = writes })) (accesses_of p.touch)
 
+-- whether there is a point, and it passes a test
 abbrev pub passes : (Accessing → Bool) → Option Accessing → Bool
 passes test None = false
 passes test (Some p) = test p

@@ -52,6 +52,7 @@ is_atomic_name AmominuW = true
 is_atomic_name AmomaxuW = true
 is_atomic_name n = false
 
+-- the same of an instruction, if there is one
 abbrev pub is_atomic_instruction : Option Instruction → Bool
 is_atomic_instruction None = false
 is_atomic_instruction (Some i) = is_atomic_name i.name

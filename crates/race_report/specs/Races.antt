@@ -14,6 +14,7 @@ use Rattle.race_report.specs.Points.{Accessing, accesses_of}
 
 -- ---- what a race is
 
+-- the point at a place, with these accesses
 abbrev pub with_accesses : ℕ → ℕ → List Access → Point
 with_accesses hart place accesses = record { hart = hart; count = place; turn = place; accesses = accesses }
 
@@ -25,6 +26,7 @@ whole_point place p = with_accesses p.hart place (accesses_of p.touch)
 abbrev pub sync_accesses : Touch → List Access
 sync_accesses t = elim t.syncs [ true ↦ accesses_of t | false ↦ [] ]
 
+-- the point at a place, with its accesses if it is a sync point
 abbrev pub sync_point : ℕ → Accessing → Point
 sync_point place p = with_accesses p.hart place (sync_accesses p.touch)
 
@@ -56,6 +58,7 @@ pub record IsRace (run : List Accessing) (m n word : ℕ) : Type 0 where
 
 -- ---- the same by tests that compute
 
+-- the lesser of two words, of which the first may be missing
 abbrev pub lesser : Option ℕ → ℕ → Option ℕ
 lesser None w = Some w
 lesser (Some v) w = Some (min v w)
@@ -83,6 +86,7 @@ race_at run m n = elim (slice_get run m) [ None ↦ None | Some p ↦ elim (slic
 
 -- ---- all races
 
+-- the race with place n, if there is one
 abbrev pub meeting_at : ℕ → Option ℕ → List Meeting
 meeting_at n None = []
 meeting_at n (Some w) = record { second = n; word = w } ∷ []
@@ -110,9 +114,11 @@ abbrev pub row_if : ℕ → Option Accessing → Option Row
 row_if g None = None
 row_if g (Some p) = cond (p.hart == g) (Some p.row) None
 
+-- the row of the point at place n, if that is of hart g
 abbrev pub row_of : List Accessing → ℕ → ℕ → Option Row
 row_of run n g = row_if g (slice_get run n)
 
+-- the race of two rows, if they are there
 abbrev pub race_by : Option Accessing → Option Row → ℕ → List Race
 race_by None other word = []
 race_by (Some p) None word = []
@@ -122,6 +128,7 @@ race_by (Some p) (Some row) word = record { first = p.row; second = row; word = 
 abbrev pub race_if : List Accessing → ℕ → ℕ → Meeting → List Race
 race_if run m g x = race_by (slice_get run m) (row_of run x.second g) x.word
 
+-- those of several meetings
 abbrev pub races_with : List Accessing → ℕ → ℕ → List Meeting → List Race
 races_with run m g [] = []
 races_with run m g (x ∷ xs) = race_if run m g x ++ races_with run m g xs

@@ -8,6 +8,7 @@ abbrev pub known_at : Option Known → ℕ → Option ℕ
 known_at None w = None
 known_at (Some k) w = word_at k.pages (w / 4)
 
+-- the number that hart h's words have at an address
 abbrev pub head_at : List Known → ℕ → ℕ → Option ℕ
 head_at heads h w = known_at (slice_get heads h) w
 
@@ -16,6 +17,7 @@ abbrev pub room_in : Option Known → ℕ
 room_in None = 0
 room_in (Some k) = k.room
 
+-- for how many pages more hart h has room
 abbrev pub room_at : List Known → ℕ → ℕ
 room_at heads h = room_in (slice_get heads h)
 

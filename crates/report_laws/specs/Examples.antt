@@ -18,6 +18,7 @@ recording_of e = record { settings = e.settings; program = program_of e; elf = [
 abbrev pub records_from : ℕ → Example → List Record
 records_from dropped e = drop dropped (recorded e).stream
 
+-- the hart and the count of each point
 abbrev pub names_of : List Accessing → List (ℕ × ℕ)
 names_of run = map (λ p. (p.hart, p.row.ic)) run
 
@@ -25,6 +26,7 @@ names_of run = map (λ p. (p.hart, p.row.ic)) run
 abbrev pub recorded_names : ℕ → Example → List (ℕ × ℕ)
 recorded_names dropped e = names_of (recorded_points (recording_of e) (records_from dropped e))
 
+-- the same of the points as the joint replay does them
 abbrev pub replayed_names : ℕ → Example → List (ℕ × ℕ)
 replayed_names dropped e = names_of (replayed_points (recording_of e) (records_from dropped e))
 

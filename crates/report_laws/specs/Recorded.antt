@@ -16,6 +16,7 @@ accessing_at r h k = elim (slice_get (rows_of_hart r h) k) [ None ↦ [] | Some 
 abbrev pub is_kept : Recording → List Record → (h k : ℕ) → Bool
 is_kept r records h k = list_any (λ row. row.ic == k) (retained_rows r records h)
 
+-- the access of a point's row with the state before it, if the row is retained
 abbrev pub kept_at : Recording → List Record → Point → List Accessing
 kept_at r records p = cond (is_kept r records p.hart p.count) (accessing_at r p.hart p.count) []
 

@@ -26,9 +26,11 @@ pub record Recording : Type 0 where
 abbrev pub code_part : List ℕ → Part
 code_part words = record { first = 0x10054; words = words; count = length words; executable = true; writable = false }
 
+-- its code alone, which begins at 0x10054
 abbrev pub program_of : Recording → Program
 program_of e = record { parts = code_part e.words ∷ []; entry = 0x10054; memory = e.settings.memory; harts = e.settings.harts }
 
+-- the run of its turns
 abbrev pub recorded : Recording → Run
 recorded e = run_of e.settings (program_of e) e.input e.turns
 
@@ -136,11 +138,13 @@ header_after_the_call = header 1 1 (record {
 abbrev pub relay_words : List ℕ
 relay_words = 0x00020437 ∷ 0x00100393 ∷ 0x00750863 ∷ 0x00051c63 ∷ 0x00b42023 ∷ 0x0180006f ∷ 0x00042283 ∷ 0x00b42223 ∷ 0x00c0006f ∷ 0x00442283 ∷ 0x00042303 ∷ 0x05d00893 ∷ 0x00000073 ∷ []
 
+-- three harts and their turns
 abbrev pub a_relay : Recording
 a_relay = record { words = relay_words; settings = record default_settings { harts = 3 }; input = []; turns = 0 ∷ 1 ∷ 1 ∷ 2 ∷ 2 ∷ 0 ∷ 1 ∷ 2 ∷ [] }
 
 -- ---- what is shown of them
 
+-- whether a record is an End
 abbrev pub is_end : Record → Bool
 is_end (End k mark) = true
 is_end r = false
@@ -180,6 +184,7 @@ pub data Mark : Type 0 where
   Begins : (hart number ic : ℕ) → Mark
   Ends : (hart ic reason value : ℕ) → Mark
 
+-- the marks of a stream
 abbrev pub marked : List Record → List Mark
 marked [] = []
 marked (Header k n ic pc x ∷ rs) = Begins k n ic ∷ marked rs
@@ -236,6 +241,7 @@ counts_in e k n = map (λ (r : Row). r.ic) (rows_in e.settings (program_of e) (s
 abbrev pub before_a_load : List Point → Run
 before_a_load points = record (run_of a_line_lost.settings (program_of a_line_lost) [] []) { points = points }
 
+-- the write of the word at 0x20000 by instruction 0 of hart 1
 abbrev pub a_write_by_hart_1 : List Point
 a_write_by_hart_1 = access_point 1 0 0 0x20000 1 Write ∷ []
 

@@ -7,6 +7,7 @@ use Rattle.rv_decode.specs.declared.format.Format.{Format}
 use Rattle.rv_decode.specs.declared.format.Format.TheVariants.{U, J, I, B, S, Shift, R, Bare, Atomic}
 use Rattle.rv_decode.specs.Table.{Instruction}
 
+-- the fixed bits of each instruction, in place
 abbrev pub fixed_of : Name → ℕ
 fixed_of Lui = 0x37
 fixed_of Auipc = 0x17
@@ -68,6 +69,7 @@ fixed_of AmomaxW = 0xa000202f
 fixed_of AmominuW = 0xc000202f
 fixed_of AmomaxuW = 0xe000202f
 
+-- the format of each instruction
 abbrev pub format_of : Name → Format
 format_of Lui = U
 format_of Auipc = U
@@ -129,15 +131,19 @@ format_of AmomaxW = Atomic
 format_of AmominuW = Atomic
 format_of AmomaxuW = Atomic
 
+-- the immediate as a word, in two's complement
 abbrev pub imm_bits : Instruction → ℕ
 imm_bits i = cast_unsigned w32 i.imm
 
+-- the bits 11:0 of an immediate of format S, in place
 abbrev pub laid_s : ℕ → ℕ
 laid_s n = n / 2 ^ 5 * 2 ^ 25 + n % 2 ^ 5 * 2 ^ 7
 
+-- the bits 12:1 of an immediate of format B, in place
 abbrev pub laid_b : ℕ → ℕ
 laid_b n = n / 2 ^ 12 * 2 ^ 31 + n / 2 ^ 11 % 2 * 2 ^ 7 + n / 2 ^ 5 % 2 ^ 6 * 2 ^ 25 + n / 2 % 2 ^ 4 * 2 ^ 8
 
+-- the bits 20:1 of an immediate of format J, in place
 abbrev pub laid_j : ℕ → ℕ
 laid_j n = n / 2 ^ 20 * 2 ^ 31 + n / 2 ^ 12 % 2 ^ 8 * 2 ^ 12 + n / 2 ^ 11 % 2 * 2 ^ 20 + n / 2 % 2 ^ 10 * 2 ^ 21
 
@@ -153,5 +159,6 @@ laid R i = i.rd * 2 ^ 7 + i.rs1 * 2 ^ 15 + i.rs2 * 2 ^ 20
 laid Bare i = 0
 laid Atomic i = i.rd * 2 ^ 7 + i.rs1 * 2 ^ 15 + i.rs2 * 2 ^ 20 + cond i.aq 1 0 * 2 ^ 26 + cond i.rl 1 0 * 2 ^ 25
 
+-- the word of an instruction
 abbrev pub encoded : Instruction → ℕ
 encoded i = fixed_of i.name + laid (format_of i.name) i

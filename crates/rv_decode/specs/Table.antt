@@ -15,6 +15,7 @@ pub record Row : Type 0 where
   pub name : Name
   pub format : Format
 
+-- the row with these parts
 abbrev pub row : ℕ → ℕ → Name → Format → Row
 row m v n f = record { mask = m; fixed = v; name = n; format = f }
 
@@ -157,6 +158,7 @@ imm_u w = cast_signed w32 (field 12 20 w * 2 ^ 12)
 abbrev pub imm_j : ℕ → ℤ
 imm_j w = signed 21 (field 31 1 w * 2 ^ 20 + field 12 8 w * 2 ^ 12 + field 20 1 w * 2 ^ 11 + field 21 10 w * 2)
 
+-- whether a bit is set
 abbrev pub is_one : ℕ → Bool
 is_one n = n == 1
 

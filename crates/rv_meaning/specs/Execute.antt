@@ -33,9 +33,11 @@ reg s r = slice_index s.x r
 abbrev pub src1 : HartState → Instruction → ℕ
 src1 s d = reg s d.rs1
 
+-- the contents of rs2
 abbrev pub src2 : HartState → Instruction → ℕ
 src2 s d = reg s d.rs2
 
+-- the immediate as a word
 abbrev pub imm : Instruction → ℕ
 imm d = bits_of d.imm
 

@@ -7,9 +7,11 @@ use Rattle.std.specs.Int.{cast_signed, cast_unsigned, w32, w64, int_shr}
 abbrev pub wrap : ℕ → ℕ
 wrap n = n % 2 ^ 32
 
+-- the sum, in 32 bits
 abbrev pub add : ℕ → ℕ → ℕ
 add a b = wrap (a + b)
 
+-- the difference, in 32 bits
 abbrev pub sub : ℕ → ℕ → ℕ
 sub a b = wrap (a + (2 ^ 32 - b))
 
@@ -53,9 +55,11 @@ high_of z = cast_unsigned w64 z / 2 ^ 32
 abbrev pub high_signed : ℕ → ℕ → ℕ
 high_signed a b = high_of (signed_of a *ℤ signed_of b)
 
+-- the upper 32 bits of the product of a signed number and an unsigned one
 abbrev pub high_mixed : ℕ → ℕ → ℕ
 high_mixed a b = high_of (signed_of a *ℤ pos b)
 
+-- the upper 32 bits of the product of two unsigned numbers
 abbrev pub high_unsigned : ℕ → ℕ → ℕ
 high_unsigned a b = a * b / 2 ^ 32
 
@@ -65,12 +69,15 @@ high_unsigned a b = a * b / 2 ^ 32
 abbrev pub div_signed : ℕ → ℕ → ℕ
 div_signed a b = if b == 0 then 2 ^ 32 - 1 else bits_of (int_div (signed_of a) (signed_of b))
 
+-- the remainder of signed numbers; by zero it is the dividend
 abbrev pub rem_signed : ℕ → ℕ → ℕ
 rem_signed a b = if b == 0 then a else bits_of (int_rem (signed_of a) (signed_of b))
 
+-- the quotient of unsigned numbers; by zero it has all bits set
 abbrev pub div_unsigned : ℕ → ℕ → ℕ
 div_unsigned a b = if b == 0 then 2 ^ 32 - 1 else a / b
 
+-- the remainder of unsigned numbers; by zero it is the dividend
 abbrev pub rem_unsigned : ℕ → ℕ → ℕ
 rem_unsigned a b = if b == 0 then a else a % b
 

@@ -53,6 +53,7 @@ is_relative Lbu = true
 is_relative Lhu = true
 is_relative _ = false
 
+-- LR.W, which has an address and no second source
 abbrev pub is_load_reserved : Name → Bool
 is_load_reserved LrW = true
 is_load_reserved _ = false

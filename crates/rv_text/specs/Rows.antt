@@ -12,10 +12,12 @@ use Rattle.rv_text.specs.Instructions.{hex8, instruction_text}
 unfoldable pub point_text : ℕ → ℕ → ℕ → List ℕ
 point_text hart ic pc = decimal hart ++ codes " " ++ decimal ic ++ codes " " ++ hex8 pc
 
+-- the fault of a fetch outside of memory
 abbrev pub is_fetch_outside : Fault → Bool
 is_fetch_outside FetchOutside = true
 is_fetch_outside _ = false
 
+-- the fault of a word that is no instruction
 abbrev pub is_illegal : Fault → Bool
 is_illegal Illegal = true
 is_illegal _ = false

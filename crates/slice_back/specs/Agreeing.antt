@@ -14,6 +14,7 @@ use Rattle.slice_back.specs.Laws.{taken_first}
 abbrev pub bare : Row → Row
 bare r = record { hart = 0; ic = 0; pc = r.pc; word = r.word; reg = r.reg; load = r.load; store = r.store; fault = r.fault }
 
+-- the address of an access, if there is one
 abbrev pub address_of : Option (ℕ × ℕ) → Option ℕ
 address_of None = None
 address_of (Some x) = Some x.0

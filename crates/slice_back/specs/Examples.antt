@@ -40,15 +40,18 @@ abbrev pub shown : Result Slice SliceError → Option (List ℕ × List (ℕ × 
 shown (Err e) = None
 shown (Ok s) = Some (map (λ r. r.ic) s.rows, s.regs, s.words, map (λ r. r.ic) s.branches)
 
+-- the text of a slice
 abbrev pub text_of : ℕ → ℕ → Result Slice SliceError → List ℕ
 text_of hart ic (Err e) = []
 text_of hart ic (Ok s) = slice_text hart ic s
 
 -- ---- lui s0,0x20; sb a1,0(s0); lw t0,0(s0): the word under the byte comes from the log
 
+-- the slice of the load
 abbrev pub byte_store : Result Slice SliceError
 byte_store = of_exit (0x00020437 ∷ 0x00b40023 ∷ 0x00042283 ∷ []) ((0, 0) ∷ []) 2
 
+-- its text
 abbrev pub byte_store_text : List ℕ
 byte_store_text =
     codes "slice 0 2\n"
@@ -60,44 +63,53 @@ byte_store_text =
 
 -- ---- lw t0,0(zero): the first instruction faults, and uses nothing
 
+-- the slice of the row with a count
 abbrev pub fault : ℕ → Result Slice SliceError
 fault ic = sliced (code (0x00002283 ∷ [])) (kept [] 0 21 0) 0 0 ic
 
+-- the text of the slice of row 0
 abbrev pub fault_text : List ℕ
 fault_text = codes "slice 0 0\n" ++ codes "0 0 00010054 00002283 lw t0,0(zero) | fault LoadOutside 00000000\n"
 
 -- ---- lui s0,0x20; sw a1,0(s0); lw t0,0(s0): the load needs the store
 
+-- the slice of the load
 abbrev pub word_store : Result Slice SliceError
 word_store = of_exit (0x00020437 ∷ 0x00b42023 ∷ 0x00042283 ∷ []) [] 2
 
 -- ---- lui s0,0x20; sw s0,0(s0); sb a1,0(s0); lw t0,0(s0): the byte's store needs the word under it
 
+-- the slice of the load
 abbrev pub byte_over_word : Result Slice SliceError
 byte_over_word = of_exit (0x00020437 ∷ 0x00842023 ∷ 0x00b40023 ∷ 0x00042283 ∷ []) [] 3
 
 -- ---- lui s0,0x20; lw t0,0(s0); sw a1,0(s0); lw t1,0(s0), which takes a first load: the store before it is none of its sources
 
+-- the slice of the second load
 abbrev pub load_after_store : Result Slice SliceError
 load_after_store = of_exit (0x00020437 ∷ 0x00042283 ∷ 0x00b42023 ∷ 0x00042303 ∷ []) ((0, 5) ∷ (0, 7) ∷ []) 3
 
 -- ---- lui s0,0x20; lw t0,0(s0); lw t1,0(s0): the word that the second load has was taken by the first, which it doesn't need
 
+-- the slice of the second load
 abbrev pub loaded_twice : Result Slice SliceError
 loaded_twice = of_exit (0x00020437 ∷ 0x00042283 ∷ 0x00042303 ∷ []) ((0, 5) ∷ []) 2
 
 -- ---- lui s0,0x20; addi a7,zero,93; bne a0,zero,20; sw a1,0(s0); lw t0,0(s0): neither the addition nor the branch is needed
 
+-- the slice of the load
 abbrev pub branch_before : Result Slice SliceError
 branch_before = of_exit (0x00020437 ∷ 0x05d00893 ∷ 0x00051a63 ∷ 0x00b42023 ∷ 0x00042283 ∷ []) [] 4
 
 -- ---- addi a0,zero,0; addi a7,zero,93; ecall: a system call uses its arguments and its number
 
+-- the slice of the call
 abbrev pub call : Result Slice SliceError
 call = of_exit (0x00000513 ∷ []) [] 2
 
 -- ---- lui s0,0x20; lw t0,0(s0); lw t1,4(s0): the first load has this value, and the second 7
 
+-- the words of that program
 abbrev pub apart_words : List ℕ
 apart_words = 0x00020437 ∷ 0x00042283 ∷ 0x00442303 ∷ 0x05d00893 ∷ 0x00000073 ∷ []
 

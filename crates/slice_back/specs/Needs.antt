@@ -4,6 +4,7 @@ use Rattle.std.specs.Prelude.{ℕ, ◌<◌, ◌≤◌, ◌⊎◌, Bool, false, L
 use Rattle.slice_back.specs.declared.noted.Noted.{Noted}
 use Rattle.slice_back.specs.Uses.{uses_register, writes_register, uses_word, stores_word, takes_word}
 
+-- whether there is a row, and it passes a test
 abbrev pub passes : (Noted → Bool) → Option Noted → Bool
 passes test None = false
 passes test (Some e) = test e

@@ -8,6 +8,7 @@ pub record Held : Type 0 where
   pub registers : List Bool
   pub pages : List (ℕ × Frame)
 
+-- whether register q is in the set
 abbrev pub has_register : Held → ℕ → Bool
 has_register h q = get_or h.registers q false
 

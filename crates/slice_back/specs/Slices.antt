@@ -54,6 +54,7 @@ abbrev pub writes_live : Live → Option (ℕ × ℕ) → Bool
 writes_live l None = false
 writes_live l (Some x) = l.registers x.0
 
+-- the same of a row's aligned word, if it stored one
 abbrev pub stores_live : Live → Option ℕ → Bool
 stores_live l None = false
 stores_live l (Some a) = l.words a
@@ -62,6 +63,7 @@ stores_live l (Some a) = l.words a
 abbrev pub gives : Live → Row → Bool
 gives l r = writes_live l r.reg || stores_live l (word_of r.store)
 
+-- whether no row comes after one
 abbrev pub is_last : List Noted → Bool
 is_last [] = true
 is_last (e ∷ es) = false
@@ -143,6 +145,7 @@ slice_of x es = record { rows = slice_rows es; regs = slice_regs x es; words = s
 
 -- ---- of an interval
 
+-- the slice of the last of some rows, or the refusal if there is no row of this count
 abbrev pub slice_or : ℕ → List ℕ → Option (List Noted) → Result Slice SliceError
 slice_or ic x None = Err (NoRow ic)
 slice_or ic x (Some es) = Ok (slice_of x es)

@@ -11,6 +11,7 @@ use Rattle.slice_back.specs.declared.noted.Noted.{Noted}
 
 -- ---- registers
 
+-- ECALL
 abbrev pub is_call : Name → Bool
 is_call Ecall = true
 is_call n = false
@@ -29,6 +30,7 @@ reads q (Some d) = elim (is_call d.name) [ true ↦ is_argument q | false ↦ (q
 abbrev pub uses_register : ℕ → Row → Bool
 uses_register q r = not (q == 0) && reads q (instruction_in r.word)
 
+-- a register and its value, if there are any, are of register q
 abbrev pub is_of : ℕ → Option (ℕ × ℕ) → Bool
 is_of q None = false
 is_of q (Some x) = x.0 == q
@@ -45,6 +47,7 @@ is_part_store Sb = true
 is_part_store Sh = true
 is_part_store n = false
 
+-- the same of a row's instruction, which may be none
 abbrev pub stores_part : Option Instruction → Bool
 stores_part None = false
 stores_part (Some d) = is_part_store d.name
@@ -63,6 +66,7 @@ part_stored test store = elim test [ true ↦ word_of store | false ↦ None ]
 abbrev pub used_word : Row → Option ℕ
 used_word r = elim (r.load) [ Some x ↦ Some (aligned x.0) | None ↦ part_stored (stores_part (instruction_in r.word)) r.store ]
 
+-- an aligned address, if there is one, is a
 abbrev pub is_word : ℕ → Option ℕ → Bool
 is_word a None = false
 is_word a (Some b) = a == b
@@ -80,6 +84,7 @@ abbrev pub took : Option ℕ → Bool
 took None = false
 took (Some v) = true
 
+-- whether a row took a first load of the aligned word at a
 abbrev pub takes_word : ℕ → Noted → Bool
 takes_word a e = took e.first_load && uses_word a e.row
 
@@ -96,6 +101,7 @@ is_choice Bgeu = true
 is_choice Jalr = true
 is_choice n = false
 
+-- the same of a row's instruction, which may be none
 abbrev pub chooses : Option Instruction → Bool
 chooses None = false
 chooses (Some d) = is_choice d.name

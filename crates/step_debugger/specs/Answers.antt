@@ -30,12 +30,15 @@ use Rattle.step_debugger.specs.declared.session.Ending.TheVariants.{GoesOn, Quit
 unfoldable pub point_text : ℕ → ℕ → List ℕ
 point_text h ic = decimal h ++ codes " " ++ decimal ic
 
+-- the line of the hart that was chosen
 unfoldable pub hart_text : ℕ → List ℕ
 hart_text h = codes "hart " ++ decimal h ++ codes "\n"
 
+-- the line of the hart and count that are waited for
 unfoldable pub waits_text : ℕ → ℕ → List ℕ
 waits_text s ic = codes "waits " ++ point_text s ic ++ codes "\n"
 
+-- the line of a stop at a breakpoint: hart, count, pc
 unfoldable pub stop_text : ℕ → ℕ → ℕ → List ℕ
 stop_text h ic pc = codes "stop " ++ point_text h ic ++ codes " " ++ hex8 pc ++ codes "\n"
 
@@ -56,6 +59,7 @@ register_text x r = register_name r ++ codes "=" ++ hex8 (slice_index x r)
 unfoldable pub two_text : List ℕ → ℕ → List ℕ
 two_text x r = register_text x r ++ codes " " ++ register_text x (r + 1)
 
+-- a line of four registers
 unfoldable pub four_text : List ℕ → ℕ → List ℕ
 four_text x r = two_text x r ++ codes " " ++ two_text x (r + 2) ++ codes "\n"
 
@@ -63,6 +67,7 @@ four_text x r = two_text x r ++ codes " " ++ two_text x (r + 2) ++ codes "\n"
 unfoldable pub half_text : List ℕ → ℕ → List ℕ
 half_text x r = four_text x r ++ four_text x (r + 4) ++ four_text x (r + 8) ++ four_text x (r + 12)
 
+-- the answer to `regs`: all registers in eight lines, or that there is no state
 abbrev pub registers_text : Option HartState → List ℕ
 registers_text None = codes "no state\n"
 registers_text (Some s) = half_text s.x 0 ++ half_text s.x 16
@@ -71,10 +76,12 @@ registers_text (Some s) = half_text s.x 0 ++ half_text s.x 16
 abbrev pub pc_at : Joining → ℕ → Option ℕ
 pc_at j h = elim (state_at j h) [ None ↦ None | Some s ↦ Some s.pc ]
 
+-- eight hexadecimal digits, or as many hyphens
 abbrev pub pc_text : Option ℕ → List ℕ
 pc_text None = codes "--------"
 pc_text (Some pc) = hex8 pc
 
+-- the end of a hart's line: it is ready, waits, or is done
 abbrev pub readiness_text : Readiness → List ℕ
 readiness_text is.Ready = codes "ready\n"
 readiness_text (is.Waits s ic) = waits_text s ic
@@ -84,9 +91,11 @@ readiness_text is.Done = codes "done\n"
 unfoldable pub place_text : ℕ → ℕ → Option ℕ → Readiness → List ℕ
 place_text h ic pc ready = point_text h ic ++ codes " " ++ pc_text pc ++ codes " " ++ readiness_text ready
 
+-- the line of a hart that is done
 unfoldable pub hart_done_text : ℕ → List ℕ
 hart_done_text h = decimal h ++ codes " done\n"
 
+-- the line of a hart in the answer to `where`
 abbrev pub hart_place : Joining → ℕ → List ℕ
 hart_place j h = elim (coming j h) [ None ↦ hart_done_text h | Some c ↦ place_text h (count_of c) (pc_at j h) (readiness j h) ]
 
@@ -103,9 +112,11 @@ pub record Moves : Type 0 where
   pub now : Trace
   pub ends : Ending
 
+-- no step, but a text
 abbrev pub stays : Trace → List ℕ → Moves
 stays t text = record { text = text; now = t; ends = GoesOn }
 
+-- a step that is refused, with no text
 abbrev pub refuses : Trace → ReplayError → Moves
 refuses t e = record { text = []; now = refusing t e; ends = Refused (error_of e) }
 
@@ -132,6 +143,7 @@ step_up_to h (suc k) t = step_by t h (readiness t.now h) (trace_step t h) (λ u.
 abbrev pub break_limit : ℕ
 break_limit = 64
 
+-- whether an address has a breakpoint
 abbrev pub is_set : List ℕ → ℕ → Bool
 is_set breaks addr = list_any (λ b. b == addr) breaks
 
@@ -175,6 +187,7 @@ go_on first breaks t = go_for (steps_left t.now.lanes + 1) first breaks t
 
 -- ---- ways back
 
+-- the line of a position: how many steps lead to it
 unfoldable pub at_text : ℕ → List ℕ
 at_text position = codes "at " ++ decimal position ++ codes "\n"
 
@@ -231,12 +244,15 @@ pub record Answer : Type 0 where
   pub session : Session
   pub ends : Ending
 
+-- a text, and the session continues as it is
 abbrev pub says : Session → List ℕ → Answer
 says s text = record { text = text; session = s; ends = GoesOn }
 
+-- the text of steps, and the session after them
 abbrev pub moved : Session → Moves → Answer
 moved s m = record { text = m.text; session = record s { trace = m.now }; ends = m.ends }
 
+-- the answer to what is no command
 abbrev pub unknown : Session → Answer
 unknown s = says s (codes "?\n")
 
@@ -261,6 +277,7 @@ take_break s addr = elim (is_set s.breaks addr) [
   | false ↦ says s (codes "none\n")
 ]
 
+-- the answer to each command
 abbrev pub answer : Session → DebugCommand → Answer
 answer s to.Empty = says s []
 answer s (to.Hart n) = choose s n

@@ -19,6 +19,7 @@ address_in text = elim (behind (codes "0x") text) [ None ↦ number_of 16 8 text
 
 -- ---- commands with a number
 
+-- `hart` with a number
 abbrev pub hart_of : Option ℕ → DebugCommand
 hart_of None = Other
 hart_of (Some n) = Hart n
@@ -33,10 +34,12 @@ abbrev pub back_of : Option ℕ → DebugCommand
 back_of None = Other
 back_of (Some k) = elim (nat_lt 0 k && nat_le k 1000000) [ true ↦ Back k | false ↦ Other ]
 
+-- `break` with an address
 abbrev pub break_of : Option ℕ → DebugCommand
 break_of None = Other
 break_of (Some a) = Break a
 
+-- `unbreak` with an address
 abbrev pub unbreak_of : Option ℕ → DebugCommand
 unbreak_of None = Other
 unbreak_of (Some a) = Unbreak a

@@ -22,6 +22,7 @@ abbrev pub command_lines : List (List ℕ)
 command_lines = codes "hart 1" ∷ codes "step" ∷ codes "step 20" ∷ codes "step 1000000" ∷ codes "step 0000001" ∷ codes "go" ∷ codes "break 1005c"
     ∷ codes "break 0x0001005C" ∷ codes "unbreak 1" ∷ codes "regs" ∷ codes "word FFFFFFFC" ∷ codes "where" ∷ codes "quit" ∷ [] ∷ codes "back" ∷ codes "back 1000000" ∷ codes "back 0000020" ∷ codes "rgo" ∷ []
 
+-- what they are
 abbrev pub their_commands : List DebugCommand
 their_commands = Hart 1 ∷ Step 1 ∷ Step 20 ∷ Step 1000000 ∷ Step 1 ∷ Go ∷ Break 0x1005c
     ∷ Break 0x1005c ∷ Unbreak 1 ∷ Registers ∷ Word 0xfffffffc ∷ Where ∷ Quit ∷ Empty ∷ Back 1 ∷ Back 1000000 ∷ Back 20 ∷ ReverseGo ∷ []
@@ -36,6 +37,7 @@ other_lines = codes "step 0" ∷ codes "step 1000001" ∷ codes "step 00000001" 
 
 -- ---- sessions
 
+-- the session of a joint replay by bytes of commands
 abbrev pub session : Joining → List ℕ → Told
 session j bytes = transcript j (input_of bytes)
 
@@ -57,6 +59,7 @@ leaving_told = record {
   result = Ok (tt {0});
 }
 
+-- what the definition says of its commands
 abbrev pub leaving_session : Told
 leaving_session = session leaving (codes "step\nbreak 1005c\ngo\nword 20000\nwhere\ngo\nquit\n")
 
@@ -75,6 +78,7 @@ returning_told = record {
   result = Ok (tt {0});
 }
 
+-- what the definition says of its commands
 abbrev pub returning_session : Told
 returning_session = session leaving (codes "step 3\nback 2\nwhere\nstep\nbreak 10054\nrgo\nrgo\nquit\n")
 
@@ -85,6 +89,7 @@ starting_told = record {
   result = Ok (tt {0});
 }
 
+-- what the definition says of such commands
 abbrev pub starting_session : Told
 starting_session = session leaving (codes "back\nrgo\nstep\nback 1000000\nwhere\nquit\n")
 
@@ -96,6 +101,7 @@ breaking_told = record {
   result = Ok (tt {0});
 }
 
+-- what the definition says of such commands
 abbrev pub breaking_session : Told
 breaking_session = session leaving (codes "break 1005c\nunbreak 0x1005c\nunbreak 1005c\nbreak 10054\nbreak 10054\nunbreak 10054\nunbreak 10054\nbreak 10054\ngo\nregs\nstep 2\nwhere\n\nhart 1\nhart 0")
 
@@ -109,6 +115,7 @@ relay_told = record {
   result = Ok (tt {0});
 }
 
+-- what the definition says of its commands
 abbrev pub relay_session : Told
 relay_session = session relay (codes "where\nhart 1\nstep 5\nregs\nhart 0\nstep\nword 0x20000\nhart 1\nstep 2\nquit\nstep\n")
 
@@ -122,6 +129,7 @@ crossed_told = record {
   result = Err (Joint (Stuck ((0, 0) ∷ (1, 0) ∷ [])));
 }
 
+-- what the definition says of its commands
 abbrev pub crossed_session : Told
 crossed_session = session crossed (codes "where\nregs\ngo\nwhere\n")
 
@@ -145,6 +153,7 @@ early_reads = replicate 4 (Some (codes "x")) ++ replicate 2 (Some (codes "x?\n")
 
 -- ---- the limits of commands
 
+-- why bytes of commands are refused, if they are
 abbrev pub refusal_of : List ℕ → Option DebugError
 refusal_of bytes = (input_of bytes).refused
 

@@ -110,6 +110,7 @@ Gathers text P old new waiting (Err e) = SendsPart e old.text new.text text × S
 
 -- ---- a session, by its parts
 
+-- the session that has this trace, this hart and these breakpoints
 abbrev pub session_of : Trace → Focus → Session
 session_of t d = record { trace = t; hart = d.hart; breaks = d.breaks.items }
 

@@ -12,6 +12,7 @@ use Rattle.step_debugger.specs.declared.error.DebugError.TheVariants.{ReadFault,
 abbrev pub line_limit : ℕ
 line_limit = 256
 
+-- the most bytes of all commands
 abbrev pub input_limit : ℕ
 input_limit = 2 ^ 24
 
@@ -21,12 +22,15 @@ pub record Input : Type 0 where
   pub last : List ℕ
   pub refused : Option DebugError
 
+-- no line, and this is left
 abbrev pub ends_in : List ℕ → Option DebugError → Input
 ends_in last refused = record { lines = []; last = last; refused = refused }
 
+-- one line more, at the front
 abbrev pub with_line : List ℕ → Input → Input
 with_line line input = record input { lines = line ∷ input.lines }
 
+-- an LF
 abbrev pub is_line_feed : ℕ → Bool
 is_line_feed byte = byte == 10
 

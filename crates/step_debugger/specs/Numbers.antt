@@ -19,6 +19,7 @@ digit_value byte = elim (is_from 48 57 byte) [
 abbrev pub digit_in : ℕ → ℕ → Option ℕ
 digit_in base byte = elim (digit_value byte) [ None ↦ None | Some d ↦ elim (nat_lt d base) [ true ↦ Some d | false ↦ None ] ]
 
+-- the sum, if both numbers are there
 abbrev pub sum_of : Option ℕ → Option ℕ → Option ℕ
 sum_of None n = None
 sum_of (Some m) None = None

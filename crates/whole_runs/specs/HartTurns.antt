@@ -20,6 +20,7 @@ use Rattle.whole_runs.specs.declared.hart_place.HartPlace.{HartPlace}
 
 -- ---- what a hart knows and did by itself
 
+-- the place of a hart: its state, and the count at which its interval began
 abbrev pub place_at : HartPlace → Place
 place_at p = record { state = p.state; begun = p.begun }
 

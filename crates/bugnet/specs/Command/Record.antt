@@ -19,6 +19,7 @@ use Rattle.log_commands.specs.Commands.{IsByInput, WithFile}
 
 -- ---- the commands
 
+-- the loader's refusal of ELF is told; of a program the input is loaded, and its run is told
 abbrev pub IsByProgram : Result Program ElfError → Files → FileNames → RawSettings → Manner → Bool → List ℕ → Told → Type 0
 IsByProgram (Err e) files names c how has_input digest what = what ≡ refused names (ElfRefused e)
 IsByProgram (Ok i) files names c how has_input digest what = IsByInput has_input files names (IsRun c i digest how) what
@@ -33,6 +34,7 @@ abbrev pub IsByNames : Bool → Files → FileNames → RawSettings → Manner �
 IsByNames true files names c how has_input what = what ≡ refused names SameName
 IsByNames false files names c how has_input what = WithFile files names role.Elf 67108864 (λ elf what. IsByProgram (image_of elf c) files names c how has_input (sha256 elf) what) what
 
+-- a setting out of range is refused; else the names are tested
 abbrev pub IsBySettings : Option BadSetting → Files → FileNames → RawSettings → Manner → Bool → Told → Type 0
 IsBySettings (Some bad) files names c how has_input what = what ≡ refused names (OutOfRange bad)
 IsBySettings None files names c how has_input what = IsByNames (is_clash how.lean names.log names.book) files names c how has_input what

@@ -12,6 +12,7 @@ use Rattle.run_model.specs.declared.span.Span.{Span}
 abbrev pub no_cache : Contents
 no_cache = no_contents
 
+-- the cache of hart k
 abbrev pub cache_of : List Contents → ℕ → Contents
 cache_of cs k = get_or cs k no_cache
 

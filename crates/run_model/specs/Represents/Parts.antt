@@ -59,6 +59,7 @@ pub record IsSameMachine (old new : MachineParts) : Type 0 where
   pub out : new.out ≡ old.out
   pub err : new.err ≡ old.err
 
+-- whether a system call is asked for
 abbrev pub is_system : Want → Bool
 is_system (System number args) = true
 is_system want = false
@@ -86,6 +87,7 @@ pub record IsSpanReady (c : Contents) (s : Span) : Type 0 where
   pub within : s.first + 4 * s.count ≤ 4 * length c.words
   pub pages : s.mode ≡ Write → HasPages c s.first s.count
 
+-- the same of the words of an ask, if there are any
 abbrev pub AreWordsReady : Contents → Option Span → Type 0
 AreWordsReady c None = ⊤
 AreWordsReady c (Some s) = IsSpanReady c s
@@ -106,6 +108,7 @@ HasCallRoom input p (plans.Fill a n) = p.taken + n ≤ length input
 HasCallRoom input p (plans.Send s a n) = HasStreamRoom (s == 1) p n
 HasCallRoom input p plan = ⊤
 
+-- only a system call is planned, and the plan has room
 abbrev pub HasPlanRoom : List ℕ → MachineParts → Option Plan → Want → Type 0
 HasPlanRoom input p None want = ⊤
 HasPlanRoom input p (Some plan) want = IsTrue (is_system want) × HasCallRoom input p plan

@@ -4,6 +4,7 @@ use Rattle.run_model.specs.Represents.Harts.{is_live_hart}
 use Rattle.run_model.specs.declared.plain.Plain.{Plain}
 use Rattle.run_model.specs.Represents.Plain.{PlainParts}
 
+-- the parts that a plain machine has
 abbrev pub parts : Plain → PlainParts
 parts p = record { start = p.start; machine = p.machine; trace = p.trace; turns = p.turns }
 
