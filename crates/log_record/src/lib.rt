@@ -18,4 +18,4 @@ pub use head::Head;
 pub use list::RecordList;
 pub use reading::{read, read_as, size};
 pub use record::Record;
-pub use writing::{write, write_first_load};
+pub use writing::{write, write_edge, write_first_load};

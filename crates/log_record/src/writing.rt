@@ -9,7 +9,7 @@ use crate::bytes::Bytes;
 use crate::record::Record;
 use bn_base::{HartId, Ic, Registers};
 use le_numbers::laws::numbers_have_their_width;
-use le_numbers::write_u32;
+use le_numbers::{write_u32, write_u64};
 
 fn begin(tag: u8, hart: HartId) -> Bytes
     ensures { result ≡ tag ∷ hart ∷ [] }
@@ -77,6 +77,22 @@ pub fn write_first_load(hart: HartId, skip: u32, value: u32) -> [u8; 10]
     let mut bytes = [2, hart, 0, 0, 0, 0, 0, 0, 0, 0];
     write_u32(&mut bytes, 2, skip);
     write_u32(&mut bytes, 6, value);
+    bytes
+}
+
+/// The bytes of an Edge, as [`write`] gives them.
+// The log of several harts has about as many Edges as FirstLoads.
+#[inline(always)]
+pub fn write_edge(hart: HartId, ic: Ic, from: HartId, from_ic: Ic) -> [u8; 19]
+    ensures bytes { result ≡ bytes_of (Edge hart ic from from_ic) }
+    ensures fits { Fits 2 (Edge hart ic from from_ic) }
+{
+    numbers_have_their_width();
+    let mut bytes = [
+        5, hart, 0, 0, 0, 0, 0, 0, 0, 0, from, 0, 0, 0, 0, 0, 0, 0, 0,
+    ];
+    write_u64(&mut bytes, 2, ic);
+    write_u64(&mut bytes, 11, from_ic);
     bytes
 }
 

@@ -4,13 +4,13 @@ ghost use Rattle.std.specs.List.{flat_map, AllByRecursion};
 ghost use Rattle.log_record.specs.declared.record.Record.{Record};
 ghost use Rattle.log_record.specs.Spelling.{bytes_of, total, is_marked, Fits};
 ghost use Rattle.log_ring.specs.Whole.{records_in, IsWhole, Oldest};
-ghost use Rattle.log_record.specs.declared.record.Record.TheVariants.{FirstLoad};
+ghost use Rattle.log_record.specs.declared.record.Record.TheVariants.{Edge, FirstLoad};
 ghost use Rattle.log_ring.specs.Kept.{kept, held, HoldsLog, GivesUp, Appends};
 
-use bn_base::HartId;
+use bn_base::{HartId, Ic};
 use circular_buffer::HeapCircularBuffer;
 use log_record::laws::{tags_tell_sizes, written_records_are_read};
-use log_record::{Record, size, write, write_first_load};
+use log_record::{Record, size, write, write_edge, write_first_load};
 use std::alloc::{AllocError, Global};
 use std::marker::Model;
 
@@ -164,6 +164,17 @@ impl Ring {
         ensures holds { (appended : List Record) → HoldsLog self.old appended → HoldsLog self.new (appended ++ FirstLoad hart skip value ∷ []) }
     {
         self.append_bytes(&write_first_load(hart, skip, value));
+    }
+
+    /// Appends an Edge, as [`append`](Ring::append) does.
+    pub fn append_edge(&mut self, hart: HartId, ic: Ic, from: HartId, from_ic: Ic)
+        requires { self.old.dropped + length self.old.records < 2 ^ 60 }
+        ensures latest { self.new.records ≡ kept self.old.size (self.old.records ++ Edge hart ic from from_ic ∷ []) }
+        ensures given_up { GivesUp self.old (Edge hart ic from from_ic) self.new }
+        ensures size { self.new.size ≡ self.old.size }
+        ensures holds { (appended : List Record) → HoldsLog self.old appended → HoldsLog self.new (appended ++ Edge hart ic from from_ic ∷ []) }
+    {
+        self.append_bytes(&write_edge(hart, ic, from, from_ic));
     }
 
     // Appends the bytes of a record.

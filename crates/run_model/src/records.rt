@@ -51,14 +51,13 @@ fn append_edge(log: &mut Log, hart: HartId, ic: Ic, edges: &Edges, i: usize)
     ensures holds { (rs : List Record) → IsLog log.old (rs ++ edges_from hart ic (take i edges.now)) → IsLog log.new (rs ++ edges_from hart ic (take (i + 1) edges.now)) }
     ensures took { Took log.old 1 log.new }
 {
+    numbers_have_their_width();
     match edges.get(i) {
         None => unreachable!(),
-        Some((from, from_ic)) => log.append(&Record::Edge {
-            hart,
-            ic,
-            from,
-            from_ic,
-        }),
+        Some((from, from_ic)) => {
+            log.bytes += 19;
+            log.ring.append_edge(hart, ic, from, from_ic);
+        }
     }
 }
 

@@ -1,10 +1,29 @@
-use Rattle.std.proofs.Common.{List, subst, sym, ◌∙◌}
+use Rattle.std.proofs.Common.{◌≡◌, ◌+◌, ◌∷◌, ◌++◌, [], List, take, subst, sym, ◌∙◌, length-append, arith}
+use Rattle.le_numbers.specs.Numbers.{number_bytes}
 use Rattle.log_record.specs.declared.record.Record.{Record}
+use Rattle.log_record.specs.declared.record.Record.TheVariants.{Edge}
+use Rattle.log_record.specs.Spelling.{bytes_of, total}
+use Rattle.run_model.specs.declared.log.Log.{Log}
+use Rattle.run_model.specs.Turn.{edges_from}
 use Rattle.run_model.specs.Represents.Logs.{IsLog}
+use Rattle.run_model.proofs.Bytes.{total_append}
 use Rattle.run_model.proofs.Edges.{edges_more}
 use Rattle.run_model.proofs.records.append_edge.Goals as goal
 
+-- a log holds the same records by another name
+same_records : (log : Log) (xs ys : List Record) → xs ≡ ys → IsLog log ys → IsLog log xs
+same_records log xs ys e is = subst (λ (zs : List Record). IsLog log zs) (sym e) is
+
 pub returns-clause-holds : goal.returns-clause-holds
-returns-clause-holds c rs h =
-    let e = edges_more c.args.hart c.args.ic c.args.edges.now c.args.i (c.in-Some.from, c.in-Some.from_ic) rs (sym c.get.ensures ∙ c.in-Some.is) in
-    subst (λ (xs : List Record). IsLog c.append.new.self xs) (sym e) (c.append.ensures.holds _ h)
+returns-clause-holds c rs is =
+    let from = c.in-Some.from in let from_ic = c.in-Some.from_ic in
+    let r : Record = Edge c.args.hart c.args.ic from from_ic in
+    let before = rs ++ edges_from c.args.hart c.args.ic (take c.args.i c.args.edges.now) in
+    let wide = c.numbers_have_their_width.ensures in
+    let nineteen : total (r ∷ []) ≡ 19 = omega (arith, length-append (bytes_of r) [], length-append (number_bytes 8 c.args.ic) (from ∷ number_bytes 8 from_ic), wide 8 c.args.ic, wide 8 from_ic) in
+    let e = edges_more c.args.hart c.args.ic c.args.edges.now c.args.i (from, from_ic) rs (sym c.get.ensures ∙ c.in-Some.is) in
+    let more : c.args.log.now.bytes + 19 ≡ total (before ++ r ∷ []) = omega (arith, is.bytes, total_append before (r ∷ []), nineteen) in
+    same_records _ _ (before ++ r ∷ []) e (record {
+      holds = c.append_edge.ensures.holds before is.holds;
+      bytes = more;
+    })
