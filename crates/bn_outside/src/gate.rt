@@ -1,5 +1,4 @@
 //! Gates, the scheduler hooks between the turns of harts in threads. Tests order turns by them; recordings have none.
-use crate::schedule::Schedule;
 use bn_base::HartId;
 
 /// What the worker of each hart calls around its turns. Threads share it, and it tells nothing.
@@ -9,12 +8,6 @@ use bn_base::HartId;
 // A call gets no runtime: a yield needs none. So each call returns, of the gates here after at most 10,000,000
 // yields.
 pub trait Gate: Sync {
-    /// The schedule that a recording without a seed takes on the caller's thread. None, as by default: its harts are in
-    /// threads, and pass this gate.
-    fn schedule(&self) -> Option<Schedule<'_>> {
-        None
-    }
-
     /// Called before each turn: the hart has done its quiet instructions and holds no lock.
     fn pass(&self, hart: HartId);
 

@@ -18,6 +18,7 @@ pub use Rattle.bn_base.specs.declared.settings.RawSettings.{RawSettings}
 pub use Rattle.bn_outside.specs.Counts.{Counts, NoneFell, Rose}
 pub use Rattle.bn_outside.specs.Files.{Files, Stored, WhereTold}
 pub use Rattle.bn_outside.specs.Streams.{AppendsPart, ConsumesAll, ReadNote, Stream, Supply}
+pub use Rattle.bn_outside.specs.declared.schedule.Schedule.{Schedule}
 pub use Rattle.bus_core.specs.Bus.{Began, began_of, marks}
 pub use Rattle.command_words.specs.Words.{AuditLine, CheckLine, ConvertLine, DebugLine, DemoLine, JointLine, Line, ListLine, RacesLine, RecordLine, RecordingLine, ReplayLine, SalvageLine, SliceLine, command_in, seen, seen_recording}
 pub use Rattle.command_words.specs.declared.commands.RecordOptions.{RecordOptions}
@@ -128,7 +129,7 @@ pub use Rattle.log_commands.specs.declared.pairs.JointReading.{JointReading}
 pub use Rattle.log_commands.specs.declared.refusal.Refusal.{Refusal}
 pub use Rattle.log_commands.specs.declared.refusal.Refusal.TheVariants.{BookRefused, ElfRefused, FileDiffers, LogRefused, Missing, OutOfMemory, OutOfRange, ProgramDiffers, ReplayStopped, SameName, TooLong, WordsRefused}
 pub use Rattle.log_commands.specs.declared.status.Status.{Status}
-pub use Rattle.bugnet.specs.Answers.{IsAnswer, IsByLine, IsOn, KindOf, UnlessRefused, line_roles, manner_of, names_by, names_in, refusal_by, refusal_in, setting_refusal, words_refusal}
+pub use Rattle.bugnet.specs.Answers.{IsAnswer, IsByLine, IsGiven, IsOn, KindOf, UnlessRefused, line_roles, manner_by, manner_of, names_by, names_in, refusal_by, refusal_in, setting_refusal, words_refusal}
 pub use Rattle.bugnet.specs.Asks.{FitsLine, LineSaves}
 pub use Rattle.bugnet.specs.ClosedRuns.{IsRecordingBy, IsRecordingOf}
 pub use Rattle.bugnet.specs.Command.Record.{IsByNames, IsByProgram, IsBySettings, IsRecord, is_clash}
@@ -140,13 +141,12 @@ pub use Rattle.bugnet.specs.Jointly.{DoneJointly, HasRun, IsJoined, JoinsRun, Jo
 pub use Rattle.bugnet.specs.Laws.{AreAlike, AreOfOneList, FilesKeepToTheirSize, IsNoRecording, IsNoSession, IsReadOnly, OneAnswer, OneSession, SeedsAreWhole, book_of}
 pub use Rattle.bugnet.specs.LineAnswers.{AnswersLine}
 pub use Rattle.bugnet.specs.LineCalls.{AnswersDemo, CallsOnly, CallsSo, HasShape, IsSaved, MaySave, RefusedAfter, TellsDemo, TellsRefusal, calls_of, is_printed, is_recorded, is_replayed, line_past, needed_of, needed_roles, past_of}
-pub use Rattle.bugnet.specs.Recordings.{AreTaken, IsRun, book_if, end_by, instructions_of, is_fault, is_limit, marks_of, recorded}
+pub use Rattle.bugnet.specs.Recordings.{AreScheduled, AreTaken, IsRun, Manner, began_by, book_if, end_by, instructions_of, is_fault, is_limit, marks_of, recorded}
 unfoldable pub use Rattle.bugnet.specs.Recordings.{told_run}
 pub use Rattle.bugnet.specs.Replies.{Does, RepliesTo, closed}
 pub use Rattle.bugnet.specs.Run.{ByWords, ChangesFew, IsCounted, Keeps, Obeys, StoppedEarly, TellsAnswer}
-pub use Rattle.bugnet.specs.Saves.{HasElf, HasList, HoldsBytes, IsWithin, Leaves, LeavesRun, SameButSaved, TellsEnd}
+pub use Rattle.bugnet.specs.Saves.{HasElf, HasList, HoldsBytes, IsWithin, KeepsSchedule, Leaves, LeavesRun, LeavesScheduled, SameButSaved, TellsEnd}
 pub use Rattle.bugnet.specs.Sessions.{AreRead, CanDebug, Commands, EndsBy, EndsWithQuit, IsDebug, IsSession, IsUnread, NoQuit, NoneEnds, Reading, ReadsAll, ReadsOnce, SessionOver, SessionReads, debug_with, input_in, is_begun, reading, session_line, session_status, stop_status, whole_input}
 unfoldable pub use Rattle.bugnet.specs.Sessions.{session_told}
 pub use Rattle.bugnet.specs.Starts.{BeginsBy, LoadsStart}
 pub use Rattle.bugnet.specs.Steps.{DebugsEnds, DebugsNamed, DebugsPair, DebugsTo, SessionEnds, ToldStop}
-pub use Rattle.bugnet.specs.declared.manner.Manner.{Manner}

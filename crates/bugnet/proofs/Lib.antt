@@ -9,6 +9,8 @@ mod Recorded
 mod Tested
 mod Sizes
 mod Leaves
+mod Scheduled
+mod Books
 mod Agrees
 mod Complete
 mod SessionReads

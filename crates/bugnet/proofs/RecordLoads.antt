@@ -1,5 +1,6 @@
 -- What a recording answers after its loads.
-use Rattle.bugnet.proofs.Common.{◌≡◌, ℕ, List, Option, Some, None, ◌∙◌, ap, subst, sym, refl, arith, Bool, inl, inr, Result, Ok, Err, is_some, Counts, Files, Program, checked_by, first_bad, BadSetting, RawSettings, image_of, ElfError, RecordLine, seen_recording, RecordOptions, FileNames, refused, is_clash, IsByProgram, IsRecord, Manner, names_in, manner_of, setting_refusal, refusal_in, IsAnswer, IsRecordedRun, FitsLine, HoldsBytes, HasElf, WithFiles, ProgramTells, GivesBy, CauseBy, Answer, Refusal}
+use Rattle.bugnet.proofs.Common.{◌≡◌, ℕ, List, Option, Some, None, ◌∙◌, ap, subst, sym, refl, arith, Bool, inl, inr, Result, Ok, Err, IfOk, is_some, Counts, Files, Program, checked_by, first_bad, BadSetting, RawSettings, image_of, ElfError, RecordLine, seen_recording, RecordOptions, FileNames, refused, is_clash, IsByProgram, IsRecord, Manner, Schedule, names_in, manner_by, manner_of, IsGiven, setting_refusal, refusal_in, IsRecordedRun, FitsLine, HoldsBytes, HasElf, WithFiles, ProgramTells, GivesBy, CauseBy, Answer, Refusal}
+use Rattle.std.specs.Prelude.{IsErrAnd}
 use Rattle.bugnet.proofs.LineCalls.{mapped}
 
 -- ---- what a recording loads
@@ -25,17 +26,22 @@ none-bad (Some other) s x e = grind arith
 
 -- ---- a recording
 
--- what a recording's line asks for, by the names in it
-pub record-answers : (known : Option Files) (names : FileNames) (r : RecordOptions) (how : Manner) (has : Bool) (result : Result Answer Refusal) → names ≡ names_in (RecordLine (seen_recording r))
-    → how ≡ manner_of (seen_recording r) → has ≡ is_some r.input
-    → WithFiles known (λ files. GivesBy names (λ f. IsRecord f names r.settings how has) files result)
-    → WithFiles known (λ files. GivesBy names (IsAnswer (Some (RecordLine (seen_recording r)))) files result)
-record-answers known names r how has result e m input h =
+-- what a recording's line asks for that is given a schedule, or none, by the names in it
+pub record-answers : (known : Option Files) (names : FileNames) (r : RecordOptions) (o : Option Schedule) (has : Bool) (result : Result Answer Refusal) → names ≡ names_in (RecordLine (seen_recording r))
+    → has ≡ is_some r.input
+    → WithFiles known (λ files. GivesBy names (λ f. IsRecord f names r.settings (manner_by (seen_recording r) o) has) files result)
+    → WithFiles known (λ files. GivesBy names (IsGiven (seen_recording r) o) files result)
+record-answers known names r o has result e input h =
     let s = seen_recording r in
     let there : has ≡ is_some s.input = input ∙ sym (mapped _ _ _ r.input) in
-    subst (λ (n : FileNames). WithFiles known (λ files. GivesBy names (λ f. IsRecord f n s.settings (manner_of s) (is_some s.input)) files result)) e
-    (subst (λ (b : Bool). WithFiles known (λ files. GivesBy names (λ f. IsRecord f names s.settings (manner_of s) b) files result)) there
-    (subst (λ (x : Manner). WithFiles known (λ files. GivesBy names (λ f. IsRecord f names s.settings x has) files result)) m h))
+    subst (λ (n : FileNames). WithFiles known (λ files. GivesBy names (λ f. IsRecord f n s.settings (manner_by s o) (is_some s.input)) files result)) e
+    (subst (λ (b : Bool). WithFiles known (λ files. GivesBy names (λ f. IsRecord f names s.settings (manner_by s o) b) files result)) there h)
+
+-- a refusal gives no answer
+pub none-given : (known : Option Files) (e : Refusal) (result : Result Answer Refusal) (P : Files → Answer → Type 0) → IsErrAnd result (λ y. y ≡ e) → WithFiles known (λ files. IfOk result (P files))
+none-given None e result P is = tt
+none-given (Some files) e (Ok answer) P is = absurd is
+none-given (Some files) e (Err x) P is = tt
 
 -- what the words of such a line refuse, whether it is lean, and what its program file holds
 pub record-cause : (names : FileNames) (r : RecordOptions) (how : Manner) (before now : Counts) (result : Result Answer Refusal) → names ≡ names_in (RecordLine (seen_recording r))

@@ -4,6 +4,7 @@ use Rattle.std.specs.Str.{bytes_eq}
 use Rattle.bn_base.specs.Ranges.{first_bad}
 use Rattle.bn_base.specs.declared.settings.BadSetting.{BadSetting}
 use Rattle.bn_outside.specs.Files.{Files}
+use Rattle.bn_outside.specs.declared.schedule.Schedule.{Schedule}
 use Rattle.command_words.specs.Words.{Line, RecordingLine, RecordLine, ReplayLine, JointLine, DebugLine, ListLine, CheckLine, AuditLine, RacesLine, SliceLine, ConvertLine, SalvageLine, DemoLine}
 use Rattle.command_words.specs.declared.error.WordsError.{WordsError}
 use Rattle.command_words.specs.declared.error.WordsError.TheVariants as words_error
@@ -14,7 +15,7 @@ use Rattle.bugnet.specs.Command.Record.{is_clash, IsRecord}
 use Rattle.log_commands.specs.Answering.{IsByFiles}
 use Rattle.log_commands.specs.Commands.{IsByLog, list_of, check_of, replay_with}
 use Rattle.log_commands.specs.FileCalls.{log_roles, origin_roles, record_roles}
-use Rattle.bugnet.specs.declared.manner.Manner.{Manner}
+use Rattle.bugnet.specs.Recordings.{Manner}
 use Rattle.log_commands.specs.Joined.{joint_with}
 use Rattle.log_commands.specs.RaceAnswers.{races_with}
 use Rattle.log_commands.specs.SliceAnswers.{slice_with}
@@ -51,9 +52,13 @@ abbrev pub names_by : Option Line → FileNames
 names_by None = no_names
 names_by (Some line) = names_in line
 
--- how a line records
+-- how a line records that is given a schedule, or none
+abbrev pub manner_by : RecordingLine → Option Schedule → Manner
+manner_by r schedule = record { seed = r.seed; lean = r.lean; schedule = schedule }
+
+-- how a line records, if nothing is known of its schedule
 abbrev pub manner_of : RecordingLine → Manner
-manner_of r = record { seed = r.seed; lean = r.lean }
+manner_of r = manner_by r None
 
 -- a setting out of range comes before two files of one name
 abbrev pub setting_refusal : Option BadSetting → Bool → Option Refusal
@@ -110,6 +115,10 @@ UnlessRefused None names Is what = Is what
 -- what a line that records nothing and reads no commands has to answer by the files that are there
 abbrev pub IsByLine : Line → Files → Told → Type 0
 IsByLine line files what = UnlessRefused (refusal_in line) (names_in line) (λ what. IsByFiles files (names_in line) (line_roles line) no_bytes (IsOn line (names_in line)) what) what
+
+-- what the recording of a line has to answer by the files that are there, if it is given this schedule
+abbrev pub IsGiven : RecordingLine → Option Schedule → Files → Told → Type 0
+IsGiven r schedule files what = IsRecord files (names_in (RecordLine r)) r.settings (manner_by r schedule) (is_some r.input) what
 
 -- what words have to answer, by the line that they say; words that say none are refused
 abbrev pub IsAnswer : Option Line → Files → Told → Type 0

@@ -8,11 +8,10 @@ use Rattle.log_record.specs.Spelling.{total}
 use Rattle.run_model.specs.declared.start.Start.{Start}
 use Rattle.bus_core.specs.declared.closed.Closed.{Closed}
 use Rattle.log_commands.specs.Texts.{summary_text}
-use Rattle.bugnet.specs.Recordings.{instructions_of, end_by, IsRun}
+use Rattle.bugnet.specs.Recordings.{instructions_of, end_by, Manner, IsRun}
 use Rattle.log_commands.specs.RunEnds.{end_word}
 use Rattle.log_commands.specs.SaveCounts.{is_lean}
 use Rattle.log_commands.specs.Outside.{list_in, told_of_recording}
-use Rattle.bugnet.specs.declared.manner.Manner.{Manner}
 use Rattle.log_commands.specs.declared.answer.RunToTell.{RunToTell}
 
 -- the log of the ring, the list, and the texts

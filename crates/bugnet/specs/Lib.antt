@@ -20,3 +20,4 @@ pub mod Starts
 pub mod LineCalls
 pub mod LineAnswers
 pub mod Replies
+pub mod Books

@@ -6,9 +6,8 @@ use Rattle.log_commands.specs.FileCalls.{Note, CallsTo}
 use Rattle.log_commands.specs.Inputs.{OnlyLoads}
 use Rattle.log_commands.specs.Names.{FileNames}
 use Rattle.log_commands.specs.Told.{Told, refused}
-use Rattle.bugnet.specs.Recordings.{IsRun}
+use Rattle.bugnet.specs.Recordings.{Manner, IsRun}
 use Rattle.log_commands.specs.Outside.{IsEarly, WithFiles}
-use Rattle.bugnet.specs.declared.manner.Manner.{Manner}
 use Rattle.log_commands.specs.declared.names.Role.{Role}
 use Rattle.log_commands.specs.declared.refusal.Refusal.{Refusal}
 

@@ -3,6 +3,7 @@
 ghost use Rattle.bugnet.specs.DebugSessions.{ConvertedHaveTheirLimit, SessionsShowTheRun, RecordingsCanBeDebugged, PrefixesCanBeDebugged};
 ghost use Rattle.bugnet.specs.Laws.{OneAnswer, OneSession, SeedsAreWhole, FilesKeepToTheirSize};
 ghost use Rattle.bugnet.specs.Agreements.{AuditsAgree};
+ghost use Rattle.bugnet.specs.Books.{BooksAreFollowed, SchedulesGiveOneRun};
 ghost use Rattle.bugnet.specs.Complete.{EachHasAnAnswer, EachCanBeDone};
 ghost use Rattle.bugnet.specs.Crashes.{CrashesAreShown};
 ghost use Rattle.bugnet.specs.Headline.{Headline, RecordingsAreReplayed, RecordingsSayEnds};
@@ -25,7 +26,7 @@ use report_laws::races_say_the_run;
 use run_files::{files_number_their_version, verdicts_are_unique};
 use run_laws::{faults_are_kept, kept_records_are_an_end, own_asks_are_orderly};
 use step_debugger::laws::refusals_stay;
-use whole_runs::{seeded_lists_end, whole_runs_have_no_error};
+use whole_runs::{seeded_lists_end, whole_lists_are_followed, whole_runs_have_no_error};
 
 /// No words have two answers, whatever the files are. But a recording without a seed has one for each list
 /// of turns. Of a lean one without a seed, which saves no list, nothing is said.
@@ -267,6 +268,21 @@ pub fn seeds_are_whole()
     ensures { SeedsAreWhole }
 {
     seeded_lists_end();
+}
+
+/// Two recordings of one program, one input and the same settings that were given one schedule took the same turns, and
+/// left the same log and the same list, byte for byte.
+#[tactic(auto, using(crate::proofs::Books::one_run))]
+pub fn schedules_give_one_run()
+    ensures { SchedulesGiveOneRun }
+{}
+
+/// Take two recordings of one program, one input and the same settings. If the second was given the BOOK of the first as
+/// its schedule, it took the same turns, and left the same log and the same list, byte for byte.
+pub fn books_are_followed()
+    ensures { BooksAreFollowed }
+{
+    whole_lists_are_followed();
 }
 
 /// The records that the log of a recording keeps have at most the bytes that the settings give. Its file

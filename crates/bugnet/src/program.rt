@@ -1,11 +1,12 @@
 //! The program: it reads its words, loads, answers, saves and prints.
 //! The contract of `run` says all that is proved of the whole; code below it may change as long as that stands.
-ghost use Rattle.std.specs.Prelude.{◌≡◌, ◌≤◌, ◌⊎◌, true, Some, None, IfOk, MatchOption};
+ghost use Rattle.std.specs.Prelude.{◌≡◌, ◌≤◌, ◌⊎◌, true, Option, Some, None, IfOk, MatchOption};
 ghost use Rattle.bn_outside.specs.Counts.{Rose, NoneFell};
+ghost use Rattle.bn_outside.specs.declared.schedule.Schedule.{Schedule};
 ghost use Rattle.command_words.specs.Words.{command_in, seen, seen_recording, RecordLine};
 ghost use Rattle.std.specs.Str.{bytes_eq};
 ghost use Rattle.bugnet.specs.ClosedRuns.{IsRecordingBy, MakesRecordings};
-ghost use Rattle.bugnet.specs.Answers.{manner_of, names_in, refusal_in, words_refusal, IsOn, KindOf, line_roles};
+ghost use Rattle.bugnet.specs.Answers.{manner_by, manner_of, names_in, refusal_in, words_refusal, IsOn, KindOf, line_roles};
 ghost use Rattle.bugnet.specs.LineAnswers.{AnswersLine};
 ghost use Rattle.bugnet.specs.Replies.{RepliesTo, Does, DoesTo};
 ghost use Rattle.log_commands.specs.Answering.{Answers};
@@ -23,7 +24,7 @@ ghost use Rattle.bugnet.specs.Complete.{IsDone};
 ghost use Rattle.bugnet.specs.Headline.{PrintsRun};
 ghost use Rattle.bugnet.specs.Jointly.{PrintsJointly};
 ghost use Rattle.log_commands.specs.Outside.{WithFiles};
-ghost use Rattle.bugnet.specs.Saves.{LeavesRun};
+ghost use Rattle.bugnet.specs.Saves.{LeavesRun, LeavesScheduled};
 ghost use Rattle.log_commands.specs.Effects.{call};
 ghost use Rattle.bugnet.specs.Run.{TellsAnswer, ByWords, Keeps, ChangesFew};
 
@@ -34,7 +35,7 @@ use crate::laws::{
     headline, joint_headline, one_answer, seeds_are_whole, sessions_show_the_run,
 };
 use crate::recorder;
-use bn_outside::{Gate, Sink, Source, Store};
+use bn_outside::{Gate, Schedule, Sink, Source, Store};
 use command_words::{Command, RecordOptions, WordsError, read_words};
 use file_laws::logs_are_contents;
 use log_blocks::laws::saved_files_keep_to_the_limit;
@@ -243,7 +244,9 @@ fn keep_recording<S: Store, O: Sink, X: Sink, F: FnOnce(&Start) -> Result<RunToT
     requires named { names.now ≡ names_in (RecordLine (seen_recording options.now)) }
     requires callable { F.IsAlwaysCallable make }
     requires made { MakesRecordings F.FnOnce make (manner_of (seen_recording options.now)) }
-    ensures { RepliesTo (RecordLine (seen_recording options.now)) names.now S.note (call S.stored O.stream X.stream store.old out.old err.old store.new out.new err.new) result }
+    ensures does { RepliesTo (RecordLine (seen_recording options.now)) names.now S.note (call S.stored O.stream X.stream store.old out.old err.old store.new out.new err.new) result }
+    ensures given { (schedule : Option Schedule) → MakesRecordings F.FnOnce make (manner_by (seen_recording options.now) schedule)
+        → IfOk result (λ status. LeavesScheduled schedule (Some (RecordLine (seen_recording options.now))) (code status) (S.stored store.old).files (S.stored store.new).files) }
 {
     // Laws:
     seeds_are_whole();
@@ -305,13 +308,65 @@ pub fn perform<S: Store, I: Source<O>, O: Sink, X: Sink>(
                     out,
                     err,
                     |start: &Start| -> Result<RunToTell, AllocError>
-                        ensures { IfOk result (λ r. IsRecordingBy start.now (record { seed = Some seed; lean = lean }) r) }
+                        ensures { IfOk result (λ r. IsRecordingBy start.now (record { seed = Some seed; lean = lean; schedule = None }) r) }
                     { recorder::record_by_seed(alloc, start, seed, lean) },
                 )
             }
         },
         _ => reply(alloc, command, names, store, out, err),
     }
+}
+
+// A schedule that a recording is given, or none. A closure's contract can name it only behind a bound, since its own type
+// has a lifetime.
+trait Given {
+    ghost use Rattle.std.specs.Prelude.{Option};
+    ghost use Rattle.bn_outside.specs.declared.schedule.Schedule.{Schedule};
+
+    // What is given.
+    ghost given: { Self → Option Schedule };
+
+    fn schedule(&self) -> Option<Schedule<'_>>
+        ensures { result ≡ given self.now };
+}
+
+impl Given for Option<Schedule<'_>> {
+    ghost given = { λ schedule. schedule };
+
+    fn schedule(&self) -> Option<Schedule<'_>> {
+        *self
+    }
+}
+
+// Does what the words of a recording without a seed ask for.
+fn keep_unseeded<S: Store, O: Sink, X: Sink, D: Given, G: Gate, R: Threads + Wait + Sync>(
+    rt: &R,
+    alloc: Global,
+    options: &RecordOptions,
+    names: &Names,
+    store: &mut S,
+    out: &mut O,
+    err: &mut X,
+    gate: &G,
+    given: &D,
+) -> Result<Status, Refusal>
+    requires named { names.now ≡ names_in (RecordLine (seen_recording options.now)) }
+    requires unseeded { options.now.seed ≡ None }
+    ensures does { RepliesTo (RecordLine (seen_recording options.now)) names.now S.note (call S.stored O.stream X.stream store.old out.old err.old store.new out.new err.new) result }
+    ensures given { IfOk result (λ status. LeavesScheduled (D.given given.now) (Some (RecordLine (seen_recording options.now))) (code status) (S.stored store.old).files (S.stored store.new).files) }
+{
+    let lean = options.lean;
+    keep_recording(
+        alloc,
+        options,
+        names,
+        store,
+        out,
+        err,
+        |start: &Start| -> Result<RunToTell, AllocError>
+            ensures { IfOk result (λ r. IsRecordingBy start.now (record { seed = None; lean = lean; schedule = D.given given.entry.now }) r) }
+        { recorder::record_unseeded(rt, alloc, start, lean, gate, given.schedule()) },
+    )
 }
 
 // Does a recording without a seed here, which alone may wait for threads, and any other command by `perform`.
@@ -325,26 +380,15 @@ fn attempt<S: Store, I: Source<O>, O: Sink, X: Sink, G: Gate, R: Threads + Wait 
     out: &mut O,
     err: &mut X,
     gate: &G,
+    schedule: Option<Schedule>,
 ) -> Result<Status, Refusal>
     requires { names.now ≡ names_in (seen command.now) }
-    ensures { DoesTo (seen command.now) names.now S.note (reading I.source I.note input.old input.new)
+    ensures does { DoesTo (seen command.now) names.now S.note (reading I.source I.note input.old input.new)
         (call S.stored O.stream X.stream store.old out.old err.old store.new out.new err.new) result }
+    ensures given { IfOk result (λ status. LeavesScheduled schedule.entry (Some (seen command.now)) (code status) (S.stored store.old).files (S.stored store.new).files) }
 {
     match unseeded(command) {
-        Some(options) => {
-            let lean = options.lean;
-            keep_recording(
-                alloc,
-                options,
-                names,
-                store,
-                out,
-                err,
-                |start: &Start| -> Result<RunToTell, AllocError>
-                    ensures { IfOk result (λ r. IsRecordingBy start.now (record { seed = None; lean = lean }) r) }
-                { recorder::record_unseeded(rt, alloc, start, lean, gate) },
-            )
-        }
+        Some(options) => keep_unseeded(rt, alloc, options, names, store, out, err, gate, &schedule),
         None => perform(alloc, command, names, store, input, out, err),
     }
 }
@@ -369,15 +413,19 @@ fn obey<S: Store, I: Source<O>, O: Sink, X: Sink, G: Gate, R: Threads + Wait + S
     out: &mut O,
     err: &mut X,
     gate: &G,
+    schedule: Option<Schedule>,
 ) -> Status
-    ensures { Does (command_in words.now) (code result) S.note (reading I.source I.note input.old input.new)
+    ensures does { Does (command_in words.now) (code result) S.note (reading I.source I.note input.old input.new)
         (call S.stored O.stream X.stream store.old out.old err.old store.new out.new err.new) }
+    ensures given { LeavesScheduled schedule.entry (command_in words.now) (code result) (S.stored store.old).files (S.stored store.new).files }
 {
     match read_words(alloc, words) {
         Err(error) => refuse(alloc, &Names::none(), &words_refusal(error), err),
         Ok(command) => {
             let names = names_of(&command);
-            let ending = attempt(rt, alloc, &command, &names, store, input, out, err, gate);
+            let ending = attempt(
+                rt, alloc, &command, &names, store, input, out, err, gate, schedule,
+            );
             close(alloc, &names, ending, err)
         }
     }
@@ -409,8 +457,8 @@ fn obey<S: Store, I: Source<O>, O: Sink, X: Sink, G: Gate, R: Threads + Wait + S
 /// - it writes the program's stream 1 to out, and its stream 2 and one line to err.
 ///
 /// With a seed its number chooses the turns, on the caller's thread. One hart alone needs no seed, since
-/// its turns have one order. Without a seed several harts take the turns of the gate's schedule, on the
-/// caller's thread too. If the gate has none, each hart runs in a thread of its own, and the gate is called
+/// its turns have one order. Without a seed a recording takes the turns of `schedule`, on the caller's
+/// thread too. If there is none, each of several harts runs in a thread of its own, and the gate is called
 /// around its turns. Which turns come then isn't determined. They are legal and finished, and the list
 /// under BOOK is theirs. A lean recording keeps no list and saves nothing under BOOK, which then may be
 /// LOG's name.
@@ -446,6 +494,7 @@ pub fn run<S: Store, I: Source<O>, O: Sink, X: Sink, G: Gate, R: Threads + Wait 
     out: &mut O,
     err: &mut X,
     gate: &G,
+    schedule: Option<Schedule>,
 ) -> u8
     // If the store's files are known, they and the words determine the status, the texts and the files
     // that are left. A recording without a seed has one more input: its list of turns. By any store the
@@ -496,6 +545,11 @@ pub fn run<S: Store, I: Source<O>, O: Sink, X: Sink, G: Gate, R: Threads + Wait 
     // BOOK as it was.
     ensures recorded { LeavesRun (command_in words.now) result (S.stored store.old).files (S.stored store.new).files }
 
+    // Without a seed that list is the schedule's, if one was given, also if there is one hart. A number's is what it
+    // draws; a list is followed as far as it is legal, and then seed 0 chooses. So one that is legal and finished is
+    // BOOK's own. Of a lean recording it is the list whose run's file LOG is.
+    ensures scheduled { LeavesScheduled schedule.entry (command_in words.now) result (S.stored store.old).files (S.stored store.new).files }
+
     // Only `debug` reads commands, and only once its files are loaded and tested. What they make it tell is
     // told: the text of its session, up to a read that failed, a line or commands that are too long, or a
     // refusal of the replay. However it ends, each byte was read once, and none after the first `quit`. At
@@ -529,5 +583,5 @@ pub fn run<S: Store, I: Source<O>, O: Sink, X: Sink, G: Gate, R: Threads + Wait 
     one_answer();
     each_can_be_done();
     audits_agree();
-    obey(rt, alloc, words, store, input, out, err, gate).code()
+    obey(rt, alloc, words, store, input, out, err, gate, schedule).code()
 }

@@ -3,14 +3,14 @@ ghost use Rattle.std.specs.Prelude.{◌≡◌, ◌++◌, [], ℕ, List, IfOk, So
 ghost use Rattle.std.specs.List.{list_any};
 ghost use Rattle.bus_core.specs.Bus.{began_of};
 ghost use Rattle.whole_runs.specs.Closed.{IsClosed};
-ghost use Rattle.bugnet.specs.Recordings.{count_of, instructions_of, is_fault, is_limit, end_by};
+ghost use Rattle.bugnet.specs.Recordings.{count_of, instructions_of, is_fault, is_limit, end_by, AreScheduled};
 ghost use Rattle.log_commands.specs.RunEnds.{end_word};
 ghost use Rattle.log_commands.specs.Texts.{summary_text};
 ghost use Rattle.bugnet.specs.ClosedRuns.{IsRecordingOf, IsRecordingBy};
 
 use bn_base::EndMark;
 use bn_base::end_mark::{FAULT, LIMIT};
-use bn_outside::{Book, Gate, LeanBook};
+use bn_outside::{Book, Gate, LeanBook, Schedule};
 use bus_core::Closed;
 use log_commands::answer::{RunEnd, RunToTell};
 use log_commands::texts::{RunCounts, push_summary};
@@ -132,9 +132,9 @@ fn recording_of<B: Book>(
     })
 }
 
-// A run by the gate's schedule, or else of harts in threads of their own, with the list of its turns. The turns of one
-// hart have one order alone, so it needs neither.
-fn run_unseeded<G: Gate, R: Threads + Wait + Sync>(
+// A run of harts in threads of their own, with the list of its turns. The turns of one hart have one order alone, so it
+// needs no thread.
+fn run_free<G: Gate, R: Threads + Wait + Sync>(
     rt: &R,
     alloc: Global,
     start: &Start,
@@ -145,15 +145,11 @@ fn run_unseeded<G: Gate, R: Threads + Wait + Sync>(
     if start.settings.harts() == 1 {
         return run_listed(alloc, start, LeanBook, 0);
     }
-    match gate.schedule() {
-        Some(schedule) => run_scheduled(alloc, start, LeanBook, schedule),
-        None => run_threads_listed(rt, alloc, start, LeanBook, gate),
-    }
+    run_threads_listed(rt, alloc, start, LeanBook, gate)
 }
 
-// A run by the gate's schedule, or else of harts in threads of their own, without its list. In threads
-// nothing is kept of a turn.
-fn run_unseeded_lean<G: Gate, R: Threads + Wait + Sync>(
+// The same without its list. In threads nothing is kept of a turn.
+fn run_free_lean<G: Gate, R: Threads + Wait + Sync>(
     rt: &R,
     alloc: Global,
     start: &Start,
@@ -164,9 +160,39 @@ fn run_unseeded_lean<G: Gate, R: Threads + Wait + Sync>(
     if start.settings.harts() == 1 {
         return run_seeded(alloc, start, LeanBook, 0);
     }
-    match gate.schedule() {
+    run_threads_lean(rt, alloc, start, LeanBook, gate)
+}
+
+// A run by the schedule, if there is one, with the list of its turns.
+fn run_unseeded<G: Gate, R: Threads + Wait + Sync>(
+    rt: &R,
+    alloc: Global,
+    start: &Start,
+    gate: &G,
+    schedule: Option<Schedule>,
+) -> Result<Listed<LeanBook>, AllocError>
+    ensures run { IfOk result (λ run. IsClosed false (began_of start.now) run.list.items run.closed []) }
+    ensures given { IfOk result (λ run. AreScheduled schedule.entry (began_of start.now) run.list.items) }
+{
+    match schedule {
+        Some(schedule) => run_scheduled(alloc, start, LeanBook, schedule),
+        None => run_free(rt, alloc, start, gate),
+    }
+}
+
+// The same without its list.
+fn run_unseeded_lean<G: Gate, R: Threads + Wait + Sync>(
+    rt: &R,
+    alloc: Global,
+    start: &Start,
+    gate: &G,
+    schedule: Option<Schedule>,
+) -> Result<Closed<LeanBook>, AllocError>
+    ensures { IfOk result (λ closed. (list : List ℕ) × IsClosed false (began_of start.now) list closed [] × AreScheduled schedule.entry (began_of start.now) list) }
+{
+    match schedule {
         Some(schedule) => Ok(run_scheduled(alloc, start, LeanBook, schedule)?.closed),
-        None => run_threads_lean(rt, alloc, start, LeanBook, gate),
+        None => run_free_lean(rt, alloc, start, gate),
     }
 }
 
@@ -178,7 +204,7 @@ pub fn record_by_seed(
     seed: u64,
     lean: bool,
 ) -> Result<RunToTell, AllocError>
-    ensures { IfOk result (λ r. IsRecordingBy start.now (record { seed = Some seed; lean = lean }) r) }
+    ensures { IfOk result (λ r. IsRecordingBy start.now (record { seed = Some seed; lean = lean; schedule = None }) r) }
 {
     if lean {
         let closed = run_seeded(alloc, start, LeanBook, seed)?;
@@ -189,22 +215,23 @@ pub fn record_by_seed(
     }
 }
 
-/// The recording of a run whose turns no number chooses: the gate has their schedule, or several harts are in threads of
-/// their own. As much of a turn is kept. The only error is running out of memory.
+/// The recording of a run without a seed: by a schedule, or else several harts are in threads of their own. As much of a
+/// turn is kept. The only error is running out of memory.
 pub fn record_unseeded<G: Gate, R: Threads + Wait + Sync>(
     rt: &R,
     alloc: Global,
     start: &Start,
     lean: bool,
     gate: &G,
+    schedule: Option<Schedule>,
 ) -> Result<RunToTell, AllocError>
-    ensures { IfOk result (λ r. IsRecordingBy start.now (record { seed = None; lean = lean }) r) }
+    ensures { IfOk result (λ r. IsRecordingBy start.now (record { seed = None; lean = lean; schedule = schedule.entry }) r) }
 {
     if lean {
-        let closed = run_unseeded_lean(rt, alloc, start, gate)?;
+        let closed = run_unseeded_lean(rt, alloc, start, gate, schedule)?;
         recording_of(alloc, start, closed, None)
     } else {
-        let whole = run_unseeded(rt, alloc, start, gate)?;
+        let whole = run_unseeded(rt, alloc, start, gate, schedule)?;
         recording_of(alloc, start, whole.closed, Some(whole.list))
     }
 }

@@ -9,6 +9,7 @@
 mod schedule;
 
 use crate::schedule::{tell_out_of_memory, turns_of};
+use bn_outside::OpenGate;
 use host_outside::{FileStore, ReaderSource, Writing, words_of};
 use std::process::ExitCode;
 
@@ -32,7 +33,8 @@ fn main(rt: HostRuntime) -> ExitCode {
         &mut input,
         &mut out,
         &mut err,
-        &turns,
+        &OpenGate,
+        turns.schedule(),
     );
     ExitCode::from(status)
 }

@@ -2,10 +2,10 @@
 ghost use Rattle.std.specs.Prelude.{◌≡◌, IfOk, OnSome};
 ghost use Rattle.bugnet.specs.Command.Record.{is_clash};
 ghost use Rattle.command_words.specs.Words.{command_in, seen_recording};
-ghost use Rattle.bugnet_main.specs.Asked.{AskForTurns, TakesTurns, IsUnasked};
+ghost use Rattle.bugnet_main.specs.Asked.{AskForTurns, TakesTurns, IsFor, IsUnasked};
 
-use bn_base::{HartId, Settings};
-use bn_outside::{Gate, Manner, Schedule, Sink, Store, send_all};
+use bn_base::Settings;
+use bn_outside::{Manner, Schedule, Sink, Store, send_all};
 use bugnet::Status;
 use command_words::{Command, RecordOptions, WordsError, read_words};
 use log_commands::inputs::fetch;
@@ -19,7 +19,7 @@ use std::env::{Env, VarError};
 /// Which turns a recording without a seed takes.
 #[derive(Drop)]
 pub enum Turns {
-    /// Those of harts in threads, which no gate holds.
+    /// Those of harts in threads.
     OfThreads,
     /// Those that a number draws.
     Drawn { manner: Manner, number: u64 },
@@ -27,8 +27,11 @@ pub enum Turns {
     Listed(Vec<u8>),
 }
 
-impl Gate for Turns {
-    fn schedule(&self) -> Option<Schedule<'_>> {
+impl Turns {
+    /// The schedule that the recording is given; none for threads.
+    pub fn schedule(&self) -> Option<Schedule<'_>>
+        ensures { IsFor self.now result }
+    {
         match self {
             Turns::OfThreads => None,
             Turns::Drawn { manner, number } => Some(Schedule::Drawn {
@@ -38,10 +41,6 @@ impl Gate for Turns {
             Turns::Listed(list) => Some(Schedule::Listed(list)),
         }
     }
-
-    fn pass(&self, _hart: HartId) {}
-
-    fn served(&self, _hart: HartId) {}
 }
 
 /// Tells on err that memory ran out.
@@ -145,7 +144,7 @@ fn tell_refused<X: Sink>(err: &mut X) -> Status {
     Status::WordsRefused
 }
 
-// The turns that a text names, for so many harts. Those of one hart have one order alone, so it needs no list.
+// The turns that a text names, for so many harts. Those of one hart have one order alone, so it needs no schedule.
 fn named<S: Store, X: Sink>(
     alloc: Global,
     text: &str,
@@ -156,15 +155,15 @@ fn named<S: Store, X: Sink>(
     ensures files { (S.stored store.new).files ≡ (S.stored store.old).files }
     ensures saves { (S.stored store.new).saves ≡ (S.stored store.old).saves }
 {
-    match said_by(text) {
-        Some(Said::Drawn { manner, number }) => Ok(Turns::Drawn { manner, number }),
-        Some(Said::Book(name)) => {
-            if harts == 1 {
-                return Ok(Turns::OfThreads);
-            }
-            listed(alloc, name, store, err)
-        }
-        None => Err(tell_refused(err)),
+    let Some(said) = said_by(text) else {
+        return Err(tell_refused(err));
+    };
+    if harts == 1 {
+        return Ok(Turns::OfThreads);
+    }
+    match said {
+        Said::Drawn { manner, number } => Ok(Turns::Drawn { manner, number }),
+        Said::Book(name) => listed(alloc, name, store, err),
     }
 }
 

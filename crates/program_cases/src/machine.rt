@@ -96,6 +96,7 @@ impl Surroundings {
             &mut self.out,
             &mut self.err,
             gate,
+            None,
         );
         self.left = if some { Some(input.left().len()) } else { None };
         status

@@ -19,7 +19,7 @@ mod scheduled;
 mod turn_port;
 mod turns;
 
-pub use examples::{a_sleeper_is_drawn, bursts_are_drawn};
+pub use examples::{a_list_is_followed, a_sleeper_is_drawn, bursts_are_drawn};
 pub use hart_place::HartPlace;
 pub use laws::{
     rows_name_their_harts, seeded_lists_end, whole_lists_are_followed, whole_runs_have_no_error,

@@ -11,8 +11,7 @@ use Rattle.elf_loader.specs.Loaded.{image_of}
 use Rattle.elf_loader.specs.declared.error.ElfError.{ElfError}
 use Rattle.log_commands.specs.Names.{FileNames}
 use Rattle.log_commands.specs.Told.{Told, refused}
-use Rattle.bugnet.specs.Recordings.{IsRun}
-use Rattle.bugnet.specs.declared.manner.Manner.{Manner}
+use Rattle.bugnet.specs.Recordings.{Manner, IsRun}
 use Rattle.log_commands.specs.declared.names.Role.TheVariants as role
 use Rattle.log_commands.specs.declared.refusal.Refusal.TheVariants.{OutOfRange, SameName, ElfRefused}
 use Rattle.log_commands.specs.Commands.{IsByInput, WithFile}

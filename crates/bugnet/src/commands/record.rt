@@ -1,11 +1,12 @@
 //! The command `record`: settings and names are tested, the program and its input loaded, and the run recorded.
-ghost use Rattle.std.specs.Prelude.{◌≡◌, false, [], Some, None, IfOk, IfErr};
+ghost use Rattle.std.specs.Prelude.{◌≡◌, false, [], Option, Some, None, IfOk, IfErr};
 ghost use Rattle.sha2.specs.Sha256.{sha256};
 ghost use Rattle.bn_base.specs.Ranges.{first_bad};
 ghost use Rattle.command_words.specs.Words.{RecordLine, seen_recording};
 ghost use Rattle.elf_loader.specs.Loaded.{image_of};
 ghost use Rattle.le_numbers.specs.Numbers.{AreBytes};
-ghost use Rattle.bugnet.specs.Answers.{names_in, manner_of, setting_refusal};
+ghost use Rattle.bn_outside.specs.declared.schedule.Schedule.{Schedule};
+ghost use Rattle.bugnet.specs.Answers.{names_in, manner_by, manner_of, setting_refusal, IsGiven};
 ghost use Rattle.bugnet.specs.ClosedRuns.{MakesRecordings};
 ghost use Rattle.bugnet.specs.Command.Record.{is_clash, IsByProgram, IsByNames};
 ghost use Rattle.bugnet.specs.LineAnswers.{AnswersLine};
@@ -14,9 +15,8 @@ ghost use Rattle.bugnet.specs.Saves.{HoldsBytes};
 ghost use Rattle.bugnet.specs.Starts.{LoadsStart};
 ghost use Rattle.log_commands.specs.Commands.{IsByInput};
 ghost use Rattle.log_commands.specs.FileCalls.{elf_roles, input_roles, record_roles};
-ghost use Rattle.log_commands.specs.Outside.{WithFiles};
+ghost use Rattle.log_commands.specs.Outside.{WithFiles, told_of};
 
-use crate::manner::Manner;
 use bn_base::{RawSettings, Settings};
 use bn_outside::Store;
 use command_words::RecordOptions;
@@ -26,16 +26,6 @@ use log_commands::names::{Names, Role};
 use log_commands::refusal::Refusal;
 use run_model::Start;
 use std::alloc::{AllocError, Global};
-
-// How a recording is made.
-fn manner_of(options: &RecordOptions) -> Manner
-    ensures { result ≡ manner_of (seen_recording options.now) }
-{
-    Manner {
-        seed: options.seed,
-        lean: options.lean,
-    }
-}
 
 // Loads the input, if there is one, for a start whose own input is empty.
 fn load_input<S: Store>(
@@ -104,14 +94,14 @@ fn clashes(lean: bool, log: &str, book: &str) -> bool
 }
 
 // The settings, if they are in range, and LOG and BOOK are two names, or BOOK isn't saved.
-fn tested(names: &Names, settings: &RawSettings, how: &Manner) -> Result<Settings, Refusal>
-    ensures ok { IfOk result (λ s. (s ≡ settings.now) × (setting_refusal (first_bad settings.now) (is_clash how.now.lean names.now.log names.now.book) ≡ None)) }
-    ensures refused { IfErr result (λ r. setting_refusal (first_bad settings.now) (is_clash how.now.lean names.now.log names.now.book) ≡ Some r) }
+fn tested(names: &Names, settings: &RawSettings, lean: bool) -> Result<Settings, Refusal>
+    ensures ok { IfOk result (λ s. (s ≡ settings.now) × (setting_refusal (first_bad settings.now) (is_clash lean names.now.log names.now.book) ≡ None)) }
+    ensures refused { IfErr result (λ r. setting_refusal (first_bad settings.now) (is_clash lean names.now.log names.now.book) ≡ Some r) }
 {
     match Settings::checked(settings) {
         Err(bad) => Err(Refusal::OutOfRange(bad)),
         Ok(settings) => {
-            if clashes(how.lean, names.log, names.book) {
+            if clashes(lean, names.log, names.book) {
                 Err(Refusal::SameName)
             } else {
                 Ok(settings)
@@ -133,9 +123,10 @@ pub fn evaluate<S: Store, F: FnOnce(&Start) -> Result<RunToTell, AllocError>>(
     requires made { MakesRecordings F.FnOnce make (manner_of (seen_recording options.now)) }
     ensures bytes { IfOk result (λ _. WithFiles (S.stored store.old).files (λ files. HoldsBytes (files names.now.elf))) }
     ensures answers { AnswersLine (RecordLine (seen_recording options.now)) names.now S.note (S.stored store.old) (S.stored store.new) result }
+    ensures given { (schedule : Option Schedule) → MakesRecordings F.FnOnce make (manner_by (seen_recording options.now) schedule)
+        → WithFiles (S.stored store.old).files (λ files. IfOk result (λ answer. IsGiven (seen_recording options.now) schedule files (told_of names.now answer))) }
 {
-    let how = manner_of(options);
-    let settings = tested(names, &options.settings, &how)?;
+    let settings = tested(names, &options.settings, options.lean)?;
     let start = load_files(alloc, names, &settings, options.input.is_some(), store)?;
     let run = make(&start)?;
     Ok(Answer::Recorded(run))

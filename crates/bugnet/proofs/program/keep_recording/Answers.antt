@@ -2,10 +2,14 @@ use Rattle.bugnet.proofs.Common.{Option, subst, sym, Files, RecordLine, seen_rec
 use Rattle.bugnet.proofs.Leaves.{call-leaves}
 use Rattle.bugnet.proofs.RecordLoads.{record-bytes}
 use Rattle.bugnet.proofs.Replied.{line-refused, line-acted}
+use Rattle.bugnet.proofs.Scheduled.{act-scheduled}
+use Rattle.std.specs.Prelude.{IfOk, Some}
+use Rattle.bugnet.specs.Saves.{LeavesScheduled}
+use Rattle.log_commands.specs.Statuses.{code}
 use Rattle.bugnet.proofs.program.keep_recording.Goals as goal
 
-pub returns-in_err-answer : goal.returns-in_err-answer
-returns-in_err-answer g c =
+pub returns-in_err-answer-clause-does : goal.returns-in_err-answer-clause-does
+returns-in_err-answer-clause-does g c =
     let line = RecordLine (seen_recording c.args.options.now) in
     let names = c.args.names.now in
     let old = g.S.Store.stored c.args.store.now in
@@ -15,8 +19,8 @@ returns-in_err-answer g c =
     passed-on (RepliesTo line names g.S.Store.note (between (world old out err) (world new out err))) _ c.from_residual.result c.from_residual.ensures.1
     (line-refused line names g.S.Store.note old new out err _ c.requires.named c.in_err-answer.ensures.answers)
 
-pub returns : goal.returns
-returns g c =
+pub returns-clause-does : goal.returns-clause-does
+returns-clause-does g c =
     let r = c.args.options.now in
     let line = RecordLine (seen_recording r) in
     let names = c.args.names.now in
@@ -30,3 +34,18 @@ returns g c =
     call-leaves c.seeds_are_whole.ensures c.files_keep_to_their_size.ensures c.logs_are_contents.ensures line status k
     (subst (λ (known : Option Files). HasElf line known) (sym same) (record-bytes old.files names r c.requires.named c.in_ok-answer.ensures.bytes)) told)
     c.in_ok-answer.ensures.answers c.act.ensures
+
+pub returns-in_err-answer-clause-given : goal.returns-in_err-answer-clause-given
+returns-in_err-answer-clause-given g c = λ o made.
+    passed-on (λ result. IfOk result (λ status. LeavesScheduled o (Some (RecordLine (seen_recording c.args.options.now))) (code status) (g.S.Store.stored c.args.store.now).files (g.S.Store.stored c.evaluate.new.store).files)) _
+    c.from_residual.result c.from_residual.ensures.1 tt
+
+pub returns-clause-given : goal.returns-clause-given
+returns-clause-given g c = λ o made.
+    let r = c.args.options.now in
+    let names = c.args.names.now in
+    let old = g.S.Store.stored c.args.store.now in
+    let mid = g.S.Store.stored c.evaluate.new.store in
+    let new = world (g.S.Store.stored c.act.new.store) (g.O.Sink.stream c.act.new.out) (g.X.Sink.stream c.act.new.err) in
+    act-scheduled c.seeds_are_whole.ensures c.files_keep_to_their_size.ensures c.logs_are_contents.ensures (seen_recording r) o names g.S.Store.note old mid (g.O.Sink.stream c.args.out.now) (g.X.Sink.stream c.args.err.now) new
+    c.in_ok-answer.answer c.act.result c.requires.named (record-bytes old.files names r c.requires.named c.in_ok-answer.ensures.bytes) c.in_ok-answer.ensures.answers (c.in_ok-answer.ensures.given o made) c.act.ensures

@@ -8,64 +8,67 @@ use Rattle.bugnet.proofs.Suffices.{prints-run}
 use Rattle.bugnet.proofs.program.run.Goals as goal
 
 pub returns-clause-told : goal.returns-clause-told
-returns-clause-told g c = rw c.code.ensures c.obey.ensures.replies.obeys.told
+returns-clause-told g c = rw c.code.ensures c.obey.ensures.does.replies.obeys.told
 
 pub returns-clause-words : goal.returns-clause-words
-returns-clause-words g c = rw c.code.ensures c.obey.ensures.replies.obeys.words
+returns-clause-words g c = rw c.code.ensures c.obey.ensures.does.replies.obeys.words
 
 pub returns-clause-still : goal.returns-clause-still
-returns-clause-still g c = c.obey.ensures.replies.still
+returns-clause-still g c = c.obey.ensures.does.replies.still
 
 pub returns-clause-saves : goal.returns-clause-saves
-returns-clause-saves g c = rw c.code.ensures c.obey.ensures.replies.saves
+returns-clause-saves g c = rw c.code.ensures c.obey.ensures.does.replies.saves
 
 pub returns-clause-calls : goal.returns-clause-calls
-returns-clause-calls g c = rw c.code.ensures c.obey.ensures.replies.calls
+returns-clause-calls g c = rw c.code.ensures c.obey.ensures.does.replies.calls
 
 pub returns-clause-demo : goal.returns-clause-demo
-returns-clause-demo g c = rw c.code.ensures c.obey.ensures.replies.demo
+returns-clause-demo g c = rw c.code.ensures c.obey.ensures.does.replies.demo
 
 pub returns-clause-recorded : goal.returns-clause-recorded
-returns-clause-recorded g c = rw c.code.ensures c.obey.ensures.replies.recorded
+returns-clause-recorded g c = rw c.code.ensures c.obey.ensures.does.replies.recorded
+
+pub returns-clause-scheduled : goal.returns-clause-scheduled
+returns-clause-scheduled g c = rw c.code.ensures c.obey.ensures.given
 
 pub returns-clause-session : goal.returns-clause-session
-returns-clause-session g c = rw c.code.ensures c.obey.ensures.session
+returns-clause-session g c = rw c.code.ensures c.obey.ensures.does.session
 
 pub returns-clause-first : goal.returns-clause-first
-returns-clause-first g c = rw c.code.ensures c.obey.ensures.first
+returns-clause-first g c = rw c.code.ensures c.obey.ensures.does.first
 
 pub returns-clause-begins : goal.returns-clause-begins
-returns-clause-begins g c = c.obey.ensures.begins
+returns-clause-begins g c = c.obey.ensures.does.begins
 
 pub returns-clause-unread : goal.returns-clause-unread
-returns-clause-unread g c = c.obey.ensures.unread
+returns-clause-unread g c = c.obey.ensures.does.unread
 
 pub returns-clause-failed : goal.returns-clause-failed
-returns-clause-failed g c = rw c.code.ensures c.obey.ensures.replies.obeys.counted.failed
+returns-clause-failed g c = rw c.code.ensures c.obey.ensures.does.replies.obeys.counted.failed
 
 pub returns-clause-missing : goal.returns-clause-missing
-returns-clause-missing g c = rw c.code.ensures c.obey.ensures.replies.obeys.counted.missing
+returns-clause-missing g c = rw c.code.ensures c.obey.ensures.does.replies.obeys.counted.missing
 
 pub returns-clause-long : goal.returns-clause-long
-returns-clause-long g c = rw c.code.ensures c.obey.ensures.replies.obeys.counted.long
+returns-clause-long g c = rw c.code.ensures c.obey.ensures.does.replies.obeys.counted.long
 
 pub returns-clause-read : goal.returns-clause-read
-returns-clause-read g c = rw c.code.ensures c.obey.ensures.read
+returns-clause-read g c = rw c.code.ensures c.obey.ensures.does.read
 
 pub returns-clause-write : goal.returns-clause-write
-returns-clause-write g c = rw c.code.ensures c.obey.ensures.replies.obeys.counted.write
+returns-clause-write g c = rw c.code.ensures c.obey.ensures.does.replies.obeys.counted.write
 
 pub returns-clause-later : goal.returns-clause-later
-returns-clause-later g c = c.obey.ensures.replies.obeys.counted.counts
+returns-clause-later g c = c.obey.ensures.does.replies.obeys.counted.counts
 
 pub returns-clause-out_later : goal.returns-clause-out_later
-returns-clause-out_later g c = c.obey.ensures.replies.obeys.counted.later.out
+returns-clause-out_later g c = c.obey.ensures.does.replies.obeys.counted.later.out
 
 pub returns-clause-err_later : goal.returns-clause-err_later
-returns-clause-err_later g c = c.obey.ensures.replies.obeys.counted.later.err
+returns-clause-err_later g c = c.obey.ensures.does.replies.obeys.counted.later.err
 
 pub returns-clause-read_later : goal.returns-clause-read_later
-returns-clause-read_later g c = c.obey.ensures.read_later
+returns-clause-read_later g c = c.obey.ensures.does.read_later
 
 pub returns-clause-headline : goal.returns-clause-headline
 returns-clause-headline g c =
