@@ -4,6 +4,7 @@ A chunk holds whole rows and nothing else. Each begins with a newline, and nothi
 from __future__ import annotations
 
 import re
+from itertools import islice
 from typing import Iterable, Iterator, Pattern
 
 from ..call.program import Output
@@ -63,9 +64,10 @@ def last_rows(log: Log, elf_name: str, most: int) -> dict[int, bytes]:
 
 def parted(text: bytes, rows: int) -> tuple[bytes, bytes]:
     """The first so many rows of a chunk, and the rest."""
-    ends = [found.start() for found in re.finditer(b"\n", text)] + [len(text)]
-    at = ends[min(rows, len(ends) - 1)]
-    return text[:at], text[at:]
+    if rows >= text.count(b"\n"):
+        return text, b""
+    *_, last = islice(re.finditer(b"\n", text), rows + 1)
+    return text[:last.start()], text[last.start():]
 
 
 def count_of(text: bytes) -> int:

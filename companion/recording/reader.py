@@ -140,7 +140,7 @@ class Reader:
         rows.hart.frombytes(harts)
         rows.code.extend(codes)
         cuts = map(RESULTS.__getitem__, shapes)
-        rows.values.extend(numbers(line[cut] if cut else ZERO for line, cut in zip(lines, cuts)))
+        rows.values.extend(numbers([line[cut] if cut else ZERO for line, cut in zip(lines, cuts)]))
         rows.flags.frombytes(shapes.translate(ACCESSED))
         self.writers.word.frombytes(bytes(self.writers.word.itemsize * len(codes)))
         self.link(turns, codes, alone)

@@ -123,29 +123,29 @@ class Ranking:
 
     def stores(self, history: History) -> list[Suspect]:
         """A suspect for each two source lines of a history's loads and stores, with its signs."""
-        rows, writers, places, far = self.rows, self.writers, self.places, history.far
-        groups: dict[tuple[str, str, bool], Suspect] = {}
-        closing = self.closing_pair()
-        pairs = dict(far)
+        rows, writers, places = self.rows, self.writers, self.places
+        closing, pairs = self.closing_pair(), dict(history.far)
         if closing.store:
             pairs[closing] = min(CLOSE, pairs.get(closing, CLOSE))
-        places.fetch({rows.code_of(n).pc for key in pairs for n in key} |
+        alike: dict[tuple[int, int, bool], list[Pair]] = {}         # by their instructions
+        for pair in pairs:
+            key = rows.code[pair.load], rows.code[pair.store], rows.hart[pair.store] != rows.hart[pair.load]
+            alike.setdefault(key, []).append(pair)
+        places.fetch({rows.codes[code].pc for key in alike for code in key[:2]} |
                      {rows.code_of(writers.word[store]).pc for _, store in pairs if writers.word[store]})
-        for (load, store), price in pairs.items():
-            key = (places.line(rows.code_of(load).pc), places.line(rows.code_of(store).pc),
-                   rows.hart[store] != rows.hart[load])
-            item = groups.get(key)
-            pair = Pair(load, store)
-            nearer = item is None or ((item.load, item.store) != closing and (price, -load) < (item.cost, -item.load))
-            if nearer or pair == closing:
-                groups[key] = Suspect("store", load, store, price)
-                groups[key].rows = item.rows if item else 0
-            groups[key].rows += 1
-        for item in groups.values():
+        lines: dict[tuple[str, str, bool], list[Pair]] = {}
+        for (load, store, is_other), some in alike.items():
+            lines.setdefault((places.line(rows.codes[load].pc), places.line(rows.codes[store].pc), is_other), []).extend(some)
+        groups = []
+        for some in lines.values():
+            load, store = closing if closing in some else min(some, key=lambda pair: (pairs[pair], -pair.load))
+            groups.append(Suspect("store", load, store, pairs[Pair(load, store)]))
+            groups[-1].rows = len(some)
+        for item in groups:
             self.judge(item, history)
             if (item.load, item.store) == closing:
                 item.sign(CLOSES, "the latest store that the loop or the calls follow: it may have closed a circle")
-        return list(groups.values())
+        return groups
 
     def closing_pair(self) -> Pair:
         """What a loop or a recursion follows is often a circle: the latest far store in it closed it. With its load."""
