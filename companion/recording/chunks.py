@@ -7,7 +7,9 @@ import re
 from itertools import islice
 from typing import Iterable, Iterator, Pattern
 
+from ..call import streams
 from ..call.program import Output
+from ..call.text import number
 from .log import Log, is_fault
 
 CHUNK = 1 << 18             # bytes of a chunk, about
@@ -18,9 +20,10 @@ DIGITS = "0123456789abcdef"
 
 
 def chunks(log_name: str, elf_name: str, command: str = "joint", *words: str) -> Iterator[bytes]:
-    """All rows that a command prints. It ends with the iterator, if that is dropped before."""
-    with Output(command, log_name, elf_name, *words) as out:
-        rest, behind = b"\n", b""
+    """All rows that a command prints, and how many they are at a terminal. It ends with the iterator, if that is dropped
+    before."""
+    with Output(command, log_name, elf_name, *words) as out, streams.Progress() as progress:
+        rest, behind, passed = b"\n", b"", 0
         while True:
             read = out.out.read(CHUNK)
             text = rest + read
@@ -32,6 +35,8 @@ def chunks(log_name: str, elf_name: str, command: str = "joint", *words: str) ->
                 if behind:              # they come behind all rows
                     read = b""
             if text:
+                passed += text.count(b"\n") if progress.is_shown else 0
+                progress.tell(f"{number(passed)} rows are read")
                 yield text
             if not read:
                 break

@@ -244,7 +244,9 @@ def main(words: list[str]) -> int:
     byte = asked_byte(given["--output"]) if "--output" in given else None
     with closing(analysed(log_name, elf_name, given.get("--names", ""), given.get("--row", ""), rows, byte,
                           source_folders(given))) as crash:
-        view = View(crash, asked_story(given, crash.log, elf_name))
+        with streams.working("the page is made"):
+            view = View(crash, asked_story(given, crash.log, elf_name))
+            text = page_text(view.title(), view.data())
         # The page says that it is UTF-8, whatever the terminal's encoding is.
-        streams.put_bytes(page_text(view.title(), view.data()).encode("utf-8", "backslashreplace"))
+        streams.put_bytes(text.encode("utf-8", "backslashreplace"))
     return 0
