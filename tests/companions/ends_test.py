@@ -9,9 +9,7 @@ import subprocess
 import sys
 import time
 
-sys.path.insert(0, os.path.join(os.path.dirname(os.path.abspath(__file__)), "gdb"))
-
-import cases
+from gdb import cases
 from common import COMPANION, CRASHES, EXAMPLES, PROGRAM, companion
 
 HAND_OVER = os.path.join(EXAMPLES, "hand_over.elf")
