@@ -121,14 +121,21 @@ class Calls:
 
     def read(self, texts: Iterable[bytes]) -> None:
         for text in texts:
-            self.window.add(text)
-            base = self.window.begins[-1]
-            for at, address in self.arrivals(text):
-                self.arrive(text, at, base, address)
-            while self.window.surplus():
-                self.answer(self.window.surplus())
-                self.registers.forget(self.window.texts[0])
-                self.window.drop()
+            self.take(text)
+        self.finish()
+
+    def take(self, text: bytes) -> None:
+        """Reads a chunk."""
+        self.window.add(text)
+        base = self.window.begins[-1]
+        for at, address in self.arrivals(text):
+            self.arrive(text, at, base, address)
+        while self.window.surplus():
+            self.answer(self.window.surplus())
+            self.registers.forget(self.window.texts[0])
+            self.window.drop()
+
+    def finish(self) -> None:
         self.answer(self.window.end + 1)
 
     def arrivals(self, text: bytes) -> Iterator[tuple[int, int]]:
