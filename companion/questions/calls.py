@@ -73,6 +73,8 @@ class Where:
         if not told:
             raise CompanionError(f"--where: {clean(text)!r} is no condition as 'ARG==VALUE'", REFUSED)
         self.name, self.compare = told[1], COMPARE[told[2]]
+        if all(begin.inlined for begin in function.begins):
+            raise CompanionError(f"--where: {function.name} is inlined everywhere, so its calls have neither arguments nor a result", REFUSED)
         if self.name not in names:
             raise CompanionError(f"--where: {function.name} has no {clean(self.name)}; it has {', '.join(names)}", REFUSED)
         self.value = number_of(told[3])
