@@ -24,7 +24,7 @@ from ..why.facts import asked_byte
 from ..why.fault import fault_words
 from ..why.hang import hang_lines
 from ..why.origins import advice
-from ..why.report import ALONE, DID, STORED, output_lines, unread
+from ..why.report import ALONE, DID, NEW_OWNER, output_lines, unread
 from ..why.suspect import Suspect
 from .chain import Way, chain_boxes
 from .data import Page, PageEdge
@@ -129,8 +129,8 @@ class View:
     def suspect(self, item: Suspect) -> dict[str, Any]:
         """A suspect for the page: the guilty row, and the steps from it to the load that the history knows."""
         steps = [self.step(words, row) for words, row in item.extra]
-        if item.kind in STORED:
-            steps.append(self.step(STORED[item.kind], item.store))
+        if item.kind == "back":
+            steps.append(self.step(NEW_OWNER, item.store))
         has_load = item.kind not in ALONE
         if has_load:
             steps.append(self.step("loaded it in", item.load))

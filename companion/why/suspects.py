@@ -13,10 +13,10 @@ import math
 from typing import AbstractSet, Sequence
 
 from ..call.text import counted, number
-from ..recording.instruction import AMO, SP, STORE
+from ..recording.instruction import AMO, STORE
 from ..recording.log import At
 from ..recording.rows import LOADS
-from .branches import branch_suspects, exit_suspects
+from .branches import branch_suspects
 from .facts import Facts
 from .history import ADDRESS, History, Pair
 from .locks import circle, unlocked
@@ -34,7 +34,6 @@ FIRST_ONES, PLACE_ROWS = 3, 2000    # suspects whose stores' addresses are asked
 MOST_FOR_PLACE = 6          # what the store's own signs are worth to these at most
 GUARD, BEHIND_PLACE = 2, 3  # what the branch before such a store costs, and what all costs more than the store
 FOREIGN = 40                # what a suspect costs more of which no source is here
-SYMPTOM = 8                 # a stack that has grown into data is a consequence of its depth
 NEAR_STORE = 6              # what a near store is worth less
 MOST_LOOKED_AT = 60         # pairs of loads and stores whose rows are read
 SIZES = {1: "bytes", 2: "halves"}, {2: "half", 4: "word"}
@@ -49,14 +48,14 @@ class Ranking:
         loop or a recursion follows."""
         self.facts, self.trace, self.places = facts, facts.trace, facts.places
         self.rows, self.writers, _ = facts.trace
-        self.history, self.races, self.is_recursive, self.loop = history, races, bool(recursion), set(loop)
+        self.history, self.races, self.loop = history, races, set(loop)
         self.loads: dict[int, int] = {}         # a load's code: how many rows
         for pair, times in self.writers.pairs.items():
             self.loads[pair >> 32] = self.loads.get(pair >> 32, 0) + times
         stores = sorted(self.stores(history), key=rank)
-        memory = MemoryUse(facts, history)
+        memory = MemoryUse(facts)
         found = [suspect for item in stores[:MOST_LOOKED_AT] for suspect in memory.judge(item)]
-        found += memory.given_back_twice() + branch_suspects(facts, history) + exit_suspects(facts)
+        found += memory.given_back_twice() + branch_suspects(facts, history)
         found += unlocked(facts, history) + circle(facts) + failed_stores(facts, history) + unset(facts, history)
         found = self.own_first(stores + found + recursion)
         self.found = self.once(sorted(found + self.behind_places(found, memory), key=rank))
@@ -181,8 +180,6 @@ class Ranking:
         if stored.kind == STORE and loaded.kind != AMO and stored.width < loaded.width and not self.is_copied(load, history):
             item.misplaced = True
             item.sign(NARROW, f"stored as {SIZES[0][stored.width]}, loaded as a {SIZES[1][loaded.width]}")
-        if self.is_recursive and stored.rs1 == SP and loaded.rs1 != SP:
-            item.sign(-SYMPTOM, "the stack has grown into this data")
         if load in history.decided:
             item.why.append("it decided the way to here")
         self.judge_rarity(item)
