@@ -3,8 +3,8 @@
 
     bench/questions.py [ROUNDS..]
 
-Each number of rounds is a recording of bench/questions.c; 9000 are a million rows, and 727000 are 80 million. It needs
-riscv64-unknown-elf-gcc."""
+Each number of rounds is a recording of bench/questions.c; 9000 are a million rows, and 727000 are 80 million. For `compare`
+there are two with three harts, which have about as many rows together. It needs riscv64-unknown-elf-gcc."""
 import os
 import resource
 import subprocess
@@ -16,6 +16,7 @@ FLAGS = ("-march=rv32ima -mabi=ilp32 -mstrict-align -O2 -g -ffreestanding -nostd
          "-I examples/lib -T examples/lib/program.ld -Wl,--build-id=none examples/lib/start.S examples/lib/machine.c "
          "bench/questions.c").split()
 QUESTIONS = (("history", "total"), ("history", "device"), ("calls", "find"), ("find", "00000123"))
+FEWER = 6                   # so many times fewer rounds has each hart of two recordings of three
 
 
 def measured(words):
@@ -30,19 +31,27 @@ def measured(words):
     os.waitpid(child, 0)
 
 
+def recorded(folder, rounds, *options):
+    """The log and the ELF of a recording of so many rounds."""
+    elf, log = f"{folder}/program{rounds}.elf", f"{folder}/log{rounds}{''.join(options)}"
+    subprocess.run(["riscv64-unknown-elf-gcc", f"-DROUNDS={rounds}", "-o", elf, *FLAGS], check=True)
+    subprocess.run(["./zelkuma", "record", "--format", "2", "--log-size", "256M", *options, elf, log, f"{folder}/book"], check=False)
+    return log, elf
+
+
 def main(rounds):
     os.chdir(TOP)
     with tempfile.TemporaryDirectory() as folder:
         for number in rounds:
-            elf, log = f"{folder}/program.elf", f"{folder}/log"
-            subprocess.run(["riscv64-unknown-elf-gcc", f"-DROUNDS={number}", "-o", elf, *FLAGS], check=True)
-            subprocess.run(["./zelkuma", "record", "--format", "2", "--seed", "1", "--log-size", "256M", elf, log, f"{folder}/book"],
-                           check=False)
+            log, elf = recorded(folder, number, "--seed", "1")
             for word, name in QUESTIONS:
                 print(f"{number} rounds, {word} {name}: ", end="", flush=True)
                 measured(["./zelkuma", word, log, elf, name])
             print(f"{number} rounds, gdb --run up to its prompt: ", end="", flush=True)
             measured(["./zelkuma", "gdb", "--run", log, elf])
+            (good, elf), (bad, _) = (recorded(folder, int(number) // FEWER, "--harts", "3", "--seed", seed) for seed in "12")
+            print(f"{number} rounds, compare of two recordings with three harts: ", end="", flush=True)
+            measured(["./zelkuma", "compare", good, bad, elf])
 
 
 if __name__ == "__main__":

@@ -76,6 +76,7 @@ view --source DIR
 view --row HART:IC
 view --output N:BYTE
 view --rows N
+view --with-questions
 view --book BOOK
 view --input FILE
 gdb --run

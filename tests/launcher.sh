@@ -36,7 +36,7 @@ records() { # WORD..
 
 what="the script as a text"
 lines=$(cat "$top/zelkuma" "$top"/tools/launcher/* | wc -l)
-[ "$lines" -le 444 ] || fails "it has $lines lines, and may have 444"
+[ "$lines" -le 445 ] || fails "it has $lines lines, and may have 445"
 
 what="numbers of options"
 runs 11 "$zelkuma" record --seed 0x10 --limit 2K --log-size=0x10000 --memory 1M ELF LOG BOOK

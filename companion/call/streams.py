@@ -7,7 +7,7 @@ import os
 import signal
 import sys
 import time
-from typing import Any, Iterator
+from typing import Any, ClassVar, Iterator, Optional
 
 from .errors import UNWRITABLE, CompanionError
 
@@ -34,6 +34,8 @@ def put(text: str) -> None:
 
 
 def put_bytes(data: bytes) -> None:
+    if Progress.latest:
+        Progress.latest.clear()
     try:
         sys.stdout.buffer.write(data)
         sys.stdout.buffer.flush()
@@ -76,16 +78,23 @@ def working(text: str) -> Iterator[None]:
 
 
 class Progress:
-    """One line on a terminal, written over and over; elsewhere nothing."""
+    """One line on a terminal, written over and over; elsewhere nothing. It goes before anything is printed."""
+    latest: ClassVar[Optional[Progress]] = None         # that drew
 
     def __init__(self) -> None:
         self.is_shown, self.drawn = sys.stderr.isatty(), 0.0
+
+    def __enter__(self) -> Progress:
+        return self
+
+    def __exit__(self, *_: object) -> None:
+        self.clear()
 
     def tell(self, text: str) -> None:
         """Draws a line, unless the one before was drawn just now."""
         now = time.monotonic()
         if self.is_shown and now - self.drawn >= PAUSE:
-            self.drawn = now
+            self.drawn, Progress.latest = now, self
             draw(text)
 
     def clear(self) -> None:

@@ -179,7 +179,8 @@ def judge(source: LogFile, elf_name: str, races: Races) -> Judged:
         return Judged(races)
     trace = read_trace(log, elf_name, most=2 * FIRST_ROWS)
     fault = trace.rows.fault
-    return Judged(races, trace, History(trace, [fault.row])) if fault else Judged(races)
+    with streams.working("what is behind the fault is looked for"):
+        return Judged(races, trace, History(trace, [fault.row])) if fault else Judged(races)
 
 
 def race_answer(races: Races, judged: Judged) -> dict[str, Any]:

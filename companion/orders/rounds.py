@@ -1,8 +1,8 @@
 """The last switches of a list of turns, looked for in an earlier round of the program's loops.
 
-Where a race waits for its hart's tenth round, each round costs switches that nobody needs. No piece can be left out then
-without the others coming to other places. So the last pieces are run again behind fewer of the first ones, each up to the
-place where its hart stopped."""
+If a race comes in a hart's tenth round, each round before it costs switches that nobody needs. No piece can be left out
+then, since the others come to other places. So the last pieces are run again behind fewer of the first ones, each up to
+the place at which its hart stopped."""
 from __future__ import annotations
 
 from typing import Iterator, Optional
@@ -15,7 +15,7 @@ LONGEST_END = 6             # pieces of the end that are run again
 
 
 class Rounds:
-    """places  of each piece the one where its hart stopped"""
+    """places  of each piece the one at which its hart stopped"""
 
     def __init__(self, tries: Tries, pieces: Pieces) -> None:
         self.tries, self.pieces = tries, pieces
@@ -30,6 +30,7 @@ class Rounds:
     def lines(self, pieces: Pieces, hart: int) -> list[bytes]:
         """The line with which each turn of a hart ended, in a run that begins with some pieces."""
         one = self.tries.begin(pieces)
+        self.tries.count += 1
         try:
             one.wait()
             made = one.made()
@@ -46,9 +47,11 @@ class Rounds:
                     yield found
 
     def behind(self, first: Pieces, begin: int) -> Optional[Pieces]:
-        """Behind some pieces those from a place of the list on, each up to where its hart stopped; None if one doesn't come
-        there."""
+        """Behind some pieces those from a place of the list on, each up to its place; None if one doesn't come
+        there, or the search is to end."""
         for at in range(begin, len(self.pieces)):
+            if self.tries.is_ended():
+                return None
             hart = self.pieces[at].hart
             done = sum(piece.turns for piece in first if piece.hart == hart)
             lines = self.lines(joined((*first, Piece(hart, 2 * self.most[hart]))), hart)[done:done + 2 * self.most[hart]]

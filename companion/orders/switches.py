@@ -40,12 +40,14 @@ def window_lines(teller: Teller, one: Bounded) -> list[str]:
 
 
 def parted(teller: Teller, *rows: Row) -> list[list[str]]:
-    """Of each row the outermost place into which it is inlined, and another isn't, if that isn't its own."""
+    """Of each row the place of the call in which the rows part, if that is a call into which it is inlined; else of the next
+    one."""
     frames = [list(teller.places.frames(row.pc)) for row in rows]
     while all(frames) and len({each[-1] for each in frames}) == 1:
         for each in frames:
             each.pop()
-    return [[frame_text(each[-1])] if len(each) > 1 else [] for each in frames]
+    is_one_function = all(frames) and len({each[-1].function for each in frames}) == 1
+    return [[frame_text(each[-1 if is_one_function else 1])] if len(each) > 1 else [] for each in frames]
 
 
 def answer_of(teller: Teller, one: Bounded) -> dict[str, Any]:

@@ -139,7 +139,9 @@ class Tries:
 
     def wait(self, ended: dict[int, Try]) -> None:
         process, status = os.wait()
-        one = self.running.pop(process)
+        one = self.running.pop(process, None)
+        if one is None:                         # somebody ended the group's own process
+            return
         one.status = one.child.end(status)
         ended[one.number] = one
 
@@ -152,7 +154,7 @@ class Tries:
         turns = made.turns()
         asked = turns_of(one.asked)
         needed = followed(asked, turns) if self.leaves_rest else turns
-        pieces = pieces_of(needed)
+        pieces = one.asked if needed == asked else pieces_of(needed)
         if size_of(pieces) >= most or (self.ends_within and not asked.startswith(turns)):
             return None
         found = self.exact_of(made)

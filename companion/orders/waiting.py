@@ -16,6 +16,7 @@ from ..why.loops import LONGER, Loop
 STAY_ROWS = 200000          # of a hart's last rows are read for how long it is in its loop
 LOOP_ROWS = 1500, 10000     # in so many of them its loop is looked for
 NEAR_ROWS = 300             # about so many are looked at first
+NEAR = 0.9                  # the share of them that has to be in a known loop
 LONGEST_ROW, MEAN_ROW = 160, 70     # bytes
 MOST_SPILLS = 8             # so often is a value followed through the stack
 PC = re.compile(rb"^\d+ \d+ (\w{8}) ", re.M)
@@ -86,7 +87,7 @@ def stay_like(log: Log, hart: int, text: bytes, known: Stay) -> Optional[Stay]:
         stay = behind(text, hart, counts[:-1])
         if has_stayed(counts, stay, known):
             return known._replace(turns=turns_of_stay(stay)) if has_loads(text, known.loads) else None
-    return stay_of(log, hart, text) if 2 * sum(near) >= len(near) else None
+    return stay_of(log, hart, text) if sum(near) >= NEAR * len(near) else None
 
 
 def has_stayed(counts: Sequence[int], stay: bytes, known: Stay) -> bool:

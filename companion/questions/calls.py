@@ -5,7 +5,7 @@ import operator
 import re
 from collections import deque
 from dataclasses import dataclass, field
-from typing import Any, Callable, Deque, Iterable, Iterator, Optional, Union
+from typing import Any, Callable, Deque, Iterable, Iterator, NamedTuple, Optional, Union
 
 from ..call import streams
 from ..call.errors import REFUSED, CompanionError
@@ -73,6 +73,8 @@ class Where:
         if not told:
             raise CompanionError(f"--where: {clean(text)!r} is no condition as 'ARG==VALUE'", REFUSED)
         self.name, self.compare = told[1], COMPARE[told[2]]
+        if all(begin.inlined for begin in function.begins):
+            raise CompanionError(f"--where: {function.name} is inlined everywhere, so its calls have neither arguments nor a result", REFUSED)
         if self.name not in names:
             raise CompanionError(f"--where: {function.name} has no {clean(self.name)}; it has {', '.join(names)}", REFUSED)
         self.value = number_of(told[3])
@@ -100,12 +102,20 @@ def number_of(text: str) -> int:
     return int(text)
 
 
+class Waiting(NamedTuple):
+    """A chunk that waits: its place, and how many calls it has."""
+    text: bytes
+    base: int
+    calls: int
+
+
 class Calls:
     """The latest calls of a function.
 
     total, told   how many there are, and those that are told
     open          {hart: its calls that haven't returned, innermost last}
-    asks          (place, call, whether of its result): whose registers are looked for before the text there is forgotten"""
+    asks          (place, call, whether of its result): whose registers are looked for before the text there is forgotten
+    waiting       chunks that wait, and waiting_calls: how many calls they have"""
 
     def __init__(self, asked: Asked, function: Function, most: int, where: Optional[Where]) -> None:
         self.asked, self.function, self.where = asked, function, where
@@ -117,19 +127,66 @@ class Calls:
         self.sources: dict[bytes, Instruction] = {}
         self.told: Deque[Call] = deque(maxlen=most)
         self.asks: Deque[tuple[int, Call, bool]] = deque()
-        self.total = 0
+        self.waiting: Deque[Waiting] = deque()
+        self.total = self.waiting_calls = 0
 
     def read(self, texts: Iterable[bytes]) -> None:
         for text in texts:
-            self.window.add(text)
-            base = self.window.begins[-1]
+            self.take(text)
+        self.finish()
+
+    def take(self, text: bytes) -> None:
+        """Reads a chunk. While later ones may have all calls that are told, only its calls are counted."""
+        self.window.add(text)
+        base = self.window.begins[-1]
+        self.waiting.append(Waiting(text, base, 0 if self.where else self.count_calls(text, base)))
+        self.waiting_calls += self.waiting[-1].calls
+        while self.waiting and (self.where or self.is_passed() or self.window.end - self.waiting[0].base > self.window.kept // 2):
+            self.take_waiting()
+        while self.window.surplus():
+            self.answer(self.window.surplus())
+            self.registers.forget(self.window.texts[0])
+            self.window.drop()
+
+    def finish(self) -> None:
+        while self.waiting:
+            self.take_waiting()
+        self.answer(self.window.end + 1)
+
+    def is_passed(self) -> bool:
+        """Whether the first chunk that waits has no call that is told: those behind it have enough."""
+        return not self.where and self.waiting_calls - self.waiting[0].calls >= (self.told.maxlen or 0)
+
+    def take_waiting(self) -> None:
+        """Takes the first of the chunks that wait. If none of its calls is told, they are only counted."""
+        is_passed, (text, base, calls) = self.is_passed(), self.waiting.popleft()
+        self.waiting_calls -= calls
+        if is_passed:
+            self.total += calls
+            self.open.clear()
+            self.backs.clear()
+        else:
             for at, address in self.arrivals(text):
                 self.arrive(text, at, base, address)
-            while self.window.surplus():
-                self.answer(self.window.surplus())
-                self.registers.forget(self.window.texts[0])
-                self.window.drop()
-        self.answer(self.window.end + 1)
+
+    def count_calls(self, text: bytes, base: int) -> int:
+        """How many calls a chunk has."""
+        found = 0
+        for address, begin in self.begins.items():
+            needle = b" %08x " % address
+            at = text.find(needle)
+            while at >= 0:
+                source = self.source_of(self.row_before(text, at, base))
+                found += source is None or self.is_call(begin, source)
+                at = text.find(needle, at + 1)
+        return found
+
+    def row_before(self, text: bytes, at: int, base: int) -> bytes:
+        """The row of a hart before the one that a place of a chunk is in."""
+        begin = text.rfind(b"\n", 0, at)
+        hart = text[begin + 1:text.index(b" ", begin)]
+        last = text.rfind(b"\n", 0, begin) + 1
+        return text[last:begin] if last and text.startswith(hart + b" ", last) else self.window.row_before(hart, base + at)
 
     def arrivals(self, text: bytes) -> Iterator[tuple[int, int]]:
         """The places of rows at the function's beginnings, and at those addresses to which open calls return."""
@@ -145,10 +202,8 @@ class Calls:
                     nexts[each] = text.find(b" %08x " % each, at + 1)
 
     def arrive(self, text: bytes, at: int, base: int, address: int) -> None:
-        begin = text.rfind(b"\n", 0, at)
-        hart, _, count = text[begin + 1:at].partition(b" ")
-        last = text.rfind(b"\n", 0, begin) + 1
-        before = text[last:begin] if last and text.startswith(hart + b" ", last) else self.window.row_before(hart, base + at)
+        hart, _, count = text[text.rfind(b"\n", 0, at) + 1:at].partition(b" ")
+        before = self.row_before(text, at, base)
         if address in self.backs and is_return(before):
             self.back(hart, int(count), address, base + at)
         if address in self.begins:

@@ -13,14 +13,15 @@ from ..recording.answers import LONGEST, place_of, put_answer
 from ..recording.chunks import rows_with
 from ..recording.elf import Elf
 from .reading import Asked, asked_of
-from .variables import ADDRESS, not_found, symbol_of
+from .variables import ADDRESS, OFFSET, not_found, symbol_of, variable_of
 
 HELP = """Lists the places of the program at which a value occurs, in registers and in words of memory.
 
     zelkuma find LOG ELF VALUE [--names ELF] [--rows N] [--json]
 
-VALUE is a number, hexadecimal if it has eight digits or begins with 0x, or a symbol, which is its address. Of each place it
-tells the first and the last time, how often, and what it did with the value: put it into a register, loaded it or stored it.
+VALUE is a number, hexadecimal if it has eight digits or begins with 0x, or an address: that of a symbol (`arena`, `arena+56`) or
+of a variable's part (`&orders[3]`). Of each place it tells the first and the last time, how often, and what it did with the
+value: put it into a register, loaded it or stored it.
 
 --names  the same program with names and lines, if ELF was stripped
 --rows   how many of the last rows are read, 80 million without it
@@ -104,6 +105,8 @@ def value_of(elf: Elf, text: str) -> int:
         return symbol.address
     if (told := ADDRESS.fullmatch(text)):
         return int(told[1] or told[2], 16)
+    if text[:1] == "&" or OFFSET.fullmatch(text):
+        return variable_of(elf, text.lstrip("&")).address
     if not re.fullmatch(r"-?\d{1,10}", text):
         raise CompanionError(not_found(elf, text, elf.symbols), MISSING)
     if not -(1 << 31) <= int(text) < 1 << 32:

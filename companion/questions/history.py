@@ -66,14 +66,21 @@ class History:
 
     def read(self, texts: Iterable[bytes]) -> None:
         for text in texts:
-            self.window.add(text)
-            for change in self.words.changes(text, self.window.begins[-1]):
-                if not self.only_changes or self.is_change(change):
-                    self.total += 1
-                    self.waiting.append(change)
-            while self.window.surplus():
-                self.tell(self.window.surplus())
-                self.window.drop()
+            self.take(text)
+        self.finish()
+
+    def take(self, text: bytes) -> None:
+        """Reads a chunk."""
+        self.window.add(text)
+        for change in self.words.changes(text, self.window.begins[-1]):
+            if not self.only_changes or self.is_change(change):
+                self.total += 1
+                self.waiting.append(change)
+        while self.window.surplus():
+            self.tell(self.window.surplus())
+            self.window.drop()
+
+    def finish(self) -> None:
         self.tell(self.window.end + 1)
 
     def is_change(self, change: Change) -> bool:

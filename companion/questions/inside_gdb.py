@@ -88,21 +88,29 @@ def function(name: str) -> dict[str, Any]:
     point = gdb.Breakpoint(name, internal=True)
     begins: list[dict[str, Any]] = []
     for location in point.locations:
-        block = function_of(gdb.block_for_pc(location.address))
+        block = block_of(location.address, name)
         if block is None:
             continue
         if depth_of(block):
             begins.append({"address": location.address, "inlined": True, "depth": depth_of(block)})
         else:
-            begins.append(own_code(block.function, int(block.function.value().address)))
+            begins.append(own_code(block.function, int(block.function.value().address), name))
     point.delete()
     return {"begins": begins}
 
 
-def own_code(symbol: Any, address: int) -> dict[str, Any]:
+def block_of(address: int, name: str) -> Any:
+    """The block of a function at an address, where what it begins with can be inlined; without one of this name the innermost."""
+    found = innermost = function_of(gdb.block_for_pc(address))
+    while found is not None and found.function.name != name.rpartition("::")[2]:
+        found = function_of(found.superblock)
+    return innermost if found is None else found
+
+
+def own_code(symbol: Any, address: int, name: str) -> dict[str, Any]:
     held = registers_at(address)
-    block, parameters = function_of(gdb.block_for_pc(address)), []
-    for each in block or ():
+    parameters = []
+    for each in block_of(address, name) or ():
         if each.is_argument:
             parameters.append({"name": each.name, "register": held.get(each.name, ""), "type": Types().told(each.type)})
     return {"address": address, "inlined": False, "parameters": parameters, "result": Types().told(symbol.type.target())}

@@ -55,10 +55,11 @@ class Asked(NamedTuple):
 
 @contextlib.contextmanager
 def asked_of(log_name: str, elf_name: str, given: Mapping[str, str]) -> Iterator[Asked]:
-    """What a call asks of: its files, --names and --rows."""
+    """What a call asks of: its files, --names and --rows. The most rows that can be given are all."""
     rows = whole(given["--rows"], 1, HIGHEST, "--rows") if "--rows" in given else MOST_ROWS
     with contextlib.ExitStack() as opened:
-        log = opened.enter_context(closing(open_log(log_name))).end(rows)
+        source = opened.enter_context(closing(open_log(log_name)))
+        log = source.end(rows) if rows < HIGHEST else source.whole()
         elf = Elf(elf_name)
         named = named_elf(elf, given.get("--names", ""))
         yield Asked(log, elf, named, opened.enter_context(closing(places_of(named, source_folders(given)))))

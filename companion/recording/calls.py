@@ -118,8 +118,3 @@ class Calls:
     def above(self, n: int, most: int) -> Above:
         """So many of the calls that a row is in."""
         return self.tree.calls(self.node_of(n), most)
-
-    def writer_of(self, call: int) -> int:
-        """The row that wrote a0 before a call, or 0."""
-        at = bisect.bisect_left(self.jumps, call)
-        return self.writers[at] if at < len(self.jumps) and self.jumps[at] == call else 0

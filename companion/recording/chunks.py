@@ -4,9 +4,12 @@ A chunk holds whole rows and nothing else. Each begins with a newline, and nothi
 from __future__ import annotations
 
 import re
+from itertools import islice
 from typing import Iterable, Iterator, Pattern
 
+from ..call import streams
 from ..call.program import Output
+from ..call.text import number
 from .log import Log, is_fault
 
 CHUNK = 1 << 18             # bytes of a chunk, about
@@ -17,9 +20,10 @@ DIGITS = "0123456789abcdef"
 
 
 def chunks(log_name: str, elf_name: str, command: str = "joint", *words: str) -> Iterator[bytes]:
-    """All rows that a command prints. It ends with the iterator, if that is dropped before."""
-    with Output(command, log_name, elf_name, *words) as out:
-        rest, behind = b"\n", b""
+    """All rows that a command prints, and how many they are at a terminal. It ends with the iterator, if that is dropped
+    before."""
+    with Output(command, log_name, elf_name, *words) as out, streams.Progress() as progress:
+        rest, behind, passed = b"\n", b"", 0
         while True:
             read = out.out.read(CHUNK)
             text = rest + read
@@ -31,6 +35,8 @@ def chunks(log_name: str, elf_name: str, command: str = "joint", *words: str) ->
                 if behind:              # they come behind all rows
                     read = b""
             if text:
+                passed += text.count(b"\n") if progress.is_shown else 0
+                progress.tell(f"{number(passed)} rows are read")
                 yield text
             if not read:
                 break
@@ -63,9 +69,10 @@ def last_rows(log: Log, elf_name: str, most: int) -> dict[int, bytes]:
 
 def parted(text: bytes, rows: int) -> tuple[bytes, bytes]:
     """The first so many rows of a chunk, and the rest."""
-    ends = [found.start() for found in re.finditer(b"\n", text)] + [len(text)]
-    at = ends[min(rows, len(ends) - 1)]
-    return text[:at], text[at:]
+    if rows >= text.count(b"\n"):
+        return text, b""
+    *_, last = islice(re.finditer(b"\n", text), rows + 1)
+    return text[:last.start()], text[last.start():]
 
 
 def count_of(text: bytes) -> int:

@@ -140,7 +140,7 @@ class Reader:
         rows.hart.frombytes(harts)
         rows.code.extend(codes)
         cuts = map(RESULTS.__getitem__, shapes)
-        rows.values.extend(numbers(line[cut] if cut else ZERO for line, cut in zip(lines, cuts)))
+        rows.values.extend(numbers([line[cut] if cut else ZERO for line, cut in zip(lines, cuts)]))
         rows.flags.frombytes(shapes.translate(ACCESSED))
         self.writers.word.frombytes(bytes(self.writers.word.itemsize * len(codes)))
         self.link(turns, codes, alone)
@@ -272,7 +272,8 @@ class Reader:
         self.follow(which, kinds, told, iter(stored))
 
     def follow(self, which: Iterable[int], kinds: bytes, told: Sequence[int], stored: Iterator[int]) -> None:
-        writer_of, held, words, flags = self.writer_of, self.held, self.writers.word, self.rows.flags
+        writer_of, held, flags = self.writer_of, self.held, self.rows.flags
+        second, words = self.writers.second, self.writers.word
         for n, kind, address, value in zip(which, kinds, told[::2], told[1::2]):
             word, flag = address & WORD, address & OFFSET
             writer = writer_of.get(word, 0)
@@ -286,8 +287,8 @@ class Reader:
                     flag |= UNSTORED
                 if kind == BOTH:
                     value = next(stored)
-            if kind > STORES and held.get(word) == value:      # of an atomic
-                flag |= KEEPS
+            if kind > STORES and held.get(word) == value and (kind == BOTH or not flags[second[n]] & LOADS):
+                flag |= KEEPS                   # of an atomic, but for a value that another word gave a store-conditional
             words[n] = writer
             if flag:
                 flags[n] |= flag

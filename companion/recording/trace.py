@@ -4,8 +4,6 @@ from __future__ import annotations
 import time
 from typing import AbstractSet, NamedTuple, Optional
 
-from ..call import streams
-from ..call.text import number
 from .calls import Calls
 from .chunks import OTHER_LINES, chunks, parted
 from .log import At, Log
@@ -33,20 +31,17 @@ def read_trace(log: Log, elf_name: str, entries: AbstractSet[int] = frozenset(),
     if asked and most and rows > most:
         rows, end = rows_before(log, elf_name, asked), head_of(asked)
     trace.rows.passed = left = max(0, rows - most) if most else 0
-    reader, progress, total = Reader(*trace), streams.Progress(), number(rows - left)
+    reader = Reader(*trace)
     for text in chunks(log.name, elf_name):
         if left:
             passed, text = parted(text, left)
             reader.skip(passed)
             left -= passed.count(b"\n")
-            progress.tell(f"{number(trace.rows.passed - left)} rows are passed")
         last = text.find(end) if end else -1
         if text:
             reader.read(text if last < 0 else parted(text, text.count(b"\n", 0, last) + 1)[0])
-            progress.tell(f"{number(len(trace.rows.code) - 1)} of {total} rows are read")
         if last >= 0:
             break
-    progress.clear()
     reader.finish(time.monotonic() - began)
     return trace
 
@@ -63,15 +58,13 @@ def trace_of(log: Log, text: bytes) -> Trace:
 
 def rows_before(log: Log, elf_name: str, asked: At) -> int:
     """How many rows come before one."""
-    rows, progress = 0, streams.Progress()
+    rows = 0
     for text in chunks(log.name, elf_name):
         at = text.find(head_of(asked))
         if at >= 0:
             rows += text.count(b"\n", 0, at)
             break
         rows += text.count(b"\n")
-        progress.tell(f"{number(rows)} rows are passed")
-    progress.clear()
     return rows
 
 

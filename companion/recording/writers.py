@@ -6,7 +6,6 @@ from collections import Counter
 from itertools import compress
 from typing import NamedTuple
 
-from .instruction import STORE
 from .rows import KEEPS, LOADS, STORES, Rows
 
 STORE_BITS = 0xffffffff     # of a pair, those that tell its store
@@ -77,13 +76,12 @@ class Writers:
         self.kept.update((row, store) for row in passed)
         return store
 
-    def stored_bytes(self, n: int) -> int:
-        """Which bytes of its word a row stored."""
-        return self.rows.mask(n) if self.rows.code_of(n).kind == STORE else 15
-
     def stores(self, load: int) -> Stores:
-        need, latest = self.rows.mask(load), self.word[load]
-        if latest and not need & ~self.stored_bytes(latest):
+        latest = self.word[load]
+        if latest and self.rows.code_of(latest).width == 4:
+            return Stores([latest], 0)
+        need = self.rows.mask(load)
+        if latest and not need & ~self.rows.mask(latest):
             return Stores([latest], 0)
         lanes = [row for lane, row in enumerate(self.lanes_of(latest)) if need >> lane & 1]
         rest = sum(1 << lane for lane, row in enumerate(self.lanes_of(latest)) if need >> lane & 1 and not row)
@@ -96,12 +94,12 @@ class Writers:
     def lanes_of(self, store: int) -> tuple[int, ...]:
         """Of each byte of a word the latest row up to a store that stored it, or 0. Of a long way back some are kept."""
         passed: list[int] = []
-        while store and store not in self.lanes and (not passed or self.stored_bytes(passed[-1]) != 15):
+        while store and store not in self.lanes and (not passed or self.rows.mask(passed[-1]) != 15):
             passed.append(store)
             store = self.word[store]
         found = self.lanes.get(store, (0, 0, 0, 0))
         for at, row in enumerate(reversed(passed), 1):
-            mask = self.stored_bytes(row)
+            mask = self.rows.mask(row)
             found = tuple(row if mask >> lane & 1 else before for lane, before in enumerate(found))
             if at % LANES_KEPT == 0 or at == len(passed):
                 self.lanes[row] = found

@@ -60,8 +60,7 @@ def main(words: list[str]) -> int:
     with closing(open_log(log_name)) as source:
         elf = Elf(elf_name)
         named = named_elf(elf, given.get("--names", ""))
-        with streams.working("rows are read"):
-            cause = cause_of(source.end(FIRST_ROWS), elf_name)
+        cause = cause_of(source.end(FIRST_ROWS), elf_name)
         with closing(places_of(named)) as places:
             bucket = bucket_of(cause, elf, places)
     if "--json" in given:

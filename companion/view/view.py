@@ -24,17 +24,18 @@ from ..why.facts import asked_byte
 from ..why.fault import fault_words
 from ..why.hang import hang_lines
 from ..why.origins import advice
-from ..why.report import ALONE, DID, STORED, output_lines, unread
+from ..why.report import ALONE, DID, NEW_OWNER, output_lines, unread
 from ..why.suspect import Suspect
 from .chain import Way, chain_boxes
 from .data import Page, PageEdge
+from .questions import questions_of
 from .rows import PageRows
 from .story import story_data
 
 HELP = """Draws a log as one page, to look at in a browser: harts, intervals, Edges, races, the fault, and the chain behind it.
 
-    zelkuma view LOG ELF [--names ELF] [--source DIR] [--row HART:IC] [--output N:BYTE] [--rows N] [--book BOOK] [--input FILE]
-                 > page.html
+    zelkuma view LOG ELF [--names ELF] [--source DIR] [--row HART:IC] [--output N:BYTE] [--rows N] [--with-questions]
+                 [--book BOOK] [--input FILE] > page.html
 
 --names   the program with its names and lines, if ELF was stripped
 --source  shows sources below this folder too, not only below ELF's and the current one; may be given several times
@@ -43,12 +44,13 @@ HELP = """Draws a log as one page, to look at in a browser: harts, intervals, Ed
 --rows    how many of the last rows are read, as for why
 --book    draws the switches between harts, if BOOK has no more than 40 of them, as that of `zelkuma shrink`
 --input   what the run read: with BOOK it is run again, to see that this is LOG's
+--with-questions  puts histories of variables and calls of functions in, which a click on a word or a name opens
 
 The page is one file that needs no network and no other file. It holds names and lines of source of the program.
 Companions show; the program proves: rows, intervals, Edges and races are the program's, suspects are a judgement."""
-FORM = "view LOG ELF [--names ELF] [--source DIR] [--row HART:IC] [--output N:BYTE] [--rows N] [--book BOOK] [--input FILE]"
-OPTIONS = {"--names": True, "--source": True, "--row": True, "--output": True, "--rows": True, **STORY_OPTIONS}
-SCRIPTS = ("model.js", "timeline.js", "arrows.js", "story.js", "rows.js", "panels.js", "chain.js", "controls.js")
+FORM = "view LOG ELF [--names ELF] [--source DIR] [--row HART:IC] [--output N:BYTE] [--rows N] [--with-questions] [--book BOOK] [--input FILE]"
+OPTIONS = {"--names": True, "--source": True, "--row": True, "--output": True, "--rows": True, "--with-questions": False, **STORY_OPTIONS}
+SCRIPTS = ("model.js", "questions.js", "timeline.js", "arrows.js", "story.js", "rows.js", "panels.js", "chain.js", "controls.js")
 RACES_ASKED, RACE_GROUPS, ARCS = 20000, 40, 12
 SUSPECTS, ORIGINS = 3, 6
 WAY_ROWS = 400          # of a way through the history are read at most
@@ -81,7 +83,8 @@ def page_text(title: str, data: Mapping[str, Any]) -> str:
 class View:
     """Gathers what the page tells of a crash that `why` analysed."""
 
-    def __init__(self, crash: Analysis, story: Optional[Story] = None) -> None:
+    def __init__(self, crash: Analysis, story: Optional[Story] = None, with_questions: bool = False) -> None:
+        self.with_questions = with_questions
         self.crash, self.log, self.places = crash, crash.log, crash.places
         self.page = Page(crash.trace, self.places, self.log)
         self.story = story_data(story, Teller(crash.named, crash.places), self.log, crash.rows)
@@ -126,8 +129,8 @@ class View:
     def suspect(self, item: Suspect) -> dict[str, Any]:
         """A suspect for the page: the guilty row, and the steps from it to the load that the history knows."""
         steps = [self.step(words, row) for words, row in item.extra]
-        if item.kind in STORED:
-            steps.append(self.step(STORED[item.kind], item.store))
+        if item.kind == "back":
+            steps.append(self.step(NEW_OWNER, item.store))
         has_load = item.kind not in ALONE
         if has_load:
             steps.append(self.step("loaded it in", item.load))
@@ -193,6 +196,8 @@ class View:
             raceGroups=self.race_total, racesNote=self.races_note,
             windows=rows.as_data(), nodes=rows.nodes, chain=chain_boxes(page, crash.history, ways, origins))
         data.update(self.end_data(), story=self.story)
+        if self.with_questions:
+            data["questions"] = questions_of(crash, self.suspects, self.races).data(page)
         told = [data["where"]] + [item["place"] for item in data["suspects"]]
         data.update(codes=page.code_list, places=page.place_list, around={each: page.around(each) for each in told})
         return data
@@ -244,7 +249,9 @@ def main(words: list[str]) -> int:
     byte = asked_byte(given["--output"]) if "--output" in given else None
     with closing(analysed(log_name, elf_name, given.get("--names", ""), given.get("--row", ""), rows, byte,
                           source_folders(given))) as crash:
-        view = View(crash, asked_story(given, crash.log, elf_name))
+        with streams.working("the page is made"):
+            view = View(crash, asked_story(given, crash.log, elf_name), "--with-questions" in given)
+            text = page_text(view.title(), view.data())
         # The page says that it is UTF-8, whatever the terminal's encoding is.
-        streams.put_bytes(page_text(view.title(), view.data()).encode("utf-8", "backslashreplace"))
+        streams.put_bytes(text.encode("utf-8", "backslashreplace"))
     return 0

@@ -16,8 +16,6 @@ from ..recording.trace import Trace
 
 LOWEST, NEAR, LARGEST = 4096, 1024, 1 << 16
 MOST_JUMPS = 500000         # so many of the latest calls and returns are looked at, which bounds the memory
-HEADER = 4                  # bytes before a block that are surely its allocator's
-MOST_OTHERS = 50            # blocks behind one that are looked at
 STEPS = 600                 # so many rows are looked at for the block that a pointer came from
 
 
@@ -42,7 +40,7 @@ class CallWith(NamedTuple):
 
 
 class Blocks:
-    """by_address   {address: the blocks that were given out there, in order}; addresses: these, sorted
+    """by_address   {address: the blocks that were given out there, in order}
     arguments    {address: the calls with it, in order}
     wrote        {row: the blocks whose address it wrote into a0}
     taker        {giver: taker}
@@ -76,7 +74,6 @@ class Blocks:
             if given.block.giver in givers:
                 self.add(given.block)
                 self.wrote.setdefault(given.writer, []).append(given.block)
-        self.addresses = sorted(self.by_address)
         self.collect_arguments()
         self.taker = self.takers()
 
@@ -228,17 +225,6 @@ class Blocks:
                 rows = self.given_back(block, block.back, following.call if following else self.rows.size + 1)
                 found += list(zip(rows, rows[1:]))
         return sorted(found)
-
-    def is_over(self, block: Block, address: int, row: int) -> bool:
-        """Whether an address that a row accessed is in another block, handed out behind this one, or in its header."""
-        first = bisect.bisect_right(self.addresses, block.address)
-        behind = bisect.bisect_right(self.addresses, address + HEADER, first)
-        return any(self.is_out(other, block.giver, row) for other in self.addresses[first:min(behind, first + MOST_OTHERS)])
-
-    def is_out(self, address: int, giver: int, row: int) -> bool:
-        """Whether a block of a giver is out at a row."""
-        latest = next((block for block in reversed(self.by_address[address]) if block.back < row and block.giver == giver), None)
-        return latest is not None and not self.given_back(latest, latest.back, row)
 
     def sources(self, n: int) -> list[int]:
         """The rows that a row's value comes from."""

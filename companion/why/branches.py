@@ -1,7 +1,6 @@
 """Branches as suspects: the one before which a value was chosen, and the one that would have ended a loop."""
 from __future__ import annotations
 
-import math
 from array import array
 from collections import Counter
 from itertools import compress
@@ -14,11 +13,9 @@ from .loops import operands_of, pairs_of, rows_of
 from .lost import cut_behind
 from .suspect import Extra, Suspect
 
-EQUAL, RARE_WAY, CUT, ROUND = 10, 4, 8, 6   # what these signs are worth
-SAME_LINE = 1               # what a branch costs more that only decided of its own line, as the parts of a condition do
+EQUAL, CUT = 10, 8           # what these signs are worth
 USUAL, USUAL_ROWS = 2, 20    # what the usual way of a branch costs more, and how often it has to have come
 ENTRY = 12                  # what a branch of the code that sets up a hart costs more
-EXIT, INNER = 5, 4          # a loop's exit, and each call that it is deeper than the outermost one
 MOST = 40                   # branches that are looked at
 ORDERS = "blt", "bge"
 BEFORE = {"control": "before", "kept": "so this kept its value in", "spared": "so a word beside what it compared kept its value in",
@@ -57,25 +54,7 @@ def branch_suspects(facts: Facts, history: History) -> list[Suspect]:
             add_stored(facts, suspect)
         if way.all_times == 1 and not facts.calls.node_of(row) and not facts.rows.is_cut(row):
             suspect.sign(-ENTRY, "it ran once, before any call")
-        if facts.line(decided.row) == line:
-            suspect.score += SAME_LINE
         suspect.extra.append(Extra(BEFORE[decided.how], decided.row))
-    return list(found.values())
-
-
-def exit_suspects(facts: Facts) -> list[Suspect]:
-    """Branches that would have ended the loop of a hart that hangs, those of its outermost function first."""
-    calls, found = facts.calls, {}
-    for loop in facts.loops:
-        exits = [item for item in loop.exits if item.leads_out]
-        depths = {item.row: calls.tree.depth[calls.node_of(item.row)] for item in exits}
-        for item in exits:
-            line = facts.line(item.row)
-            if line not in found:
-                found[line] = Suspect("exit", item.row, item.row, INNER * (depths[item.row] - min(depths.values())))
-                found[line].sign(EXIT, f"it went the same way {number(item.times)} times")
-                judge_values(facts, found[line])
-                add_stored(facts, found[line])
     return list(found.values())
 
 
@@ -115,12 +94,8 @@ def judge_way(suspect: Suspect, way: Way) -> None:
     """The signs of the way that a branch went."""
     if way.is_back:
         suspect.shown = bool(suspect.extra)
-        suspect.sign(-ROUND, "a loop went round again")
     elif way.all_times >= USUAL_ROWS and way.times * 10 >= way.all_times * 9:
         suspect.sign(-USUAL, f"it went this way {number(way.times)} of {number(way.all_times)} times")
-    if way.times and way.all_times >= 4 and way.times * 10 <= way.all_times:
-        suspect.sign(RARE_WAY * math.log10(way.all_times / way.times),
-                     f"it went this way {number(way.times)} of {number(way.all_times)} times")
 
 
 class Ways:

@@ -31,6 +31,8 @@ FAR = 1000                  # a store so many rows before its load is far
 MOST_INLINED = 8            # functions that are inlined in one place
 NO_REGISTER = 0                         # memory
 START, LOOP = "start", "the loop"       # how the first rows are needed
+DECIDES = frozenset(("decision", "control", "kept", "spared", "awaited"))
+LAST = 0xffffffff           # more than any row
 
 
 class Pair(NamedTuple):
@@ -99,10 +101,10 @@ class History:
         self.control, self.control_cost = control, control_cost or (OUTPUT_CONTROL if is_output else CONTROL)
         self.cut = False
         self.left: set[Left] = set()
-        self.heap: list[tuple[int, int, int]] = []
+        self.heap: list[int] = []               # price << 32 | what a row is less than LAST
         for row in starts:
             self.cost[row] = 0
-            heapq.heappush(self.heap, (0, -row, row))
+            heapq.heappush(self.heap, LAST - row)
         for row in set(starts) - {self.start}:
             self.parent[row] = Step(self.start, LOOP)
         if not is_output:                       # the branches just before a byte is stored are those of its text
@@ -123,16 +125,17 @@ class History:
     def step(self, row: int, price: int, source: int, how: str) -> None:
         if row and (row not in self.cost or price < self.cost[row]):
             self.cost[row], self.parent[row] = price, Step(source, how)
-            if how in ("decision", "control", "kept", "spared", "awaited") or source in self.decided:
+            if how in DECIDES or source in self.decided:
                 self.decided.add(row)
             else:
                 self.decided.discard(row)
-            heapq.heappush(self.heap, (price, -row, row))
+            heapq.heappush(self.heap, price << 32 | LAST - row)
 
     def search(self) -> None:
         done = 0
         while self.heap:
-            price, _, n = heapq.heappop(self.heap)
+            key = heapq.heappop(self.heap)
+            price, n = key >> 32, LAST - (key & LAST)
             if price > self.cost[n]:
                 continue
             done += 1
@@ -197,52 +200,58 @@ class History:
     def loaded(self, n: int, price: int) -> bool:
         """A load, and the stores that it got, if there are any."""
         first = self.first_copied(n)
-        writers, rest = self.writers.stores(first)
-        found = [row for row in map(self.writers.changed_by, writers) if row]
-        for writer in found:
-            cost = price if self.rows.is_spill(n, writer) else price + 1
-            self.step(writer, cost, n, "memory")
-            key = Pair(first, writer)
+        stores, rest = self.writers.stores(first)
+        found = [row for row in map(self.writers.changed_by, stores) if row]
+        for store in found:
+            is_spill = self.rows.is_spill(n, store)
+            cost = price if is_spill else price + 1
+            self.step(store, cost, n, "memory")
+            key = Pair(first, store)
             self.far[key] = min(cost, self.far.get(key, cost))
-            self.awaited(n, writer, price)
-            if self.control and price <= DEAREST_CONTROL and n - writer >= KEPT_ROWS and cost > price and self.kept < MOST_KEPT:
-                self.kept += 1
-                for at in sorted({self.rows.code[writer], *self.writers.givers(n)})[:MOST_GIVERS]:
-                    branch = self.control.kept(n, writer, self.rows.codes[at].pc)
-                    self.decide(branch, Decided(price + self.control_cost, n, "kept"))
-            if self.control and price <= DEAREST_SPARED and self.spared < MOST_SPARED and not self.rows.is_spill(n, writer):
-                self.spared += 1
-                self.decide(self.control.spared(first, writer), Decided(price + SPARED, n, "spared"))
-        if rest or len(found) < len(writers):
+            if self.control:
+                self.not_stored(self.control, n, key, price, is_spill)
+        if rest or len(found) < len(stores):
             self.before.append(n)
             self.leave(n, price, NO_REGISTER)
         if not found and price <= DEAREST_FILLED and self.filled < MOST_FILLED and not self.rows.access(n).value:
             self.filled += 1
-            for row in self.writers.beside(n):    # why not here?
+            for row in self.writers.beside(n):  # why not here?
                 self.step(self.writers.first[row], price + FILLED, n, "address")
         return bool(found)
+
+    def not_stored(self, control: Control, n: int, pair: Pair, price: int, is_spill: bool) -> None:
+        """The branches by which a word that a row loads wasn't stored again: one by which another hart left what a loop waits
+        for, one that went past those who store it, and one that spared it."""
+        rows, store = self.rows, pair.store
+        if self.hangs and price <= NEAR_LOOP and rows.hart[n] != rows.hart[store]:
+            self.decide(control.left(store), Decided(price + AWAITED, n, "awaited"))
+        if is_spill:
+            return
+        if price <= DEAREST_CONTROL and n - store >= KEPT_ROWS and self.kept < MOST_KEPT:
+            self.kept += 1
+            for at in sorted({rows.code[store], *self.writers.givers(n)})[:MOST_GIVERS]:
+                branch = control.kept(n, store, rows.codes[at].pc)
+                self.decide(branch, Decided(price + self.control_cost, n, "kept"))
+        if price <= DEAREST_SPARED and self.spared < MOST_SPARED:
+            self.spared += 1
+            self.decide(control.spared(pair.load, store), Decided(price + SPARED, n, "spared"))
 
     def first_copied(self, load: int) -> int:
         """The load behind a load whose word was copied by its own instruction before, again and again: the first copy
         counts."""
         rows, writers, passed = self.rows, self.writers, []
         while load not in self.copied:
+            source = writers.second[writers.word[load]]
+            if rows.code[source] != rows.code[load] or not rows.flags[source] & LOADS:
+                break
             found, rest = writers.stores(load)
-            source = writers.second[found[0]] if len(found) == 1 and not rest and rows.mask(found[0]) == 15 else 0
+            if rest or len(found) > 1 or rows.mask(found[0]) != 15:
+                break
             passed.append(load)
-            if not source or rows.code[source] != rows.code[load] or not rows.flags[source] & LOADS:
-                self.copied[load] = load
-            else:
-                load = source
-        self.copied.update((row, self.copied[load]) for row in passed)
-        return self.copied[load]
-
-    def awaited(self, load: int, store: int, price: int) -> None:
-        """What a hart waits for is stored by another one: the branch by which that one didn't store it again."""
-        rows = self.rows
-        if self.control and self.hangs and price <= NEAR_LOOP and rows.hart[load] != rows.hart[store]:
-            branch = self.control.left(store)
-            self.decide(branch, Decided(price + AWAITED, load, "awaited"))
+            load = source
+        first = self.copied.get(load, load)
+        self.copied.update((row, first) for row in passed)
+        return first
 
     def is_far(self, load: int, store: int) -> bool:
         return self.rows.hart[load] != self.rows.hart[store] or load - store > FAR
@@ -279,12 +288,15 @@ class History:
     def lines(self, places: Places) -> list[Line]:
         """The values by source line, nearest first."""
         rows = self.rows
-        groups: dict[tuple[int, str], Line] = {}
-        places.fetch({rows.codes[at].pc for at in {rows.code[n] for n in self.cost}})
+        alike: dict[tuple[int, int], list[int]] = {}        # {hart and code: how many rows, the latest, the least cost}
         for n, price in self.cost.items():
-            if n in self.decided:
-                continue
-            hart, place = key = rows.hart[n], places.chain([rows.code_of(n).pc], MOST_INLINED)
-            item = groups.get(key, Line(hart, place, 0, n, price))
-            groups[key] = Line(hart, place, item.rows + 1, max(item.latest, n), min(item.cost, price))
+            if n not in self.decided:
+                least = alike.setdefault((rows.hart[n], rows.code[n]), [0, n, price])
+                least[:] = least[0] + 1, max(least[1], n), min(least[2], price)
+        groups: dict[tuple[int, str], Line] = {}
+        places.fetch({rows.codes[code].pc for _, code in alike})
+        for (hart, code), (times, latest, price) in alike.items():
+            key = hart, places.chain([rows.codes[code].pc], MOST_INLINED)
+            item = groups.get(key, Line(*key, 0, latest, price))
+            groups[key] = Line(*key, item.rows + times, max(item.latest, latest), min(item.cost, price))
         return sorted(groups.values(), key=lambda item: (item.cost, -item.latest))

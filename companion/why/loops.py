@@ -4,6 +4,7 @@ The rows of such a hart end with rows of few places, again and again. A stay amo
 no earlier one was half as long: a loop that ends in time isn't."""
 from __future__ import annotations
 
+import sys
 from array import array
 from collections import Counter
 from itertools import compress
@@ -19,6 +20,7 @@ LONGER = 3                  # how many rounds a loop has at least
 NO_CODE = -1
 MOST_CUTS = 12              # how many sets of places are tried
 OFTEN = 3                   # how often a place ran that then stopped
+LOW = 0xffffffff            # the bits of one of a pair
 LATEST, LATEST_ROWS = 6, 50000  # how many stores of each place are looked at for words that change, and how far back
 
 
@@ -89,7 +91,7 @@ class Loop:
         marks = bytes(map(inside.__getitem__, self.codes[:before]))
         return max(map(len, marks.split(b"\0")))
 
-    def find_exits(self, stay: Sequence[int]) -> list[Exit]:
+    def find_exits(self, stay: array[int]) -> list[Exit]:
         rows, trace, where = self.rows, self.trace, {self.rows.codes[at].pc for at in self.places}
         ways: dict[int, list[int]] = {}
         for at, following in set(pairs_of(stay)):
@@ -121,12 +123,14 @@ class Loop:
                        if at not in self.places and times[at] >= OFTEN), reverse=True)
 
 
-def pairs_of(codes: Sequence[int]) -> Counter[tuple[int, int]]:
-    """How often each code followed each."""
-    found: Counter[tuple[int, int]] = Counter()
-    for begin in range(0, len(codes), AT_ONCE):
-        found.update(zip(codes[begin:begin + AT_ONCE], codes[begin + 1:begin + 1 + AT_ONCE]))
-    return found
+def pairs_of(codes: array[int]) -> Counter[tuple[int, int]]:
+    """How often each code followed each. Two neighbours are one number of twice as many bytes."""
+    found: Counter[int] = Counter()
+    data = codes.tobytes()
+    for begin in (0, codes.itemsize):
+        found += counted(array("Q", data[begin:begin + (len(data) - begin) // 8 * 8]))
+    first, second = (0, 32) if sys.byteorder == "little" else (32, 0)
+    return Counter({(pair >> first & LOW, pair >> second & LOW): times for pair, times in found.items()})
 
 
 def counted(codes: Sequence[int]) -> Counter[int]:

@@ -193,15 +193,6 @@ def writes_of(log: Log, elf: Elf, tree: CallTree, numbers: dict[SystemCall, int]
     return Reader(log, elf, tree, numbers).writes(texts_of(log, elf.name, most))
 
 
-def watched(writes: Iterator[Write]) -> Iterator[Write]:
-    while True:
-        with streams.working("rows are read"):
-            write = next(writes, None)
-        if not write:
-            break
-        yield write
-
-
 def said_of(places: Places, tree: CallTree, write: Write) -> str:
     stream = STREAMS.get(write.stream, f"stream {write.stream}")
     return (f"{write.number:>3}. {counted(len(write.data), 'byte')} to {stream}, in {place_of(places, tree, write)}\n"
@@ -218,7 +209,7 @@ def main(words: list[str]) -> int:
         numbers, listed = numbered(all_rows), []
         count = size = unknown = 0
         with closing(places_of(named)) as places:
-            for write in watched(writes_of(log, elf, tree, numbers, most)):
+            for write in writes_of(log, elf, tree, numbers, most):
                 if "--json" in given:
                     listed.append(write_answer(places, write))
                 else:

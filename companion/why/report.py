@@ -18,11 +18,11 @@ SUSPECTS, MORE_SUSPECTS, LINES, MORE_LINES, ORIGINS, MORE_ORIGINS = 5, 12, 10, 4
 ROW_WIDTH, TEXT_WIDTH, MOST_CALLS = 84, 78, 9
 SUSPECTS_HEAD = "SUSPECTS, likeliest first (a load and the store that it got; what a call did to the memory; a branch)"
 # What the guilty row of each kind did, and what its other two rows did.
-DID = {"store": "stored it in", "back": "gave the memory back in", "unwritten": "got the memory in", "twice": "gave the memory back in",
+DID = {"store": "stored it in", "back": "gave the memory back in", "twice": "gave the memory back in",
        "calls": "calls itself in", "branch": "chose the way in", "unlocked": "held no lock in", "order": "waits for a lock in",
-       "exit": "never left its loop by", "failed": "stored nothing in", "unset": "loaded from its stack what it never stored in"}
-ALONE = "twice", "calls", "branch", "exit", "unlocked", "order", "failed", "unset"     # kinds that have no load
-STORED = {"back": "the new owner stored in", "unwritten": "the old bytes were stored in"}
+       "failed": "stored nothing in", "unset": "loaded from its stack what it never stored in"}
+NEW_OWNER = "the new owner stored in"
+ALONE = "twice", "calls", "branch", "unlocked", "order", "failed", "unset"     # kinds that have no load
 
 
 def report(facts: Analysis, more: bool = False) -> list[Part]:
@@ -117,15 +117,14 @@ def one_suspect(facts: Analysis, place: int, item: Suspect) -> list[str]:
     said = [f"{place}. {did(facts, item.guilty, DID[item.kind])}"] + guilty_lines(facts, item.guilty)
     for words, n in item.extra:
         said += [f"   {words} {facts.where(n)}   {facts.source(n)}"] + guilty_lines(facts, n)
-    if item.kind in STORED:
-        said += ["   " + did(facts, item.store, STORED[item.kind]), "      " + short(facts.rows.text(item.store))]
+    if item.kind == "back":
+        said += ["   " + did(facts, item.store, NEW_OWNER), "      " + short(facts.rows.text(item.store))]
     if item.kind not in ALONE:
         said += ["   " + did(facts, item.load, "loaded it in"),
                  "      " + short(facts.rows.text(item.load)) + data_words(facts, item.load)]
     times = f" ({number(item.rows)} such pairs)" if item.rows > 1 else ""
-    reasons = item.why if item.kind == "exit" else [distance(item)] + item.why
     guilty = ready(facts.log.shown, facts.elf, facts.named, facts.rows.hart[item.guilty], facts.rows.count_of(item.guilty))
-    return said + ["   because: " + "; ".join(reasons) + times] + ["   " + line for line in guilty]
+    return said + ["   because: " + "; ".join([distance(item)] + item.why) + times] + ["   " + line for line in guilty]
 
 
 def did(facts: Analysis, n: int, words: str) -> str:

@@ -17,9 +17,7 @@ class Suspect:
      "store"     a load and the store that it got
      "back"      memory that was used after it was given back
      "twice"     memory that was given back twice
-     "unwritten" memory that was used before it was written
      "branch"    a branch that chose the way
-     "exit"      one that would have ended a loop
      "unlocked"  an access without the lock that others hold
      "order"     a wait for a lock of a hart that waits for one of this hart's
      "failed"    a store-conditional that failed unread

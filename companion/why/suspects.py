@@ -13,10 +13,10 @@ import math
 from typing import AbstractSet, Sequence
 
 from ..call.text import counted, number
-from ..recording.instruction import AMO, SP, STORE
+from ..recording.instruction import AMO, STORE
 from ..recording.log import At
 from ..recording.rows import LOADS
-from .branches import branch_suspects, exit_suspects
+from .branches import branch_suspects
 from .facts import Facts
 from .history import ADDRESS, History, Pair
 from .locks import circle, unlocked
@@ -34,7 +34,6 @@ FIRST_ONES, PLACE_ROWS = 3, 2000    # suspects whose stores' addresses are asked
 MOST_FOR_PLACE = 6          # what the store's own signs are worth to these at most
 GUARD, BEHIND_PLACE = 2, 3  # what the branch before such a store costs, and what all costs more than the store
 FOREIGN = 40                # what a suspect costs more of which no source is here
-SYMPTOM = 8                 # a stack that has grown into data is a consequence of its depth
 NEAR_STORE = 6              # what a near store is worth less
 MOST_LOOKED_AT = 60         # pairs of loads and stores whose rows are read
 SIZES = {1: "bytes", 2: "halves"}, {2: "half", 4: "word"}
@@ -49,14 +48,14 @@ class Ranking:
         loop or a recursion follows."""
         self.facts, self.trace, self.places = facts, facts.trace, facts.places
         self.rows, self.writers, _ = facts.trace
-        self.history, self.races, self.is_recursive, self.loop = history, races, bool(recursion), set(loop)
+        self.history, self.races, self.loop = history, races, set(loop)
         self.loads: dict[int, int] = {}         # a load's code: how many rows
         for pair, times in self.writers.pairs.items():
             self.loads[pair >> 32] = self.loads.get(pair >> 32, 0) + times
         stores = sorted(self.stores(history), key=rank)
-        memory = MemoryUse(facts, history)
+        memory = MemoryUse(facts)
         found = [suspect for item in stores[:MOST_LOOKED_AT] for suspect in memory.judge(item)]
-        found += memory.given_back_twice() + branch_suspects(facts, history) + exit_suspects(facts)
+        found += memory.given_back_twice() + branch_suspects(facts, history)
         found += unlocked(facts, history) + circle(facts) + failed_stores(facts, history) + unset(facts, history)
         found = self.own_first(stores + found + recursion)
         self.found = self.once(sorted(found + self.behind_places(found, memory), key=rank))
@@ -123,29 +122,29 @@ class Ranking:
 
     def stores(self, history: History) -> list[Suspect]:
         """A suspect for each two source lines of a history's loads and stores, with its signs."""
-        rows, writers, places, far = self.rows, self.writers, self.places, history.far
-        groups: dict[tuple[str, str, bool], Suspect] = {}
-        closing = self.closing_pair()
-        pairs = dict(far)
+        rows, writers, places = self.rows, self.writers, self.places
+        closing, pairs = self.closing_pair(), dict(history.far)
         if closing.store:
             pairs[closing] = min(CLOSE, pairs.get(closing, CLOSE))
-        places.fetch({rows.code_of(n).pc for key in pairs for n in key} |
+        alike: dict[tuple[int, int, bool], list[Pair]] = {}         # by their instructions
+        for pair in pairs:
+            key = rows.code[pair.load], rows.code[pair.store], rows.hart[pair.store] != rows.hart[pair.load]
+            alike.setdefault(key, []).append(pair)
+        places.fetch({rows.codes[code].pc for key in alike for code in key[:2]} |
                      {rows.code_of(writers.word[store]).pc for _, store in pairs if writers.word[store]})
-        for (load, store), price in pairs.items():
-            key = (places.line(rows.code_of(load).pc), places.line(rows.code_of(store).pc),
-                   rows.hart[store] != rows.hart[load])
-            item = groups.get(key)
-            pair = Pair(load, store)
-            nearer = item is None or ((item.load, item.store) != closing and (price, -load) < (item.cost, -item.load))
-            if nearer or pair == closing:
-                groups[key] = Suspect("store", load, store, price)
-                groups[key].rows = item.rows if item else 0
-            groups[key].rows += 1
-        for item in groups.values():
+        lines: dict[tuple[str, str, bool], list[Pair]] = {}
+        for (load, store, is_other), some in alike.items():
+            lines.setdefault((places.line(rows.codes[load].pc), places.line(rows.codes[store].pc), is_other), []).extend(some)
+        groups = []
+        for some in lines.values():
+            load, store = closing if closing in some else min(some, key=lambda pair: (pairs[pair], -pair.load))
+            groups.append(Suspect("store", load, store, pairs[Pair(load, store)]))
+            groups[-1].rows = len(some)
+        for item in groups:
             self.judge(item, history)
             if (item.load, item.store) == closing:
                 item.sign(CLOSES, "the latest store that the loop or the calls follow: it may have closed a circle")
-        return list(groups.values())
+        return groups
 
     def closing_pair(self) -> Pair:
         """What a loop or a recursion follows is often a circle: the latest far store in it closed it. With its load."""
@@ -181,8 +180,6 @@ class Ranking:
         if stored.kind == STORE and loaded.kind != AMO and stored.width < loaded.width and not self.is_copied(load, history):
             item.misplaced = True
             item.sign(NARROW, f"stored as {SIZES[0][stored.width]}, loaded as a {SIZES[1][loaded.width]}")
-        if self.is_recursive and stored.rs1 == SP and loaded.rs1 != SP:
-            item.sign(-SYMPTOM, "the stack has grown into this data")
         if load in history.decided:
             item.why.append("it decided the way to here")
         self.judge_rarity(item)

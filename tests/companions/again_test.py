@@ -3,11 +3,8 @@
 import os
 import shutil
 import subprocess
-import sys
 
-sys.path.insert(0, os.path.join(os.path.dirname(os.path.abspath(__file__)), "gdb"))
-
-import cases
+from gdb import cases
 from common import EXAMPLES, PROGRAM, companion, output
 
 TABLE, COUNTER, FILTERS, WORDS = (os.path.join(EXAMPLES, name + ".elf") for name in ("table", "counter", "filters", "word_count"))

@@ -142,6 +142,13 @@ class TypedTest(case.Case):
         self.assertTrue(said.startswith(f"CALLS of give: {2 * removed} calls; "), said[:80])
         self.assertEqual(len(re.findall(r"^  0:\d+  \(inlined\)", said, re.M)), 100)
 
+    def test_a_function_that_begins_with_an_inlined_call(self):
+        """The call is that of the function, and the inlined one's is told of that function alone."""
+        log, elf = self.crash("race_settings")
+        self.assertRegex(self.says("calls", log, elf, "main"), r"^CALLS of main\(\): 1 call\n  0:4  \(\) .* from _start start.S:\d+\n$")
+        self.assertEqual(self.says("calls", log, elf, "install").count("(inlined)"), 3)
+        self.assertIn("is inlined everywhere", self.refuses(2, "calls", log, elf, "install", "--where", "hart==1"))
+
     def test_json(self):
         log, elf = self.record("heap", "--seed", "1"), self.elf("heap")
         said = json.loads(self.says("calls", log, elf, "put_text", "--last", "1", "--json"))

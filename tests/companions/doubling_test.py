@@ -10,7 +10,7 @@ sys.path.insert(0, os.path.join(os.path.dirname(os.path.abspath(__file__)), "lib
 import case
 import common
 from gdb.recordings import (A0, A1, A2, A7, DATA, ECALL, T0, T1, T2, addi, atomic, branch_unless_equal, elf_of, immediate,
-                            jump_to, load, lui, store)
+                            jump_to, load, lui, pc_of, store)
 
 from companion.call import words as call
 
@@ -18,7 +18,8 @@ SP, RA, S0, S1, ROUNDS = 2, 1, 8, 9, 28
 LEAST, MOST = 0.05, 3           # seconds that are told from none, and how much longer twice the rows may take
 BYTE, SWAP = 0, 1               # kinds of a load or store, and of an atomic instruction
 FAULT = [addi(T1, 0, -1), load(T2, T2)]
-COMPANIONS = "why", "view", "race", "bucket", "output"
+COMPANIONS = "why", "view", "race", "bucket", "output", "history", "calls", "find", "compare"
+BEGINS = {"recursion": 1, "gives": 13}          # the word at which the function begins that is called
 
 
 def jal(link, words):
@@ -92,6 +93,14 @@ def seconds(words):
     return status, sum(after[:4]) - sum(before[:4])
 
 
+def call_of(word, family, log, elf, other):
+    """What a companion is called with; `other` is a log of the same program with other turns, if it has several harts."""
+    if word == "compare":
+        return word, log, other, elf
+    asked = {"history": f"{DATA:08x}", "find": "1", "calls": f"{pc_of(BEGINS.get(family.__name__, 0)):08x}"}
+    return (word, log, elf, asked[word]) if word in asked else (word, log, elf)
+
+
 class DoublingTest(case.Case):
     def recorded(self, family, rounds, limit, harts):
         name = f"{family.__name__}{rounds + limit}-{harts}"
@@ -100,8 +109,10 @@ class DoublingTest(case.Case):
             file.write(elf_of(family(rounds)))
         with open(common.path("input"), "wb") as file:
             file.write(bytes(range(256)) * 4096)
-        return common.record(name, elf, "--harts", str(harts), "--seed", "1", "--limit", str(limit or 1000000), "--log-size", "16777216",
-                             "--input", common.path("input")), elf
+        def log(seed):
+            return common.record(f"{name}-{seed}", elf, "--harts", str(harts), "--seed", seed, "--limit", str(limit or 1000000),
+                                 "--log-size", "16777216", "--input", common.path("input"))
+        return log("1"), elf, log("2" if harts > 1 else "1")
 
     def test_twice_the_rows(self):
         for family, rounds, limit, harts in FAMILIES:
@@ -110,7 +121,7 @@ class DoublingTest(case.Case):
                 with self.subTest(f"{word}, {family.__name__}, {harts} harts"):
                     tries = []
                     while len(tries) < 3 and not any(more <= MOST * max(less, LEAST) for less, more in tries):
-                        one, other = seconds((word, *few)), seconds((word, *many))
+                        one, other = (seconds(call_of(word, family, *files)) for files in (few, many))
                         self.assertEqual((one[0], other[0]), (0, 0))
                         tries.append((one[1], other[1]))
                     self.assertTrue(any(more <= MOST * max(less, LEAST) for less, more in tries), tries)

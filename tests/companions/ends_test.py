@@ -1,19 +1,20 @@
 #!/usr/bin/env python3
 """How a companion ends that is told to: by which status, and that no process and no folder of it stays."""
+import contextlib
 import os
+import pty
 import shutil
 import signal
 import subprocess
 import sys
 import time
 
-sys.path.insert(0, os.path.join(os.path.dirname(os.path.abspath(__file__)), "gdb"))
-
-import cases
-from common import COMPANION, EXAMPLES, PROGRAM, companion
+from gdb import cases
+from common import COMPANION, CRASHES, EXAMPLES, PROGRAM, companion
 
 HAND_OVER = os.path.join(EXAMPLES, "hand_over.elf")
 BOUND = 60                  # seconds after which a call hangs
+WHEN, AT_ONCE = (0, 0.3, 0.8, 1.6), 0.2     # processor seconds: after so many Ctrl-C comes, and in so many more all ends
 STATUSES = {signal.SIGINT: 130, signal.SIGTERM: 143, signal.SIGHUP: 129}
 
 
@@ -27,13 +28,13 @@ def below(process):
     return found + [each for child in found for each in below(child)]
 
 
-def programs(process):
+def programs(process, name="sleep"):
     """Those of them that a companion waits for."""
     found = []
     for child in below(process):
         try:
             with open(f"/proc/{child}/cmdline", "rb") as file:
-                found += [child] * file.read().startswith(b"sleep\0")
+                found += [child] * file.read().startswith(name.encode() + b"\0")
         except OSError:
             pass
     return found
@@ -201,6 +202,77 @@ def case_the_end_of_the_terminal_can_be_ignored(recordings):
     process.terminate()
     process.communicate(timeout=BOUND)
     assert process.returncode == 143
+
+
+class Work:
+    """Companions that compute for a while: of a program that hangs, of whose rows each looks at some 300,000."""
+
+    def __init__(self, recordings):
+        self.log, self.elf = recordings.record(os.path.join(CRASHES, "hang.elf"), "--format", "2", "--limit", "300000")
+        self.new = recordings.path("new")
+
+    def words(self):
+        names = self.log, self.elf
+        yield from ((word, *names) for word in ("why", "race", "view", "bucket", "output"))
+        yield from (("history", *names, "timers"), ("find", *names, "12345"), ("calls", *names, "fire"),
+                    ("compare", self.log, self.log, self.elf), ("export", *names, "--perfetto", self.new))
+
+
+def used_by(process):
+    """The processor time of a process and of those that it waited for."""
+    with open(f"/proc/{process}/stat", encoding="ascii", errors="replace") as file:
+        return sum(map(int, file.read().rsplit(")", 1)[1].split()[11:15])) / os.sysconf("SC_CLK_TCK")
+
+
+def seconds_after(words, when):
+    """The processor time of a companion from Ctrl-C on, its status and its err. Ctrl-C comes so much of it after it began to ask
+    the program."""
+    process = subprocess.Popen([sys.executable, COMPANION, *words], stdout=subprocess.DEVNULL, stderr=subprocess.PIPE)
+    awaits(lambda: programs(process.pid, PROGRAM) or not is_running(process.pid))
+    began = used_by(process.pid)
+    awaits(lambda: used_by(process.pid) >= began + when or not is_running(process.pid))
+    before = used_by(process.pid)
+    os.kill(process.pid, signal.SIGINT)         # it may have ended, and isn't waited for
+    err = process.stderr.read()
+    process.stderr.close()
+    _, status, used = os.wait4(process.pid, 0)
+    process.returncode = 0                      # it is waited for
+    return used.ru_utime + used.ru_stime - before, os.waitstatus_to_exitcode(status), err
+
+
+def case_ctrl_c_ends_work_at_once(recordings):
+    """Wherever it comes, and whatever the companion is doing."""
+    for words in Work(recordings).words():
+        for when in WHEN:
+            tries = []
+            while len(tries) < 3 and not any(seconds <= AT_ONCE for seconds, _, _ in tries):
+                tries.append(seconds_after(words, when))
+                assert tries[-1][1:] in ((130, b""), (0, b"")), (words, tries)
+            assert any(seconds <= AT_ONCE for seconds, _, _ in tries), (words, when, tries)
+
+
+def case_what_lasts_is_told_at_a_terminal(recordings):
+    """How many rows are read, if the program takes its time over them."""
+    calls, work = Calls(recordings, "lasting"), Work(recordings)
+    with open(calls.script, "w", encoding="ascii") as file:
+        file.write(f"#!/bin/bash\ncase $1 in joint|replay) {PROGRAM} \"$@\" | (head -c 600000; sleep 1.5; cat);; *) exec {PROGRAM} \"$@\";; esac\n")
+    os.chmod(calls.script, 0o755)
+    began = []
+    for words in work.words():
+        ours, theirs = pty.openpty()
+        process = subprocess.Popen([sys.executable, COMPANION, *words], stdout=subprocess.DEVNULL, stderr=theirs,
+                                   env=dict(os.environ, ZELKUMA_PROGRAM=calls.script))
+        os.close(theirs)
+        began.append((words, process, ours))
+    for words, process, ours in began:
+        said = b""
+        with contextlib.suppress(OSError):      # the terminal's other end is closed
+            while True:
+                said += os.read(ours, 65536)
+        os.close(ours)
+        assert process.wait(BOUND) == 0, (words, said)
+        assert words[0] == "race" or b" rows are read\x1b[K" in said, (words, said)
+        assert said.endswith(b"\r\x1b[K") or words[0] == "race", (words, said)
 
 
 def case_a_pipe_is_refused_at_once(recordings):

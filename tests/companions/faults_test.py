@@ -2,10 +2,9 @@
 import os
 import sys
 
-sys.path.insert(0, os.path.join(os.path.dirname(os.path.abspath(__file__)), "gdb"))
 sys.path.insert(0, os.path.join(os.path.dirname(os.path.abspath(__file__)), "lib"))
 import case
-from recordings import Recordings
+from gdb.recordings import Recordings
 
 WORDS = {
     0xc0002573: "it accesses cycle (as rdcycle does), a control and status register",

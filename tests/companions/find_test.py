@@ -9,7 +9,7 @@ import case
 import common
 
 from companion.recording.elf import Elf
-from companion.questions import find
+from companion.questions import debugger, find
 from companion.questions.reading import asked_of
 
 LINE = re.compile(r"^  (\d+:\d+) +(\d+:\d+) +([\d,]+) +(puts it into|loads it from|stores it to) (\w+)", re.M)
@@ -42,6 +42,10 @@ class FindTest(case.Case):
     def test_a_symbol_is_its_address(self):
         log, elf = self.record("heap", "--seed", "10"), self.elf("heap")
         self.assertTrue(self.says("find", log, elf, "orders").startswith("FIND 00011498: "))
+        self.assertTrue(self.says("find", log, elf, "orders+12").startswith("FIND 000114a4: "))
+        self.assertIn("has no nothing", self.refuses(4, "find", log, elf, "&nothing"))
+        if debugger.gdb_path():
+            self.assertTrue(self.says("find", log, elf, "&orders[3]").startswith("FIND 000114a4: "))
 
     def test_words_of_the_file(self):
         log, elf = self.record("heap", "--seed", "10"), self.elf("heap")

@@ -12,14 +12,13 @@ import sys
 import time
 import unittest
 
-for folder in ("gdb", "lib"):
-    sys.path.insert(0, os.path.join(os.path.dirname(os.path.abspath(__file__)), folder))
+sys.path.insert(0, os.path.join(os.path.dirname(os.path.abspath(__file__)), "lib"))
 
 import case
-from client import Client, Stop
-from recordings import (A0, A1, A2, A7, DATA, ECALL, EXIT, T0, T1, T2, addi, branch_unless_equal, load, lui, store,
-                        Recordings)
-from reference import Reference, size
+from gdb.client import Client, Stop
+from gdb.recordings import (A0, A1, A2, A7, DATA, ECALL, EXIT, T0, T1, T2, addi, branch_unless_equal, load, lui, store,
+                            Recordings)
+from gdb.reference import Reference, size
 
 TRAP = 5
 ROUNDS = 60

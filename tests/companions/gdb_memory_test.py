@@ -1,15 +1,12 @@
 #!/usr/bin/env python3
 """Tries by a client of gdb's protocol what `zelkuma gdb` says of memory, on small recordings; needs no gdb."""
 import os
-import sys
 
-sys.path.insert(0, os.path.join(os.path.dirname(os.path.abspath(__file__)), "gdb"))
-
-import cases
-from client import Client, Stop
-from recordings import (A0, A1, A2, A7, DATA, ECALL, EXIT, FIRST, SEGV, T0, T1, T2, addi, branch_unless_equal,
-                        load, lui, pc_of, store)
-from reference import Reference, agrees
+from gdb import cases
+from gdb.client import Client, Stop
+from gdb.recordings import (A0, A1, A2, A7, DATA, ECALL, EXIT, FIRST, SEGV, T0, T1, T2, addi, branch_unless_equal,
+                            load, lui, pc_of, store)
+from gdb.reference import Reference, agrees
 
 
 def case_03_memory(recordings):

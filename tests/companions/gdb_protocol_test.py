@@ -8,13 +8,11 @@ import struct
 import subprocess
 import sys
 
-sys.path.insert(0, os.path.join(os.path.dirname(os.path.abspath(__file__)), "gdb"))
-
-import cases
-from client import Client, Stop
+from gdb import cases
+from gdb.client import Client, Stop
 from common import COMPANION, EXAMPLES
-from recordings import EXIT, FAULTS, SEGV, T0, T2, TRAP, addi, pc_of
-from reference import Reference, agrees, run
+from gdb.recordings import EXIT, FAULTS, SEGV, T0, T2, TRAP, addi, pc_of
+from gdb.reference import Reference, agrees, run
 
 INTERRUPTED = 2  # gdb's number of SIGINT
 

@@ -12,13 +12,11 @@ import shutil
 import subprocess
 import sys
 
-sys.path.insert(0, os.path.join(os.path.dirname(os.path.abspath(__file__)), "gdb"))
-
-import cases
-from cases import Skipped
+from gdb import cases
+from gdb.cases import Skipped
 from common import COMPANION, EXAMPLES, TOP, crash
-from recordings import FAULTS, T2, addi
-from reference import run
+from gdb.recordings import FAULTS, T2, addi
+from gdb.reference import run
 
 GDB, COMPILER = "gdb-multiarch", "riscv64-unknown-elf-gcc"
 SESSIONS = os.path.join(os.path.dirname(os.path.abspath(__file__)), "gdb", "sessions")

@@ -6,9 +6,11 @@ import sys
 sys.path.insert(0, os.path.join(os.path.dirname(os.path.abspath(__file__)), "lib"))
 import case
 import common
+from gdb.recordings import DATA, T0, T1, T2, addi, atomic, branch_unless_equal, elf_of, lui
 
 from companion.why.analysis import analysed
 
+S0, LR, SC = 8, 2, 3
 HANGS = "hang_width", "hang_wakeup", "hang", "lock_left_held"
 
 
@@ -63,6 +65,16 @@ class HangTest(case.Case):
         self.assertIn("a5 is 00000001, from lock, which no row of the log stored\n", said)
         self.assertNotIn("stored last in", said)
         self.assertNotIn("stored it in acquire", said)
+
+    def test_nor_is_a_pair_of_load_reserved_and_store_conditional(self):
+        """Of a lock that is exchanged by two instructions: the hart that took it stored it last."""
+        elf = common.path("exchange.elf")
+        with open(elf, "wb") as file:
+            file.write(elf_of([lui(S0, DATA), addi(T1, 0, 1), atomic(LR, T0, S0), atomic(SC, T2, S0, T1), branch_unless_equal(T2, 0, -8),
+                               branch_unless_equal(T0, 0, -12), 0x6f]))
+        log = common.record("exchange", elf, "--seed", "3", "--harts", "2", "--limit", "2000")
+        said = self.says("why", log, elf)
+        self.assertIn("t0 is 00000001, from 00020000, stored last in 00010080 (hart 1 at count 3)\n", said)
 
     def test_a_run_that_ends_has_none(self):
         log = self.record("counter", "--seed", "1", "--harts", "2")

@@ -8,9 +8,7 @@ import struct
 import subprocess
 import sys
 
-sys.path.insert(0, os.path.join(os.path.dirname(os.path.abspath(__file__)), "gdb"))
-
-import cases
+from gdb import cases
 from common import COMPANION, EXAMPLES, companion
 
 HAND_OVER = os.path.join(EXAMPLES, "hand_over.elf")

@@ -12,12 +12,10 @@ import subprocess
 import sys
 import time
 
-sys.path.insert(0, os.path.join(os.path.dirname(os.path.abspath(__file__)), "gdb"))
-
-import cases
-from cases import Skipped
+from gdb import cases
+from gdb.cases import Skipped
 from common import COMPANION, EXAMPLES, PROGRAM
-from recordings import Recordings, elf_of
+from gdb.recordings import Recordings, elf_of
 
 SEEDS = [sys.executable, COMPANION, "seeds"]
 HAND_OVER, BUFFERS, TWO_LOCKS = (os.path.join(EXAMPLES, name + ".elf") for name in ("hand_over", "buffers", "two_locks"))

@@ -68,6 +68,11 @@ def bucket(log, elf):
 
 
 class TriageTest(case.Case):
+    fleet: Fleet
+    answer: dict
+    said: str
+    before: dict
+
     @classmethod
     def setUpClass(cls):
         common.need_addr2line()

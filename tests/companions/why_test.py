@@ -52,14 +52,6 @@ class WhyTest(case.Case):
         self.assertRegex(found[0], r"[0-9]+ other accesses hold a lock, lock")
         self.assertNotIn("held no lock in", self.says("why", *self.crash("lock_left_held"), "--more"))
 
-    def test_an_allocators_own_words(self):
-        """What it loads of its own is no use of memory that was given back; what others load of it is a sign."""
-        found = suspects(self.says("why", *self.crash("libc_table_size"), "--more"))
-        self.assertIn("an allocator's own word, which others loaded", found[1])
-        self.assertIn("shrink libc_table_size.c:38", found[1])
-        for item in found:
-            self.assertFalse("gave the memory back in" in item and item.count("malloc") + item.count("__malloc_free") > 2, item)
-
     def built(self, name, *options):
         """What `why` says of one of lib/programs."""
         self.needs_addr2line()

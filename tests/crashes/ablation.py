@@ -45,30 +45,19 @@ RULES = {
     "a usual pair": ("so in all", {"suspects.COMMON": 0}),
     "a near store": ("earlier", {"suspects.NEAR_STORE": 0}),
     "closed a circle": ("closed a circle", {"suspects.CLOSES": 0}),
-    "the stack has grown": ("the stack has grown", {"suspects.SYMPTOM": 0}),
     "a line told again": ("", {"suspects.AGAIN": 0, "suspects.NOTHING_NEW": 0}),
     "behind a wrong place": ("in the wrong place", {"suspects.FIRST_ONES": 0}),
     "source of one's own": ("no source of it", {"suspects.FOREIGN": 0}),
     "given back": ("given back", {"memory_use.GIVEN_BACK": 0}),
-    "never written": ("nothing wrote the word", {"memory_use.NEVER_WRITTEN": 0}),
-    "over its end": ("over the end", {"memory_use.OVER_THE_END": 0}),
-    "a cut bound": ("a bound of its loop", {"memory_use.CUT_BOUND": 0}),
-    "an allocator's own": ("allocator's own", {"memory_use.OWN": 0}),
-    "holders of a pointer": ("the pointer that was given back", {"memory_use.MemoryUse.add_holder": nothing}),
-    "users of a pointer": ("the pointer that was used", {"memory_use.MemoryUse.add_user": nothing}),
     "copies of a pointer": ("a copy of the pointer", {"memory_use.MemoryUse.add_copy": nothing}),
     "an older pointer": ("the pointer is older", {"memory_use.MemoryUse.kept_pointer": no_row}),
     "all of memory": ("", {"memory_use.MemoryUse.judge": nothing, "memory_use.MemoryUse.given_back_twice": nothing}),
     "equal bounds": ("which are the same", {"branches.EQUAL": 0}),
-    "a rare way": ("it went this way", {"branches.RARE_WAY": 0}),
     "a usual way": ("it went this way", {"branches.USUAL": 0}),
     "compared lost bits": ("had lost bits", {"branches.cut_behind": nothing}),
-    "a loop went round": ("went round again", {"branches.ROUND": 0}),
-    "a part of its line": ("", {"branches.SAME_LINE": 0}),
     "ran before any call": ("before any call", {"branches.ENTRY": 0}),
     "who stored what it compared": ("a value that it compared was", {"branches.add_stored": nothing}),
-    "exits of loops": ("it went the same way", {"suspects.exit_suspects": nothing}),
-    "branches and exits": ("", {"suspects.branch_suspects": nothing, "suspects.exit_suspects": nothing}),
+    "branches": ("", {"suspects.branch_suspects": nothing}),
     "an access without its lock": ("hold a lock", {"suspects.unlocked": nothing}),
     "locks in a circle": ("each other's locks", {"suspects.circle": nothing}),
     "a deep recursion": ("calls deep", {"recursion.DEEP": 1 << 32}),
@@ -108,7 +97,7 @@ def set_all(changes):
     before = {}
     for name, value in changes.items():
         first, *path, last = name.split(".")
-        holder = importlib.import_module("companion." + first)
+        holder = importlib.import_module("companion.why." + first)
         for part in path:
             holder = getattr(holder, part)
         before[name] = getattr(holder, last)

@@ -73,6 +73,7 @@ run() { # WORD..
     exec {err}>&2 2>/dev/null
     await_program
     [ -z "$shower" ] || wait "$shower"
+    [ ${#held[@]} -eq 0 ] || rm -f -- "${held[@]}"
     # whatever becomes of the advice (nobody may read err any more), the status is the program's; with format 2 a log has
     # the end of its run
     [[ ! -t $err || $status -eq 0 || ($status == 1[01] && ${values[format]-} == 2) ]] ||

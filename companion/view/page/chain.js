@@ -28,7 +28,7 @@ function showChain() {
 
 const CHAIN_WORDS = {
   memory: "stored in memory by", before: "no row stored it", address: "its address from", value: "value from",
-  decision: "decided by", "the loop": "in the same loop", back: "memory given back by", unwritten: "memory got by",
+  decision: "decided by", "the loop": "in the same loop", back: "memory given back by",
 };
 
 function drawChainLink(svg, from, to, how) {

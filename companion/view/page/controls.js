@@ -127,7 +127,7 @@ function listen() {
 }
 
 function begin() {
-  for (const show of [showHeading, showEnd, showSuspects, showStory, showLegend, showRaces, showIntervals, showRegisters, showChain]) show();
+  for (const show of [showHeading, showEnd, showSuspects, showStory, showLegend, showRaces, showIntervals, showRegisters, showChain, showQuestions]) show();
   showAll();
   draw();
   choose(start.hart, start.count, true);

@@ -126,7 +126,11 @@ function suspectStep(step) {
   line.append(
     element("span", D.harts > 1 && step.word ? `hart ${step.at[0]} ${step.words} ` : `${step.words} `, "dim"),
     link(placeText(step.place), () => choose(step.at[0], step.at[1])));
-  if (step.word) line.append(element("span", " as ", "dim"), element("code", step.word));
+  if (step.word) {
+    const word = element("code");
+    word.append(withWords(step.word));
+    line.append(element("span", " as ", "dim"), word);
+  }
   if (step.about) line.append(element("span", ` (${step.about})`, "dim"));
   return line;
 }
@@ -205,7 +209,7 @@ function raceRow(group, index) {
   pairs.title = "shows the arcs of this group";
   pairs.dataset.race = index;
   row.append(
-    cellOf(pairs, "n"), element("td", group.word),
+    cellOf(pairs, "n"), cellOf(withWords(group.word)),
     cellOf(link(placeText(group.first), () => choose(first[0], first[1]))),
     cellOf(link(placeText(group.second), () => choose(first[3], first[4]))),
     element("td", group.judged, "dim"));

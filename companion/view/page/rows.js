@@ -76,7 +76,7 @@ function rowTable(found, at) {
     const tail = found.tails[i];
     const row = element("tr", undefined, i === at ? "here" : "");
     if (/(^|\| )fault /.test(tail)) row.classList.add("bad");
-    for (const cell of [commas(found.count + i), hex(pc), text, tail, placeText(placeIndex)]) row.append(element("td", cell));
+    for (const cell of [commas(found.count + i), hex(pc), text, withWords(tail), placeWithName(placeIndex)]) row.append(cellOf(cell));
     row.addEventListener("click", () => choose(found.hart, found.count + i));
     table.append(row);
   }
@@ -114,6 +114,12 @@ function framesAt(found, at) {
   return frames;
 }
 
+function boldName(name) {
+  const made = element("b");
+  made.append(name ? functionName(name) : "?");
+  return made;
+}
+
 function showCalls(list, found, at) {
   const frames = framesAt(found, at);
   const cut = frames.length > CALLS_TOLD ? frames.splice(CALLS_TOLD - 2, frames.length - CALLS_TOLD + 1) : [];
@@ -121,7 +127,7 @@ function showCalls(list, found, at) {
   list.replaceChildren(...frames.map((frame, index) => {
     if (frame.more) return element("li", `      … ${plural(frame.more, "more call")}`, "dim");
     const item = element("li");
-    item.append(element("span", index ? "from  " : "at    ", "dim"), element("b", frame.name || "?"), element("span", `  ${frame.line}`));
+    item.append(element("span", index ? "from  " : "at    ", "dim"), boldName(frame.name), element("span", `  ${frame.line}`));
     const about = (frame.times > 1 ? `  × ${commas(frame.times)}` : "") + (frame.inlined && frame.times === 1 ? "  inlined" : "");
     if (about) item.append(element("span", about, "dim"));
     return item;

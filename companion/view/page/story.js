@@ -5,6 +5,7 @@ function showStory() {
   if (!D.story) return;
   byId("story-card").hidden = false;
   byId("story-order").textContent = D.story.left || D.story.order;
+  if (D.story.pieces.length) legendItem(chip("var(--accent)"), "a piece of BOOK's order; a line is a switch");
   D.story.switches.forEach(([head, ...rest], at) => {
     const item = element("li");
     const [hart, , , , end] = D.story.pieces[at];

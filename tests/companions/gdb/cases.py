@@ -6,7 +6,7 @@ import unittest
 
 sys.path.insert(0, os.path.join(os.path.dirname(os.path.dirname(os.path.abspath(__file__))), "lib"))
 import case
-from recordings import Recordings
+from gdb.recordings import Recordings
 
 Skipped = unittest.SkipTest
 

@@ -4,7 +4,7 @@ import struct
 import subprocess
 from collections import namedtuple
 
-from recordings import PROGRAM
+from gdb.recordings import PROGRAM
 
 SIZES = {"sb": 1, "lb": 1, "lbu": 1, "sh": 2, "lh": 2, "lhu": 2}
 

@@ -1,0 +1,99 @@
+"""Histories of variables and calls of functions for the page: of those that what it tells of begins with."""
+from __future__ import annotations
+
+from typing import Any, Iterable, Iterator, Optional, Sequence, Union
+
+from ..call.errors import CompanionError
+from ..questions.calls import Call, Calls, Values
+from ..questions.functions import function_of
+from ..questions.history import Entry, History, value_of
+from ..questions.reading import Asked
+from ..questions.variables import Variable, variable_of
+from ..recording.elf import Elf
+from ..recording.races import Races
+from ..why.analysis import Analysis
+from ..why.suspect import Suspect
+from .data import Page
+
+VARIABLES, FUNCTIONS, TOLD = 8, 6, 40   # are in the page at most, and so many of the last stores and calls of each
+LARGEST, ROWS_NEAR, RACES = 64, 60, 3    # bytes of a variable that is told as a whole; rows before the end; groups of races
+
+
+def variables_of(named: Elf, words: Iterable[int]) -> list[Variable]:
+    """What these words are in, each variable once."""
+    found: dict[int, Variable] = {}
+    for word in words:
+        if len(found) == VARIABLES:
+            break
+        if not any(each.address < word + 4 and word < each.end for each in found.values()):
+            symbol = named.object_at(word)
+            name = symbol.name if symbol and symbol.size <= LARGEST else named.data_name(word) or f"{word:08x}"
+            try:
+                found[word] = variable_of(named, name)
+            except CompanionError:              # a name that can't be asked of
+                found[word] = variable_of(named, f"{word:08x}")
+    return list(found.values())
+
+
+def calls_in(asked: Asked, names: Iterable[str]) -> Iterator[Calls]:
+    for name in list(dict.fromkeys(filter(None, names)))[:FUNCTIONS]:
+        try:
+            yield Calls(asked, function_of(asked.named, name), TOLD, None)
+        except CompanionError:
+            continue
+
+
+class Questions:
+    """The answers, which one reading of the rows gives."""
+
+    def __init__(self, asked: Asked, words: Iterable[int], functions: Iterable[str]) -> None:
+        self.asked = asked
+        self.histories = [History(asked, variable, TOLD, False) for variable in variables_of(asked.named, words)]
+        self.calls = list(calls_in(asked, functions))
+        every: list[Union[History, Calls]] = [*self.histories, *self.calls]
+        for text in asked.chunks():
+            for each in every:
+                each.take(text)
+        for each in every:
+            each.finish()
+
+    def data(self, page: Page) -> dict[str, Any]:
+        values = Values(self.asked)
+        return {"most": TOLD, "leftOut": self.asked.left_out(),
+                "variables": [self.history(page, found) for found in self.histories],
+                "functions": [{"name": found.function.name, "title": found.function.title(), "calls": found.total,
+                               "rows": [call_row(page, call, values) for call in found.told]} for found in self.calls]}
+
+    def history(self, page: Page, found: History) -> dict[str, Any]:
+        variable = found.variable
+        return {"title": variable.what(), "first": variable.address & ~3, "end": variable.end, "stores": found.total,
+                "rows": [self.entry_row(page, variable.name, entry) for entry in found.told]}
+
+    def entry_row(self, page: Page, name: str, entry: Entry) -> list[Any]:
+        """Hart and count, the part, its value before and after, the place."""
+        new = "bytes of a read call" if entry.fill else value_of(entry, entry.after, self.asked)
+        return [entry.hart, entry.count, name + entry.part.path, value_of(entry, entry.before, self.asked), new, page.place(entry.pcs[0])]
+
+
+def questions_of(crash: Analysis, suspects: Sequence[Suspect], races: Optional[Races]) -> Questions:
+    """Those of the words and functions that are looked at first: of suspects, of races, of the last rows before the end."""
+    rows, guilty = crash.rows, [row for item in suspects for row in (item.guilty, item.store, item.load) if row]
+    hart, last = rows.hart[crash.start], rows.count_of(crash.start)
+    near = filter(None, (rows.row_of(hart, count) for count in range(last, max(-1, last - ROWS_NEAR), -1)))
+    words = words_at(crash, guilty) + [group.word for group in (races.groups[:RACES] if races else ())]
+    functions = [name for row in [crash.start, *guilty] for name in
+                 [crash.places.function(rows.code_of(row).pc), *(frame.function for frame in crash.callers(row))]]
+    return Questions(Asked(crash.log, crash.elf, crash.named, crash.places), words + words_at(crash, near), functions)
+
+
+def words_at(crash: Analysis, rows: Iterable[int]) -> list[int]:
+    found = (access for row in rows for access in (crash.rows.load_of(row), crash.rows.store_of(row)))
+    return [access.address & ~3 for access in found if access]
+
+
+def call_row(page: Page, call: Call, values: Values) -> list[Any]:
+    """Hart and count, the arguments, the result, how many rows it took, and the place that it came from, -1 if that isn't known."""
+    arguments = ", ".join(f"{name}={text}" for name, text in values.arguments(call).items())
+    result = values.text(call.begin.result, call.result) if call.begin.result and call.rows is not None else ""
+    place = page.place(call.source or call.begin.address) if call.source or call.begin.inlined else -1
+    return [int(call.hart), call.count, "inlined" if call.begin.inlined else arguments, result, -1 if call.rows is None else call.rows, place]
