@@ -517,7 +517,7 @@ fewer_than_half c half headed limit is most low bytes below =
     none_and true e none = none
     none_and false e none = refl
 
--- the limit of guards is that of the hart where it was moved on to
+-- a hart that was moved on keeps the limit of its guards
 pub still_unguarded : (p : PlainParts) (on : Trace) (first w : Walking) (end limit : ℕ) → HasGoneOn p on first w end → IsUnguarded p.start.settings (hart_in p.trace.harts.items 0).headed limit → IsUnguarded p.start.settings (hart_in on.harts.items 0).headed limit
 still_unguarded p on first w end limit g below =
     let t = stands_there p on first w end g in
