@@ -23,14 +23,14 @@ though all was the same before, the load behind it, and who had stored that word
 
 --names   the same program with names and lines, if ELF was stripped
 --source  shows sources below this folder too, not only below ELF's and the current one; may be given several times
---rows    how many of the first rows of each log are read, 25 million without it
+--rows    how many of the first rows of each log are read, 15 million without it
 --json    prints one JSON object in place of the text (docs/JSON.md)
 
 What a hart does while it waits, in a loop that loads but stores and counts nothing, is no difference. Harts come in the order
 in which they parted in BAD. A log that has lost its beginning can't be compared. Companions show; the program proves."""
 FORM = "compare GOOD BAD ELF [--names ELF] [--source DIR] [--rows N] [--json]"
 OPTIONS = {"--names": True, "--source": True, "--rows": True, "--json": False}
-MOST_ROWS, LOOKED_BACK, READ_BACK, MOST_FRAMES = 25000000, 4000, 500, 3
+MOST_ROWS, LOOKED_BACK, READ_BACK, MOST_FRAMES = 15000000, 4000, 500, 3
 
 
 @dataclass(frozen=True)
@@ -122,9 +122,11 @@ def has_parted(lane: Lane, runs: list[Run]) -> bool:
 
 def parting_of(runs: list[Run], lane: Lane) -> Optional[Parting]:
     """The branch at which a hart went another way, or None if it didn't."""
+    if not has_parted(lane, runs):
+        return None
     ways = lane.good, lane.bad
     same = [run.row(lane.hart, way.first - 1) for run, way in zip(runs, ways)]
-    if not has_parted(lane, runs) or not same[0] or not same[1]:
+    if not same[0] or not same[1]:
         return None
     other = [run.row(lane.hart, way.first) if way.pcs else None for run, way in zip(runs, ways)]
     return Parting(lane, [same[0], same[1]], other, loads_behind(runs, lane, same[0].code))

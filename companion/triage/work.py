@@ -16,7 +16,7 @@ from ..recording.elf import Elf
 from ..recording.places import Places
 from ..recording.recent import FIRST_ROWS, LogFile, open_log
 from ..why.analysis import analysed
-from ..why.report import DID
+from ..why.suspect import DID
 from .bucket import Bucket, bucket_of
 
 MOST_SECONDS, MOST_BYTES = 10, 300 << 20

@@ -24,8 +24,8 @@ from ..why.facts import asked_byte
 from ..why.fault import fault_words
 from ..why.hang import hang_lines
 from ..why.origins import advice
-from ..why.report import ALONE, DID, NEW_OWNER, output_lines, unread
-from ..why.suspect import Suspect
+from ..why.report import output_lines, unread
+from ..why.suspect import ALONE, DID, NEW_OWNER, Suspect
 from .chain import Way, chain_boxes
 from .data import Page, PageEdge
 from .questions import questions_of

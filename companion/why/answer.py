@@ -9,8 +9,7 @@ from .analysis import Analysis
 from .fault import fault_words
 from .hang import hang_lines
 from .loops import Loop
-from .report import ALONE, DID
-from .suspect import Suspect
+from .suspect import ALONE, DID, Suspect
 
 
 def row_of(facts: Analysis, n: int) -> dict[str, Any]:

@@ -12,17 +12,11 @@ from .fault import fault_words
 from .hang import hang_lines
 from .history import ADDRESS
 from .origins import advice
-from .suspect import Suspect
+from .suspect import ALONE, DID, NEW_OWNER, Suspect
 
 SUSPECTS, MORE_SUSPECTS, LINES, MORE_LINES, ORIGINS, MORE_ORIGINS = 5, 12, 10, 40, 6, 20
 ROW_WIDTH, TEXT_WIDTH, MOST_CALLS = 84, 78, 9
 SUSPECTS_HEAD = "SUSPECTS, likeliest first (a load and the store that it got; what a call did to the memory; a branch)"
-# What the guilty row of each kind did, and what its other two rows did.
-DID = {"store": "stored it in", "back": "gave the memory back in", "twice": "gave the memory back in",
-       "calls": "calls itself in", "branch": "chose the way in", "unlocked": "held no lock in", "order": "waits for a lock in",
-       "failed": "stored nothing in", "unset": "loaded from its stack what it never stored in"}
-NEW_OWNER = "the new owner stored in"
-ALONE = "twice", "calls", "branch", "unlocked", "order", "failed", "unset"     # kinds that have no load
 
 
 def report(facts: Analysis, more: bool = False) -> list[Part]:

@@ -13,6 +13,9 @@ import case                             # noqa: E402
 from common import COMPANION            # noqa: E402
 
 
+SYSTEMS = "_exit", "_replace", "_asdict", "_fields"
+
+
 def parsed(*names: str) -> ast.Module:
     with open(os.path.join(COMPANION, *names), encoding="utf-8") as file:
         return ast.parse(file.read())
@@ -55,6 +58,16 @@ class Parts(unittest.TestCase):
             self.assertTrue(lowest, f"a circle among {', '.join(uses)}")
             for part in lowest:
                 del uses[part]
+
+    def test_none_uses_what_another_module_keeps_for_itself(self) -> None:
+        """A name that begins with an underscore is its own module's; four are the system's."""
+        for part in parts():
+            for name in sorted(os.listdir(os.path.join(COMPANION, part))):
+                for node in ast.walk(parsed(part, name)) if name.endswith(".py") else ():
+                    taken = [each.name for each in node.names] if isinstance(node, ast.ImportFrom) and node.module != "__future__" else []
+                    if isinstance(node, ast.Attribute) and not (isinstance(node.value, ast.Name) and node.value.id == "self"):
+                        taken = [node.attr]
+                    self.assertFalse([each for each in taken if re.match("_[a-z]", each) and each not in SYSTEMS], f"{part}/{name}:{getattr(node, 'lineno', 0)}")
 
     def test_none_stands_outside(self) -> None:
         self.assertEqual(sorted(name for name in os.listdir(COMPANION) if name.endswith(".py")), ["__init__.py", "__main__.py", "library.py"])
