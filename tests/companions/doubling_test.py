@@ -9,7 +9,7 @@ import sys
 sys.path.insert(0, os.path.join(os.path.dirname(os.path.abspath(__file__)), "lib"))
 import case
 import common
-from gdb.recordings import (A0, A1, A2, A7, DATA, ECALL, T0, T1, T2, addi, atomic, branch_unless_equal, elf_of, immediate,
+from gdb.recordings import (A0, A1, A2, A7, DATA, ECALL, T0, T1, T2, addi, atomic, branch_unless_equal, elf_of,
                             jump_to, load, lui, pc_of, store)
 
 from companion.call import words as call
