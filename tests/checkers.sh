@@ -27,7 +27,7 @@ else
     skips "types of tools and tests: mypy isn't here"
 fi
 
-# Where a module adds a folder to the path, imports follow; a slice of sums has spaces.
+# Imports follow what adds a folder to the path, and a slice of sums has spaces.
 what="the style of what is in Python, by flake8"
 if type -P flake8 >/dev/null; then
     runs 0 flake8 --isolated --max-line-length 160 --extend-ignore E127,E128,E203,E402 --per-file-ignores companion/__init__.py:F401,F811 \

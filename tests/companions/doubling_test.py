@@ -109,6 +109,7 @@ class DoublingTest(case.Case):
             file.write(elf_of(family(rounds)))
         with open(common.path("input"), "wb") as file:
             file.write(bytes(range(256)) * 4096)
+
         def log(seed):
             return common.record(f"{name}-{seed}", elf, "--harts", str(harts), "--seed", seed, "--limit", str(limit or 1000000),
                                  "--log-size", "16777216", "--input", common.path("input"))

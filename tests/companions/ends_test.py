@@ -237,7 +237,7 @@ def seconds_after(words, when):
     process.stderr.close()
     _, status, used = os.wait4(process.pid, 0)
     process.returncode = 0                      # it is waited for
-    return used.ru_utime + used.ru_stime - before, os.waitstatus_to_exitcode(status), err
+    return used.ru_utime + used.ru_stime - before, os.WEXITSTATUS(status) if os.WIFEXITED(status) else -os.WTERMSIG(status), err
 
 
 def case_ctrl_c_ends_work_at_once(recordings):
