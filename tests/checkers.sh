@@ -1,5 +1,5 @@
 #!/usr/bin/env bash
-# Tries that shellcheck warns of no script, and that mypy has nothing to say of the tools: tests/checkers.sh
+# Tries what shellcheck says of the scripts, and mypy and flake8 of what is in Python: tests/checkers.sh
 set -u
 top=$(cd "$(dirname "$0")/.." && pwd)
 work=$(mktemp -d)
@@ -16,10 +16,23 @@ else
     skips "the scripts: shellcheck isn't here"
 fi
 
-what="the tools by mypy"
+# Tools and tests in Python. What a test gets has no types of its own, so what may be None there isn't asked of.
+what="types of tools and tests, by mypy"
 if type -P mypy >/dev/null; then
     runs 0 mypy --python-version 3.8 --cache-dir "$work/mypy" tools/*.py tools/help/make.py
+    MYPYPATH=tests/companions/lib:tests/companions:tests/hostile:tests/crashes:tools:. runs 0 mypy --python-version 3.8 \
+        --cache-dir "$work/mypy" --explicit-package-bases --check-untyped-defs --no-strict-optional --disable-error-code var-annotated \
+        --disable-error-code misc --disable-error-code assignment {bench,tests,tests/hostile,tests/crashes}/*.py tests/companions/{,lib/,gdb/}*.py
 else
-    skips "the tools: mypy isn't here"
+    skips "types of tools and tests: mypy isn't here"
+fi
+
+# Imports follow what adds a folder to the path, and a slice of sums has spaces.
+what="the style of what is in Python, by flake8"
+if type -P flake8 >/dev/null; then
+    runs 0 flake8 --isolated --max-line-length 160 --extend-ignore E127,E128,E203,E402 --per-file-ignores companion/__init__.py:F401,F811 \
+        companion python tools tests bench examples
+else
+    skips "the style: flake8 isn't here"
 fi
 end

@@ -107,14 +107,14 @@ SAMPLES = [
 STRING = r'"(?:\\.|[^"\\])*"'
 SHORT_STRING = r"\"(?:\\.|[^\"\\\n])*\"|'(?:\\.|[^'\\\n])*'"
 DOCSTRING = r'^[ \t]*[a-z]?"""(?P<text>(?:\\.|[^\\])*?)"""'
-COMMENTS = {
+MARKS = {
     ".rt": rf'r(?P<hashes>#*)".*?"(?P=hashes)|{STRING}|\'(?:\\.|[^\'\\])\'|(?P<mark>//[/!]?)(?P<line>[^\n]*)',
     ".antt": rf"{STRING}|(?P<mark>(?<!\S)--)(?P<line>[^\n]*)",
     ".py": rf'{DOCSTRING}|"""(?:\\.|[^\\])*?"""|{SHORT_STRING}|(?P<mark>#)(?!!)(?P<line>[^\n]*)',
     ".sh": r"'[^'\n]*'|\"(?:\\.|[^\"\\\n])*\"|(?P<mark>(?<!\S)#)(?!!)(?P<line>[^\n]*)",
     ".edit": r"(?P<mark>^#)(?P<line>[^\n]*)",
 }
-COMMENTS = {ending: re.compile(pattern, re.S | re.M) for ending, pattern in COMMENTS.items()}
+COMMENTS = {ending: re.compile(pattern, re.S | re.M) for ending, pattern in MARKS.items()}
 ALIKE = {".bash": ".sh", "zelkuma": ".sh", "run": ".sh", "crates.txt": ".edit"}
 
 # Sources, and the faults that their comments have, each as line and words.

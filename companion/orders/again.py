@@ -3,7 +3,7 @@ from __future__ import annotations
 
 import os
 import struct
-from typing import Mapping, Sequence
+from typing import Mapping
 
 from ..call import program, streams
 from ..call.errors import BAD_LOG, UNREADABLE, CompanionError

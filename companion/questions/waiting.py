@@ -6,7 +6,7 @@ import re
 from array import array
 from binascii import unhexlify
 from itertools import compress
-from typing import Iterable, Iterator, NamedTuple, Optional, Sequence
+from typing import Iterable, Iterator, NamedTuple, Sequence
 
 from ..recording.elf import Elf
 from ..recording.instruction import AMO, CALL, LOAD, OP_AMO, STORE, Instruction

@@ -7,7 +7,7 @@ import bisect
 from array import array
 from typing import NamedTuple, Optional
 
-from .instruction import LOAD, NAMES, SP, STORE, Instruction
+from .instruction import LOAD, NAMES, SP, Instruction
 from .log import Log
 
 # A row's flags. OFFSET: the byte of its word. UNSTORED: no row stored what it loads. CHANGED: a `read` call did since the

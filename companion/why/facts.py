@@ -7,7 +7,6 @@ from ..call.errors import NO_INTERVAL, REFUSED, CompanionError
 from ..call.options import whole
 from ..call.text import clean
 from ..recording.elf import Elf
-from ..recording.instruction import STORE
 from ..recording.log import WRITE_CALL, At, Log, SystemCall
 from ..recording.naming import NO_TOOL, places_of
 from ..recording.places import Frame
@@ -187,4 +186,3 @@ def find_row(trace: Trace, at: At) -> int:
     if not n:
         raise CompanionError(f"the log holds no row {at.hart}:{at.count}", NO_INTERVAL)
     return n
-

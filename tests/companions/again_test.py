@@ -86,7 +86,8 @@ def case_refusals(recordings):
     before = {name: content(name) for name in (log, book, elf, new)}
     for status, words in (
             (4, [log, elf, recordings.path("none"), new, *source]), (17, [log, elf, other, new, *source]),
-            (17, [log, elf, shorter, new, *source]), (17, [log, elf, book, new]), (16, [second, COUNTER, first_book, new]), (8, [log, TABLE, book, new, *source]),
+            (17, [log, elf, shorter, new, *source]), (17, [log, elf, book, new]),
+            (16, [second, COUNTER, first_book, new]), (8, [log, TABLE, book, new, *source]),
             (7, [elf, elf, book, new, *source]), (4, [log, elf, book, new, "--input", recordings.path("none")]),
             (2, [log, elf, book, log, *source]), (2, [log, elf, book, elf, *source]), (2, [log, elf, book, link, *source]),
             (2, [log, elf, book, book, *source]), (3, [log, elf, book, recordings.folder, *source]),

@@ -69,7 +69,8 @@ class CallsTest(case.Case):
         self.assertIn("no return  from sum_of ", said)
 
     def test_functions_that_put_registers_aside_by_a_library(self):
-        self.compared(*self.crash("libc_tree"), "__malloc_malloc")
+        log, elf = self.crash("libc_tree")
+        self.compared(log, elf, "__malloc_malloc")
 
     def test_calls_of_several_harts(self):
         log, elf = self.crash("race_list")

@@ -59,9 +59,9 @@ class CompareTest(case.Case):
             said = json.loads(self.says("compare", *logs, elf, "--json"))
             self.assertEqual([each["hart"] for each in said["parted"]], harts)
             for each in said["parted"]:
-                for log, load, giver in zip(logs, each["loads"], each["givers"]):
-                    word = re.search(r"load 0*(\w+)=", load["row"])[1]
-                    before = common.output("joint", log, elf).decode().partition(load["row"])[0].split("\n")
+                for log, loaded, giver in zip(logs, each["loads"], each["givers"]):
+                    word = re.search(r"load 0*(\w+)=", loaded["row"])[1]
+                    before = common.output("joint", log, elf).decode().partition(loaded["row"])[0].split("\n")
                     self.assertEqual(giver, ([""] + [line for line in before if f"store 000{word}=" in line])[-1])
 
     def test_refusals(self):
@@ -78,7 +78,8 @@ class CompareTest(case.Case):
 S0 = 8
 LOAD, LEAVE, AGAIN, STORE_IT, COUNT, SWAP, SWAP_2, LEAVE_2, ADD, OUT, OTHER = range(0x10000, 0x10000 + 44, 4)
 WORDS = {LOAD: load(T0, S0), LEAVE: branch_unless_equal(T0, 0, 8), AGAIN: branch_unless_equal(T0, T1, -8), STORE_IT: store(T0, S0),
-         COUNT: addi(T2, T2, 1), SWAP: atomic(1, T0, S0, T1), SWAP_2: atomic(1, T0, S0, T1), LEAVE_2: branch_unless_equal(T0, 0, 8), ADD: atomic(0, T0, S0, T1), OUT: addi(A0, 0, 1), OTHER: addi(A0, 0, 2)}
+         COUNT: addi(T2, T2, 1), SWAP: atomic(1, T0, S0, T1),
+         SWAP_2: atomic(1, T0, S0, T1), LEAVE_2: branch_unless_equal(T0, 0, 8), ADD: atomic(0, T0, S0, T1), OUT: addi(A0, 0, 1), OTHER: addi(A0, 0, 2)}
 
 
 class Code:
@@ -90,7 +91,7 @@ class Code:
 
 def ways(good, bad, size, stopped=False):
     """How a hart parts whose rows are at these addresses and come so many at a time: whether, at which counts, and whether it waits."""
-    lane = Lane(0, Loops(Code()))
+    lane = Lane(0, Loops(Code()))           # type: ignore[arg-type]
     for begin in range(0, max(len(good), len(bad)), size):
         for way, pcs in ((lane.good, good), (lane.bad, bad)):
             way.add(b"".join(b"\n0 %d %08x x" % (begin + at, pc) for at, pc in enumerate(pcs[begin:begin + size])))
@@ -133,8 +134,8 @@ class WaysTest(unittest.TestCase):
 
     def test_a_wait_up_to_the_limit(self):
         begin, wait = [COUNT, LOAD, AGAIN], [LOAD, AGAIN]
-        for rest in ([], [LOAD]):
-            self.assertEqual(self.both(begin + [OUT], begin + wait * 50 + rest, stopped=True), (True, 3, 103, True))
+        for loads in 0, 1:
+            self.assertEqual(self.both(begin + [OUT], begin + wait * 50 + [LOAD] * loads, stopped=True), (True, 3, 103, True))
 
     def test_one_that_ends_sooner(self):
         self.assertEqual(self.both([OUT, OTHER], [OUT]), (True, 1, 1, False))

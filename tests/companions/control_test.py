@@ -11,7 +11,7 @@ from gdb.recordings import (A0, DATA, EXIT, T0, T1, T2, addi, branch_unless_equa
 from companion.why.control import Control, other_side
 from companion.recording.elf import Elf
 from companion.recording.log import read_log
-from companion.recording.trace import read_trace
+from companion.recording.trace import Trace, read_trace
 
 RA = 1
 # T0 is the data's address. Each place is told by its number; the words after `#` are what the test asks of it.
@@ -36,6 +36,9 @@ PROGRAM = [
 
 
 class ControlTest(case.Case):
+    trace: Trace
+    control: Control
+
     @classmethod
     def setUpClass(cls):
         elf = common.path("control.elf")

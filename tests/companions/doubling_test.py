@@ -9,7 +9,7 @@ import sys
 sys.path.insert(0, os.path.join(os.path.dirname(os.path.abspath(__file__)), "lib"))
 import case
 import common
-from gdb.recordings import (A0, A1, A2, A7, DATA, ECALL, T0, T1, T2, addi, atomic, branch_unless_equal, elf_of, immediate,
+from gdb.recordings import (A0, A1, A2, A7, DATA, ECALL, T0, T1, T2, addi, atomic, branch_unless_equal, elf_of,
                             jump_to, load, lui, pc_of, store)
 
 from companion.call import words as call
@@ -109,6 +109,7 @@ class DoublingTest(case.Case):
             file.write(elf_of(family(rounds)))
         with open(common.path("input"), "wb") as file:
             file.write(bytes(range(256)) * 4096)
+
         def log(seed):
             return common.record(f"{name}-{seed}", elf, "--harts", str(harts), "--seed", seed, "--limit", str(limit or 1000000),
                                  "--log-size", "16777216", "--input", common.path("input"))

@@ -179,7 +179,7 @@ def case_what_seeds_has_found_is_kept(recordings):
         process = calls.start("seeds", "-j2", "--only", "seeds,sleepers", "--until", "0", "0", "9", "--", calls.elf, calls.new,
                               calls.new + "2")
         awaits(lambda: any("sleeper-0.1" in names for _, _, names in os.walk(calls.folder))
-               and len(programs(process.pid)) == 1)
+               and len(below(process.pid)) == 4)        # three are guards
         process.send_signal(number)
         out, err = process.communicate(timeout=BOUND)
         assert process.returncode == status and out.startswith(b"sleeper 0: status 0\n") and err == b"", (out, err)
@@ -237,7 +237,7 @@ def seconds_after(words, when):
     process.stderr.close()
     _, status, used = os.wait4(process.pid, 0)
     process.returncode = 0                      # it is waited for
-    return used.ru_utime + used.ru_stime - before, os.waitstatus_to_exitcode(status), err
+    return used.ru_utime + used.ru_stime - before, os.WEXITSTATUS(status) if os.WIFEXITED(status) else -os.WTERMSIG(status), err
 
 
 def case_ctrl_c_ends_work_at_once(recordings):

@@ -117,7 +117,7 @@ def case_03_memory_that_is_loaded_later_in_another_order(recordings):
     log, elf = recordings.words("orders", code, "--harts", "2", "--input", recordings.write("input", b"one.two."))
     client = Client(log, elf)
     assert Stop(client("vCont;c")).end == "end"
-    for stop, before, text in ((9, [], b"two."), (5, ["bc"] + ["vCont;s:2"] * 5 + ["Hg1"], b"one.")):
+    for stop, before, text in ((9, (), b"two."), (5, ("bc", *["vCont;s:2"] * 5, "Hg1"), b"one.")):
         for packet in before:
             client(packet)
         client(f"Z0,{pc_of(stop):x},4")

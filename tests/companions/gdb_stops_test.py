@@ -121,8 +121,8 @@ def case_07_what_a_read_fills(recordings):
             store(A2, A1, 2), *EXIT]
     log, elf = recordings.words("filled", code, "--input", recordings.write("input", b"hello world"))
     client = Watcher(log, elf)
-    for kind, first, expected in (("2", DATA + 5, []), ("2", DATA + 6, [5]), ("4", DATA + 10, [5, 6]),
-                                  ("2", DATA + 11, [6]), ("3", DATA + 6, [])):
+    for kind, first, expected in (("2", DATA + 5, ()), ("2", DATA + 6, (5,)), ("4", DATA + 10, (5, 6)),
+                                  ("2", DATA + 11, (6,)), ("3", DATA + 6, ())):
         client.watch = f"{kind},{first:x},1"
         client.toggle(True)
         forward, backward = stops_of(client, "vCont;c", "bc")

@@ -7,7 +7,7 @@ import sys
 sys.path.insert(0, os.path.join(os.path.dirname(os.path.abspath(__file__)), "lib"))
 import case
 import common
-from gdb.recordings import A0, A1, A2, A7, DATA, ECALL, EXIT, FIRST, T0, T1, addi, elf_of, load, lui, store
+from gdb.recordings import A0, A1, A2, A7, DATA, ECALL, EXIT, FIRST, T0, T1, addi, elf_of, load, lui
 
 READ, WRITE = 63, 64
 
@@ -20,7 +20,7 @@ def call(number, stream, address, size):
 def texts(said):
     """The texts of the writes, put together; what isn't known stands in brackets."""
     lines = re.findall(r"^ *\d+\. .* to .*, in .*\n {5}(.*)\n {5}\d+ \d+ ", said, re.M)
-    return "".join(re.sub(r"'((?:[^'\\]|\\.)*)'", lambda found: found.group(1).encode().decode("unicode_escape"), line)
+    return "".join(re.sub(r"'((?:[^'\\]|\\.)*)'", lambda found: str(found[1]).encode().decode("unicode_escape"), line)
                    for line in lines)
 
 

@@ -87,7 +87,6 @@ class OutputsTest(case.Case):
             self.assertIn("zelkuma %s " % word, said)
         self.assertIn("Companions show", common.companion("help", environment={"PYTHONOPTIMIZE": "2"})[1])
 
-
     def test_progress_on_a_terminal(self):
         log, elf = self.crash("hang")
         ours, theirs = pty.openpty()

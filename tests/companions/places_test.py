@@ -6,7 +6,6 @@ import sys
 sys.path.insert(0, os.path.join(os.path.dirname(os.path.abspath(__file__)), "lib"))
 import case
 import common
-import hostile
 
 from companion.recording import places
 from companion.recording.elf import Elf

@@ -116,9 +116,9 @@ def case_what_is_no_older_one_is_never_overwritten(recordings):
 
 def case_two_outputs_are_two_files(recordings):
     call = Call(recordings, "two", "seeds")
-    for make in (os.link, os.symlink):
+    for make in "link", "symlink":
         open(call.path("book"), "wb").close()
-        make(call.path("book"), call.target)
+        getattr(os, make)(call.path("book"), call.target)
         call.refuses(call.target)
         os.remove(call.target)
     call = Call(recordings, "two-of-triage", "triage --json")

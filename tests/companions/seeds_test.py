@@ -15,7 +15,7 @@ import time
 from gdb import cases
 from gdb.cases import Skipped
 from common import COMPANION, EXAMPLES, PROGRAM
-from gdb.recordings import Recordings, elf_of
+from gdb.recordings import elf_of
 
 SEEDS = [sys.executable, COMPANION, "seeds"]
 HAND_OVER, BUFFERS, TWO_LOCKS = (os.path.join(EXAMPLES, name + ".elf") for name in ("hand_over", "buffers", "two_locks"))
@@ -74,9 +74,9 @@ class Folder:
 
 def case_lowest_seed_and_its_files(recordings):
     log, _ = recordings.example("hand_over", "--harts", "2", "--seed", str(CRASHES))
-    for jobs in (["-j", "1"], ["-j2"], ["-j", "8"], []):
-        folder = Folder(recordings, "found" + "".join(jobs))
-        done = seeds(*jobs, "--only", "seeds", "1", "40", "--", "--harts", "2", HAND_OVER, folder.log, folder.book)
+    for jobs in "-j 1", "-j2", "-j 8", "":
+        folder = Folder(recordings, "found" + jobs)
+        done = seeds(*jobs.split(), "--only", "seeds", "1", "40", "--", "--harts", "2", HAND_OVER, folder.log, folder.book)
         command = f"zelkuma record --harts=2 --seed={CRASHES} {HAND_OVER} {folder.log} {folder.book}"
         assert done[0] == 0 and done[1].startswith(f"seed {CRASHES}: status 10\n{command}\n{HEAD}  "), done
         assert [row[:3] for row in rows(done[1])] == [["0", "2", "seed 1"], ["10", "1", "seed 3"]] and done[2] == "", done

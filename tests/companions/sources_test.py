@@ -2,7 +2,6 @@
 """Which files are shown as sources: what an ELF file or an archive names is its own matter, what a user has isn't."""
 import os
 import shutil
-import subprocess
 import sys
 import tempfile
 
@@ -21,7 +20,7 @@ class SourcesTest(case.Case):
         log, elf = self.crash("use_after_free")
         self.folder = common.path(self.id().rsplit(".", 1)[-1])
         os.mkdir(self.folder)
-        self.log, self.elf = shutil.copy(log, self.folder), shutil.copy(elf, self.folder)
+        self.log, self.elf_file = shutil.copy(log, self.folder), shutil.copy(elf, self.folder)
         self.source, self.outside = os.path.join(self.folder, NAME), common.path("outside")
         os.makedirs(self.outside, exist_ok=True)
         with open(os.path.join(common.CRASHES, NAME), encoding="ascii") as file:
@@ -39,7 +38,7 @@ class SourcesTest(case.Case):
         return name
 
     def says_of(self, word, *words):
-        status, said, err = common.companion(word, self.log, self.elf, *words, environment={"MYTOKEN": SECRET * 100}, bound=BOUND)
+        status, said, err = common.companion(word, self.log, self.elf_file, *words, environment={"MYTOKEN": SECRET * 100}, bound=BOUND)
         self.assertEqual((status, err), (0, ""), (word, words))
         return said
 
@@ -56,7 +55,7 @@ class SourcesTest(case.Case):
 
     def test_a_source_that_is_newer_than_the_elf_is_told(self):
         self.write(self.source)
-        built = os.stat(self.elf).st_mtime
+        built = os.stat(self.elf_file).st_mtime
         for later, is_told in ((0, False), (3600, True)):
             os.utime(self.source, (built + later, built + later))
             self.assertEqual(f"{NAME} is newer than the ELF file" in self.says_of("why"), is_told)
@@ -97,7 +96,7 @@ class SourcesTest(case.Case):
         folder = tempfile.mkdtemp(prefix="", dir="/tmp")      # a name as long as the one whose place it takes
         self.addCleanup(shutil.rmtree, folder)
         named, given = os.path.join(self.folder, "named.elf"), ["--source", folder]
-        with open(self.elf, "rb") as elf, open(named, "wb") as file:
+        with open(self.elf_file, "rb") as elf, open(named, "wb") as file:
             file.write(elf.read().replace(b"tests/crashes\0", folder.encode() + b"\0"))
         self.write(folder, NAME)
         self.assertEqual(self.shows("--names", named), (False, True))
@@ -113,11 +112,11 @@ class SourcesTest(case.Case):
         os.remove(self.source)
         self.assertEqual(self.shows("--source", self.outside), (True, False))
         for word in ("why", "view", "race"):
-            self.assertIn("is no folder", self.refuses(4, word, self.log, self.elf, "--source", self.write(other, "file")))
+            self.assertIn("is no folder", self.refuses(4, word, self.log, self.elf_file, "--source", self.write(other, "file")))
 
     def test_races_have_the_same_sources(self):
         log, elf = self.crash("race_list")
-        self.log, self.elf = shutil.copy(log, self.folder), shutil.copy(elf, self.folder)
+        self.log, self.elf_file = shutil.copy(log, self.folder), shutil.copy(elf, self.folder)
         with open(os.path.join(common.CRASHES, "race_list.c"), encoding="ascii") as file:
             self.text = file.read().replace(";", f"; /* {SECRET} */")
         outside = self.write(self.outside, "race_list.c")

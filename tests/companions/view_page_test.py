@@ -29,6 +29,9 @@ NO_ROWS = """(() => { let bad = 0; const each = Math.ceil(40 / firstCount.size);
 
 @unittest.skipUnless(chromium.find(), "chromium isn't installed")
 class PageTest(case.Case):
+    browser: chromium.Browser
+    pages: dict
+
     @classmethod
     def setUpClass(cls):
         super().setUpClass()

@@ -67,7 +67,9 @@ class ClickTest(Pages):
 
     def test_clicks(self):
         with chromium.Browser() as browser:
-            text = lambda id: browser.run(f"byId('{id}').innerText")
+            def text(id):
+                return browser.run(f"byId('{id}').innerText")
+
             self.opened(browser, self.page("--with-questions")[0])
             self.assertIn("of each the last 40", text("question-note"))
             chosen = browser.run("[state.chosen.hart, state.chosen.count]")

@@ -1,4 +1,5 @@
 """zelkuma view: what a page holds, and that names of a log or an ELF get into it as text alone."""
+import array
 import html.parser
 import json
 import os
@@ -243,12 +244,12 @@ class EdgesTest(unittest.TestCase):
     def test_evenly_chosen_edges_are_even(self):
         """Of a log whose Edges crowd at the end as many are chosen of each part."""
         class Log:
-            edges = logs.Edges([0] * 20000, [0] * 20000, [i % 2 for i in range(20000)], [1] * 20000)
+            edges = logs.Edges(*(array.array("q", column) for column in zip(*((0, 0, i % 2, 1) for i in range(20000)))))
 
         class Rows:
             size = 10000
 
-        page = view_data.Page(trace.Trace(Rows, None, None), None, Log)
+        page = view_data.Page(trace.Trace(Rows, None, None), None, Log)     # type: ignore[arg-type]
         rows = list(range(5000)) + [5000 + i // 3 for i in range(15000)]
         even = page.even_edges(rows)
         late = sum(rows[i] >= 5000 for i in even)

@@ -9,6 +9,7 @@ import importlib
 import multiprocessing
 import os
 import sys
+from typing import Any, Dict
 
 HERE = os.path.dirname(os.path.abspath(__file__))
 sys.path[:0] = [os.path.join(HERE, "..", ".."), os.path.join(HERE, "..", "companions")]
@@ -35,7 +36,7 @@ def no_row(*_given):
 
 # Of each rule the words that the report says of it, if there are any, and the names of `companion` that leave it out, with
 # their values then. A program of which the words aren't said at all isn't tried again.
-RULES = {
+RULES: Dict[str, Any] = {
     ALL: ("", {}),
     "another hart": ("another hart stored it", {"suspects.OTHER_HART": 0}),
     "stored in parts": ("stored as", {"suspects.NARROW": 0}),

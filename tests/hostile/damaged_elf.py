@@ -106,7 +106,7 @@ def in_child(words, folder):
         try:
             call.main(words)
         except SystemExit as ended:
-            os._exit(ended.code)
+            os._exit(int(ended.code or 0))
         except BaseException:                   # a traceback is what this program looks for
             import traceback
             traceback.print_exc()

@@ -38,6 +38,7 @@ import struct
 import subprocess
 import sys
 import time
+from typing import Dict
 
 import forge
 import verdict
@@ -63,7 +64,7 @@ STATUSES = {
 }
 DIGEST, N = "[0-9a-f]{64}", r"\d+"
 MARK = rf"{N} \w+ [0-9a-f]{{8}}"
-LINES = {
+SAID = {
     6: rf"elf: (NotElf|NotRv32|NotStatic|NeedsCompressed|NeedsE|NoSegment|(TooMany|Outside) {N}|"
     rf"(Truncated|SegmentsTouch) {N} {N}|EntryOutside [0-9a-f]{{8}})",
     7: rf"log: (BadMagic|(Short|BadVersion|BadBlock|BadRecord) {N}|(BadHead|LengthDiffers|BadOrder) {N} {N}|"
@@ -79,7 +80,8 @@ LINES = {
     20: f"races: more than {N}",
     21: f"no row {N}",
 }
-LINES = {status: re.compile(f"bugnet: {line}\n") for status, line in LINES.items()}
+LINES = {status: re.compile(f"bugnet: {line}\n") for status, line in SAID.items()}
+NO_VARIABLES: Dict[str, str] = {}
 NUMBERS = (0, 1, 2, 3, 7, 8, 9, 255, 2**16, 2**31, 2**32 - 1, 2**40, 2**41, 2**41 + 1, 2**63, 2**64 - 1)
 # The fields of a record by its tag: place and size.
 FIELDS = {
@@ -128,7 +130,7 @@ class Calls:
             (os.POSIX_SPAWN_OPEN, 1, out, create, 0o600),
             (os.POSIX_SPAWN_OPEN, 2, self.path("err"), create, 0o600),
         ]
-        pid = os.posix_spawn(PROGRAM, ["bugnet", *words], {}, file_actions=files)
+        pid = os.posix_spawn(PROGRAM, ["bugnet", *words], NO_VARIABLES, file_actions=files)
         signal.signal(signal.SIGALRM, lambda *_: os.kill(pid, signal.SIGKILL))
         signal.setitimer(signal.ITIMER_REAL, PATIENCE)
         _, ended, used = os.wait4(pid, 0)
@@ -283,7 +285,7 @@ def recorded(calls, elf, *words):
     """Returns the log of a recording; nothing where the program doesn't take the words."""
     names = elf, calls.path("LOG"), calls.path("BOOK")
     ended, _ = calls.spawn(("record", *map(str, words), "--input", calls.path("input"), *names), "/dev/null")
-    return calls.read("LOG") if os.waitstatus_to_exitcode(ended) in (0, 10, 11) else b""
+    return calls.read("LOG") if os.WIFEXITED(ended) and os.WEXITSTATUS(ended) in (0, 10, 11) else b""
 
 
 def recordings(folder):

@@ -38,6 +38,7 @@ import struct
 import subprocess
 import sys
 import tempfile
+from typing import Any, Dict
 
 import forge
 
@@ -78,7 +79,7 @@ COMMANDS = {
 ALL_OF = {"demo": 600}
 SESSION = b"where\nstep 2\nregs\nbreak 10064\ngo\nword 20000\nunbreak 10064\ngo\nwhere\nquit\n"
 # The status of a refused call, and how its line begins.
-SAID = {
+SAID: Dict[str, Dict[Any, str]] = {
     "alloc": {9: "bugnet: out of memory\n"},
     "open": {3: "bugnet: store failed: "},
     "read": {3: "bugnet: store failed: ", 12: "bugnet: read failed\n"},

@@ -67,7 +67,6 @@ class Case(unittest.TestCase):
         self.assertRegex(err, r"\Azelkuma: [^\n]+\n\Z")
         return err
 
-
     def refuses_here(self, status, module, *words):
         """The same of a companion's module, without a process of its own. Gives what it says."""
         with self.assertRaises(CompanionError) as found:
