@@ -220,8 +220,8 @@ class History:
         return bool(found)
 
     def not_stored(self, control: Control, n: int, pair: Pair, price: int, is_spill: bool) -> None:
-        """The branches by which a word that a row loads wasn't stored again. One let another hart leave what a loop waits for, one
-        went past those who store it, one spared it."""
+        """The branches by which a word that a row loads wasn't stored again: another hart left what a loop waits for, those who
+        store it were passed, or the word was spared."""
         rows, store = self.rows, pair.store
         if self.hangs and price <= NEAR_LOOP and rows.hart[n] != rows.hart[store]:
             self.decide(control.left(store), Decided(price + AWAITED, n, "awaited"))
