@@ -105,8 +105,9 @@ class Ways:
         self.rows = facts.rows
         self.times: Counter[tuple[int, int]] = Counter()
         for hart in self.rows.last:
-            codes = array("I", compress(self.rows.code, rows_of(self.rows, hart)))
-            self.times.update(pairs_of(codes))
+            is_alone = len(self.rows.last) == 1         # else its rows are picked
+            codes = self.rows.code if is_alone else array("I", compress(self.rows.code, rows_of(self.rows, hart)))
+            self.times.update(pairs_of(codes, int(is_alone)))
         self.all_times: Counter[int] = Counter()
         for (at, _), times in self.times.items():
             self.all_times[at] += times

@@ -123,12 +123,13 @@ class Loop:
                        if at not in self.places and times[at] >= OFTEN), reverse=True)
 
 
-def pairs_of(codes: array[int]) -> Counter[tuple[int, int]]:
-    """How often each code followed each. Two neighbours are one number of twice as many bytes."""
+def pairs_of(codes: array[int], start: int = 0) -> Counter[tuple[int, int]]:
+    """How often each code followed each, from a place on. Two neighbours are one number of twice as many bytes."""
     found: Counter[int] = Counter()
-    data = codes.tobytes()
-    for begin in (0, codes.itemsize):
-        found += counted(array("Q", data[begin:begin + (len(data) - begin) // 8 * 8]))
+    for begin in range(start, len(codes), AT_ONCE):
+        data = codes[begin:begin + AT_ONCE + 1].tobytes()
+        for at in (0, codes.itemsize):
+            found.update(array("Q", data[at:at + (len(data) - at) // 8 * 8]))
     first, second = (0, 32) if sys.byteorder == "little" else (32, 0)
     return Counter({(pair >> first & LOW, pair >> second & LOW): times for pair, times in found.items()})
 

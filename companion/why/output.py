@@ -91,7 +91,7 @@ class Reader:
         for name, hart in self.harts.items():
             if hart.returns:                    # its last row was a return
                 self.come_back(hart, text, name, 0)
-        for asked in ASKED.finditer(text):
+        for asked in ASKED.finditer(text) if b" ecall" in text else ():
             begin = text.rfind(b"\n", 0, asked.start()) + 1
             name, count, _ = text[begin:asked.start()].split(b" ", 2)
             call = self.calls.get((int(name), int(count)))
@@ -175,12 +175,13 @@ def write_answer(places: Places, write: Write) -> dict[str, Any]:
 
 def texts_of(log: Log, elf_name: str, most: int) -> Iterator[bytes]:
     """About so many of the last rows."""
-    left, rows = max(0, log.rows() - most) if log.rows() > 2 * most else 0, 0
+    left = log.rows() - most if log.rows() > 2 * most else 0
     for text in chunks(log.name, elf_name):
-        here = text.count(b"\n")
-        rows += here
-        if rows > left:
-            yield text if rows - here >= left else parted(text, left - rows + here)[1]
+        if left:
+            passed, text = parted(text, left)
+            left -= passed.count(b"\n")
+        if text:
+            yield text
 
 
 def numbered(log: Log) -> dict[SystemCall, int]:

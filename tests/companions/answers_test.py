@@ -51,8 +51,8 @@ class AnswersTest(case.Case):
         self.assertEqual((loop["hart"], loop["since"], loop["rows"], loop["rounds"]), (0, 51660, 8340, 14))
         self.assertEqual([item["place"]["line"] for item in loop["exits"]], [92, 68, 61])
         self.assertIn(69, [item["place"]["line"] for item in loop["stopped"]])
-        self.assertEqual((found["suspects"][0]["kind"], found["suspects"][0]["store"]), ("exit", None))
-        self.assertEqual([point["place"]["line"] for point in found["suspects"][0]["extra"]], [43, 69])
+        self.assertEqual([(item["kind"], item["store"] is None) for item in found["suspects"][:2]], [("store", False), ("branch", True)])
+        self.assertEqual([point["place"]["line"] for point in found["suspects"][1]["extra"]], [43, 69, 92])
 
     def test_race(self):
         log, elf = self.crash("race_settings")
