@@ -19,9 +19,10 @@ JUMPS = re.compile(rb" jalr? ")     # in rows of calls, returns and other jumps
 DIGITS = "0123456789abcdef"
 
 
-def chunks(log_name: str, elf_name: str, command: str = "joint", *words: str) -> Iterator[bytes]:
-    """All rows that a command prints, and how many they are at a terminal. It ends with the iterator, if that is dropped
-    before."""
+def chunks(log_name: str, elf_name: str, command: str = "joint", *words: str, total: int = 0) -> Iterator[bytes]:
+    """All rows that a command prints, and at a terminal how many have been read, of how many if that is given. It ends with the
+    iterator, if that is dropped before."""
+    of_all = f" of {number(total)}" if total else ""
     with Output(command, log_name, elf_name, *words) as out, streams.Progress() as progress:
         rest, behind, passed = b"\n", b"", 0
         while True:
@@ -36,7 +37,7 @@ def chunks(log_name: str, elf_name: str, command: str = "joint", *words: str) ->
                     read = b""
             if text:
                 passed += text.count(b"\n") if progress.is_shown else 0
-                progress.tell(f"{number(passed)} rows are read")
+                progress.tell(f"{number(passed)}{of_all} rows are read")
                 yield text
             if not read:
                 break

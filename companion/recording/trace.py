@@ -32,7 +32,7 @@ def read_trace(log: Log, elf_name: str, entries: AbstractSet[int] = frozenset(),
         rows, end = rows_before(log, elf_name, asked), head_of(asked)
     trace.rows.passed = left = max(0, rows - most) if most else 0
     reader = Reader(*trace)
-    for text in chunks(log.name, elf_name):
+    for text in chunks(log.name, elf_name, total=log.rows()):
         if left:
             passed, text = parted(text, left)
             reader.skip(passed)
@@ -59,7 +59,7 @@ def trace_of(log: Log, text: bytes) -> Trace:
 def rows_before(log: Log, elf_name: str, asked: At) -> int:
     """How many rows come before one."""
     rows = 0
-    for text in chunks(log.name, elf_name):
+    for text in chunks(log.name, elf_name, total=log.rows()):
         at = text.find(head_of(asked))
         if at >= 0:
             rows += text.count(b"\n", 0, at)

@@ -176,7 +176,7 @@ def write_answer(places: Places, write: Write) -> dict[str, Any]:
 def texts_of(log: Log, elf_name: str, most: int) -> Iterator[bytes]:
     """About so many of the last rows."""
     left = log.rows() - most if log.rows() > 2 * most else 0
-    for text in chunks(log.name, elf_name):
+    for text in chunks(log.name, elf_name, total=log.rows()):
         if left:
             passed, text = parted(text, left)
             left -= passed.count(b"\n")

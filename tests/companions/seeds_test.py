@@ -77,7 +77,7 @@ def case_lowest_seed_and_its_files(recordings):
     for jobs in "-j 1", "-j2", "-j 8", "":
         folder = Folder(recordings, "found" + jobs)
         done = seeds(*jobs.split(), "--only", "seeds", "1", "40", "--", "--harts", "2", HAND_OVER, folder.log, folder.book)
-        command = f"zelkuma record --harts=2 --seed={CRASHES} {HAND_OVER} {folder.log} {folder.book}"
+        command = shlex.join(["zelkuma", "record", "--harts=2", f"--seed={CRASHES}", HAND_OVER, folder.log, folder.book])
         assert done[0] == 0 and done[1].startswith(f"seed {CRASHES}: status 10\n{command}\n{HEAD}  "), done
         assert [row[:3] for row in rows(done[1])] == [["0", "2", "seed 1"], ["10", "1", "seed 3"]] and done[2] == "", done
         assert content(folder.log) == content(log) and folder.names() == ["BOOK", "LOG"]
