@@ -13,7 +13,7 @@ from ..recording.rows import FAULTS, LOADS, STORES
 from ..recording.trace import Trace
 from .control import Control
 
-MOST_ROWS = 200000          # the search is cut off there: it keeps two entries a row
+MOST_ROWS = 150000          # the search is cut off there: it keeps two entries a row
 ADDRESS, OUTPUT_ADDRESS = 12, 6
 FROM_FILE = 3               # a step along the address of a word that no row stored
 FILLED = 4                  # a step to where the words beside a word were stored that never was
