@@ -19,7 +19,7 @@ from .log import END, FIRST_FAULT, HEAD_2, HEADER, REASONS, SEAL, SIZES, At, End
 
 VERSION_1, LARGEST_SMALL = 1, 1 << 20   # a file of version 1 that is larger isn't read whole
 SETTINGS, BLOCK = 92, 4096                      # bytes of a head up to its count of dropped records; of a block's records
-FIRST_ROWS, MORE_ROWS = 1000000, 2400000        # are read at first, and if values come from before them
+FIRST_ROWS, MORE_ROWS = 1000000, 2600000        # are read at first, and if values come from before them
 
 
 class LogFile:

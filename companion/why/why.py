@@ -25,7 +25,7 @@ HELP = """Explains a crash: what happened, where, and which store, call or branc
 --source  shows sources below this folder too, not only below ELF's and the current one; may be given several times
 --row     asks of another row than the fault's
 --output  asks of a byte that the guest wrote, as `zelkuma output` numbers them
---rows    how many of the last rows are read; without it a million, and 2.4 million if values near the fault come from before
+--rows    how many of the last rows are read; without it a million, and 2.6 million if values near the fault come from before
 --book    tells first the switches between harts, if BOOK has no more than 40 of them, as that of `zelkuma shrink`
 --input   what the run read: with BOOK it is run again, to see that this is LOG's
 --more    longer lists
