@@ -17,6 +17,7 @@ from .turns import Pieces, again_at, pieces_of, shown
 
 MOST_TOLD = 40              # switches
 MOST_ROWS = 2600000         # of a log, and turns of BOOK, among which they are looked for
+MOST_AUDITED = 500000000    # instructions of the run, which audit does again: some ten seconds
 STORY_OPTIONS = {"--book": True, "--input": True}
 STORY_HEAD = "SWITCHES between harts, in the order of BOOK"
 MOST_INLINED = 1            # lines into which a row is inlined are told
@@ -98,7 +99,7 @@ def read_story(log: Log, elf_name: str, book: str, input_name: str) -> Story:
     switches, turns = read_book(book, MOST_TOLD)
     if switches > MOST_TOLD:
         return Story(switches, (), [], f"{counted(switches, 'switch')} are too many to tell: zelkuma shrink finds an order with fewer")
-    if max(log.rows(), len(turns)) > MOST_ROWS:
+    if max(log.rows(), len(turns)) > MOST_ROWS or sum(end.count for end in log.ends.values()) > MOST_AUDITED:
         return Story(switches, (), [], f"{counted(switches, 'switch')}: the run is too long to look for their rows")
     check_book(log.shown, elf_name, book, [f"--input={input_name}"] if input_name else [])
     pieces = pieces_of(turns)

@@ -4,11 +4,15 @@ import os
 import re
 import subprocess
 import sys
+from unittest import mock
 
 sys.path.insert(0, os.path.join(os.path.dirname(os.path.abspath(__file__)), "lib"))
 import case
 import chromium
 import common
+
+from companion.recording import log as logs
+from companion.recording import story
 
 SHORT = "0x26 3x14 0x14 3x3"                    # of filters, as `shrink` finds it
 TOO_MANY = 42                                   # pieces
@@ -76,6 +80,14 @@ class StoryTest(case.Case):
         self.assertIn(f"BOOK\n  {switches} switches are too many to tell: zelkuma shrink finds an order with fewer\nFAULT\n", said)
         self.assertEqual(json.loads(self.says("race", "--json", "--book", book, log, elf))["book"],
                          {"all": switches, "order": "", "switches": []})
+
+    def test_a_long_run_is_not_done_again(self):
+        """How long `audit` would take is known by the log's Ends, before it is asked."""
+        log, elf, book = self.filters()
+        with mock.patch.object(story, "MOST_AUDITED", 10), mock.patch.object(story, "check_book") as asked:
+            found = story.read_story(logs.read_log(log), elf, book, "")
+        self.assertEqual((found.switches, found.left), ([], "3 switches: the run is too long to look for their rows"))
+        asked.assert_not_called()
 
     def test_another_book(self):
         log, elf, _ = self.recording("hand_over", "one", "--harts", "2", seed="3")
