@@ -55,7 +55,6 @@ tell() {
 [ -x "$program" ] || { echo "tests/quick.sh: there is no program $program" >&2 && exit 1; }
 program=$(readlink -f "$program")
 cd "$top" || exit 1
-tries tests/started.sh
 tries tests/script/zelkuma.sh
 tries tests/script/shipped.sh
 tries tests/script/calls.sh
