@@ -7,8 +7,6 @@ from dataclasses import dataclass
 from typing import Any, Iterator, List, NamedTuple, Optional
 
 from .call.errors import NO_INTERVAL, CompanionError
-from .gdb.fills import Fills
-from .gdb.goto import go_to_place
 from .gdb.memory import Memory
 from .gdb.session import Session, begin_session
 from .questions.calls import Values, calls_of
@@ -137,14 +135,13 @@ class Recording:
 
     def memory(self) -> Memory:
         if self._memory is None:
-            session, log = self.session(), self.asked.log
-            self._memory = Memory(log, self.asked.elf, session, Fills(session.steps, log))
+            self._memory = Memory(self.asked.log, self.asked.elf, self.session())
         return self._memory
 
     def at(self, hart: int, count: int) -> State:
         """The state before a hart's instruction of a count. It takes some 90 bytes for each row on the way."""
         session = self.session()
-        go_to_place(session, At(hart, count))
+        session.go_to_row(At(hart, count))
         return State(self, hart, session.at)
 
     def history(self, name: str, last: int = 100) -> List[Stored]:
@@ -158,6 +155,5 @@ class Recording:
         """The last calls of a function."""
         asked = self.asked
         found, values = calls_of(asked, function_of(asked.named, function), last), Values(asked)
-        return [Called(int(call.hart), call.count, values.arguments(call),
-                       values.text(call.begin.result, call.result) if call.begin.result and call.rows is not None else None,
-                       call.rows, asked.places.where(call.source)) for call in found.told]
+        return [Called(int(call.hart), call.count, values.arguments(call), values.result(call), call.rows, asked.places.where(call.source))
+                for call in found.told]

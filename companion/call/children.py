@@ -64,7 +64,7 @@ def start(words: Sequence[str], **streams: Any) -> subprocess.Popen[bytes]:
 
 
 class Process:
-    """A child by its number. `os.wait` is to tell how it ends."""
+    """A child by its number."""
 
     def __init__(self, pid: int) -> None:
         self.pid = pid
@@ -77,8 +77,9 @@ class Process:
         with contextlib.suppress(ProcessLookupError):
             os.kill(self.pid, signal.SIGKILL)
 
-    def wait(self) -> None:
-        os.waitpid(self.pid, 0)
+    def wait(self) -> int:
+        """Its status."""
+        return self.end(os.waitpid(self.pid, 0)[1])
 
 
 class Guard:

@@ -54,7 +54,7 @@ class Threads:
         if position.pc is None:
             text += " not in the log yet"
         if position.waits:
-            text += f" waits for hart {position.waits.hart} count {position.waits.at}"
+            text += f" waits for hart {position.waits.hart} count {position.waits.count}"
         else:
             text += f" {self.session.last_reason(hart) or ''}".rstrip()
         return text

@@ -1,16 +1,12 @@
 """Recordings that a companion makes: the words of `record`, the turns that a recording takes, and its command."""
 from __future__ import annotations
 
-import contextlib
 import os
 import shlex
-import signal
-import subprocess
 from enum import IntEnum
 from typing import Mapping, NamedTuple, Sequence
 
 from ..call import program
-from ..call.children import start
 from ..call.errors import REFUSED, CompanionError
 from ..call.files import check_regular
 from ..call.options import decimal, parse
@@ -53,7 +49,7 @@ class RecordWords:
     is_lean  whether no BOOK is saved"""
 
     def __init__(self, words: Sequence[str], folder: str = "") -> None:
-        self.names, options = parse(words, RECORD_OPTIONS, 1 if folder else range(2, 4), ELF_FORM if folder else RECORD_FORM)
+        self.names, options = parse(words, RECORD_OPTIONS, range(1, 2) if folder else range(2, 4), ELF_FORM if folder else RECORD_FORM)
         self.folder, self.is_lean = folder, "--lean" in options
         self.has_one_hart = decimal(options.get("--harts", "1")) == "1"
         if "--seed" in options:
@@ -107,25 +103,6 @@ def environment(schedule: str) -> dict[str, str]:
     """That of a recording with these turns. Without them its harts run in threads, whatever is set for this process."""
     found = {name: value for name, value in os.environ.items() if name != SCHEDULE}
     return dict(found, **{SCHEDULE: schedule}) if schedule else found
-
-
-class Child:
-    """A process whose output and err go into files."""
-
-    def __init__(self, words: Sequence[str], said: str, err: str, schedule: str = "") -> None:
-        self.said, self.err = said, err
-        with open(said, "wb") as out, open(err, "wb") as errors:
-            self.process = start(words, stdin=subprocess.DEVNULL, stdout=out, stderr=errors, env=environment(schedule))
-
-    def end(self, status: int) -> int:
-        """Takes the status that the system tells of the process."""
-        self.process.returncode = os.WEXITSTATUS(status) if os.WIFEXITED(status) else -os.WTERMSIG(status)
-        return self.process.returncode
-
-    def kill(self) -> None:
-        """Ends it, if it hasn't ended. Popen's own kill would take its status, which `os.wait` waits for."""
-        with contextlib.suppress(ProcessLookupError):
-            os.kill(self.process.pid, signal.SIGKILL)
 
 
 def last_line(name: str) -> str:

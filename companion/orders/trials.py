@@ -9,7 +9,6 @@ from typing import Iterator, NamedTuple, Optional, Sequence
 
 from ..call import streams
 from ..call.children import Group, Process
-from ..call.errors import UNREADABLE, CompanionError
 from ..recording.cause import Cause, cause_of
 from ..recording.elf import Elf
 from ..recording.naming import places_of
@@ -17,6 +16,7 @@ from ..recording.places import Places
 from ..recording.recent import FIRST_ROWS, LogFile
 from ..triage.bucket import bucket_of
 from .forked import Forked
+from .quick import refusal
 from .record import ENDS, FAULT, Kind, Plan, RecordWords, environment, last_line
 
 NO_PLACE = "-"
@@ -96,9 +96,6 @@ class Trial:
         """What was found; nothing in a log that lost the interval of its fault."""
         line = last_line(self.said) if os.path.exists(self.said) else ""
         return Cause.of(line) if line else None
-
-    def refusal(self, status: int) -> str:
-        return last_line(self.err).split(": ", 1)[-1] or f"the recording of {self.plan} ended with {status}"
 
     def remove(self) -> None:
         for name in self.outputs + [self.said, self.err]:
@@ -210,7 +207,7 @@ class Search:
         elif self.stopped:
             trial.remove()
         else:
-            raise CompanionError(trial.refusal(status), status if status > 0 else UNREADABLE)
+            raise refusal(trial.err, status, f"the recording of {trial.plan}")
 
     def recorded(self, trial: Trial) -> None:
         if trial.status == self.until:

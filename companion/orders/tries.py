@@ -42,7 +42,7 @@ class Try:
         self.status = 0
 
     def wait(self) -> None:
-        self.status = self.child.end(os.waitpid(self.child.pid, 0)[1])
+        self.status = self.child.wait()
 
     def made(self) -> Recording:
         """The recording that it made, if it did."""

@@ -7,7 +7,7 @@ from typing import NamedTuple
 
 from ..recording.places import Frame
 from .flow import Flow, Open
-from .reading import Asked
+from .reading import Asked, read
 
 
 class Where(NamedTuple):
@@ -33,11 +33,10 @@ class Costs:
         frame = frames[-1] if frames else Frame(f"{pc:08x}", "", 0, "")
         return Where(frame.path or "?", frame.function, frame.line)
 
-    def entered(self, hart: int, call: Open) -> None:
-        self.times[self.where(call.call), self.where(call.function)] += 1
-
     def left(self, _hart: int, call: Open, count: int, _place: int) -> None:
-        self.inner[self.where(call.call), self.where(call.function)] += count - call.count
+        key = self.where(call.call), self.where(call.function)
+        self.times[key] += 1
+        self.inner[key] += count - call.count
 
     def lines(self) -> list[str]:
         said = ["# callgrind format", "version: 1", "creator: zelkuma", f"cmd: {os.path.basename(self.asked.elf.name)}",
@@ -56,8 +55,8 @@ class Costs:
 
 def callgrind(asked: Asked) -> str:
     costs = Costs(asked)
-    flow = Flow(costs.entered, costs.left)
-    flow.read(asked.chunks())
+    flow = Flow(costs.left)
+    read(asked, flow)
     pcs = {int(pc, 16): times for pc, times in flow.times.items()}
     asked.places.fetch(pcs)
     for hart, calls in flow.open.items():       # of those that didn't return: up to the hart's end

@@ -4,11 +4,11 @@ from __future__ import annotations
 import os
 import shlex
 from contextlib import closing
-from typing import Iterable, Mapping
+from typing import Mapping
 
 from ..call import streams
 from ..call.errors import MISSING, CompanionError
-from ..call.options import parse
+from ..call.options import read_words
 from ..call.page import Part, page
 from ..call.saving import PAGE, Target, target
 from ..call.text import clean, counted, number
@@ -40,9 +40,7 @@ whose program isn't there. Of a large log the last million rows are read. Of the
 is told.
 Companions show; the program proves."""
 FORM = "triage DIR.. --elfs DIR [--json FILE] [--junit FILE] [--html FILE]"
-OPTIONS = {"--elfs": True, "--json": True, "--junit": True, "--html": True}
 KINDS = {"--json": JSON, "--junit": JUNIT, "--html": PAGE}
-MOST_NAMES = 1000
 
 
 class Asker:
@@ -106,14 +104,6 @@ def unread_line(why: str, one: Unread) -> str:
     return f"{number(one.count)}  {clean(why)}: {clean(one.first.name)}" + (" and others" if one.count > 1 else "")
 
 
-def text_of(parts: Iterable[Part]) -> str:
-    lines: list[str] = []
-    for part in parts:
-        lines += ["", part.heading] if part.heading else []
-        lines += ["  " + line if part.heading else line for line in part.lines]
-    return "".join(line + "\n" for line in lines)
-
-
 def saved_text(option: str, table: Table, parts: list[Part]) -> str:
     """What an option saves."""
     if option == "--html":
@@ -122,7 +112,7 @@ def saved_text(option: str, table: Table, parts: list[Part]) -> str:
 
 
 def main(words: list[str]) -> int:
-    folders, given = parse(words, OPTIONS, range(1, MOST_NAMES), FORM)
+    folders, given = read_words(words, FORM)
     if "--elfs" not in given:
         raise CompanionError(f"--elfs isn't given; the words are: {FORM}")
     targets: dict[str, Target] = {}
@@ -139,7 +129,7 @@ def main(words: list[str]) -> int:
     parts = parts_of(table)
     for option, place in targets.items():
         place.save(saved_text(option, table, parts).encode("utf-8", "backslashreplace"))
-    streams.put(text_of(parts))
+    streams.put_lines(line for part in parts for line in [""] * bool(part.heading) + part.text())
     if logs.are_more:
         streams.say(f"only {number(MOST_LOGS)} logs were read, and there are more")
     return 0

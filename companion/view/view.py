@@ -11,14 +11,14 @@ from contextlib import closing
 from typing import Any, Mapping, Optional, Sequence
 
 from ..call import streams
-from ..call.options import parse, whole
+from ..call.options import read_words, whole
 from ..call.text import as_text, number
 from ..call.version import version
 from ..orders.race import Judged, family_word, pairs_of
 from ..recording.instruction import NAMES
 from ..recording.races import AccessPair, Group, Races
 from ..recording.sources import source_folders
-from ..recording.story import STORY_OPTIONS, Story, Teller, asked_story
+from ..recording.story import Story, Teller, asked_story
 from ..why.analysis import Analysis, analysed
 from ..why.facts import asked_byte
 from ..why.fault import fault_words
@@ -49,7 +49,6 @@ HELP = """Draws a log as one page, to look at in a browser: harts, intervals, Ed
 The page is one file that needs no network and no other file. It holds names and lines of source of the program.
 Companions show; the program proves: rows, intervals, Edges and races are the program's, suspects are a judgement."""
 FORM = "view LOG ELF [--names ELF] [--source DIR] [--row HART:IC] [--output N:BYTE] [--rows N] [--with-questions] [--book BOOK] [--input FILE]"
-OPTIONS = {"--names": True, "--source": True, "--row": True, "--output": True, "--rows": True, "--with-questions": False, **STORY_OPTIONS}
 SCRIPTS = ("model.js", "questions.js", "timeline.js", "arrows.js", "story.js", "rows.js", "panels.js", "chain.js", "controls.js")
 RACES_ASKED, RACE_GROUPS, ARCS = 20000, 40, 12
 SUSPECTS, ORIGINS = 3, 6
@@ -244,7 +243,7 @@ def quoted(text: str) -> str:
 
 
 def main(words: list[str]) -> int:
-    (log_name, elf_name), given = parse(words, OPTIONS, 2, FORM)
+    (log_name, elf_name), given = read_words(words, FORM)
     rows = whole(given["--rows"], 1, 1 << 41, "--rows") if "--rows" in given else 0
     byte = asked_byte(given["--output"]) if "--output" in given else None
     with closing(analysed(log_name, elf_name, given.get("--names", ""), given.get("--row", ""), rows, byte,
