@@ -38,9 +38,7 @@ class Threads:
 
     def moving(self) -> tuple[int, bool]:
         """The hart that moves by a packet without a thread, and whether it moves alone."""
-        if self.moved is None:
-            return self.shown, False
-        return self.moved, True
+        return (self.shown, False) if self.moved is None else (self.moved, True)
 
     def listed(self) -> str:
         return ",".join(sorted(self.ids, key=lambda name: self.ids[name]))

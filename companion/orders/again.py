@@ -3,6 +3,7 @@ from __future__ import annotations
 
 import os
 import struct
+from pathlib import Path
 from typing import Mapping
 
 from ..call import program, streams
@@ -66,8 +67,7 @@ def record(options: Mapping[str, str], elf: str, book: str, folder: str) -> tupl
 
 def first_difference(one: str, other: str) -> int:
     """The first turn that differs between two lists, or -1."""
-    with open(one, "rb") as first, open(other, "rb") as second:
-        turns, others = first.read(), second.read()
+    turns, others = Path(one).read_bytes(), Path(other).read_bytes()
     if turns == others:
         return -1
     return next((at for at, pair in enumerate(zip(turns, others)) if pair[0] != pair[1]), min(len(turns), len(others)))

@@ -3,17 +3,18 @@ little, and its group ends what is under way when this process ends."""
 from __future__ import annotations
 
 import os
+from pathlib import Path
 from ..call import program
 from ..call.children import Group, Process
 from ..call.errors import UNREADABLE, CompanionError
-from .record import SCHEDULE, environment, last_line
+from .record import SCHEDULE, last_line
 
 
 class Quick:
     """Use it by `with`. `folder` is for its files."""
 
     def __init__(self, folder: str) -> None:
-        self.folder, self.environment = folder, environment("")
+        self.folder = folder
         self.group: Group
 
     def __enter__(self) -> Quick:
@@ -24,8 +25,9 @@ class Quick:
         self.group.close()
 
     def start(self, said: str, err: str, *words: str, schedule: str = "") -> Process:
-        environment = {**self.environment, SCHEDULE: schedule} if schedule else self.environment
-        return self.group.start([program.path(), *words], said, err, environment)
+        """A command, by these turns if it is `record`; without them its harts run in threads, whatever is set for this process."""
+        environment = {name: value for name, value in os.environ.items() if name != SCHEDULE}
+        return self.group.start([program.path(), *words], said, err, {**environment, SCHEDULE: schedule} if schedule else environment)
 
     def text(self, *words: str) -> bytes:
         """What a command prints."""
@@ -33,8 +35,7 @@ class Quick:
         status = self.start(said, err, *words).wait()
         if status:
             raise refusal(err, status)
-        with open(said, "rb") as file:
-            return file.read()
+        return Path(said).read_bytes()
 
 
 def refusal(err: str, status: int, what: str = "the program") -> CompanionError:

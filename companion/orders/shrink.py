@@ -12,13 +12,13 @@ from ..call.saving import LOG, TURNS, target
 from ..recording.answers import put_answer
 from ..recording.book import check_book
 from ..recording.elf import Elf
-from ..recording.log import is_fault, read_log
+from ..recording.log import is_fault, load_log, read_log
 from ..recording.naming import named_elf
 from ..recording.sources import source_folders
 from ..why.facts import asked_byte
 from .again import settings_of
 from .record import RECORD_OPTIONS
-from .same_end import exit_code, log_of
+from .same_end import exit_code
 from .shrinking import Asked, shrink
 
 HELP = """zelkuma shrink LOG ELF BOOK NEWLOG NEWBOOK [--seconds N] [--output N:BYTE] [--names ELF] [--source DIR] [--json] [-- WORD..]
@@ -65,7 +65,7 @@ def check(log: str, elf: str, book: str, options: Mapping[str, str], has_byte: b
     if os.path.exists(book) and os.path.samefile(log, book):
         raise CompanionError("LOG is given for BOOK: a lean recording keeps no BOOK, and can't be shrunk", REFUSED)
     check_book(log, elf, book, [f"--input={options['--input']}"] if "--input" in options else [])
-    ends = log_of(log).ends
+    ends = load_log(log).ends
     if not (has_byte or exit_code(ends) or any(is_fault(end.reason) or end.reason == "limit" for end in ends.values())):
         raise CompanionError("the run of LOG ended well; --output N:BYTE asks for a byte of its output that is wrong", REFUSED)
 

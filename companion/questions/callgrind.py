@@ -3,23 +3,19 @@ from __future__ import annotations
 
 import os
 from collections import Counter
-from typing import NamedTuple
+from typing import Tuple
 
 from ..recording.places import Frame
 from .flow import Flow, Open
 from .reading import Asked, read
 
 
-class Where(NamedTuple):
-    """A file and a function, and the line in it."""
-    file: str
-    function: str
-    line: int
+Where = Tuple[str, str, int]        # a file and a function, and the line in it
 
 
 class Costs:
     """own     {where: instructions}
-    calls   {(where, function that is called): how often, and its instructions}"""
+    times, inner   {(where, function that is called): how often, and its instructions}"""
 
     def __init__(self, asked: Asked) -> None:
         self.asked = asked
@@ -31,7 +27,7 @@ class Costs:
         """The outermost frame's place: the function whose code it is, whatever is inlined there."""
         frames = self.asked.places.frames(pc)
         frame = frames[-1] if frames else Frame(f"{pc:08x}", "", 0, "")
-        return Where(frame.path or "?", frame.function, frame.line)
+        return frame.path or "?", frame.function, frame.line
 
     def left(self, _hart: int, call: Open, count: int, _place: int) -> None:
         key = self.where(call.call), self.where(call.function)
@@ -43,11 +39,10 @@ class Costs:
                 "positions: line", "events: Instructions", ""]
         functions: dict[tuple[str, str], list[str]] = {}
         for place, cost in sorted(self.own.items()):
-            functions.setdefault((place.file, place.function), []).append(f"{place.line} {cost}")
+            functions.setdefault(place[:2], []).append(f"{place[2]} {cost}")
         for (source, callee), times in sorted(self.times.items()):
-            functions.setdefault((source.file, source.function), []).extend([
-                f"cfi={callee.file}", f"cfn={callee.function}", f"calls={times} {callee.line}",
-                f"{source.line} {self.inner[source, callee]}"])
+            functions.setdefault(source[:2], []).extend([
+                f"cfi={callee[0]}", f"cfn={callee[1]}", f"calls={times} {callee[2]}", f"{source[2]} {self.inner[source, callee]}"])
         for (file, function), costs in functions.items():
             said += [f"fl={file}", f"fn={function}", *costs, ""]
         return said

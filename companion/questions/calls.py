@@ -17,7 +17,7 @@ from ..recording.places import Frame
 from .functions import PAIR, PLAIN, WORD, Begin, Function, function_of
 from .reading import Asked, asked_of, read
 from .registers import Registers
-from .types import Leaf, Type, value_text
+from .types import Leaf, Type, signed, value_text
 from .variables import ADDRESS
 from .window import RETURNS, Window, has_any
 
@@ -85,11 +85,7 @@ class Where:
         return any(self.fits(value, each.type) for each, value in zip(call.begin.parameters, call.values) if each.name == self.name)
 
     def fits(self, value: Optional[int], kind: Type) -> bool:
-        width = 64 if 4 < kind["size"] <= 8 else 32
-        if value is None:
-            return False
-        is_negative = kind.get("signed") and value >> width - 1
-        return self.compare(value - (1 << width) if is_negative else value, self.value)
+        return value is not None and self.compare(signed(kind, value, 64 if 4 < kind["size"] <= 8 else 32), self.value)
 
 
 def number_of(text: str) -> int:

@@ -11,12 +11,13 @@ from ..call.options import read_words, whole
 from ..call.text import columns, counted, number
 from ..recording.answers import place_of, put_answer
 from ..recording.instruction import STORE, Instruction
+from ..recording.log import SystemCall
 from ..recording.memory import Bytes, words_of
 from .reading import Asked, asked_of, read
 from .types import Leaf, leaves, value_text
 from .variables import Variable, variable_of
 from .window import Window
-from .words import Change, Fill, Words
+from .words import Change, Words
 
 HELP = """Lists each store to a variable: hart and count, the value before and after it, its place and the calls over it.
 
@@ -48,7 +49,7 @@ class Entry:
     part: Leaf
     before: Bytes
     after: Bytes
-    fill: Optional[Fill]
+    fill: Optional[SystemCall]
 
 
 class History:

@@ -192,11 +192,15 @@ def check(name: str) -> None:
         raise
 
 
-def read_log(name: str) -> Log:
-    """A log that the program has checked."""
-    check(name)
+def load_log(name: str) -> Log:
+    """A log that the program has made or checked."""
     with open(name, "rb") as file:
         return Log(name, file.read())
+
+
+def read_log(name: str) -> Log:
+    check(name)
+    return load_log(name)
 
 
 def is_fault(reason: str) -> bool:

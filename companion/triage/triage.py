@@ -43,21 +43,14 @@ FORM = "triage DIR.. --elfs DIR [--json FILE] [--junit FILE] [--html FILE]"
 KINDS = {"--json": JSON, "--junit": JUNIT, "--html": PAGE}
 
 
-class Asker:
-    """Has the tasks done, and tells how far they are."""
-
-    def __init__(self) -> None:
-        self.jobs, self.progress = len(os.sched_getaffinity(0)), streams.Progress()
-
-    def ask(self, tasks: list[Task], what: str) -> dict[str, Answer]:
-        """{log: the answer}"""
-        found: dict[str, Answer] = {}
-        with closing(answers(tasks, min(self.jobs, len(tasks)))) as said:
-            for task, answer in said:
-                found[task.log] = answer
-                self.progress.tell(f"{number(len(found))} of {counted(len(tasks), what)}")
-        self.progress.clear()
-        return found
+def ask(tasks: list[Task], what: str) -> dict[str, Answer]:
+    """{log: the answer}. How many there are is told."""
+    found: dict[str, Answer] = {}
+    with closing(answers(tasks, min(len(os.sched_getaffinity(0)), len(tasks)))) as said, streams.Progress() as progress:
+        for task, answer in said:
+            found[task.log] = answer
+            progress.tell(f"{number(len(found))} of {counted(len(tasks), what)}")
+    return found
 
 
 def table_of(logs: Logs, elfs: Mapping[str, str], found: Mapping[str, Answer]) -> Table:
@@ -73,10 +66,10 @@ def table_of(logs: Logs, elfs: Mapping[str, str], found: Mapping[str, Answer]) -
     return table
 
 
-def with_suspects(table: Table, asker: Asker) -> None:
+def with_suspects(table: Table) -> None:
     """Asks for the suspects of the most frequent causes, each of one log."""
     groups = [group for group in table.sorted() if group.bucket.reason not in EXITS and group.is_whole][:MOST_SUSPECTS]
-    found = asker.ask([Task(group.example.name, group.elf, True) for group in groups], "suspect")
+    found = ask([Task(group.example.name, group.elf, True) for group in groups], "suspect")
     for group in groups:
         answer = found[group.example.name]
         group.suspect = answer.words if answer.state == READ else f"none: {answer.words}"
@@ -123,9 +116,8 @@ def main(words: list[str]) -> int:
     if not logs.files:
         raise CompanionError(f"there is no log below {', '.join(map(shlex.quote, folders))}", MISSING)
     elfs = Store([given["--elfs"]]).find({file.program for file in logs.files})
-    asker = Asker()
-    table = table_of(logs, elfs, asker.ask([Task(file.name, elfs[file.program]) for file in logs.files if file.program in elfs], "log"))
-    with_suspects(table, asker)
+    table = table_of(logs, elfs, ask([Task(file.name, elfs[file.program]) for file in logs.files if file.program in elfs], "log"))
+    with_suspects(table)
     parts = parts_of(table)
     for option, place in targets.items():
         place.save(saved_text(option, table, parts).encode("utf-8", "backslashreplace"))

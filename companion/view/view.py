@@ -8,6 +8,7 @@ import json
 import os
 import re
 from contextlib import closing
+from pathlib import Path
 from typing import Any, Mapping, Optional, Sequence
 
 from ..call import streams
@@ -57,8 +58,7 @@ WAY_ROWS = 400          # of a way through the history are read at most
 
 def part(*names: str) -> str:
     """A piece of the page that lies beside this file."""
-    with open(os.path.join(os.path.dirname(os.path.abspath(__file__)), *names), encoding="utf-8") as file:
-        return file.read()
+    return Path(__file__).parent.joinpath(*names).read_text("utf-8")
 
 
 def as_script_data(data: Mapping[str, Any]) -> str:
@@ -139,12 +139,10 @@ class View:
 
     def step(self, words: str, row: int) -> dict[str, Any]:
         told = self.crash.rows.load_of(row)
-        word, about = "", ""
-        if told:
-            word = f"{told.address:08x}={told.value:08x}"
-            names = self.crash.named.data_name(told.address), quoted(as_text(told.value))
-            about = " ".join(name for name in names if name)
-        return dict(words=words, at=self.page.point(row), place=self.page.place_of_row(row), word=word, about=about)
+        text = as_text(told.value) if told else ""
+        names = [self.crash.named.data_name(told.address), f"'{text}'" if text else ""] if told else []
+        return dict(words=words, at=self.page.point(row), place=self.page.place_of_row(row),
+                    word=f"{told.address:08x}={told.value:08x}" if told else "", about=" ".join(filter(None, names)))
 
     def no_suspect(self) -> str:
         """What is said if no row of the log stored the value."""
@@ -188,12 +186,12 @@ class View:
         rows = self.rows(edges, ways, origins)
         data: dict[str, Any] = dict(
             elf=os.path.basename(crash.elf.name), log=os.path.basename(log.shown), harts=log.harts, bytes=log.bytes,
-            rows=self.crash.rows.size, dropped=log.dropped, unread=log.unread, intervals=page.intervals(), segments=page.segments(),
+            rows=self.crash.rows.size, dropped=log.dropped, unread=log.unread, intervals=page.intervals(), segments=list(page.segments()),
             edges=edges, allEdges=len(log.edges.counts), strips=strips, functions=functions,
             ends=[[hart, end.count, end.reason, f"{end.value:08x}"] for hart, end in sorted(log.ends.items())],
             races=self.race_groups, allRaces=self.races.total if self.races else 0,
             raceGroups=self.race_total, racesNote=self.races_note,
-            windows=rows.as_data(), nodes=rows.nodes, chain=chain_boxes(page, crash.history, ways, origins))
+            windows=rows.as_data(), nodes=[(0, 0), *rows.nodes], chain=chain_boxes(page, crash.history, ways, origins))
         data.update(self.end_data(), story=self.story)
         if self.with_questions:
             data["questions"] = questions_of(crash, self.suspects, self.races).data(page)
@@ -236,10 +234,6 @@ class View:
             return f"{elf}: {self.fault.name} {self.fault.value:08x}"
         reasons = sorted({end.reason for end in self.log.ends.values()})
         return f"{elf}: {', '.join(reasons) or 'no end'}"
-
-
-def quoted(text: str) -> str:
-    return f"'{text}'" if text else ""
 
 
 def main(words: list[str]) -> int:
