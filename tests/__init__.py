@@ -1,8 +1,8 @@
 """`python3 -m unittest`, called in the folder around this one, runs the tests of the companions."""
-import os
+import pathlib
 import unittest
 
 
 def load_tests(_loader, _tests, _pattern):
-    folder = os.path.join(os.path.dirname(os.path.abspath(__file__)), "companions")
-    return unittest.TestLoader().discover(folder, "*_test.py", folder)
+    parts = {str(test.parent) for test in pathlib.Path(__file__).resolve().parent.glob("companions/*/*_test.py")}
+    return unittest.TestSuite(unittest.TestLoader().discover(part, "*_test.py", part) for part in sorted(parts))

@@ -1,9 +1,7 @@
 """unittest on top of the companions' common test functions: recordings by example, and what a companion says."""
 import os
-import sys
 import unittest
 
-sys.path.insert(0, os.path.dirname(os.path.dirname(os.path.abspath(__file__))))
 import common
 from companion.call.errors import CompanionError
 
