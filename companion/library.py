@@ -12,7 +12,7 @@ from .gdb.memory import Memory
 from .gdb.session import Session, begin_session
 from .questions.calls import Values, calls_of
 from .questions.functions import function_of
-from .questions.history import history_of, value_of
+from .questions.history import history_of
 from .questions.reading import Asked, asked_of
 from .questions.types import python_value
 from .questions.variables import variable_of
@@ -141,8 +141,7 @@ class Recording:
         """The last stores to a variable."""
         asked = self.asked
         found = history_of(asked, variable_of(asked.named, name), last)
-        return [Stored(entry.hart, entry.count, entry.part.path, value_of(entry, entry.before, asked),
-                       value_of(entry, entry.after, asked), asked.places.chain(entry.pcs, 4)) for entry in found.told]
+        return [Stored(entry.hart, entry.count, entry.part, entry.old, entry.new, asked.places.chain(entry.pcs, 4)) for entry in found.told]
 
     def calls(self, function: str, last: int = 100) -> List[Called]:
         """The last calls of a function."""

@@ -36,7 +36,6 @@ def number_of(text: str) -> int:
 
 
 def numbers_of(text: str) -> tuple[int, int]:
-    """Two numbers with a comma between them."""
     first, second = text.split(",")
     return number_of(first), number_of(second)
 
@@ -191,7 +190,6 @@ class Server:
         return UNSUPPORTED
 
     def answer(self, packet: str) -> str:
-        """The answer to a packet."""
         try:
             if packet in self.whole:
                 return self.whole[packet]()
@@ -203,7 +201,6 @@ class Server:
         return UNSUPPORTED
 
     def begin(self, at_end: bool, place: Optional[At]) -> None:
-        """Goes to the beginning of the log, to its end or to a place."""
         self.stopped(self.motion.begin())
         if place:
             self.session.go_to_row(place)
@@ -218,7 +215,6 @@ class Server:
         return self.stopped(Stop(self.motion.first_hart()))
 
     def serve(self) -> None:
-        """Answers packets until gdb leaves."""
         while True:
             packet = self.stream.receive()
             if packet[:1] == "k" and not self.is_extended:

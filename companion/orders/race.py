@@ -145,30 +145,23 @@ def brief_line(races: Races, family: list[Group]) -> str:
 
 
 def report(races: Races, judged: Judged, more: bool, beside: Beside) -> list[str]:
-    """All that is printed, as lines."""
     families: dict[str, list[list[Group]]] = {kind: [] for kind in KINDS}
     for family in judged.families():
         families[family[0].kind].append(family)
     total = sum(map(len, families.values()))
     lines = [f"RACES: {counted(races.total, 'pair')} in {counted(total, 'group')}. Grouping and order are this command's "
              "own judgement; zelkuma races lists each."]
-    told = families[""] if more else families[""][:GROUPS_TOLD]
-    for place, family in enumerate(told, 1):
-        lines += family_lines(races, family, place, judged, beside)
-    if total and not told:
-        lines.append("  none but those below")
-    lines += left_out(families[""], told)
-    for kind in KINDS[1:]:
-        if families[kind]:
-            told = families[kind] if more else families[kind][:BRIEF_TOLD]
-            lines.append(f"{HEADS[kind]} ({counted(sum(map(pairs_of, families[kind])), 'pair')})")
-            lines += [brief_line(races, family) for family in told] + left_out(families[kind], told)
+    for kind, found in families.items():
+        told = found if more else found[:BRIEF_TOLD if kind else GROUPS_TOLD]
+        if kind and found:
+            lines.append(f"{HEADS[kind]} ({counted(sum(map(pairs_of, found)), 'pair')})")
+        elif total and not kind and not found:
+            lines.append("  none but those below")
+        for place, family in enumerate(told, 1):
+            lines += [brief_line(races, family)] if kind else family_lines(races, family, place, judged, beside)
+        if len(told) < len(found):
+            lines.append(f"    .. {counted(len(found) - len(told), 'more group')} (--more) ..")
     return lines + races.places.trouble()
-
-
-def left_out(families: list[list[Group]], told: list[list[Group]]) -> list[str]:
-    rest = len(families) - len(told)
-    return [f"    .. {counted(rest, 'more group')} (--more) .."] if rest else []
 
 
 def judge(source: LogFile, elf_name: str, races: Races) -> Judged:

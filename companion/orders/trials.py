@@ -17,8 +17,7 @@ from ..recording.naming import places_of
 from ..recording.places import Places
 from ..recording.recent import FIRST_ROWS, LogFile
 from ..triage.bucket import bucket_of
-from .quick import Quick, refusal
-from .record import ENDS, FAULT, Kind, Plan, RecordWords, last_line
+from .record import ENDS, FAULT, Kind, Plan, Quick, RecordWords, last_line, refusal
 
 NO_PLACE = "-"
 MOST_KEPT = 1000            # endings of which one recording each is kept

@@ -320,7 +320,6 @@ class Values:
 
 
 def call_line(call: Call, asked: Asked, values: Values) -> list[str]:
-    """What is told of a call, in columns."""
     position, places = f"{call.hart.decode()}:{call.count}", asked.places
     if call.begin.inlined:
         return [position, "(inlined)", "", "", places.chain([call.begin.address], MOST_FRAMES)]
@@ -358,7 +357,7 @@ def calls_answer(found: Calls) -> dict[str, Any]:
 
 def calls_of(asked: Asked, function: Function, most: int = TOLD, where: Optional[Where] = None) -> Calls:
     found = Calls(asked, function, most, where)
-    read(asked, found)
+    read(asked.chunks(), found)
     found.finish()
     return found
 

@@ -6,7 +6,7 @@ from typing import Any, Iterable, Iterator, Optional, Sequence, Union
 from ..call.errors import CompanionError
 from ..questions.calls import Call, Calls, Values
 from ..questions.functions import function_of
-from ..questions.history import Entry, History, value_of
+from ..questions.history import Entry, History
 from ..questions.reading import Asked, read
 from ..questions.variables import Variable, variable_of
 from ..recording.elf import Elf
@@ -51,7 +51,7 @@ class Questions:
         self.histories = [History(asked, variable, TOLD, False) for variable in variables_of(asked.named, words)]
         self.calls = list(calls_in(asked, functions))
         every: list[Union[History, Calls]] = [*self.histories, *self.calls]
-        read(asked, *every)
+        read(asked.chunks(), *every)
         for each in every:
             each.finish()
 
@@ -69,8 +69,8 @@ class Questions:
 
     def entry_row(self, page: Page, name: str, entry: Entry) -> list[Any]:
         """Hart and count, the part, its value before and after, the place."""
-        new = "bytes of a read call" if entry.fill else value_of(entry, entry.after, self.asked)
-        return [entry.hart, entry.count, name + entry.part.path, value_of(entry, entry.before, self.asked), new, page.place(entry.pcs[0])]
+        new = "bytes of a read call" if entry.fill else entry.new
+        return [entry.hart, entry.count, name + entry.part, entry.old, new, page.place(entry.pcs[0])]
 
 
 def questions_of(crash: Analysis, suspects: Sequence[Suspect], races: Optional[Races]) -> Questions:

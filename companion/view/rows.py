@@ -71,7 +71,6 @@ class PageRows:
                 self.around(rows.row_of(hart, first + (end - first) * i // spots), 10, 10)
 
     def read(self) -> None:
-        """Fills windows and nodes."""
         self.page.places.fetch({self.rows.code_of(row).pc for row in self.wanted})
         by_hart: dict[int, list[int]] = {}
         for row in sorted(self.wanted):

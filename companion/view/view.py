@@ -28,10 +28,9 @@ from ..why.origins import advice
 from ..why.report import output_lines, unread
 from ..why.suspect import ALONE, DID, NEW_OWNER, Suspect
 from .chain import Way, chain_boxes
-from .data import Page, PageEdge
+from .data import Page, PageEdge, story_data
 from .questions import questions_of
 from .rows import PageRows
-from .story import story_data
 
 HELP = """Draws a log as one page, to look at in a browser: harts, intervals, Edges, races, the fault, and the chain behind it.
 
@@ -168,7 +167,6 @@ class View:
         return {loads.nearest: origin.words for origin, loads in nearest[:2]} if len(ways) < 2 else {}
 
     def rows(self, edges: Sequence[PageEdge], ways: Sequence[Way], origins: Mapping[int, str]) -> PageRows:
-        """The rows that the page holds."""
         history, rows = self.crash.history, PageRows(self.page)
         on_ways = [row for goal in [way.row for way in ways] + list(origins)
                    for row, _ in history.path(goal)[:WAY_ROWS]]
@@ -179,7 +177,6 @@ class View:
         return rows
 
     def data(self) -> dict[str, Any]:
-        """All that the page's script reads, as one dict."""
         crash, log, page = self.crash, self.log, self.page
         edges, (strips, functions), ways = page.edges(), page.strips(), self.ways()
         origins = self.origins_drawn(ways)
@@ -200,7 +197,6 @@ class View:
         return data
 
     def end_data(self) -> dict[str, Any]:
-        """What is told of the end, and of what is behind it."""
         crash, history = self.crash, self.crash.history
         final = self.crash.rows.final[self.crash.rows.hart[crash.start]]
         return dict(
@@ -213,7 +209,6 @@ class View:
             origin=[[loads.times, *origin] for origin, loads in list(crash.origin.items())[:ORIGINS]])
 
     def about(self) -> str:
-        """What the page begins with."""
         crash = self.crash
         return "output" if crash.output else "fault" if self.fault else "row" if crash.asked else "hang" if crash.loops else "end"
 
