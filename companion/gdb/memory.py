@@ -87,22 +87,14 @@ class Memory:
         self.future = Future(session.steps, self.fills)
         self.borders = sorted({border for part in elf.parts for border in (part.address, part.address + part.size)})
 
-    def is_mapped(self, address: int) -> bool:
-        return LOWEST <= address < self.size
-
     def first_word(self, address: int) -> Optional[int]:
         """A word's value at the start, if it is still that, else None."""
-        if not self.is_whole or not self.is_mapped(address):
-            return None
-        if self.fills.find(address, 4, 0, self.session.at) is not None:
+        is_mapped = LOWEST <= address < self.size
+        if not self.is_whole or not is_mapped or self.fills.find(address, 4, 0, self.session.at) is not None:
             return None
         # A segment can end within a word; the bytes behind it are 0.
         body = b"".join(self.elf.bytes_at(address + i, 1) or b"\0" for i in range(4))
         return int.from_bytes(body, "little")
-
-    def later_word(self, address: int) -> Optional[int]:
-        """A word's value as the steps ahead tell it, else None."""
-        return self.future.word(address, self.session.at) if self.session.all_have_states() else None
 
     def words(self, first: int, count: int) -> list[int]:
         """Words from an aligned address on, up to the first that isn't known."""
@@ -112,7 +104,8 @@ class Memory:
             addresses = [first + 4 * (len(found) + i) for i in range(wanted)]
             for address, value in zip(addresses, self.session.words(addresses)):
                 value = self.first_word(address) if value is None else value
-                value = self.later_word(address) if value is None else value
+                if value is None and self.session.all_have_states():
+                    value = self.future.word(address, self.session.at)
                 if value is None:
                     return found
                 found.append(value)

@@ -83,7 +83,7 @@ class Server:
             "p": self.register,
             "m": self.read_memory,
             "H": self.choose_thread,
-            "T": self.is_alive,
+            "T": lambda text: REFUSED if self.threads.hart_of(text) is None else OK,
             "Z": lambda text: self.change_point(True, text),
             "z": lambda text: self.change_point(False, text),
             "S": lambda _: whole["s"](),
@@ -125,9 +125,6 @@ class Server:
     def choose_thread(self, text: str) -> str:
         self.threads.choose(text)
         return OK
-
-    def is_alive(self, text: str) -> str:
-        return REFUSED if self.threads.hart_of(text) is None else OK
 
     def change_point(self, is_set: bool, text: str) -> str:
         kind, place = text.split(";")[0].split(",", 1)

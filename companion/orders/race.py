@@ -175,10 +175,6 @@ def judge(source: LogFile, elf_name: str, races: Races) -> Judged:
         return Judged(races, trace, History(trace, [fault.row])) if fault else Judged(races)
 
 
-def race_answer(races: Races, judged: Judged) -> dict[str, Any]:
-    return {"pairs": races.total, "groups": [family_answer(races, judged, family) for family in judged.families()]}
-
-
 def family_answer(races: Races, judged: Judged, family: list[Group]) -> dict[str, Any]:
     one, other = judged.pair(family[0])
     return {"pairs": pairs_of(family), "words": [f"{group.word:08x}" for group in family[:LONGEST]],
@@ -204,7 +200,8 @@ def main(words: list[str]) -> int:
         judged, teller = judge(source, elf_name, races), Teller(named, races.places)
         story = asked_story(given, source.end(FIRST_ROWS), elf_name) if "--book" in given else None
         if "--json" in given:
-            put_answer("race", **race_answer(races, judged), book=teller.story_answer(story))
+            groups = [family_answer(races, judged, family) for family in judged.families()]
+            put_answer("race", pairs=races.total, groups=groups, book=teller.story_answer(story))
         else:
             def beside(access: Access) -> list[str]:
                 return ready(log_name, elf, named, access.hart, access.count)

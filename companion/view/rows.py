@@ -115,6 +115,3 @@ class PageRows:
 
     def add_node(self, outer: int, place: int) -> int:
         return self.nodes.setdefault((outer, place), len(self.nodes) + 1)
-
-    def as_data(self) -> list[list[object]]:
-        return [[each.hart, each.first, each.codes, "\n".join(each.tails), each.calls] for each in self.windows]

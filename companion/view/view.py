@@ -29,7 +29,7 @@ from ..why.report import output_lines, unread
 from ..why.suspect import ALONE, DID, NEW_OWNER, Suspect
 from .chain import Way, chain_boxes
 from .data import Page, PageEdge, story_data
-from .questions import questions_of
+from .questions import questions_data
 from .rows import PageRows
 
 HELP = """Draws a log as one page, to look at in a browser: harts, intervals, Edges, races, the fault, and the chain behind it.
@@ -188,10 +188,11 @@ class View:
             ends=[[hart, end.count, end.reason, f"{end.value:08x}"] for hart, end in sorted(log.ends.items())],
             races=self.race_groups, allRaces=self.races.total if self.races else 0,
             raceGroups=self.race_total, racesNote=self.races_note,
-            windows=rows.as_data(), nodes=[(0, 0), *rows.nodes], chain=chain_boxes(page, crash.history, ways, origins))
+            windows=[[each.hart, each.first, each.codes, "\n".join(each.tails), each.calls] for each in rows.windows],
+            nodes=[(0, 0), *rows.nodes], chain=chain_boxes(page, crash.history, ways, origins))
         data.update(self.end_data(), story=self.story)
         if self.with_questions:
-            data["questions"] = questions_of(crash, self.suspects, self.races).data(page)
+            data["questions"] = questions_data(page, crash, self.suspects, self.races)
         told = [data["where"]] + [item["place"] for item in data["suspects"]]
         data.update(codes=page.code_list, places=page.place_list, around={each: page.around(each) for each in told})
         return data
