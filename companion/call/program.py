@@ -59,7 +59,6 @@ class Output:
         self.finish()
 
     def read(self) -> bytes:
-        """All that it prints."""
         data = self.out.read()
         self.finish()
         return data

@@ -13,8 +13,7 @@ from ..call.options import read_words, whole
 from ..call.saving import LOG, TURNS, Target, target
 from ..call.text import counted, number
 from ..recording.book import DIFFERS, check_book
-from .quick import Quick, refusal
-from .record import ENDS, last_line
+from .record import ENDS, Quick, last_line, refusal
 
 HELP = """zelkuma again LOG ELF BOOK NEWLOG [--input FILE] [--log-size N] [--interval N]
 

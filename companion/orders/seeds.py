@@ -95,7 +95,6 @@ def table(counts: Mapping[Ending, Count]) -> str:
 
 
 def tell(search: Search) -> None:
-    """Prints what was found, and how the runs ended."""
     text, found = "", search.found
     if found is not None:
         text = f"{found.plan}: status {search.until}\n{search.words.shown(found.plan)}\n"
@@ -123,7 +122,6 @@ def goods_of(words: RecordWords) -> list[Target]:
 
 
 def tell_difference(short: Shrunk, words: RecordWords, good: Sequence[Target], is_json: bool) -> Optional[dict[str, object]]:
-    """Tells what is different in the nearest run that ends well."""
     if not short.nearest:
         streams.say("no run that ends well is found near: one switch moved out of its window leads to no such run")
         return None

@@ -59,7 +59,6 @@ def recorded_options(log: str, words: Sequence[str]) -> dict[str, str]:
 
 
 def check(log: str, elf: str, book: str, options: Mapping[str, str], has_byte: bool) -> None:
-    """Refuses what can't be shrunk."""
     if options["--harts"] == "1":
         raise CompanionError("LOG is of one hart, which has one order: there is nothing to shrink", REFUSED)
     if os.path.exists(book) and os.path.samefile(log, book):

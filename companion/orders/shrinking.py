@@ -25,7 +25,7 @@ from ..recording.turns import pieces_of, shown, size_of
 from ..triage.bucket import bucket_of
 from ..why.facts import Byte
 from ..why.output import MOST_ROWS, numbered, writes_of
-from .quick import Quick
+from .record import Quick
 from .same_end import Ends, Recording
 from .search import Nearest, Search
 from .switches import answer_of, bounded, window_lines

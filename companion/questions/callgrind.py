@@ -51,7 +51,7 @@ class Costs:
 def callgrind(asked: Asked) -> str:
     costs = Costs(asked)
     flow = Flow(costs.left)
-    read(asked, flow)
+    read(asked.chunks(), flow)
     pcs = {int(pc, 16): times for pc, times in flow.times.items()}
     asked.places.fetch(pcs)
     for hart, calls in flow.open.items():       # of those that didn't return: up to the hart's end

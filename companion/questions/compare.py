@@ -47,7 +47,6 @@ class Run:
     known: Dict[int, Dict[int, Row]] = field(default_factory=dict)
 
     def reason(self, hart: int) -> str:
-        """Why a hart ended."""
         end = self.asked.log.ends.get(hart)
         return end.reason if end else "stopped"
 
@@ -120,7 +119,6 @@ def has_parted(lane: Lane, runs: list[Run]) -> bool:
 
 
 def parting_of(runs: list[Run], lane: Lane) -> Optional[Parting]:
-    """The branch at which a hart went another way, or None if it didn't."""
     if not has_parted(lane, runs):
         return None
     ways = lane.good, lane.bad

@@ -46,24 +46,24 @@ class Group:
 
 
 class Found:
-    """told, more   how many rows have the value; groups: of the first of them, by place and what they do"""
+    """total   how many rows have the value; groups: of the first of them, by place and what they do"""
 
     def __init__(self, asked: Asked, value: int) -> None:
         self.asked, self.value = asked, value
         self.needle = b"=%08x" % value
         self.pattern = re.compile(self.needle)
         self.groups: dict[tuple[bytes, str], Group] = {}
-        self.told = self.more = 0
+        self.total = self.told = 0
 
     def take(self, text: bytes) -> None:
         if self.told >= MOST_ROWS:
-            self.more += text.count(self.needle)
+            self.total += text.count(self.needle)
             return
         for row in rows_with(text, self.pattern):
             self.take_row(row)
 
     def take_row(self, row: bytes) -> None:
-        self.told += 1
+        self.told, self.total = self.told + 1, self.total + 1
         head, *told = row.split(b" | ")
         hart, count, pc, _ = head.split(b" ", 3)
         for part in reversed(told):             # memory before registers: a load puts the value there by itself
@@ -96,7 +96,6 @@ class Found:
 
 
 def value_of(elf: Elf, text: str) -> int:
-    """The value that is asked for."""
     symbol = symbol_of(elf, text)
     if symbol:
         return symbol.address
@@ -126,8 +125,8 @@ def group_line(group: Group, asked: Asked) -> list[str]:
 def report(found: Found) -> list[str]:
     asked, groups = found.asked, list(found.groups.values())
     asked.places.fetch(group.pc for group in groups[:TOLD])
-    lines = [f"FIND {found.value:08x}: {counted(found.told + found.more, 'row')}, {counted(len(groups), 'place')}"]
-    if found.more:
+    lines = [f"FIND {found.value:08x}: {counted(found.total, 'row')}, {counted(len(groups), 'place')}"]
+    if found.total > found.told:
         lines.append(f"  Places are those of the first {number(found.told)} rows that have it.")
     in_file = found.in_file()
     if in_file:
@@ -141,7 +140,7 @@ def report(found: Found) -> list[str]:
 
 def find_answer(found: Found) -> dict[str, Any]:
     asked = found.asked
-    return {"value": f"{found.value:08x}", "rows": found.told + found.more, "rows_by_place": found.told, "left_out": asked.left_out(),
+    return {"value": f"{found.value:08x}", "rows": found.total, "rows_by_place": found.told, "left_out": asked.left_out(),
             "in_file": [f"{word:08x}" for word in found.in_file()],
             "places": [{"place": place_of(asked.places, group.pc), "did": group.did, "first": group.first, "last": group.last,
                         "times": group.times, "words": [f"{word:08x}" for word in group.words]}
@@ -152,7 +151,7 @@ def main(words: list[str]) -> int:
     (log_name, elf_name, text), given = read_words(words, FORM)
     with asked_of(log_name, elf_name, given) as asked:
         found = Found(asked, value_of(asked.named, text))
-        read(asked, found)
+        read(asked.chunks(), found)
         if "--json" in given:
             put_answer("find", **find_answer(found))
         else:

@@ -3,7 +3,7 @@ from __future__ import annotations
 
 import contextlib
 from contextlib import closing
-from typing import Iterator, Mapping, NamedTuple, Protocol
+from typing import Iterable, Iterator, Mapping, NamedTuple, Protocol
 
 from ..call.options import whole
 from ..call.text import number
@@ -58,9 +58,9 @@ class Reader(Protocol):
         """Reads a chunk."""
 
 
-def read(asked: Asked, *readers: Reader) -> None:
-    """All of them read the rows, in one go."""
-    for text in asked.chunks():
+def read(texts: Iterable[bytes], *readers: Reader) -> None:
+    """All of them read these chunks, in one go."""
+    for text in texts:
         for each in readers:
             each.take(text)
 

@@ -98,7 +98,6 @@ def unread_line(why: str, one: Unread) -> str:
 
 
 def saved_text(option: str, table: Table, parts: list[Part]) -> str:
-    """What an option saves."""
     if option == "--html":
         return page(table.heading(), parts[1:])
     return json_text(table) if option == "--json" else junit_text(table)

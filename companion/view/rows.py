@@ -71,7 +71,6 @@ class PageRows:
                 self.around(rows.row_of(hart, first + (end - first) * i // spots), 10, 10)
 
     def read(self) -> None:
-        """Fills windows and nodes."""
         self.page.places.fetch({self.rows.code_of(row).pc for row in self.wanted})
         by_hart: dict[int, list[int]] = {}
         for row in sorted(self.wanted):
@@ -116,6 +115,3 @@ class PageRows:
 
     def add_node(self, outer: int, place: int) -> int:
         return self.nodes.setdefault((outer, place), len(self.nodes) + 1)
-
-    def as_data(self) -> list[list[object]]:
-        return [[each.hart, each.first, each.codes, "\n".join(each.tails), each.calls] for each in self.windows]
