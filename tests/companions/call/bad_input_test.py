@@ -1,4 +1,3 @@
-#!/usr/bin/env python3
 """Bad input to names, why and bucket: one line on err and a status, never a traceback; and nothing of a file gets into a
 page or a terminal but as text."""
 import hashlib
@@ -7,11 +6,9 @@ import random
 import subprocess
 import sys
 
-sys.path.insert(0, os.path.join(os.path.dirname(os.path.abspath(__file__)), "..", "lib"))
 import case
 import forged
 from common import COMPANION, CRASHES, PROGRAM, companion, example, path
-# common lets the package be found
 from companion.recording.elf import Elf
 from companion.call.errors import CompanionError
 from companion.recording.places import Places
@@ -141,7 +138,3 @@ exit $status
         with open(path("odd.html")) as file:
             page = file.read()
         self.check("a file's name stays text in the page", "&lt;script&gt;?.elf" in page and "<script" not in page)
-
-
-if __name__ == "__main__":
-    case.main()

@@ -1,4 +1,3 @@
-#!/usr/bin/env python3
 """How a companion ends that is told to: by which status, and that no process and no folder of it stays."""
 import contextlib
 import os
@@ -9,7 +8,6 @@ import subprocess
 import sys
 import time
 
-sys.path.insert(0, os.path.join(os.path.dirname(os.path.abspath(__file__)), "..", "lib"))
 import cases
 from common import COMPANION, CRASHES, EXAMPLES, PROGRAM, companion
 
@@ -291,7 +289,3 @@ def case_a_pipe_is_refused_at_once(recordings):
 
 
 Cases = cases.tests_of(globals())
-
-
-if __name__ == "__main__":
-    cases.main()

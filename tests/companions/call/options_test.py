@@ -1,10 +1,7 @@
 """The numbers of options are read as the script zelkuma reads them: tests/script/numbers.txt."""
 import os
-import sys
 import unittest
 
-sys.path.insert(0, os.path.join(os.path.dirname(os.path.abspath(__file__)), "..", "lib"))
-import case
 import common
 
 from companion.call.errors import CompanionError
@@ -23,7 +20,3 @@ class NumbersTest(unittest.TestCase):
             lines = [line.split() for line in file if not line.startswith("#")]
         self.assertEqual([[word, self.read(word)] for word, _ in lines], lines)
         self.assertGreater(len(lines), 20)
-
-
-if __name__ == "__main__":
-    case.main()

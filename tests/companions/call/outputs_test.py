@@ -6,7 +6,6 @@ import subprocess
 import sys
 import time
 
-sys.path.insert(0, os.path.join(os.path.dirname(os.path.abspath(__file__)), "..", "lib"))
 import case
 import common
 
@@ -150,7 +149,3 @@ class InterruptTest(case.Case):
         process.send_signal(signal.SIGINT)
         said, err = process.communicate(timeout=BOUND)
         self.assertEqual((process.returncode, said[:6], err), (0, b"FAULT\n", b""))
-
-
-if __name__ == "__main__":
-    case.main()

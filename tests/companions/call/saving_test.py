@@ -1,4 +1,3 @@
-#!/usr/bin/env python3
 """What companions that save a file may overwrite, and what stays of the old one: mode, attributes, links."""
 import os
 import resource
@@ -8,7 +7,6 @@ import struct
 import subprocess
 import sys
 
-sys.path.insert(0, os.path.join(os.path.dirname(os.path.abspath(__file__)), "..", "lib"))
 import cases
 from common import COMPANION, EXAMPLES, companion
 
@@ -190,7 +188,3 @@ def case_a_pipe_takes_a_page(recordings):
 
 
 Cases = cases.tests_of(globals())
-
-
-if __name__ == "__main__":
-    cases.main()

@@ -7,7 +7,6 @@ import subprocess
 import sys
 import unittest
 
-sys.path.insert(0, os.path.join(os.path.dirname(os.path.abspath(__file__)), "..", "lib"))
 import case
 import common
 
@@ -86,7 +85,3 @@ class EditorTest(case.Case):
         self.assertIn('id="1"', editor.ask("-thread-info"))
         editor.close()
         self.assertEqual(server.wait(BOUND), 0)
-
-
-if __name__ == "__main__":
-    case.main()

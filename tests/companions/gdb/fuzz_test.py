@@ -1,20 +1,13 @@
-#!/usr/bin/env python3
 """Random packets to `zelkuma gdb`, by fixed seeds: after each, what it says is compared with `debug` and `joint`.
 
-    fuzz_test.py [SECONDS [FIRST-SEED]]     sessions on small logs for some 20 seconds, or as long as said
-
-Compared are the registers of all harts, two words of memory, and the stop: that it is one, and that
-the way there passed over no breakpoint and no watched store.
-"""
+Sessions on small logs are begun for 20 seconds, or FUZZ_SECONDS, by seeds from 1 on, or from FUZZ_SEED. Compared are the
+registers of all harts, two words of memory, and the stop: that it is one, and that the way there passed over no breakpoint
+and no watched store."""
 import os
 import random
-import sys
 import time
 import unittest
 
-sys.path.insert(0, os.path.join(os.path.dirname(os.path.abspath(__file__)), "..", "lib"))
-
-import case
 from client import Client, Stop
 from recordings import (A0, A1, A2, A7, DATA, ECALL, EXIT, T0, T1, T2, addi, branch_unless_equal, load, lui, store,
                         Recordings)
@@ -226,11 +219,9 @@ class Session:
 
 
 class Fuzz(unittest.TestCase):
-    """`seconds` is for how long sessions are begun, and `seed` the first seed."""
-    seconds, seed = 20.0, 1
-
     def test_sessions(self):
-        end, seed = time.monotonic() + self.seconds, self.seed
+        end = time.monotonic() + float(os.environ.get("FUZZ_SECONDS", "20"))
+        seed = int(os.environ.get("FUZZ_SEED", "1"))
         sessions, tally = 0, {}
         with Recordings() as recordings:
             prepared = [(pair, Reference(*pair)) for pair in logs(recordings)]
@@ -249,12 +240,3 @@ class Fuzz(unittest.TestCase):
         print("sessions", sessions, *(f"{kind} {count}" for kind, count in sorted(tally.items())))
         for kind in ("begin", "break", "end", "fault", "later", "watch"):
             self.assertTrue(tally.get(kind), kind)
-
-
-if __name__ == "__main__":
-    if len(sys.argv) > 1:
-        Fuzz.seconds = float(sys.argv[1])
-    if len(sys.argv) > 2:
-        Fuzz.seed = int(sys.argv[2])
-    del sys.argv[1:]
-    case.main()

@@ -1,9 +1,6 @@
-#!/usr/bin/env python3
 """Tries by a client of gdb's protocol what `zelkuma gdb` says of memory, on small recordings; needs no gdb."""
 import os
-import sys
 
-sys.path.insert(0, os.path.join(os.path.dirname(os.path.abspath(__file__)), "..", "lib"))
 import cases
 from client import Client, Stop
 from recordings import (A0, A1, A2, A7, DATA, ECALL, EXIT, FIRST, SEGV, T0, T1, T2, addi, branch_unless_equal,
@@ -173,7 +170,3 @@ def case_03_calls_whose_registers_were_set_before_the_log(recordings):
 
 
 Cases = cases.tests_of(globals())
-
-
-if __name__ == "__main__":
-    cases.main()

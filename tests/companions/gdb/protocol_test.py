@@ -1,4 +1,3 @@
-#!/usr/bin/env python3
 """Tries by a client of gdb's protocol what `zelkuma gdb` answers and refuses, on small recordings; needs no gdb."""
 import hashlib
 import os
@@ -8,7 +7,6 @@ import struct
 import subprocess
 import sys
 
-sys.path.insert(0, os.path.join(os.path.dirname(os.path.abspath(__file__)), "..", "lib"))
 import cases
 from client import Client, Stop
 from common import COMPANION, EXAMPLES
@@ -176,7 +174,3 @@ def case_16_port_of_this_machine_alone(recordings):
 
 
 Cases = cases.tests_of(globals())
-
-
-if __name__ == "__main__":
-    cases.main()

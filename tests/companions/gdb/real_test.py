@@ -1,4 +1,3 @@
-#!/usr/bin/env python3
 """Tries `zelkuma gdb` by the real gdb-multiarch, whose answers are compared with `sessions`.
 
 If gdb isn't installed, nothing is tried. Sessions that need names aren't tried if the compiler isn't there, or makes
@@ -12,7 +11,6 @@ import shutil
 import subprocess
 import sys
 
-sys.path.insert(0, os.path.join(os.path.dirname(os.path.abspath(__file__)), "..", "lib"))
 import cases
 from cases import Skipped
 from common import COMPANION, EXAMPLES, TOP, crash
@@ -205,7 +203,3 @@ def case_monkey(names):
 
 
 Cases = cases.tests_of(globals(), GDB, Names)
-
-
-if __name__ == "__main__":
-    cases.main()

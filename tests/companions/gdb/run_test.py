@@ -1,10 +1,8 @@
 """zelkuma gdb --run: the real gdb, the place that is asked for, and questions from inside of it."""
-import os
 import re
 import subprocess
 import sys
 
-sys.path.insert(0, os.path.join(os.path.dirname(os.path.abspath(__file__)), "..", "lib"))
 import case
 import common
 
@@ -73,7 +71,3 @@ class RunTest(case.Case):
         self.refuses(2, "gdb", "--run", "--at", "5", log, elf)
         status, _, err = common.companion("gdb", "--run", log, elf, environment={"ZELKUMA_GDB": "/nowhere/gdb"})
         self.assertEqual((status, err), (1, "zelkuma: no gdb is here; Debian has it in gdb-multiarch\n"))
-
-
-if __name__ == "__main__":
-    case.main()

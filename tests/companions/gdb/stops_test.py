@@ -1,10 +1,6 @@
-#!/usr/bin/env python3
 """Tries by a client of gdb's protocol where `zelkuma gdb` stops, on small recordings; needs no gdb."""
-import os
 import re
-import sys
 
-sys.path.insert(0, os.path.join(os.path.dirname(os.path.abspath(__file__)), "..", "lib"))
 import cases
 from client import Client, Stop
 from recordings import (A0, A1, A2, A7, DATA, ECALL, EXIT, SEGV, T0, T1, T2, TRAP, addi, atomic,
@@ -287,7 +283,3 @@ def case_13_another_order(recordings):
 
 
 Cases = cases.tests_of(globals())
-
-
-if __name__ == "__main__":
-    cases.main()

@@ -2,7 +2,6 @@
 import shutil
 import unittest
 
-import case
 from recordings import Recordings
 
 Skipped = unittest.SkipTest
@@ -34,8 +33,3 @@ def tests_of(names, needs="", given=lambda recordings: recordings):
     for name in [name for name in names if name.startswith("case_")]:
         setattr(Cases, "test_" + name[len("case_"):], method(names[name]))
     return Cases
-
-
-def main():
-    """Runs the cases of the file that calls it: all, or by -k WORD those with it in their names."""
-    case.main()

@@ -1,4 +1,4 @@
-"""What the tests of the companions share: recordings, calls of companions, and the count of what passed.
+"""What the tests of the companions share: recordings, and calls of companions.
 
 The program is the one that the companions find. case.py has the class of tests on top of these."""
 import os
@@ -17,30 +17,12 @@ EXAMPLES = os.path.join(TOP, "examples")
 CRASHES = os.path.join(TOP, "tests", "crashes")
 TOOLS = "riscv64-unknown-elf-addr2line", "riscv64-linux-gnu-addr2line", "llvm-addr2line"
 scratch = tempfile.TemporaryDirectory()
-counts = {True: 0, False: 0}
 os.environ["ZELKUMA_PROGRAM"] = PROGRAM
 
 
 def path(name):
     """A name in the scratch folder."""
     return os.path.join(scratch.name, name)
-
-
-def check(what, good, seen=""):
-    """One test. `seen` is shown if it fails."""
-    counts[bool(good)] += 1
-    print(("ok      " if good else "FAILED  ") + what)
-    if not good and seen:
-        print("        " + str(seen).replace("\n", "\n        "))
-
-
-def skip(what, why):
-    print("skipped %s: %s" % (what, why))
-
-
-def finish():
-    print("%d passed, %d failed" % (counts[True], counts[False]))
-    sys.exit(1 if counts[False] else 0)
 
 
 def record(name, elf, *words):
@@ -55,13 +37,6 @@ def record(name, elf, *words):
 
 def present_tools():
     return [tool for tool in TOOLS if shutil.which(tool)]
-
-
-def need_addr2line():
-    """Ends a test file, with a line, if no tool tells lines of addresses."""
-    if not present_tools():
-        skip(os.path.basename(sys.argv[0]), "none of %s is there" % ", ".join(TOOLS))
-        finish()
 
 
 def named_examples():
@@ -130,9 +105,3 @@ def companion(*words, given=b"", environment=None, bound=None):
     done = subprocess.run([sys.executable, COMPANION] + list(words), input=given, stdout=subprocess.PIPE, stderr=subprocess.PIPE,
                           env=dict(os.environ, **(environment or {})), timeout=bound)
     return done.returncode, done.stdout.decode("utf-8", "replace"), done.stderr.decode("utf-8", "replace")
-
-
-def refused(what, status, words, *call, **given):
-    """A call that has to end with a status and one line on err, which holds these words."""
-    found, out, err = companion(*call, **given)
-    check(what, found == status and err.count("\n") == 1 and words in err and "Traceback" not in err, (found, err[-2000:]))

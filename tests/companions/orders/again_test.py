@@ -1,11 +1,8 @@
-#!/usr/bin/env python3
 """Tries `zelkuma again`: larger logs and other intervals, of drawn turns and of threads, and what is refused."""
 import os
 import shutil
 import subprocess
-import sys
 
-sys.path.insert(0, os.path.join(os.path.dirname(os.path.abspath(__file__)), "..", "lib"))
 import cases
 from common import EXAMPLES, PROGRAM, companion, output
 
@@ -103,7 +100,3 @@ def case_refusals(recordings):
 
 
 Cases = cases.tests_of(globals())
-
-
-if __name__ == "__main__":
-    cases.main()

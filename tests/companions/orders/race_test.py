@@ -1,9 +1,6 @@
 """zelkuma race: groups, their order, fences, and what is refused."""
-import os
 import re
-import sys
 
-sys.path.insert(0, os.path.join(os.path.dirname(os.path.abspath(__file__)), "..", "lib"))
 import case
 import common
 
@@ -125,7 +122,3 @@ class FencesTest(case.Case):
         self.assertFalse(races.leads(way, 21, 59))
         self.assertFalse(races.leads(way, 31, 99))
         self.assertFalse(races.leads(None, 1, 2))
-
-
-if __name__ == "__main__":
-    case.main()

@@ -1,4 +1,3 @@
-#!/usr/bin/env python3
 """Tries `zelkuma seeds`: the kinds of turns, the lowest hit and its files, the table, Ctrl-C, what is refused, and GNU
 parallel on this machine."""
 import json
@@ -12,7 +11,6 @@ import subprocess
 import sys
 import time
 
-sys.path.insert(0, os.path.join(os.path.dirname(os.path.abspath(__file__)), "..", "lib"))
 import cases
 from cases import Skipped
 from common import COMPANION, EXAMPLES, PROGRAM
@@ -377,7 +375,3 @@ def case_blocks_of_seeds_by_parallel(recordings):
 
 
 Cases = cases.tests_of(globals())
-
-
-if __name__ == "__main__":
-    cases.main()

@@ -7,7 +7,6 @@ import subprocess
 import sys
 import time
 
-sys.path.insert(0, os.path.join(os.path.dirname(os.path.abspath(__file__)), "..", "lib"))
 import case
 import common
 
@@ -251,7 +250,3 @@ class ShrinkTest(case.Case):
             with self.subTest(said):
                 self.assertIn(said, self.refuses(status, "shrink", *words))
         self.assertFalse(any(map(os.path.exists, new)))
-
-
-if __name__ == "__main__":
-    case.main()

@@ -5,7 +5,6 @@ import re
 import subprocess
 import sys
 
-sys.path.insert(0, os.path.join(os.path.dirname(os.path.abspath(__file__)), "..", "lib"))
 import case
 import common
 
@@ -123,7 +122,3 @@ class PythonTest(case.Case):
                               env=dict(os.environ, PYTHONPATH=os.path.join(common.TOP, "python")), check=False)
         self.assertRegex(done.stdout.decode(), r"\A\d+ stores\n0 \d+ 000103f4 .* in note use_after_free.c:40\ncalled from "
                                                r"\['_start start.S:16'\]\n\Z")
-
-
-if __name__ == "__main__":
-    case.main()

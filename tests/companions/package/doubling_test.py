@@ -4,9 +4,7 @@ Each program here has rows that a search could walk over again and again: counte
 list in a circle, harts that wait for a lock. Others make calls, call themselves, or take the same memory again."""
 import contextlib
 import os
-import sys
 
-sys.path.insert(0, os.path.join(os.path.dirname(os.path.abspath(__file__)), "..", "lib"))
 import case
 import common
 from recordings import (A0, A1, A2, A7, DATA, ECALL, T0, T1, T2, addi, atomic, branch_unless_equal, elf_of,
@@ -126,7 +124,3 @@ class DoublingTest(case.Case):
                         self.assertEqual((one[0], other[0]), (0, 0))
                         tries.append((one[1], other[1]))
                     self.assertTrue(any(more <= MOST * max(less, LEAST) for less, more in tries), tries)
-
-
-if __name__ == "__main__":
-    case.main()

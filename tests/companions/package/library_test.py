@@ -4,7 +4,6 @@ import shutil
 import subprocess
 import sys
 
-sys.path.insert(0, os.path.join(os.path.dirname(os.path.abspath(__file__)), "..", "lib"))
 import case
 import common
 
@@ -79,7 +78,3 @@ class LibraryTest(case.Case):
             done = subprocess.run([sys.executable, "-c", script], env={**clean, "PYTHONPATH": folder, "PATH": path}, check=False,
                                   stdout=subprocess.PIPE, stderr=subprocess.PIPE, cwd="/")
             self.assertEqual(os.path.realpath(done.stdout.decode().strip()), wanted, done.stderr)
-
-
-if __name__ == "__main__":
-    case.main()

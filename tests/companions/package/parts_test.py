@@ -4,14 +4,9 @@ from __future__ import annotations
 import ast
 import os
 import re
-import sys
 import unittest
 
-sys.path.insert(0, os.path.join(os.path.dirname(os.path.abspath(__file__)), "..", "lib"))
-
-import case                             # noqa: E402
-from common import COMPANION            # noqa: E402
-
+from common import COMPANION
 
 SYSTEMS = "_exit", "_replace", "_asdict", "_fields"
 
@@ -67,11 +62,8 @@ class Parts(unittest.TestCase):
                     taken = [each.name for each in node.names] if isinstance(node, ast.ImportFrom) and node.module != "__future__" else []
                     if isinstance(node, ast.Attribute) and not (isinstance(node.value, ast.Name) and node.value.id == "self"):
                         taken = [node.attr]
-                    self.assertFalse([each for each in taken if re.match("_[a-z]", each) and each not in SYSTEMS], f"{part}/{name}:{getattr(node, 'lineno', 0)}")
+                    theirs = [each for each in taken if re.match("_[a-z]", each) and each not in SYSTEMS]
+                    self.assertFalse(theirs, f"{part}/{name}:{getattr(node, 'lineno', 0)}")
 
     def test_none_stands_outside(self) -> None:
         self.assertEqual(sorted(name for name in os.listdir(COMPANION) if name.endswith(".py")), ["__init__.py", "__main__.py", "library.py"])
-
-
-if __name__ == "__main__":
-    case.main()

@@ -5,7 +5,6 @@ import subprocess
 import sys
 import unittest
 
-sys.path.insert(0, os.path.join(os.path.dirname(os.path.abspath(__file__)), "..", "lib"))
 import case
 import common
 
@@ -53,7 +52,3 @@ class PipTest(case.Case):
         said = self.output(python, "-c", SCRIPT, log, elf)
         self.assertTrue(said.startswith(folder), said)
         self.assertIn("count=63052, name='LoadOutside'", said)
-
-
-if __name__ == "__main__":
-    case.main()

@@ -1,11 +1,9 @@
 """The annotations of the companions hold: mypy --strict, if it is installed. And they run by the oldest Python here."""
-import os
 import shutil
 import subprocess
 import sys
 import unittest
 
-sys.path.insert(0, os.path.join(os.path.dirname(os.path.abspath(__file__)), "..", "lib"))
 import case
 import common
 
@@ -26,7 +24,3 @@ class TypesTest(case.Case):
         for call, folder in ((["-m", "companion"], common.TOP), ([common.COMPANION], "/"), (["-I", common.COMPANION], "/")):
             done = subprocess.run([sys.executable, "-B", *call, *words], cwd=folder, stdout=subprocess.PIPE, check=False)
             self.assertEqual((done.returncode, done.stdout.decode()), (0, plain), call)
-
-
-if __name__ == "__main__":
-    case.main()

@@ -1,10 +1,7 @@
 """zelkuma calls: each call with its arguments, its result and how long it ran, beside a plain reading of the rows."""
 import json
-import os
 import re
-import sys
 
-sys.path.insert(0, os.path.join(os.path.dirname(os.path.abspath(__file__)), "..", "lib"))
 import case
 import common
 
@@ -165,7 +162,3 @@ class TypedTest(case.Case):
         self.assertEqual(of(4, 12, result=12), [["a1"], ["a2"]])
         self.assertEqual(of(4, *[4] * 8)[-2:], [["a7"], []])
         self.assertEqual(of(4, register="s1"), [[]])
-
-
-if __name__ == "__main__":
-    case.main()

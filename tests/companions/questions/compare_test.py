@@ -1,12 +1,9 @@
 """zelkuma compare: the first row that isn't the same, beside a plain reading of the rows; waits are no difference."""
 import json
-import os
 import re
 import subprocess
-import sys
 import unittest
 
-sys.path.insert(0, os.path.join(os.path.dirname(os.path.abspath(__file__)), "..", "lib"))
 import case
 import common
 from recordings import A0, T0, T1, T2, addi, atomic, branch_unless_equal, load, store
@@ -140,7 +137,3 @@ class WaysTest(unittest.TestCase):
     def test_one_that_ends_sooner(self):
         self.assertEqual(self.both([OUT, OTHER], [OUT]), (True, 1, 1, False))
         self.assertEqual(self.both([OUT], [OUT]), (False, 1, 1, False))
-
-
-if __name__ == "__main__":
-    case.main()

@@ -5,9 +5,7 @@ import os
 import re
 import shutil
 import subprocess
-import sys
 
-sys.path.insert(0, os.path.join(os.path.dirname(os.path.abspath(__file__)), "..", "lib"))
 import case
 import common
 
@@ -127,7 +125,3 @@ class ExportTest(case.Case):
             self.assertEqual(file.read(), "mine")
         self.refuses(8, "export", log, self.elf("counter"), "--lcov", common.path("none.info"))
         self.assertFalse(os.path.exists(common.path("none.info")))
-
-
-if __name__ == "__main__":
-    case.main()

@@ -1,10 +1,7 @@
 """zelkuma find: the places of a value, beside a plain reading of the rows."""
 import json
-import os
 import re
-import sys
 
-sys.path.insert(0, os.path.join(os.path.dirname(os.path.abspath(__file__)), "..", "lib"))
 import case
 import common
 
@@ -80,7 +77,3 @@ class FindTest(case.Case):
         self.refuses_here(2, find, log, elf, "4294967296")
         self.refuses_here(2, find, log, elf)
         self.refuses(8, "find", log, self.elf("counter"), "00011b00")
-
-
-if __name__ == "__main__":
-    case.main()

@@ -3,10 +3,8 @@ import json
 import os
 import re
 import subprocess
-import sys
 import unittest
 
-sys.path.insert(0, os.path.join(os.path.dirname(os.path.abspath(__file__)), "..", "lib"))
 import case
 import common
 
@@ -219,7 +217,3 @@ class TypesTest(unittest.TestCase):
         self.assertEqual(self.values("int", [1, None, 0, 0], signed=True), "unknown")
         low, high = leaves(PAIR, 0, 1)
         self.assertEqual([value_text(leaf, [0b101_11110], str) for leaf in (low, high)], ["-2", "-3"])
-
-
-if __name__ == "__main__":
-    case.main()

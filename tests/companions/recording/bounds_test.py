@@ -3,7 +3,6 @@ import os
 import sys
 from contextlib import closing
 
-sys.path.insert(0, os.path.join(os.path.dirname(os.path.abspath(__file__)), "..", "lib"))
 import case
 import common
 from recordings import A0, A1, A2, A7, ECALL, T0, addi, load, lui
@@ -100,7 +99,3 @@ class BoundsTest(case.Case):
         log, elf = saved("read", *asking(63, 0x7fffffff))
         for word in ("output", "why", "view", "bucket", "race"):
             self.assertEqual(common.companion(word, log, elf)[::2], (0, ""), word)
-
-
-if __name__ == "__main__":
-    case.main()

@@ -1,10 +1,7 @@
 """The rows in chunks of text: what a search finds in them is what the lines of `joint` say one by one."""
-import os
 import random
 import re
-import sys
 
-sys.path.insert(0, os.path.join(os.path.dirname(os.path.abspath(__file__)), "..", "lib"))
 import case
 import common
 
@@ -85,7 +82,3 @@ class ChunksTest(case.Case):
         log = read_log(self.log)
         with self.assertRaises(CompanionError):
             list(chunks.chunks(log.name, self.elf("sort")))
-
-
-if __name__ == "__main__":
-    case.main()

@@ -1,8 +1,5 @@
 """A fault in words: words that are no instruction of RV32IMA, and a log and an ELF file that are exchanged."""
-import os
-import sys
 
-sys.path.insert(0, os.path.join(os.path.dirname(os.path.abspath(__file__)), "..", "lib"))
 import case
 from recordings import Recordings
 
@@ -30,7 +27,3 @@ class FaultsTest(case.Case):
         log, elf = self.record("wild_store", "--seed", "1"), self.elf("wild_store")
         for word in ("why", "race", "view", "bucket", "gdb"):
             self.assertIn("is an ELF file, and the log is named before it", self.refuses(7, word, elf, log))
-
-
-if __name__ == "__main__":
-    case.main()

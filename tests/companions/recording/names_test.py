@@ -1,10 +1,6 @@
-#!/usr/bin/env python3
 """`names`: a filter over what the program prints, and addresses of names."""
-import os
 import resource
-import sys
 
-sys.path.insert(0, os.path.join(os.path.dirname(os.path.abspath(__file__)), "..", "lib"))
 import case
 from common import companion, example, output
 
@@ -60,7 +56,3 @@ class NamesTest(case.Case):
         after = resource.getrusage(resource.RUSAGE_CHILDREN)
         rate = int(many.count(b"\n") / (after.ru_utime + after.ru_stime - before.ru_utime - before.ru_stime))
         self.check("names %d rows a second of processor time, at least %d" % (rate, LEAST), rate >= LEAST)
-
-
-if __name__ == "__main__":
-    case.main()

@@ -1,9 +1,7 @@
 """Lines of addresses: what a hostile name or a tool that fails does to them. Nothing waits for ever."""
 import os
 import struct
-import sys
 
-sys.path.insert(0, os.path.join(os.path.dirname(os.path.abspath(__file__)), "..", "lib"))
 import case
 import common
 
@@ -99,7 +97,3 @@ class PlacesTest(case.Case):
             file.write(data)
         status, _, err = common.companion("names", elf, "main", bound=BOUND)
         self.assertEqual((status, "has no main" in err), (4, True), err)
-
-
-if __name__ == "__main__":
-    case.main()

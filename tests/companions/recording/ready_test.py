@@ -5,7 +5,6 @@ import shlex
 import subprocess
 import sys
 
-sys.path.insert(0, os.path.join(os.path.dirname(os.path.abspath(__file__)), "..", "lib"))
 import case
 import common
 
@@ -67,7 +66,3 @@ class ReadyTest(case.Case):
             stopped = next(line for line in reversed(before) if " stops after " in line)
             self.assertIn(f"hart {place.split(':')[0]} stops after", stopped)
             self.assertIn("\n" + place.replace(":", " ") + " ", "\n" + with_rows)
-
-
-if __name__ == "__main__":
-    case.main()

@@ -3,7 +3,6 @@ import os
 import sys
 from contextlib import closing
 
-sys.path.insert(0, os.path.join(os.path.dirname(os.path.abspath(__file__)), "..", "lib"))
 import case
 import common
 
@@ -128,7 +127,3 @@ class NamesOfTest(case.Case):
         self.assertEqual({line[3] for line in lines}, {lines[0][3]})
         self.assertEqual([line[1:3] for line in lines],
                          [["00010194", "-"], ["sell", "tills.c:40"], ["sell", "-"]])
-
-
-if __name__ == "__main__":
-    case.main()

@@ -1,11 +1,8 @@
-#!/usr/bin/env python3
 """Which files are shown as sources: what an ELF file or an archive names is its own matter, what a user has isn't."""
 import os
 import shutil
-import sys
 import tempfile
 
-sys.path.insert(0, os.path.join(os.path.dirname(os.path.abspath(__file__)), "..", "lib"))
 import case
 import common
 
@@ -145,7 +142,3 @@ class SourcesTest(case.Case):
                                                  environment={"XDG_CACHE_HOME": common.path("cache")})
             self.assertEqual((status, err, "suspect:" in said, SECRET in said), (0, "", True, is_shown), said)
             os.remove(self.source)
-
-
-if __name__ == "__main__":
-    case.main()

@@ -3,10 +3,8 @@ import json
 import os
 import re
 import subprocess
-import sys
 from unittest import mock
 
-sys.path.insert(0, os.path.join(os.path.dirname(os.path.abspath(__file__)), "..", "lib"))
 import case
 import chromium
 import common
@@ -133,7 +131,3 @@ class StoryTest(case.Case):
             self.assertEqual(drawn, [4, 3, 3])
             browser.click_on("#story li:nth-child(2) button")
             self.assertTrue(browser.run("state.chosen.hart === 3 && state.chosen.count === D.story.pieces[1][4] - 1"))
-
-
-if __name__ == "__main__":
-    case.main()

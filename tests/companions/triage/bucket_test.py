@@ -1,9 +1,5 @@
-#!/usr/bin/env python3
 """`bucket`: one line, the same for the same cause."""
-import os
-import sys
 
-sys.path.insert(0, os.path.join(os.path.dirname(os.path.abspath(__file__)), "..", "lib"))
 import case
 from common import CRASHES, companion, example, record
 
@@ -28,7 +24,3 @@ class BucketTest(case.Case):
         self.check("a stripped program has its addresses", line.startswith("LoadOutside 00010194 - "), line)
         line = bucket(record("count", example("word_count"), "--seed", "1"), example("word_count"))
         self.check("a run that exits is told by its code", line.split()[0] in ("exit", "group") and line.endswith(" - -\n"), line)
-
-
-if __name__ == "__main__":
-    case.main()

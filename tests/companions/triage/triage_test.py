@@ -1,4 +1,3 @@
-#!/usr/bin/env python3
 """`triage`: a folder with equal, different, damaged, forged and foreign files; its forms; what a log may take."""
 import hashlib
 import json
@@ -10,7 +9,6 @@ import sys
 import unittest
 import xml.etree.ElementTree
 
-sys.path.insert(0, os.path.join(os.path.dirname(os.path.abspath(__file__)), "..", "lib"))
 import case
 import common
 import forged
@@ -75,7 +73,8 @@ class TriageTest(case.Case):
 
     @classmethod
     def setUpClass(cls):
-        common.need_addr2line()
+        if not common.present_tools():
+            raise unittest.SkipTest("no addr2line is installed")
         cls.fleet = fleet = Fleet("fleet")
         used, freed = common.crash(USED)[0], common.crash(FREED)[0]
         for name in (USED, FREED, LARGE):
@@ -298,7 +297,3 @@ class SeedsTest(case.Case):
             lines.append({one["line"] for one in json.loads(content(path(folder + ".json")))["buckets"]})
         self.assertEqual(lines[0], lines[1])
         self.assertGreater(len(lines[0]), 2)
-
-
-if __name__ == "__main__":
-    case.main()

@@ -3,10 +3,9 @@
 Without Chromium all of it is skipped."""
 import os
 import re
-import sys
+import subprocess
 import unittest
 
-sys.path.insert(0, os.path.join(os.path.dirname(os.path.abspath(__file__)), "..", "lib"))
 import case
 import chromium
 import common
@@ -232,6 +231,14 @@ class PageTest(case.Case):
             self.browser.look()
             self.assertTrue(self.browser.pdf().startswith(b"%PDF-"))
 
+    def test_picture_of_the_docs(self):
+        picture = common.path("view.png")
+        said = subprocess.run([os.path.join(common.TOP, "tests", "companions", "lib", "picture.sh"), common.PROGRAM, picture],
+                              stdout=subprocess.PIPE, check=True).stdout.decode()
+        if said.startswith("skipped"):
+            self.skipTest(said)
+        self.assertGreater(os.path.getsize(picture), 20000)
+
     def test_it_asks_for_nothing(self):
         self.open(self.tills())
         self.assertEqual([url[:5] for url in self.browser.requests()], ["file:"])
@@ -261,7 +268,3 @@ class PageTest(case.Case):
         self.browser.key("1")
         self.assertEqual([url[:5] for url in self.browser.requests()], ["file:"])
         self.assertEqual(self.browser.errors(), [])
-
-
-if __name__ == "__main__":
-    case.main()

@@ -1,11 +1,8 @@
 """zelkuma view --with-questions: the page has what history and calls tell, and a click on a word or a name opens it."""
 import json
-import os
 import re
-import sys
 import unittest
 
-sys.path.insert(0, os.path.join(os.path.dirname(os.path.abspath(__file__)), "..", "lib"))
 import case
 import chromium
 import common
@@ -102,7 +99,3 @@ class ClickTest(Pages):
             self.assertGreater(browser.run("asked.variables.length + asked.functions.length"), 0)
             self.assertEqual([url[:5] for url in browser.requests()], ["file:"])
             self.assertEqual(browser.errors(), [])
-
-
-if __name__ == "__main__":
-    case.main()

@@ -9,7 +9,6 @@ import subprocess
 import sys
 import unittest
 
-sys.path.insert(0, os.path.join(os.path.dirname(os.path.abspath(__file__)), "..", "lib"))
 import case
 import common
 import forged
@@ -255,7 +254,3 @@ class EdgesTest(unittest.TestCase):
         late = sum(rows[i] >= 5000 for i in even)
         self.assertLessEqual(len(even), view_data.EDGES // 2)
         self.assertAlmostEqual(late / len(even), 0.5, delta=0.02)
-
-
-if __name__ == "__main__":
-    case.main()

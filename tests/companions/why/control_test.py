@@ -1,8 +1,5 @@
 """Which branch decided that a row was reached, on a program that is written here by its words."""
-import os
-import sys
 
-sys.path.insert(0, os.path.join(os.path.dirname(os.path.abspath(__file__)), "..", "lib"))
 import case
 import common
 from recordings import (A0, DATA, EXIT, T0, T1, T2, addi, branch_unless_equal, elf_of, jump_to, load, lui, pc_of,
@@ -84,7 +81,3 @@ class ControlTest(case.Case):
     def test_the_other_side(self):
         branch = self.trace.rows.code_of(self.rows(3)[0])
         self.assertEqual((branch.leads, other_side(branch, pc_of(6)), other_side(branch, pc_of(4))), (pc_of(6), pc_of(4), pc_of(6)))
-
-
-if __name__ == "__main__":
-    case.main()

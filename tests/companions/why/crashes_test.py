@@ -1,21 +1,16 @@
-#!/usr/bin/env python3
 """The crashing programs of tests/crashes: is the guilty line among the first three suspects of `why`?
 
-    crashes_test.py [known | opened | added | kept | fresh]      all groups, or one of them
-
-The shares are printed, and stand in docs/WHY.md. It fails if one falls under what stands there."""
+The shares are printed, and stand in docs/WHY.md. It fails if one falls under what stands there. CRASHES_GROUP can name one
+of the groups."""
 import filecmp
 import os
 import re
 import subprocess
-import sys
 import unittest
 from concurrent.futures import ThreadPoolExecutor
 from typing import NamedTuple
 
-sys.path.insert(0, os.path.join(os.path.dirname(os.path.abspath(__file__)), "..", "lib"))
-import case                                     # noqa: E402
-from common import CRASHES, PROGRAM, TOOLS, companion, crashes, path, present_tools     # noqa: E402
+from common import CRASHES, PROGRAM, TOOLS, companion, crashes, path, present_tools
 
 FIRST, COMPILER, LARGE = 3, "12.2.0", 100
 PICOLIBC = "/usr/lib/picolibc/riscv64-unknown-elf"
@@ -63,9 +58,6 @@ def tried(program):
 
 
 class WhyCrashes(unittest.TestCase):
-    """`groups` is those that are asked for, or nothing for all of them."""
-    groups = ()
-
     def test_kept_files(self):
         """The ELF files that are kept are what the sources give, if the compiler is the one that built them."""
         version = compiler()
@@ -82,7 +74,8 @@ class WhyCrashes(unittest.TestCase):
         """Each program ends as it should and is explained, and no share falls under what stands in docs/WHY.md."""
         if not present_tools():
             self.skipTest("none of %s is there" % ", ".join(TOOLS))
-        programs = [one for one in crashes().values() if not self.groups or one.group in self.groups]
+        group = os.environ.get("CRASHES_GROUP")
+        programs = [one for one in crashes().values() if group in (None, one.group)]
         found = {}
         with ThreadPoolExecutor(AT_ONCE) as pool:
             for one, (ends, status, err, place) in zip(programs, pool.map(tried, programs)):
@@ -97,9 +90,3 @@ class WhyCrashes(unittest.TestCase):
             print("        %s programs: %d of %d guilty lines in the first three" % (key, good, whole))
             with self.subTest(key):
                 self.assertGreaterEqual(good, LEAST[key])
-
-
-if __name__ == "__main__":
-    WhyCrashes.groups = sys.argv[1:]
-    del sys.argv[1:]
-    case.main()

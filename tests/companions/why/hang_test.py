@@ -1,9 +1,6 @@
 """What `why` says of harts that came to their limit: its loop, since when, and what never happened, against the rows."""
-import os
 import re
-import sys
 
-sys.path.insert(0, os.path.join(os.path.dirname(os.path.abspath(__file__)), "..", "lib"))
 import case
 import common
 from recordings import DATA, T0, T1, T2, addi, atomic, branch_unless_equal, elf_of, lui
@@ -116,7 +113,3 @@ class HangTest(case.Case):
         for row, times in loop.stopped:
             pc = facts.rows.code_of(row).pc
             self.assertEqual((before.count(pc), stay.count(pc)), (times, 0))
-
-
-if __name__ == "__main__":
-    case.main()

@@ -1,10 +1,7 @@
 """zelkuma output, and `why --output`: what the guest wrote, whole or with what isn't known, and from where a byte came."""
-import os
 import re
 import subprocess
-import sys
 
-sys.path.insert(0, os.path.join(os.path.dirname(os.path.abspath(__file__)), "..", "lib"))
 import case
 import common
 from recordings import A0, A1, A2, A7, DATA, ECALL, EXIT, FIRST, T0, T1, addi, elf_of, load, lui
@@ -143,7 +140,3 @@ class ByteTest(case.Case):
             file.write(elf_of(call(WRITE, 1, FIRST, 4) + list(EXIT)))
         log = common.record("constant", elf, "--seed", "1")
         self.assertIn("No row stored the byte: below is the write.\n", self.says("why", log, elf, "--output", "0:1"))
-
-
-if __name__ == "__main__":
-    case.main()

@@ -1,15 +1,12 @@
-#!/usr/bin/env python3
 """`why` on the examples: what it says of the fault, its suspects, and of logs that gave up their front."""
 import os
 import re
 import shutil
 import subprocess
-import sys
 
-sys.path.insert(0, os.path.join(os.path.dirname(os.path.abspath(__file__)), "..", "lib"))
 import case
 from common import TOP, companion, example, output, path, record
-from companion.why.analysis import analysed         # common lets the package be found
+from companion.why.analysis import analysed
 
 
 def suspects(text):
@@ -162,7 +159,3 @@ class WhyTest(case.Case):
             page = file.read()
         self.check("--html holds the same text, and nothing to load", "<h2>CALLS</h2>" in page and not re.search(r"src=|href=|https?:|<script", page))
         self.check("--html tells the version", re.search(r'name="generator" content="Zelkuma [0-9.]+"', page))
-
-
-if __name__ == "__main__":
-    case.main()
