@@ -4,6 +4,8 @@ from __future__ import annotations
 from itertools import groupby
 from typing import NamedTuple, Sequence, Tuple
 
+BYTES = [bytes([hart]) for hart in range(256)]
+
 
 class Piece(NamedTuple):
     hart: int
@@ -19,7 +21,7 @@ def pieces_of(turns: bytes) -> Pieces:
 
 
 def turns_of(pieces: Sequence[Piece]) -> bytes:
-    return b"".join(bytes([piece.hart]) * piece.turns for piece in pieces)
+    return b"".join([BYTES[hart] * turns for hart, turns in pieces])
 
 
 def joined(pieces: Sequence[Piece]) -> Pieces:
