@@ -8,7 +8,7 @@ from typing import Iterable, NamedTuple
 
 from ..call.errors import NO_INTERVAL, CompanionError
 from .calls import CallTree
-from .chunks import JUMPS, chunks
+from .chunks import JUMP, chunks, places
 from .elf import Elf
 from .instruction import Instruction
 from .log import End, Log, is_fault
@@ -70,13 +70,13 @@ class HartCalls:
         """Takes the jumps of some rows."""
         if self.returned:
             self.arrive(text, 0)
-        for found in JUMPS.finditer(text):
-            begin = text.rfind(b"\n", 0, found.start())
+        for at in places(text, JUMP):
+            begin = text.rfind(b"\n", 0, at)
             if text.startswith(self.row, begin):
-                end = text.find(b"\n", found.end())
+                end = text.find(b"\n", at)
                 self.jump(text[begin + 1:end if end >= 0 else len(text)].split(b" ", 2)[2])
                 if self.returned:
-                    self.arrive(text, found.end())
+                    self.arrive(text, at)
 
     def jump(self, row: bytes) -> None:
         """A jump, as its row tells it from the address on."""
@@ -109,7 +109,7 @@ class HartCalls:
             if self.returned:
                 self.node, self.returned = self.tree.returned(self.node, pc), False
             found.append((self.node, pc))
-            if JUMPS.search(row[2]):
+            if JUMP in row[2]:
                 self.jump(row[1] + b" " + row[2])
         return found
 
@@ -147,4 +147,4 @@ def cause_along(texts: Iterable[bytes], hart: int, end: End) -> Cause:
 
 def cause_of(log: Log, elf_name: str) -> Cause:
     hart = ended_hart(log)
-    return cause_along(chunks(log.name, elf_name), hart, log.ends[hart])
+    return cause_along(chunks(log.name, elf_name, log=log), hart, log.ends[hart])
