@@ -1,5 +1,5 @@
 //! Testing the blocks of a file of version 2: they are a log's, or have a first fault.
-ghost use Rattle.std.specs.Prelude.{◌≡◌, ◌≤◌, ◌+◌, List, ℕ, None, length, MatchResult, IfOk, IfErr};
+ghost use Rattle.std.specs.Prelude.{◌≡◌, ◌≤◌, ◌+◌, List, None, length, MatchResult, IfOk, IfErr};
 ghost use Rattle.log_blocks.specs.Counts.{CountsBlocks, TestsBlocks, TestsRead};
 ghost use Rattle.log_blocks.specs.Fields.{settings_in, size_in, head_digest, blocks_in};
 ghost use Rattle.log_blocks.specs.Faults.{head_fault};
