@@ -12,7 +12,7 @@ import sys
 import tempfile
 
 TOP = os.path.dirname(os.path.dirname(os.path.abspath(__file__)))
-sys.path.insert(0, os.path.join(TOP, "tests", "companions"))
+sys.path.insert(0, os.path.join(TOP, "tests", "companions", "lib"))
 import common
 
 # Of an example: options of its recording, its schedule, and a text that its guilty line has.

@@ -4,11 +4,10 @@ from __future__ import annotations
 import contextlib
 from contextlib import closing
 from dataclasses import dataclass
+from functools import cached_property
 from typing import Any, Iterator, List, NamedTuple, Optional
 
 from .call.errors import NO_INTERVAL, CompanionError
-from .gdb.fills import Fills
-from .gdb.goto import go_to_place
 from .gdb.memory import Memory
 from .gdb.session import Session, begin_session
 from .questions.calls import Values, calls_of
@@ -63,9 +62,8 @@ class State:
 
     def session(self) -> Session:
         """The session, at this place."""
-        session = self.recording.session()
-        session.go_to(self.place)
-        return session
+        self.recording.session.go_to(self.place)
+        return self.recording.session
 
     @property
     def registers(self) -> dict[str, int]:
@@ -83,7 +81,7 @@ class State:
     def read(self, address: int, size: int) -> Optional[bytes]:
         """Bytes of memory, or None if not all are known."""
         self.session()
-        found = self.recording.memory().read(address, size)
+        found = self.recording.memory.read(address, size)
         return found if len(found) == size else None
 
     def variable(self, name: str) -> Any:
@@ -100,9 +98,6 @@ class Recording:
     def __init__(self, log: str, elf: str, names: str = "", rows: int = EVERY) -> None:
         self.files, self.given = (log, elf), {"--rows": str(rows), **({"--names": names} if names else {})}
         self.opened = contextlib.ExitStack()
-        self._asked: Optional[Asked] = None
-        self._session: Optional[Session] = None
-        self._memory: Optional[Memory] = None
 
     def __enter__(self) -> Recording:
         return self
@@ -112,14 +107,13 @@ class Recording:
 
     def close(self) -> None:
         self.opened.close()
-        self._asked = self._session = self._memory = None
+        for opened in ("asked", "session", "memory"):
+            self.__dict__.pop(opened, None)
 
-    @property
+    @cached_property
     def asked(self) -> Asked:
         """The log, checked, and the names."""
-        if self._asked is None:
-            self._asked = self.opened.enter_context(asked_of(*self.files, self.given))
-        return self._asked
+        return self.opened.enter_context(asked_of(*self.files, self.given))
 
     @property
     def fault(self) -> Optional[Fault]:
@@ -130,22 +124,18 @@ class Recording:
         """Each row, in the order of `joint`. None is kept."""
         return rows_of(self.asked.log.name, self.asked.elf.name)
 
+    @cached_property
     def session(self) -> Session:
-        if self._session is None:
-            self._session = self.opened.enter_context(closing(begin_session(self.asked.log, self.asked.elf.name)))
-        return self._session
+        return self.opened.enter_context(closing(begin_session(self.asked.log, self.asked.elf.name)))
 
+    @cached_property
     def memory(self) -> Memory:
-        if self._memory is None:
-            session, log = self.session(), self.asked.log
-            self._memory = Memory(log, self.asked.elf, session, Fills(session.steps, log))
-        return self._memory
+        return Memory(self.asked.log, self.asked.elf, self.session)
 
     def at(self, hart: int, count: int) -> State:
         """The state before a hart's instruction of a count. It takes some 90 bytes for each row on the way."""
-        session = self.session()
-        go_to_place(session, At(hart, count))
-        return State(self, hart, session.at)
+        self.session.go_to_row(At(hart, count))
+        return State(self, hart, self.session.at)
 
     def history(self, name: str, last: int = 100) -> List[Stored]:
         """The last stores to a variable."""
@@ -158,6 +148,5 @@ class Recording:
         """The last calls of a function."""
         asked = self.asked
         found, values = calls_of(asked, function_of(asked.named, function), last), Values(asked)
-        return [Called(int(call.hart), call.count, values.arguments(call),
-                       values.text(call.begin.result, call.result) if call.begin.result and call.rows is not None else None,
-                       call.rows, asked.places.where(call.source)) for call in found.told]
+        return [Called(int(call.hart), call.count, values.arguments(call), values.result(call), call.rows, asked.places.where(call.source))
+                for call in found.told]

@@ -3,7 +3,7 @@ failures=0
 
 # Says what went wrong, with what the words wrote that ran last.
 fails() { # TEXT
-    echo "tests/${0##*/}: $what: $1" >&2
+    echo "${0##*/}: $what: $1" >&2
     sed 's/^/    /' "$work/out" "$work/err" >&2 2>/dev/null
     failures=$((failures + 1))
 }
@@ -30,6 +30,6 @@ end_skipped() { # TEXT
 
 # Ends the script.
 end() {
-    [ "$failures" -eq 0 ] && echo "tests/${0##*/}: all is well"
+    [ "$failures" -eq 0 ] && echo "${0##*/}: all is well"
     exit $((failures > 0))
 }

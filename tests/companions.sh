@@ -1,6 +1,6 @@
 #!/usr/bin/env bash
-# Tries the companions: tests/companions.sh [PROGRAM [CASE..]]. Without PROGRAM it is the one that the companions find
-# by themselves. A case is a file of tests/companions; without one all are run, as many side by side as there are
+# Tries the companions: tests/companions.sh [PROGRAM [FILE..]]. Without PROGRAM it is the one that the companions find
+# by themselves. A file is one of tests/companions; without one all are run, as many side by side as there are
 # processors. Each says what it skips, and why. The last line is 'N passed, N failed, N skipped'.
 set -u
 top=$(cd "$(dirname "$0")/.." && pwd)
@@ -14,47 +14,38 @@ work=$(mktemp -d)
 trap 'rm -rf "$work"' EXIT
 passed=0 failed=0 skipped=0
 
-# Runs a case; what it says and its status are kept. (A job in the background begins with signals ignored.)
-runs() { # CASE
-    local name run=(bash)
-    name=$(basename "$1")
-    [ "${name##*.}" != py ] || run=(python3)
-    bash "$top/tests/fresh_start.sh" "${run[@]}" "$1" >"$work/$name.said" 2>&1
-    echo $? >"$work/$name.status"
+# Runs the tests of a file, and keeps what they say. (A job in the background begins with signals ignored.)
+runs() { # FILE
+    bash tests/fresh_start.sh python3 -m unittest -v "$1" >"$work/${1//\//.}" 2>&1
 }
 
-# Tells what a case said, and counts. A case counts its own tests, or is one.
-counts() { # CASE
-    local name status
-    name=$(basename "$1")
-    status=$(<"$work/$name.status")
-    echo "== $name"
-    cat "$work/$name.said"
-    skipped=$((skipped + $(grep -c '^skipped' "$work/$name.said")))
-    if [[ $(tail -n 1 "$work/$name.said") =~ ^([0-9]+)\ passed,\ ([0-9]+)\ failed(, [0-9]+ skipped)?$ ]]; then
-        passed=$((passed + BASH_REMATCH[1]))
-        failed=$((failed + BASH_REMATCH[2] + (status != 0 && BASH_REMATCH[2] == 0)))
-    elif [ "$status" -eq 0 ]; then
-        [[ $(tail -n 1 "$work/$name.said") == skipped* ]] || passed=$((passed + 1))
-    else
-        failed=$((failed + 1))
-    fi
+number() { [[ $2 =~ $1([0-9]+) ]] && echo "${BASH_REMATCH[1]}" || echo 0; } # BEFORE TEXT
+
+# Tells what the tests of a file said, and counts them.
+counts() { # FILE
+    local said=$work/${1//\//.} end ran bad without
+    echo "== $1"
+    cat "$said"
+    sed -n "s/^\(.*\) \.\.\. skipped \(.*\)/skipped: \1: \2/p" "$said"
+    end=$(tail -n 3 "$said")
+    ran=$(number "Ran " "$end") bad=$(($(number failures= "$end") + $(number errors= "$end"))) without=$(number skipped= "$end")
+    [[ $end == *OK* || $bad -gt 0 ]] || bad=1
+    failed=$((failed + bad)) skipped=$((skipped + without))
+    passed=$((passed + (ran > bad + without ? ran - bad - without : 0)))
 }
 
-[ $# -gt 0 ] || set -- "$top"/tests/companions/*.py "$top"/tests/companions/*.sh
-cases=()
-for case; do
-    [ ! -f "$case" ] || [ "$(basename "$case")" = common.py ] || cases+=("$case")
-done
-for case in "${cases[@]}"; do
+[ $# -gt 0 ] || set -- "$top"/tests/companions/*/*_test.py
+mapfile -t files < <(realpath --relative-to="$top" "$@")
+cd "$top" || exit 1
+for file in "${files[@]}"; do
     while [ "$(jobs -pr | wc -l)" -ge "$(nproc)" ]; do
         wait -n
     done
-    runs "$case" &
+    runs "$file" &
 done
 wait
-for case in "${cases[@]}"; do
-    counts "$case"
+for file in "${files[@]}"; do
+    counts "$file"
 done
 echo "$passed passed, $failed failed, $skipped skipped"
 [ "$failed" -eq 0 ] && [ "$passed" -gt 0 ]

@@ -4,7 +4,6 @@
 # the system's own tools. A job in the background begins with INT and QUIT ignored, one under nohup with HUP, and no shell
 # can take that back. tests/quick.sh and tests/companions.sh start so all that they try.
 umask 022
-exec </dev/null
 unset CDPATH LANGUAGE "${!LC_@}"
 export LANG=C.UTF-8
 [[ :$PATH: == *:/usr/sbin:* ]] || export PATH=$PATH:/usr/sbin:/sbin
@@ -12,10 +11,4 @@ export LANG=C.UTF-8
 [ -d "${HOME-}" ] || { unset HOME && HOME=~; }
 [ -d "$HOME" ] || HOME=/
 export HOME
-# (coreutils have it since 8.31)
-! env --default-signal env >/dev/null 2>&1 || exec env --default-signal "$@"
-exec python3 -c '
-import os, signal, sys
-for it in signal.valid_signals() - {signal.SIGKILL, signal.SIGSTOP}:
-    signal.signal(it, signal.SIG_DFL)
-os.execvp(sys.argv[1], sys.argv[1:])' "$@"
+exec env --default-signal "$@" </dev/null

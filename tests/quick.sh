@@ -55,23 +55,24 @@ tell() {
 [ -x "$program" ] || { echo "tests/quick.sh: there is no program $program" >&2 && exit 1; }
 program=$(readlink -f "$program")
 cd "$top" || exit 1
-tries tests/started.sh
-tries tests/zelkuma.sh
-tries tests/shipped.sh
-tries tests/calls.sh
-tries tests/launcher.sh "$program"
-tries tests/help.sh "$program"
-tries tests/definitions.sh
-tries tests/prose.py
-tries tests/completion.sh
-tries tests/carry.sh "$program"
-tries tests/joined.py
-tries tests/read_log.sh "$program"
-tries tests/limits.sh "$program"
-tries tests/documents.py "$program" README.md examples/README.md docs/COMMANDS.md tests/examples.md
-tries tests/checkers.sh
-tries tests/named.py
-tries tests/stale.py
+tries tests/script/zelkuma.sh
+tries tests/script/shipped.sh
+tries tests/script/calls.sh
+tries tests/script/launcher.sh "$program"
+tries tests/pages/help.sh "$program"
+tries tests/sources/definitions.sh
+tries tests/pages/prose.py
+tries tests/script/completion.sh
+tries tests/script/carry.sh "$program"
+tries tests/program/joined.py
+tries tests/program/read_log.sh "$program"
+tries tests/program/limits.sh "$program"
+tries tests/pages/documents.py "$program" README.md examples/README.md docs/COMMANDS.md tests/pages/examples.md
+tries tests/pages/documents.py "$program" docs/{GUIDE,WHY,SHRINK,VIEW,GDB,PYTHON}.md
+tries tests/sources/checkers.sh
+tries tests/sources/named.py
+tries tests/sources/stale.py
+tries tests/sources/examples.sh
 tries tests/companions.sh "$program"
 wait
 tell

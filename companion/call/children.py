@@ -7,6 +7,7 @@ import signal
 import subprocess
 from typing import Any, Callable, Mapping, Sequence
 
+from .errors import CompanionError
 from .streams import on_interrupt, uninterrupted
 
 try:
@@ -14,6 +15,7 @@ try:
     prctl: Any = ctypes.CDLL(None).prctl
 except (ImportError, OSError):                  # a python without it can't ask the system
     prctl = None
+FAILED = 1
 SET_DEATH_SIGNAL = 1        # PR_SET_PDEATHSIG of prctl(2)
 leads_group = False
 
@@ -39,16 +41,6 @@ def follow(parent: int) -> None:
     tie(parent)
 
 
-def fork() -> int:
-    """As os.fork; the new process is as one of `start`."""
-    parent = os.getpid()
-    with uninterrupted():
-        process = os.fork()
-        if not process:
-            follow(parent)
-    return process
-
-
 def start(words: Sequence[str], **streams: Any) -> subprocess.Popen[bytes]:
     """A process that the system kills when this one ends, also if this one is killed. Signals wait until it is known here."""
     if leads_group:
@@ -64,7 +56,7 @@ def start(words: Sequence[str], **streams: Any) -> subprocess.Popen[bytes]:
 
 
 class Process:
-    """A child by its number. `os.wait` is to tell how it ends."""
+    """A child by its number."""
 
     def __init__(self, pid: int) -> None:
         self.pid = pid
@@ -77,8 +69,41 @@ class Process:
         with contextlib.suppress(ProcessLookupError):
             os.kill(self.pid, signal.SIGKILL)
 
-    def wait(self) -> None:
-        os.waitpid(self.pid, 0)
+    def wait(self) -> int:
+        """Its status."""
+        return self.end(os.waitpid(self.pid, 0)[1])
+
+
+class Forked(Process):
+    """A function in a process of its own, which ends as one of `start`. The text that it gives goes into a file, as does the line
+    of what it refuses."""
+
+    def __init__(self, work: Callable[[], str], said: str, err: str) -> None:
+        parent = os.getpid()
+        with uninterrupted():
+            super().__init__(os.fork())
+            if not self.pid:
+                follow(parent)
+        if not self.pid:
+            self.run(work, said, err)
+
+    @staticmethod
+    def run(work: Callable[[], str], said: str, err: str) -> None:
+        """The new process. Nothing of the old one is done again in it, whatever happens."""
+        status = FAILED
+        try:
+            write(said, work())
+            status = 0
+        except CompanionError as error:
+            status = error.status
+            write(err, f"zelkuma: {error}")
+        finally:
+            os._exit(status)
+
+
+def write(name: str, text: str) -> None:
+    with open(name, "w", encoding="utf-8", errors="backslashreplace") as file:
+        file.write(text + "\n")
 
 
 class Guard:

@@ -17,9 +17,8 @@ class Words(NamedTuple):
     options: dict[str, str]
 
 
-def parse(words: Sequence[str], known: Mapping[str, bool], names: int | range, form: str) -> Words:
-    """`known` says of each option if it takes a value; `names` how many names there are, as a number or a range of them;
-    `form` is shown if the words are refused."""
+def parse(words: Sequence[str], known: Mapping[str, bool], names: range, form: str) -> Words:
+    """`known` says of each option if it takes a value; `names` how many names there may be; `form` is shown if the words are refused."""
     def refuse(why: str) -> NoReturn:
         raise CompanionError(f"{why}; the words are: {form}", REFUSED)
 
@@ -44,9 +43,18 @@ def parse(words: Sequence[str], known: Mapping[str, bool], names: int | range, f
                 refuse(f"option {option} needs a value")
             value = value if equals else left.pop(0)
             given[option] = given[option] + AND + value if option in given else value
-    if len(found) not in (names if isinstance(names, range) else (names,)):
+    if len(found) not in names:
         refuse(f"{len(found)} names are given")
     return Words(found, given)
+
+
+def read_words(words: Sequence[str], form: str, *more: str) -> Words:
+    """The words of a companion by its form: options with their values, and names, of which the last may end in `..`. `more` are
+    options with a value that the form doesn't name."""
+    known = {option: bool(value) for option, value in re.findall(r"(--[a-z][a-z-]*)( [^]| ]+)?", form)}
+    known.update(dict.fromkeys(more, True))
+    names = re.sub(r"\[[^]]*\]|--.*", "", form).split()[1:]
+    return parse(words, known, range(1, 1000) if names[-1].endswith("..") else range(len(names), len(names) + 1), form)
 
 
 def decimal(text: str) -> str:

@@ -18,6 +18,9 @@ class Part(NamedTuple):
     heading: str
     lines: list[str]
 
+    def text(self) -> list[str]:
+        return [self.heading, *("  " + line for line in self.lines)] if self.heading else self.lines
+
 
 def escaped(text: str) -> str:
     return html.escape(clean(text))

@@ -4,7 +4,6 @@ from __future__ import annotations
 import os
 import shutil
 import subprocess
-from types import TracebackType
 from typing import Iterator, NamedTuple, Sequence
 
 from . import PACKAGE
@@ -75,8 +74,7 @@ class Output:
             said = last.split(": ", 1)[-1] or f"the program ended with {self.status}"
             raise CompanionError(said, self.status if self.status > 0 else NOT_BUILT)
 
-    def __exit__(self, _type: type[BaseException] | None, _error: BaseException | None,
-                 _where: TracebackType | None) -> None:
+    def __exit__(self, *_: object) -> None:
         if self.status is None:
             self.process.kill()
             self.process.wait()

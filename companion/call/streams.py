@@ -7,7 +7,7 @@ import os
 import signal
 import sys
 import time
-from typing import Any, ClassVar, Iterator, Optional
+from typing import Any, ClassVar, Iterable, Iterator, Optional
 
 from .errors import UNWRITABLE, CompanionError
 
@@ -31,6 +31,10 @@ def prepare() -> None:
 def put(text: str) -> None:
     """Prints text. CompanionError if the output takes no more."""
     put_bytes(text.encode(sys.stdout.encoding or "utf-8", "backslashreplace"))
+
+
+def put_lines(lines: Iterable[str]) -> None:
+    put("".join(line + "\n" for line in lines))
 
 
 def put_bytes(data: bytes) -> None:

@@ -7,25 +7,24 @@ import shlex
 import socket
 import sys
 from contextlib import closing
-from typing import Mapping, NoReturn, Optional
+from typing import Mapping, NoReturn
 
 from ..call import streams
 from ..call.errors import UNREADABLE, CompanionError
-from ..call.options import parse, whole
+from ..call.options import read_words, whole
 from ..call.program import NOT_BUILT
 from ..call.text import number
 from ..questions.debugger import PACKAGE, gdb_path
 from ..recording.elf import Elf
-from ..recording.log import At, Log
+from ..recording.log import Log
 from ..recording.naming import named_elf
 from ..recording.recent import FIRST_ROWS, open_log
 from ..why.facts import asked_row
-from .fills import Fills
 from .memory import Memory
 from .packets import PacketStream
 from .questions import Questions
 from .server import Server
-from .session import Session, begin_session
+from .session import begin_session
 
 HELP = """zelkuma gdb LOG ELF [--run] [--names ELF] [--at HART:IC] [--rows N] [--port N] [--end] [--trace]
 
@@ -50,7 +49,6 @@ serve as both. The session begins where the log does; `continue` goes to the cra
 Companions show; the program proves. What gdb shows is what `debug` says of the log, and ELF of memory that
 nothing touched."""
 FORM = "gdb LOG ELF [--run] [--names ELF] [--at HART:IC] [--rows N] [--port N] [--end] [--trace]"
-OPTIONS = {"--run": False, "--names": True, "--at": True, "--rows": True, "--port": True, "--end": False, "--trace": False}
 HIGHEST = 1 << 41
 SETTINGS = [word for said in ("debuginfod enabled off", "architecture riscv:rv32", "remotetimeout 60", "confirm off",
                                                    "auto-connect-native-target off")
@@ -68,19 +66,6 @@ def wait_for_gdb(port: int) -> socket.socket:
         raise CompanionError(f"port {port}: {error.strerror}", UNREADABLE)
     peer.setsockopt(socket.IPPROTO_TCP, socket.TCP_NODELAY, 1)  # each answer is waited for
     return peer
-
-
-def begin_server(log: Log, elf: Elf, session: Session, stream: PacketStream, questions: Questions) -> Server:
-    fills = Fills(session.steps, log)
-    return Server(session, Memory(log, elf, session, fills), fills, stream, questions)
-
-
-def serve(server: Server, at_end: bool, place: Optional[At]) -> None:
-    try:
-        server.begin(at_end, place)
-        server.serve()
-    except (EOFError, ConnectionError):         # gdb has left
-        pass
 
 
 def told_of_rows(log: Log) -> str:
@@ -103,7 +88,7 @@ def run_gdb(log_name: str, elf_name: str, options: Mapping[str, str]) -> NoRetur
 
 
 def main(words: list[str]) -> int:
-    (log_name, elf_name), options = parse(words, OPTIONS, 2, FORM)
+    (log_name, elf_name), options = read_words(words, FORM)
     port = whole(options["--port"], 0, 65535, "--port") if "--port" in options else None
     rows = whole(options["--rows"], 1, HIGHEST, "--rows") if "--rows" in options else 0
     at = asked_row(options["--at"]) if "--at" in options else None
@@ -118,7 +103,9 @@ def main(words: list[str]) -> int:
         session = opened.enter_context(closing(begin_session(log, elf_name)))
         peer = opened.enter_context(wait_for_gdb(port)) if port is not None else None
         ends = (peer.fileno(),) * 2 if peer else (sys.stdin.fileno(), sys.stdout.fileno())
-        stream = PacketStream(*ends, "--trace" in options)
-        serve(begin_server(log, elf, session, stream, Questions(log_name, elf_name, options.get("--names", ""))),
-              "--end" in options, at)
+        server = Server(session, Memory(log, elf, session), PacketStream(*ends, "--trace" in options),
+                        Questions(log_name, elf_name, options.get("--names", "")))
+        with contextlib.suppress(EOFError, ConnectionError):    # gdb has left
+            server.begin("--end" in options, at)
+            server.serve()
     return 0

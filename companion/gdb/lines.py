@@ -6,10 +6,7 @@ from __future__ import annotations
 
 import bisect
 from collections import deque
-from typing import Callable, NamedTuple, Optional, Sequence
-
-
-CLOSE = 16  # so many lines are counted at once
+from typing import Callable, Iterator, NamedTuple, Optional, Sequence
 
 
 class Pattern(NamedTuple):
@@ -38,39 +35,19 @@ def line_around(text: bytearray, at: int) -> tuple[int, int]:
     return text.rfind(b"\n", 0, at) + 1, text.index(b"\n", at)
 
 
-def first_match(text: bytearray, pattern: Pattern, low: int, high: int) -> Optional[int]:
-    word, accepts = pattern
-    at = text.find(word, low, high)
-    while at >= 0:
-        begin, end = line_around(text, at)
-        if accepts(bytes(text[begin:end])):
-            return begin
-        at = text.find(word, end, high)
-    return None
-
-
-def last_match(text: bytearray, pattern: Pattern, low: int, high: int) -> Optional[int]:
-    word, accepts = pattern
-    at = text.rfind(word, low, high)
-    while at >= 0:
-        begin, end = line_around(text, at)
-        if accepts(bytes(text[begin:end])):
-            return begin
-        at = text.rfind(word, low, begin)
-    return None
-
-
 def nearest(text: bytearray, patterns: Sequence[Pattern], low: int, high: int, last: bool) -> Optional[int]:
     """The beginning of the first line in text[low:high] that a pattern matches, or of the last one."""
-    best = None
-    for pattern in patterns:
-        if last:
-            found = last_match(text, pattern, low, high)
-            low = low if found is None else found
-        else:
-            found = first_match(text, pattern, low, high)
-            high = high if found is None else found
-        best = best if found is None else found
+    best, find = None, text.rfind if last else text.find
+    for word, accepts in patterns:
+        at, first, end = find(word, low, high), low, high
+        while at >= 0:
+            begin, behind = line_around(text, at)
+            if accepts(bytes(text[begin:behind])):
+                best = begin
+                low, high = (begin, high) if last else (low, begin)
+                break
+            first, end = (first, begin) if last else (behind, end)
+            at = find(word, first, end)
     return best
 
 
@@ -99,10 +76,7 @@ class KeptLines:
         return self.starts[piece + 1] if piece + 1 < len(self.starts) else self.count
 
     def nearest(self, piece: int, number: int) -> Near:
-        """A known line of a piece: a close one, else the nearest."""
-        for near in reversed(self.near):
-            if near.piece == piece and -CLOSE < near.number - number < CLOSE:
-                return near
+        """The known line of a piece that is the nearest."""
         known = [near for near in self.near if near.piece == piece]
         known += [Near(piece, self.starts[piece], 0), Near(piece, self.end_of(piece), len(self.texts[piece]))]
         return min(known, key=lambda near: abs(near.number - number))
@@ -122,13 +96,13 @@ class KeptLines:
         self.near.append(Near(piece, at, offset))
         return offset
 
-    def part(self, start: int, end: int) -> Part:
-        """Of the lines [start, end) those in the piece that holds the first."""
-        piece = self.piece_of(start)
-        end = min(end, self.end_of(piece))
-        text = self.texts[piece]
-        high = len(text) if end == self.end_of(piece) else self.offset(piece, end)
-        return Part(start, end, text, self.offset(piece, start), high)
+    def parts(self, start: int, end: int) -> Iterator[Part]:
+        """The lines [start, end), piece by piece."""
+        while start < end:
+            piece = self.piece_of(start)
+            behind = min(end, self.end_of(piece))
+            yield Part(start, behind, self.texts[piece], self.offset(piece, start), self.offset(piece, behind))
+            start = behind
 
     def line(self, number: int) -> bytes:
         piece = self.piece_of(number)
@@ -137,15 +111,7 @@ class KeptLines:
 
     def text(self, start: int, end: int) -> bytes:
         """The lines [start, end) with the ends of all."""
-        parts, at = [], start
-        while at < end:
-            piece = self.piece_of(at)
-            limit = min(end, self.end_of(piece))
-            text = self.texts[piece]
-            stop = len(text) if limit == self.end_of(piece) else self.offset(piece, limit)
-            parts.append(text[self.offset(piece, at):stop])
-            at = limit
-        return b"".join(parts)
+        return b"".join(part.text[part.low:part.high] for part in self.parts(start, end))
 
     def cut(self, number: int) -> None:
         """Keeps the first so many lines."""
@@ -159,19 +125,12 @@ class KeptLines:
 
     def find(self, patterns: Sequence[Pattern], start: int, end: int, last: bool = False) -> Optional[int]:
         """The first line in [start, end), or the last, that a pattern matches, else None."""
-        if start >= end:
-            return None
-        pieces = range(self.piece_of(start), self.piece_of(end - 1) + 1)
-        for piece in reversed(pieces) if last else pieces:
-            text = self.texts[piece]
-            low = self.offset(piece, start) if start > self.starts[piece] else 0
-            high = self.offset(piece, end) if end < self.end_of(piece) else len(text)
-            found = nearest(text, patterns, low, high, last)
+        parts = list(self.parts(start, end))
+        for part in reversed(parts) if last else parts:
+            found = nearest(part.text, patterns, part.low, part.high, last)
             if found is not None:
-                if last:
-                    number = min(end, self.end_of(piece)) - text.count(b"\n", found, high)
-                else:
-                    number = max(start, self.starts[piece]) + text.count(b"\n", low, found)
-                self.near.append(Near(piece, number, found))
+                count = part.text.count
+                number = part.end - count(b"\n", found, part.high) if last else part.start + count(b"\n", part.low, found)
+                self.near.append(Near(self.piece_of(number), number, found))
                 return number
         return None

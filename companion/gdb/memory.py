@@ -31,10 +31,10 @@ BATCH = 256  # words asked for at once
 class Memory:
     """Reads memory for gdb, which takes what is known from an address on."""
 
-    def __init__(self, log: Log, elf: Elf, session: Session, fills: Fills) -> None:
-        self.session, self.elf, self.fills = session, elf, fills
+    def __init__(self, log: Log, elf: Elf, session: Session) -> None:
+        self.session, self.elf, self.fills = session, elf, Fills(session.steps, log)
         self.size, self.is_whole = log.memory, log.dropped == 0
-        self.future = Future(session.steps, fills)
+        self.future = Future(session.steps, self.fills)
         self.borders = sorted({border for part in elf.parts for border in (part.address, part.address + part.size)})
 
     def is_mapped(self, address: int) -> bool:

@@ -42,10 +42,6 @@ def touches(line: bytes, watch: Watch) -> bool:
     return False
 
 
-def hart_of(line: bytes) -> int:
-    return int(line.split(b" ", 1)[0])
-
-
 class Points:
     """What is set. Setting a point twice, or taking out one that isn't set, changes nothing."""
 
@@ -84,7 +80,7 @@ class Points:
 
     def patterns(self, watch: Watch, only: Optional[int]) -> Iterator[Pattern]:
         def accepts(line: bytes) -> bool:
-            return touches(line, watch) and only in (None, hart_of(line))
+            return touches(line, watch) and only in (None, int(line.split(b" ", 1)[0]))
 
         for word in WATCH_KINDS[watch.kind][1]:
             if watch.length > FEW:

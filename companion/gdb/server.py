@@ -8,8 +8,6 @@ from ..call.errors import CompanionError
 from ..recording.log import At
 from ..why.facts import asked_row
 from . import target
-from .fills import Fills
-from .goto import go_to_place
 from .memory import Memory
 from .motion import Motion, Stop
 from .packets import PACKET_SIZE, PacketStream
@@ -46,9 +44,9 @@ def numbers_of(text: str) -> tuple[int, int]:
 class Server:
     """One session with gdb."""
 
-    def __init__(self, session: Session, memory: Memory, fills: Fills, stream: PacketStream, questions: Questions) -> None:
+    def __init__(self, session: Session, memory: Memory, stream: PacketStream, questions: Questions) -> None:
         self.session, self.memory, self.stream, self.questions = session, memory, stream, questions
-        self.points = Points(session.steps, fills)
+        self.points = Points(session.steps, memory.fills)
         self.motion = Motion(session, self.points, stream.is_interrupted)
         self.threads = Threads(session)
         self.last_stop, self.is_extended = "", False
@@ -91,8 +89,7 @@ class Server:
             "z": lambda text: self.change_point(False, text),
             "S": lambda _: whole["s"](),
             "C": lambda _: whole["c"](),
-            # A recorded run can't be changed.
-            "G": lambda _: REFUSED, "P": lambda _: REFUSED, "M": lambda _: REFUSED, "X": lambda _: REFUSED,
+            **dict.fromkeys("GPMX", lambda _: REFUSED),     # a recorded run can't be changed
         }
 
     # What is asked
@@ -141,12 +138,16 @@ class Server:
         words = bytes.fromhex(text).decode().split()
         if words == ["moved"]:
             said, self.moved = self.moved, ""
+        elif words == ["where"]:
+            said = self.session.where()
+        elif words == ["at"]:
+            said = f"at {self.session.at} of {self.session.steps.count} known\n"
+        elif len(words) == 2 and words[0] == "rows" and words[1].isdecimal():
+            said = self.session.steps.lines.text(max(0, self.session.at - min(int(words[1]), MOST_ROWS)), self.session.at).decode()
         elif len(words) == 2 and words[0] == "goto":
             said = self.goto(words[1])
-        elif words and words[0] in WORDS:
-            said = self.questions.answer(words[0], words[1:])
         else:
-            said = self.monitor_session(words)
+            said = self.questions.answer(words[0], words[1:]) if words and words[0] in WORDS else MONITOR_HELP
         told = said.encode()
         for at in range(0, len(told) - PIECE, PIECE):
             self.stream.send("O" + told[at:at + PIECE].hex())
@@ -155,25 +156,11 @@ class Server:
     def goto(self, text: str) -> str:
         try:
             place = asked_row(text)
-            go_to_place(self.session, place)
+            self.session.go_to_row(place)
         except CompanionError as error:
             return f"{error}\n"
         self.motion.told, self.threads.shown, self.moved = None, place.hart, str(place.hart)
         return f"at {text}\n" if self.is_extended else f"at {text}; type: maintenance flush register-cache\n"
-
-    def monitor_session(self, words: list[str]) -> str:
-        """What the session itself tells."""
-        if words == ["where"]:
-            said = self.session.where()
-        elif words == ["at"]:
-            said = f"at {self.session.at} of {self.session.steps.count} known\n"
-        elif len(words) == 2 and words[0] == "rows" and words[1].isdecimal():
-            first = max(0, self.session.at - min(int(words[1]), MOST_ROWS))
-            said = "".join(self.session.steps.lines.line(place).decode() + "\n"
-                           for place in range(first, self.session.at))
-        else:
-            said = MONITOR_HELP
-        return said
 
     # What moves
 
@@ -219,7 +206,7 @@ class Server:
         """Goes to the beginning of the log, to its end or to a place."""
         self.stopped(self.motion.begin())
         if place:
-            go_to_place(self.session, place)
+            self.session.go_to_row(place)
             self.stopped(Stop(place.hart))
         elif at_end:
             self.stopped(self.motion.go(self.threads.shown, False))

@@ -4,34 +4,23 @@ from __future__ import annotations
 import re
 from typing import NamedTuple, Optional, Sequence
 
-from ..call.errors import CompanionError
-from ..recording.log import Interval, Log
+from ..call.errors import NO_INTERVAL, CompanionError
+from ..recording.log import At, Log
+from .lines import Pattern
 from .process import DebugProcess
-from .steps import Arrival, Steps
+from .steps import Steps
 from .target import FAULT_SIGNALS
 
 MOST = 1000000  # steps of one command of `debug`
 STUCK = 15  # the program's status of a log whose harts wait for each other
 
 
-class Awaited(NamedTuple):
-    """The instruction that a hart has to wait for."""
-    hart: int
-    at: int
-
-
 class Position(NamedTuple):
-    """The place of a hart: its count, its pc, which is None if the log has lost its present interval, and what it has to
-    wait for."""
+    """The place of a hart: its count, its pc, which is None if the log has lost its present interval, and the instruction
+    that it has to wait for."""
     at: int
     pc: Optional[int]
-    waits: Optional[Awaited]
-
-
-class Turn(NamedTuple):
-    """Which hart steps next, and how often."""
-    hart: int
-    steps: int
+    waits: Optional[At]
 
 
 class Session:
@@ -40,17 +29,11 @@ class Session:
     of a fault, so each hart keeps its registers up to the end."""
 
     def __init__(self, log: Log, process: DebugProcess) -> None:
-        self.intervals: dict[int, list[Interval]] = {}  # by hart
-        for interval in log.intervals:
-            self.intervals.setdefault(interval.hart, []).append(interval)
+        self.intervals = log.by_hart()
         self.steps = Steps()
         self.at = 0  # the place where `debug` stands
         self.process = process
         self.known_registers: dict[int, Optional[list[int]]] = {}
-        self.positions: dict[int, Optional[Position]] = {}
-
-    def begin(self) -> None:
-        """Asks where the harts stand."""
         self.take_positions(self.process.ask("where"))
 
     def close(self) -> None:
@@ -60,14 +43,14 @@ class Session:
 
     def take_positions(self, text: bytes) -> None:
         """Takes an answer to `where`."""
-        self.positions = {}
+        self.positions: dict[int, Optional[Position]] = {}
         for line in text.splitlines():
             words = line.split()
             if words[1] == b"done":
                 self.positions[int(words[0])] = None
                 continue
             pc = None if words[2] == b"--------" else int(words[2], 16)
-            waits = Awaited(int(words[4]), int(words[5])) if words[3] == b"waits" else None
+            waits = At(int(words[4]), int(words[5])) if words[3] == b"waits" else None
             self.positions[int(words[0])] = Position(int(words[1]), pc, waits)
         self.known_registers = {}
 
@@ -137,7 +120,7 @@ class Session:
         """The signal of the fault that a hart stands before, or None."""
         return FAULT_SIGNALS.get(self.last_reason(hart) or "")
 
-    def possible(self, hart: int, most: int) -> Turn:
+    def possible(self, hart: int, most: int) -> tuple[int, int]:
         """Which hart has to step so that this one gets on, and how often at most."""
         passed: set[int] = set()
         position = self.positions[hart]
@@ -145,13 +128,13 @@ class Session:
             if hart in passed:
                 raise CompanionError("replay: the harts of this log wait for each other", STUCK)
             passed.add(hart)
-            hart, at = position.waits
+            hart, count = position.waits.hart, position.waits.count
             position = self.positions[hart]
-            most = at + 1 - (position.at if position else 0)
+            most = count + 1 - (position.at if position else 0)
         lost = position is None or position.pc is None
-        return Turn(hart, 1 if lost else max(1, min(most, self.left(hart), MOST)))
+        return hart, 1 if lost else max(1, min(most, self.left(hart), MOST))
 
-    def next_steps(self, first: Optional[int], most: int, alone: bool = False) -> Optional[Turn]:
+    def next_steps(self, first: Optional[int], most: int, alone: bool = False) -> Optional[tuple[int, int]]:
         """Which hart steps next, and how often, or None where nothing is left. The first hart
         does, or what it waits for; if it has none left and isn't alone, the lowest other hart."""
         others = [] if alone else [hart for hart in sorted(self.intervals) if hart != first]
@@ -168,7 +151,7 @@ class Session:
         self.at += taken
         pc = self.pc(hart)
         if pc is not None and not self.left(hart):
-            self.steps.arrivals[hart] = Arrival(self.at, pc)
+            self.steps.arrivals[hart] = self.at, pc
 
     def advance(self, hart: int, most: int) -> None:
         """A hart takes at most so many steps, or another one takes what this one waits for. If other
@@ -186,7 +169,7 @@ class Session:
         """Goes to a known place."""
         if self.process.is_nearly_full():
             self.process.restart()
-            self.begin()
+            self.take_positions(self.process.ask("where"))
             self.at = 0
         while self.at > place:
             count = min(MOST, self.at - place)
@@ -197,6 +180,30 @@ class Session:
             self.step(self.steps.hart_at(self.at), count)
             self.at += count
 
+    def go_to_row(self, place: At) -> None:
+        """Goes to the place before the instruction of a count of a hart. CompanionError if the session doesn't have it."""
+        hart, count = place.hart, place.count
+        if hart not in self.intervals:
+            raise CompanionError(f"hart {hart} has no rows here; harts are {', '.join(map(str, sorted(self.intervals)))}", NO_INTERVAL)
+        first, last = self.intervals[hart][0].start, self.intervals[hart][-1].end
+        if not first <= count <= last:
+            raise CompanionError(f"hart {hart} has counts {first} to {last} here, not {count}; more rows need --rows N", NO_INTERVAL)
+        before = b"%d %d " % (hart, count)
+        pattern = Pattern(b" %d " % count, lambda line: line.startswith(before))
+        known = self.steps.lines.find([pattern], 0, self.steps.count)
+        if known is None:
+            self.go_to(self.steps.count)
+        while known is None:
+            position, begin = self.positions[hart], self.at
+            if position is not None and position.pc is not None and position.at == count:
+                return
+            turn = self.next_steps(hart, min(MOST, max(1, count - (position.at if position else 0))), alone=True)
+            if turn is None:
+                raise CompanionError(f"hart {hart} doesn't come to count {count}", NO_INTERVAL)
+            self.extend(*turn)
+            known = self.steps.lines.find([pattern], begin, self.steps.count)
+        self.go_to(known)
+
     def rest(self) -> None:
         """Makes room for commands if the process has nearly taken all that it can."""
         if self.process.is_nearly_full():
@@ -205,10 +212,9 @@ class Session:
 
 def begin_session(log: Log, elf_name: str) -> Session:
     """A session at the log's beginning."""
-    session = Session(log, DebugProcess(log.name, elf_name))
+    process = DebugProcess(log.name, elf_name)
     try:
-        session.begin()
+        return Session(log, process)
     except BaseException:
-        session.close()
+        process.close()
         raise
-    return session

@@ -6,17 +6,11 @@ from __future__ import annotations
 
 import bisect
 import re
-from typing import Callable, NamedTuple, Optional
+from typing import Callable, Optional
 
 from .lines import KeptLines
 
 ANSWERS = (b"w", b"d")  # `waits` and `done`, which can end an answer to `step`, are no steps
-
-
-class Arrival(NamedTuple):
-    """The arrival of a hart at its last step: the place, and its pc."""
-    place: int
-    pc: int
 
 
 class Steps:
@@ -27,7 +21,7 @@ class Steps:
         self.spans: list[int] = []  # the places where spans begin
         self.owners: list[int] = []  # their harts
         self.ends: dict[int, list[int]] = {}  # by hart: the places of its `end` lines
-        self.arrivals: dict[int, Arrival] = {}  # by hart that has no step left
+        self.arrivals: dict[int, tuple[int, int]] = {}  # by hart that has no step left: the place, and its pc
         self.when_cut: list[Callable[[int], None]] = []  # are told the place from which on steps are forgotten
 
     @property
@@ -63,7 +57,7 @@ class Steps:
         del self.spans[kept:], self.owners[kept:]
         for places in self.ends.values():
             del places[bisect.bisect_left(places, place):]
-        self.arrivals = {hart: arrival for hart, arrival in self.arrivals.items() if arrival.place <= place}
+        self.arrivals = {hart: arrival for hart, arrival in self.arrivals.items() if arrival[0] <= place}
 
     def ends_before(self, hart: int, place: int) -> int:
         """How many intervals of a hart have ended before a place."""

@@ -18,17 +18,13 @@ FAULT_SIGNALS = {
 }
 
 
-def register(number: int, name: str) -> str:
-    kind = TYPES.get(name, "int")
-    return f'<reg name="{name}" bitsize="32" type="{kind}" regnum="{number}"/>'
-
-
 # `none` as the operating system: for Linux gdb would step by temporary breakpoints and `continue`.
 DESCRIPTION = (
     '<?xml version="1.0"?><!DOCTYPE target SYSTEM "gdb-target.dtd"><target version="1.0">'
     "<architecture>riscv:rv32</architecture><osabi>none</osabi>"
     '<feature name="org.gnu.gdb.riscv.cpu">'
-    + "".join(register(number, name) for number, name in enumerate(REGISTERS))
+    + "".join(f'<reg name="{name}" bitsize="32" type="{TYPES.get(name, "int")}" regnum="{number}"/>'
+              for number, name in enumerate(REGISTERS))
     + "</feature></target>")
 
 

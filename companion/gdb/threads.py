@@ -38,9 +38,7 @@ class Threads:
 
     def moving(self) -> tuple[int, bool]:
         """The hart that moves by a packet without a thread, and whether it moves alone."""
-        if self.moved is None:
-            return self.shown, False
-        return self.moved, True
+        return (self.shown, False) if self.moved is None else (self.moved, True)
 
     def listed(self) -> str:
         return ",".join(sorted(self.ids, key=lambda name: self.ids[name]))
@@ -54,7 +52,7 @@ class Threads:
         if position.pc is None:
             text += " not in the log yet"
         if position.waits:
-            text += f" waits for hart {position.waits.hart} count {position.waits.at}"
+            text += f" waits for hart {position.waits.hart} count {position.waits.count}"
         else:
             text += f" {self.session.last_reason(hart) or ''}".rstrip()
         return text

@@ -3,16 +3,18 @@ from __future__ import annotations
 
 import os
 import struct
+from pathlib import Path
 from typing import Mapping
 
 from ..call import program, streams
-from ..call.errors import BAD_LOG, UNREADABLE, CompanionError
+from ..call.errors import BAD_LOG, CompanionError
 from ..call.files import check_regular
-from ..call.options import parse, whole
+from ..call.options import read_words, whole
 from ..call.saving import LOG, TURNS, Target, target
 from ..call.text import counted, number
 from ..recording.book import DIFFERS, check_book
-from .record import ENDS, Child, last_line
+from .quick import Quick, refusal
+from .record import ENDS, last_line
 
 HELP = """zelkuma again LOG ELF BOOK NEWLOG [--input FILE] [--log-size N] [--interval N]
 
@@ -55,23 +57,17 @@ def settings_of(name: str) -> dict[str, str]:
 def record(options: Mapping[str, str], elf: str, book: str, folder: str) -> tuple[str, str, str]:
     """A recording by BOOK's turns, in a folder: its log, its list of turns and its summary."""
     log, new_book, said = (os.path.join(folder, name) for name in ("log", "book", "said"))
-    words = [program.path(), "record", *(f"{name}={value}" for name, value in options.items()), "--", elf, log, new_book]
-    child = Child(words, os.devnull, said, f"book:{book}")
-    try:
-        status = child.process.wait()
-    finally:
-        child.process.kill()
-        child.process.wait()
+    words = ["record", *(f"{name}={value}" for name, value in options.items()), "--", elf, log, new_book]
+    with Quick(folder) as quick:
+        status = quick.start(os.devnull, said, *words, schedule=f"book:{book}").wait()
     if status not in ENDS:
-        why = last_line(said).split(": ", 1)[-1] or f"the recording ended with {status}"
-        raise CompanionError(why, status if status > 0 else UNREADABLE)
+        raise refusal(said, status, "the recording")
     return log, new_book, last_line(said)
 
 
 def first_difference(one: str, other: str) -> int:
     """The first turn that differs between two lists, or -1."""
-    with open(one, "rb") as first, open(other, "rb") as second:
-        turns, others = first.read(), second.read()
+    turns, others = Path(one).read_bytes(), Path(other).read_bytes()
     if turns == others:
         return -1
     return next((at for at, pair in enumerate(zip(turns, others)) if pair[0] != pair[1]), min(len(turns), len(others)))
@@ -106,7 +102,7 @@ def tell_ends(log: str, new_log: str) -> int:
 
 
 def main(words: list[str]) -> int:
-    (log, elf, book, output), given = parse(words, {"--input": True, "--log-size": True, "--interval": True}, 4, FORM)
+    (log, elf, book, output), given = read_words(words, FORM)
     numbers = {name: str(whole(given[name], 1, LARGEST, name)) for name in ("--log-size", "--interval") if name in given}
     source = {"--input": given["--input"]} if "--input" in given else {}
     read = log, elf, book, *source.values()

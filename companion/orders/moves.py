@@ -1,15 +1,12 @@
 """Lists of turns that are near a list, each worth a try: in a fixed order, the boldest first."""
 from __future__ import annotations
 
-from typing import Iterator, NamedTuple, Sequence
+from typing import Iterator, Sequence, Tuple
 
 from ..recording.turns import Piece, Pieces, joined, pieces_of, size_of, turns_of
 
 
-class Move(NamedTuple):
-    """A list of turns, and the piece from which on it differs."""
-    at: int
-    pieces: Pieces
+Move = Tuple[int, Pieces]       # the piece from which on a list of turns differs, and it
 
 
 def orders(window: Sequence[Piece]) -> list[tuple[int, ...]]:
@@ -29,20 +26,20 @@ def grouped(pieces: Pieces, width: int, begin: int) -> Iterator[Move]:
         for order in orders(window):
             found = joined(pieces[:at] + tuple(Piece(hart, turns[hart]) for hart in order) + pieces[at + width:])
             if found != pieces:
-                yield Move(at, found)
+                yield at, found
 
 
 def rest_grouped(pieces: Pieces, kept: Pieces) -> Iterator[Move]:
     """What comes behind the pieces that are kept is grouped by hart."""
     turns = turns_of(pieces)[len(turns_of(kept)):]
     found = [joined(kept + tuple(Piece(hart, turns.count(hart)) for hart in order)) for order in orders(pieces_of(turns))]
-    return (Move(1, each) for each in sorted(found, key=size_of))
+    return ((1, each) for each in sorted(found, key=size_of))
 
 
 def without(pieces: Pieces, width: int, begin: int) -> Iterator[Move]:
     """Each window is left out."""
     for at in range(begin, len(pieces), max(1, width // 2)):
-        yield Move(at, joined(pieces[:at] + pieces[at + width:]))
+        yield at, joined(pieces[:at] + pieces[at + width:])
 
 
 def moved(pieces: Pieces, begin: int) -> Iterator[Move]:
@@ -55,7 +52,7 @@ def moved(pieces: Pieces, begin: int) -> Iterator[Move]:
             found = list(pieces)
             found[other] = Piece(hart, found[other].turns + turns)
             del found[at]
-            yield Move(at, joined(found))
+            yield at, joined(found)
 
 
 def shorter(pieces: Pieces, begin: int) -> Iterator[Move]:
@@ -64,5 +61,5 @@ def shorter(pieces: Pieces, begin: int) -> Iterator[Move]:
         hart, turns = pieces[at]
         less = (turns + 1) // 2
         while less and less < turns:
-            yield Move(at, pieces[:at] + (Piece(hart, turns - less),) + pieces[at + 1:])
+            yield at, pieces[:at] + (Piece(hart, turns - less),) + pieces[at + 1:]
             less //= 2

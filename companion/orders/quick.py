@@ -3,46 +3,42 @@ little, and its group ends what is under way when this process ends."""
 from __future__ import annotations
 
 import os
-from types import TracebackType
-from typing import Optional
-
+from pathlib import Path
 from ..call import program
 from ..call.children import Group, Process
 from ..call.errors import UNREADABLE, CompanionError
-from .record import SCHEDULE, environment, last_line
+from .record import SCHEDULE, last_line
 
 
 class Quick:
     """Use it by `with`. `folder` is for its files."""
 
     def __init__(self, folder: str) -> None:
-        self.folder, self.environment = folder, environment("")
+        self.folder = folder
         self.group: Group
 
     def __enter__(self) -> Quick:
         self.group = Group()
         return self
 
-    def __exit__(self, _type: Optional[type[BaseException]], _error: Optional[BaseException],
-                 _where: Optional[TracebackType]) -> None:
+    def __exit__(self, *_: object) -> None:
         self.group.close()
 
     def start(self, said: str, err: str, *words: str, schedule: str = "") -> Process:
-        environment = {**self.environment, SCHEDULE: schedule} if schedule else self.environment
-        return self.group.start([program.path(), *words], said, err, environment)
+        """A command, by these turns if it is `record`; without them its harts run in threads, whatever is set for this process."""
+        environment = {name: value for name, value in os.environ.items() if name != SCHEDULE}
+        return self.group.start([program.path(), *words], said, err, {**environment, SCHEDULE: schedule} if schedule else environment)
 
     def text(self, *words: str) -> bytes:
         """What a command prints."""
         said, err = (os.path.join(self.folder, name) for name in ("text", "text.err"))
-        child = self.start(said, err, *words)
-        status = child.end(os.waitpid(child.pid, 0)[1])
+        status = self.start(said, err, *words).wait()
         if status:
             raise refusal(err, status)
-        with open(said, "rb") as file:
-            return file.read()
+        return Path(said).read_bytes()
 
 
-def refusal(err: str, status: int) -> CompanionError:
+def refusal(err: str, status: int, what: str = "the program") -> CompanionError:
     """What the program said when it ended with a status."""
-    why = last_line(err).split(": ", 1)[-1] or f"the program ended with {status}"
+    why = last_line(err).split(": ", 1)[-1] or f"{what} ended with {status}"
     return CompanionError(why, status if status > 0 else UNREADABLE)

@@ -7,7 +7,7 @@ from typing import Any, Callable, List, Optional
 
 from ..call import streams
 from ..call.errors import CompanionError
-from ..call.options import parse, whole
+from ..call.options import read_words, whole
 from ..call.text import counted, number
 from ..recording.answers import LONGEST, place_of, put_answer
 from ..recording.elf import Elf, Symbol
@@ -17,7 +17,7 @@ from ..recording.races import FENCED, ORDERED, TOO_MANY, Access, AccessPair, Gro
 from ..recording.ready import ready
 from ..recording.recent import FIRST_ROWS, LogFile, open_log
 from ..recording.sources import source_folders
-from ..recording.story import STORY_HEAD, STORY_OPTIONS, Teller, asked_story
+from ..recording.story import STORY_HEAD, Teller, asked_story
 from ..recording.trace import Trace, read_trace
 from ..why.history import History
 
@@ -39,7 +39,6 @@ behind them groups that fences order if they are meant so, and last the fenced a
 beside a `fence`, as GCC writes acquire and release. That order and the grouping are this command's own judgement.
 The exact list is that of `zelkuma races`: pairs of accesses that no atomic instruction orders."""
 FORM = "race LOG ELF [--names ELF] [--source DIR] [--max N] [--book BOOK] [--input FILE] [--more] [--json]"
-OPTIONS = {"--names": True, "--source": True, "--max": True, **STORY_OPTIONS, "--more": False, "--json": False}
 FAR = 1 << 20                                # what a row costs that isn't on the chain
 MOST, GROUPS_TOLD, BRIEF_TOLD = 200000, 12, 6
 KINDS = ("", ORDERED, FENCED)                # in the order in which groups are told
@@ -200,7 +199,7 @@ def access_answer(races: Races, access: Access) -> dict[str, Any]:
 
 
 def main(words: list[str]) -> int:
-    (log_name, elf_name), given = parse(words, OPTIONS, 2, FORM)
+    (log_name, elf_name), given = read_words(words, FORM)
     most, folders = whole(given.get("--max", str(MOST)), 1, 1000000, "--max"), source_folders(given)
     with contextlib.ExitStack() as opened:
         source = opened.enter_context(closing(open_log(log_name)))

@@ -1,16 +1,12 @@
 """Recordings that a companion makes: the words of `record`, the turns that a recording takes, and its command."""
 from __future__ import annotations
 
-import contextlib
 import os
 import shlex
-import signal
-import subprocess
 from enum import IntEnum
-from typing import Mapping, NamedTuple, Sequence
+from pathlib import Path
+from typing import NamedTuple, Sequence
 
-from ..call import program
-from ..call.children import start
 from ..call.errors import REFUSED, CompanionError
 from ..call.files import check_regular
 from ..call.options import decimal, parse
@@ -49,11 +45,12 @@ class RecordWords:
     """What the words of `record` name.
 
     names    ELF, LOG, BOOK as they were given
+    options  with numbers in decimal
     folder   in which one LOG and BOOK of each ending is saved, if the words name none
     is_lean  whether no BOOK is saved"""
 
     def __init__(self, words: Sequence[str], folder: str = "") -> None:
-        self.names, options = parse(words, RECORD_OPTIONS, 1 if folder else range(2, 4), ELF_FORM if folder else RECORD_FORM)
+        self.names, options = parse(words, RECORD_OPTIONS, range(1, 2) if folder else range(2, 4), ELF_FORM if folder else RECORD_FORM)
         self.folder, self.is_lean = folder, "--lean" in options
         self.has_one_hart = decimal(options.get("--harts", "1")) == "1"
         if "--seed" in options:
@@ -61,7 +58,9 @@ class RecordWords:
         if len(self.names) == 2 and not self.is_lean:
             raise CompanionError("the words of record have no BOOK", REFUSED)
         self.elf, *self.outputs = self.names
-        self.options, self.read = options_of(options), (self.elf, options.get("--input", ""))
+        self.options = [f"{name}={decimal(value) if name in NUMBERS else value}" if RECORD_OPTIONS[name] else name
+                        for name, value in options.items()]
+        self.read = self.elf, options.get("--input", "")
         check_regular(*self.read)
         self.named_targets = self.saved(self.outputs)
 
@@ -83,7 +82,7 @@ class RecordWords:
         return [target.scratch() for target in targets]
 
     def command(self, plan: Plan, outputs: Sequence[str]) -> list[str]:
-        return [program.path(), "record", *self.options, *plan.options(), "--", self.elf, *outputs]
+        return ["record", *self.options, *plan.options(), "--", self.elf, *outputs]
 
     def shown(self, plan: Plan) -> str:
         """What to type for the same recording. One in threads has its turns from BOOK, and so leaves it alone."""
@@ -97,37 +96,5 @@ class RecordWords:
         return " ".join([f"{SCHEDULE}={shlex.quote(schedule)}"] * bool(schedule) + [shlex.quote(word) for word in words])
 
 
-def options_of(options: Mapping[str, str]) -> list[str]:
-    """The options of `record` as words, with numbers in decimal."""
-    return [f"{name}={decimal(value) if name in NUMBERS else value}" if RECORD_OPTIONS[name] else name
-            for name, value in options.items()]
-
-
-def environment(schedule: str) -> dict[str, str]:
-    """That of a recording with these turns. Without them its harts run in threads, whatever is set for this process."""
-    found = {name: value for name, value in os.environ.items() if name != SCHEDULE}
-    return dict(found, **{SCHEDULE: schedule}) if schedule else found
-
-
-class Child:
-    """A process whose output and err go into files."""
-
-    def __init__(self, words: Sequence[str], said: str, err: str, schedule: str = "") -> None:
-        self.said, self.err = said, err
-        with open(said, "wb") as out, open(err, "wb") as errors:
-            self.process = start(words, stdin=subprocess.DEVNULL, stdout=out, stderr=errors, env=environment(schedule))
-
-    def end(self, status: int) -> int:
-        """Takes the status that the system tells of the process."""
-        self.process.returncode = os.WEXITSTATUS(status) if os.WIFEXITED(status) else -os.WTERMSIG(status)
-        return self.process.returncode
-
-    def kill(self) -> None:
-        """Ends it, if it hasn't ended. Popen's own kill would take its status, which `os.wait` waits for."""
-        with contextlib.suppress(ProcessLookupError):
-            os.kill(self.process.pid, signal.SIGKILL)
-
-
 def last_line(name: str) -> str:
-    with open(name, "rb") as file:
-        return file.read().decode("utf-8", "replace").strip().split("\n")[-1]
+    return Path(name).read_bytes().decode("utf-8", "replace").strip().split("\n")[-1]

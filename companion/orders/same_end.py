@@ -5,12 +5,13 @@ from __future__ import annotations
 
 from dataclasses import dataclass
 from functools import cached_property
+from pathlib import Path
 from typing import AbstractSet, Hashable, Mapping, Optional, Union
 
 from ..call.errors import NO_INTERVAL, CompanionError
 from ..recording.cause import MOST_FRAMES, cause_along
 from ..recording.elf import Elf
-from ..recording.log import End, Log, is_fault
+from ..recording.log import End, Log, is_fault, load_log
 from .quick import Quick
 from .record import FAULT, LIMIT
 from .waiting import STAY_ROWS, Stay, Waiting, stay_like, stay_of
@@ -29,11 +30,10 @@ class Recording:
 
     @cached_property
     def read(self) -> Log:
-        return log_of(self.log)
+        return load_log(self.log)
 
     def turns(self) -> bytes:
-        with open(self.book, "rb") as file:
-            return file.read()
+        return Path(self.book).read_bytes()
 
 
 @dataclass(frozen=True)
@@ -128,12 +128,6 @@ def exit_code(ends: Mapping[int, End]) -> int:
     """The code that a hart ended all of them with, else that of hart 0."""
     group = [end.value for end in ends.values() if end.reason == "group"]
     return group[0] if group else ends[0].value if 0 in ends else 0
-
-
-def log_of(name: str) -> Log:
-    """A log that the program has just made."""
-    with open(name, "rb") as file:
-        return Log(name, file.read())
 
 
 def byte_at(name: str, offset: int) -> bytes:

@@ -1,20 +1,33 @@
 """The search for the shortest list of turns by which a program ends as its recording did."""
 from __future__ import annotations
 
-from typing import Callable, Iterator
+from typing import Callable, Iterator, NamedTuple, Optional
 
+from ..call.text import counted
 from ..recording.turns import Pieces, pieces_of, size_of, turns_of
 from . import moves
 from .moves import Move
+from .record import DONE
 from .rounds import Rounds
 from .same_end import Recording
 from .tries import ANY, Tries
 from .waiting import Waiting
-from .windows import Window, windows_of
+from .windows import Window, shifted, sides_of, windows_of
 
 MORE_COUNTS = 10000         # a hart may do twice as many instructions as in the recording, and so many more
 ENOUGH = 13                 # pieces; with more an earlier round is looked for
 LEAST_LIMIT = 1000          # to which the limit of a run that hangs is lowered
+
+
+class Nearest(NamedTuple):
+    """A recording that ends well, and by how many turns which switch was moved, earlier if they are below 0."""
+    made: Recording
+    switch: int
+    turns: int
+
+    def line(self) -> str:
+        return (f"nearest run that ends well: switch {self.switch} comes {counted(abs(self.turns), 'turn')} "
+                f"{'earlier' if self.turns < 0 else 'later'}")
 
 
 class Search:
@@ -46,6 +59,17 @@ class Search:
             self.tries.leaves_rest = False
             self.end_waiting()
 
+    def nearest_good(self) -> Optional[Nearest]:
+        """The recording with the least move of one switch out of its window, of several that of the last switch, or None. Behind
+        the list its turns are those of seed 0."""
+        lows = [low for window in self.windows for low in (window.earlier, window.later)]
+        moved = [(side.at, side.sign * (low + 1)) for side, low in zip(sides_of(self.core), lows) if low < side.most]
+        for at, turns in sorted(moved, key=lambda move: (abs(move[1]), -move[0])):
+            made = self.tries.record(shifted(self.core, at, turns, 0))
+            if made.status == DONE:
+                return Nearest(made, at + 1, turns)
+        return None
+
     def shorten(self) -> None:
         self.group()
         while True:
@@ -70,9 +94,9 @@ class Search:
             places: list[int] = []
 
             def candidates() -> Iterator[Pieces]:
-                for move in near(self.best, begin):
-                    places.append(move.at)
-                    yield move.pieces
+                for at, pieces in near(self.best, begin):
+                    places.append(at)
+                    yield pieces
 
             held = self.tries.first(candidates(), size_of(self.best))
             if held is None:

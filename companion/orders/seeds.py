@@ -7,7 +7,7 @@ from typing import Mapping, Optional, Sequence
 
 from ..call import streams
 from ..call.errors import NO_INTERVAL, REFUSED, CompanionError
-from ..call.options import parse, whole
+from ..call.options import read_words, whole
 from ..call.saving import LOG, TURNS, Target, target
 from ..call.text import number
 from ..recording.answers import LONGEST, put_answer
@@ -57,8 +57,6 @@ Over machines, each of which has a part; `triage` joins what they found:
     parallel --sshloginfile MACHINES zelkuma seeds --all found/{} --part {}/8 1 1000 -- program.elf ::: 1 2 3 4 5 6 7 8
     zelkuma triage found --elfs ."""
 FORM = "seeds [-j N] [--until STATUS] [--only KIND,..] [--all DIR] [--part K/N] [--shrink] [--compare] [--json] FROM TO -- RECORD-WORDS"
-OPTIONS = {"--jobs": True, "--until": True, "--only": True, "--all": True, "--part": True, "--shrink": False,
-           "--compare": False, "--json": False}
 KINDS = {"seeds": Kind.SEED, "bursts": Kind.BURSTS, "sleepers": Kind.SLEEPER, "threads": Kind.THREADS}
 HEAD = "status", "count", "first", "place"
 NOT_FOUND = 22
@@ -132,7 +130,7 @@ def tell_difference(short: Shrunk, words: RecordWords, good: Sequence[Target], i
     try:
         with compared(good[0].path, words.outputs[0], words.elf, {}) as found:
             if not is_json:
-                streams.put("".join(line + "\n" for line in [short.nearest.line(), *found.lines()]))
+                streams.put_lines([short.nearest.line(), *found.lines()])
             return {"switch": short.nearest.switch, "turns": short.nearest.turns, **found.answer()}
     except CompanionError as error:
         if error.status != NO_INTERVAL:
@@ -169,7 +167,7 @@ def find(search: Search, is_json: bool, shrinks: bool, good: Sequence[Target]) -
     if shrinks and search.found is not None and not search.stopped:
         short = shrunk(search.words, search.found.plan, good)
     if short and not is_json:
-        streams.put("".join(line + "\n" for line in short.lines))
+        streams.put_lines(short.lines)
     if short and good and not short.status:
         difference = tell_difference(short, search.words, good, is_json)
     if is_json:
@@ -225,7 +223,7 @@ def check_shrinks(asked: str, record: RecordWords, until: Optional[int]) -> None
 
 def main(words: list[str]) -> int:
     own, rest = split(words)
-    (low, high), options = parse(own, OPTIONS, 2, FORM)
+    (low, high), options = read_words(own, FORM, "--jobs")
     numbers, until = numbers_of(low, high, options.get("--part", "1/1")), until_of(options)
     record = RecordWords(rest, options.get("--all", ""))
     shrinks = "--compare" if "--compare" in options else "--shrink" if "--shrink" in options else ""

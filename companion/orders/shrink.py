@@ -7,18 +7,18 @@ from typing import Mapping, Sequence
 from ..call import streams
 from ..call.errors import REFUSED, CompanionError
 from ..call.files import check_regular
-from ..call.options import decimal, parse, whole
+from ..call.options import decimal, parse, read_words, whole
 from ..call.saving import LOG, TURNS, target
 from ..recording.answers import put_answer
 from ..recording.book import check_book
 from ..recording.elf import Elf
-from ..recording.log import is_fault, read_log
+from ..recording.log import is_fault, load_log, read_log
 from ..recording.naming import named_elf
 from ..recording.sources import source_folders
 from ..why.facts import asked_byte
 from .again import settings_of
 from .record import RECORD_OPTIONS
-from .same_end import exit_code, log_of
+from .same_end import exit_code
 from .shrinking import Asked, shrink
 
 HELP = """zelkuma shrink LOG ELF BOOK NEWLOG NEWBOOK [--seconds N] [--output N:BYTE] [--names ELF] [--source DIR] [--json] [-- WORD..]
@@ -41,13 +41,12 @@ hartxturns, and then its switches: who stops where, who continues where, and wha
 The answer is the same on each machine. Ctrl-C, TERM and HUP end the search (130, 143, 129): the shortest that
 was found is saved. BOOK has to be LOG's, as `audit` says. Companions show; the program proves."""
 FORM = "shrink LOG ELF BOOK NEWLOG NEWBOOK [--seconds N] [--output N:BYTE] [--names ELF] [--source DIR] [--json] [-- WORD..]"
-OPTIONS = {"--seconds": True, "--output": True, "--names": True, "--source": True, "--json": False}
 LONGEST_SEARCH = 1 << 20    # seconds
 
 
 def recorded_options(log: str, words: Sequence[str]) -> dict[str, str]:
     """The options by which a log was recorded. Those of the words have to be the same; only the log's input isn't in it."""
-    _, given = parse(words, RECORD_OPTIONS, 0, "the options of record, behind --")
+    _, given = parse(words, RECORD_OPTIONS, range(1), "the options of record, behind --")
     for name, why in (("--lean", "a lean recording keeps no BOOK, and without its turns nothing can be shrunk"),
                       ("--seed", "BOOK has the turns, so --seed can't be given")):
         if name in given:
@@ -66,14 +65,14 @@ def check(log: str, elf: str, book: str, options: Mapping[str, str], has_byte: b
     if os.path.exists(book) and os.path.samefile(log, book):
         raise CompanionError("LOG is given for BOOK: a lean recording keeps no BOOK, and can't be shrunk", REFUSED)
     check_book(log, elf, book, [f"--input={options['--input']}"] if "--input" in options else [])
-    ends = log_of(log).ends
+    ends = load_log(log).ends
     if not (has_byte or exit_code(ends) or any(is_fault(end.reason) or end.reason == "limit" for end in ends.values())):
         raise CompanionError("the run of LOG ended well; --output N:BYTE asks for a byte of its output that is wrong", REFUSED)
 
 
 def main(words: list[str]) -> int:
     at = words.index("--") if "--" in words else len(words)
-    (log, elf_name, book, new_log, new_book), given = parse(words[:at], OPTIONS, 5, FORM)
+    (log, elf_name, book, new_log, new_book), given = read_words(words[:at], FORM)
     options = recorded_options(log, words[at + 1:])
     byte = asked_byte(given["--output"]) if "--output" in given else None
     seconds = whole(given.get("--seconds", "0"), 0, LONGEST_SEARCH, "--seconds")
@@ -87,5 +86,5 @@ def main(words: list[str]) -> int:
     if "--json" in given:
         put_answer("shrink", **shrunk.answer)
     else:
-        streams.put("".join(line + "\n" for line in shrunk.lines))
+        streams.put_lines(shrunk.lines)
     return shrunk.status

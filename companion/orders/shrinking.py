@@ -5,6 +5,7 @@ import os
 import signal
 from contextlib import closing
 from dataclasses import dataclass
+from pathlib import Path
 from typing import Any, Mapping, NamedTuple, Optional, Sequence
 
 from ..call import streams
@@ -16,7 +17,7 @@ from ..recording.answers import LONGEST
 from ..recording.calls import CallTree
 from ..recording.cause import cause_of
 from ..recording.elf import Elf
-from ..recording.log import Log
+from ..recording.log import Log, load_log
 from ..recording.naming import places_of
 from ..recording.ready import ready
 from ..recording.story import MOST_TOLD, Switch, Teller, lines_by_piece
@@ -24,10 +25,9 @@ from ..recording.turns import pieces_of, shown, size_of
 from ..triage.bucket import bucket_of
 from ..why.facts import Byte
 from ..why.output import MOST_ROWS, numbered, writes_of
-from .nearest import Nearest, nearest_good
 from .quick import Quick
-from .same_end import Ends, Recording, log_of
-from .search import Search
+from .same_end import Ends, Recording
+from .search import Nearest, Search
 from .switches import answer_of, bounded, window_lines
 from .tries import Tries
 from .waiting import Waiting
@@ -72,7 +72,7 @@ def shrink(asked: Asked) -> Shrunk:
     with Scratch(MEMORY_FOLDER if os.access(MEMORY_FOLDER, os.W_OK) else "") as folder, Quick(folder) as quick:
         found, made, signals = search(asked, quick)
         save(made, (asked.new_log, asked.new_book))
-        nearest = nearest_good(found) if asked.good else None
+        nearest = found.nearest_good() if asked.good else None
         if nearest:
             save(nearest.made, asked.good)
         with closing(places_of(asked.named, asked.folders)) as places:
@@ -85,8 +85,7 @@ def shrink(asked: Asked) -> Shrunk:
 
 def save(made: Recording, targets: Sequence[Target]) -> None:
     for name, place in zip((made.log, made.book), targets):
-        with open(name, "rb") as file:
-            place.save(file.read())
+        place.save(Path(name).read_bytes())
 
 
 class Signals:
@@ -126,11 +125,9 @@ def offset_of(log: Log, elf: Elf, byte: Byte) -> int:
 
 def search(asked: Asked, quick: Quick) -> tuple[Search, Recording, Signals]:
     """Searches, and makes the recording of the shortest list that is found."""
-    offset = offset_of(log_of(asked.log), asked.elf, asked.byte) if asked.byte else None
-    with open(asked.book, "rb") as file:
-        turns = pieces_of(file.read())
+    offset = offset_of(load_log(asked.log), asked.elf, asked.byte) if asked.byte else None
     tries = Tries(asked.options, Ends(quick, asked.elf, offset), len(os.sched_getaffinity(0)))
-    found = Search(tries, tries.record(turns))
+    found = Search(tries, tries.record(pieces_of(Path(asked.book).read_bytes())))
     with Signals(tries, asked.seconds) as signals:
         found.run()
     tries.options = dict(asked.options)

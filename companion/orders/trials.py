@@ -5,19 +5,20 @@ import heapq
 import os
 import time
 from contextlib import closing
+from dataclasses import dataclass
+from pathlib import Path
 from typing import Iterator, NamedTuple, Optional, Sequence
 
 from ..call import streams
-from ..call.children import Group, Process
-from ..call.errors import UNREADABLE, CompanionError
+from ..call.children import Forked, Process
 from ..recording.cause import Cause, cause_of
 from ..recording.elf import Elf
 from ..recording.naming import places_of
 from ..recording.places import Places
 from ..recording.recent import FIRST_ROWS, LogFile
 from ..triage.bucket import bucket_of
-from .forked import Forked
-from .record import ENDS, FAULT, Kind, Plan, RecordWords, environment, last_line
+from .quick import Quick, refusal
+from .record import ENDS, FAULT, Kind, Plan, RecordWords, last_line
 
 NO_PLACE = "-"
 MOST_KEPT = 1000            # endings of which one recording each is kept
@@ -44,11 +45,11 @@ class Ending(NamedTuple):
     place: str
 
 
+@dataclass
 class Count:
     """How many trials ended in one way, and the first of them."""
-
-    def __init__(self, first: Plan) -> None:
-        self.count, self.first = 0, first
+    first: Plan
+    count: int = 0
 
 
 class Endings:
@@ -78,12 +79,12 @@ class Trial:
 
     status  that of the recording, once it is done"""
 
-    def __init__(self, words: RecordWords, plan: Plan, folders: Sequence[str], group: Group) -> None:
+    def __init__(self, words: RecordWords, plan: Plan, folders: Sequence[str], quick: Quick) -> None:
         self.plan, self.words, self.status = plan, words, -1
         name = str(plan).replace(" ", "-")
         self.outputs = [os.path.join(folder, f"{name}.{number}") for number, folder in enumerate(folders)]
         self.said, self.err = self.outputs[0] + ".said", self.outputs[0] + ".err"
-        self.child: Process = group.start(words.command(plan, self.outputs), os.devnull, self.err, environment(plan.schedule()))
+        self.child: Process = quick.start(os.devnull, self.err, *words.command(plan, self.outputs), schedule=plan.schedule())
 
     def look_for_cause(self) -> None:
         self.child = Forked(self.find_cause, self.said, self.err)
@@ -97,13 +98,9 @@ class Trial:
         line = last_line(self.said) if os.path.exists(self.said) else ""
         return Cause.of(line) if line else None
 
-    def refusal(self, status: int) -> str:
-        return last_line(self.err).split(": ", 1)[-1] or f"the recording of {self.plan} ended with {status}"
-
     def remove(self) -> None:
         for name in self.outputs + [self.said, self.err]:
-            if os.path.exists(name):
-                os.remove(name)
+            Path(name).unlink(missing_ok=True)
 
     def save(self) -> None:
         for name, target in zip(self.outputs, self.words.targets(self.plan)):
@@ -151,7 +148,7 @@ class Search:
         self.kept: dict[Ending, Trial] = {}
         self.stopped = 0
         self.endings, self.buckets = Endings(), Buckets(words.elf)
-        self.group: Group
+        self.quick = Quick(self.folders[0])
         self.at = numbers.first
         self.progress, self.began = streams.Progress(), time.monotonic()
 
@@ -185,7 +182,7 @@ class Search:
             plan = next(plans, None)
             if plan is None:
                 return
-            self.watch(Trial(self.words, plan, self.folders, self.group))
+            self.watch(Trial(self.words, plan, self.folders, self.quick))
 
     def keep(self, trial: Trial) -> None:
         if self.found is not None:
@@ -210,7 +207,7 @@ class Search:
         elif self.stopped:
             trial.remove()
         else:
-            raise CompanionError(trial.refusal(status), status if status > 0 else UNREADABLE)
+            raise refusal(trial.err, status, f"the recording of {trial.plan}")
 
     def recorded(self, trial: Trial) -> None:
         if trial.status == self.until:
@@ -244,27 +241,24 @@ class Search:
 
     def run(self) -> None:
         plans = self.plans()
-        self.group = Group()
-        streams.on_interrupt(self.stop)
-        try:
-            self.start(plans)
-            while self.running:
-                process, status = os.wait()
-                if process not in self.running:         # an addr2line that failed
-                    continue
-                trial = self.running.pop(process)
-                self.take(trial, trial.child.end(status))
+        with self.quick, closing(self.buckets), self.progress:
+            streams.on_interrupt(self.stop)
+            try:
                 self.start(plans)
-                self.count()
-                self.tell()
-        finally:
-            self.progress.clear()
-            for trial in self.running.values():
-                trial.child.kill()
-                trial.child.wait()
-            self.buckets.close()
-            self.group.close()
-            self.count_rest()
+                while self.running:
+                    process, status = os.wait()
+                    if process not in self.running:     # an addr2line that failed
+                        continue
+                    trial = self.running.pop(process)
+                    self.take(trial, trial.child.end(status))
+                    self.start(plans)
+                    self.count()
+                    self.tell()
+            finally:
+                for trial in self.running.values():
+                    trial.child.kill()
+                    trial.child.wait()
+                self.count_rest()
 
     def count(self) -> None:
         """Counts those below all that are under way and the one that was found."""

@@ -4,6 +4,7 @@ from __future__ import annotations
 
 import os
 from contextlib import closing
+from pathlib import Path
 from typing import Generator, Hashable, Iterable, Iterator, Mapping, NamedTuple, Optional, Sequence
 
 from ..call import streams
@@ -35,14 +36,13 @@ class Try:
         self.log, self.book, self.said, self.err, turns = (
             os.path.join(quick.folder, f"{number}.{name}") for name in ("log", "book", "said", "err", "turns"))
         self.files = [self.log, self.book, self.said, self.err, turns]
-        with open(turns, "wb") as file:
-            file.write(turns_of(asked))
+        Path(turns).write_bytes(turns_of(asked))
         words = ["record", *(f"{name}={value}" for name, value in options.items()), "--", elf, self.log, self.book]
         self.child = quick.start(self.said, self.err, *words, schedule=f"book:{turns}")
         self.status = 0
 
     def wait(self) -> None:
-        self.status = self.child.end(os.waitpid(self.child.pid, 0)[1])
+        self.status = self.child.wait()
 
     def made(self) -> Recording:
         """The recording that it made, if it did."""
@@ -52,8 +52,7 @@ class Try:
 
     def remove(self) -> None:
         for name in self.files:
-            if os.path.exists(name):
-                os.remove(name)
+            Path(name).unlink(missing_ok=True)
 
 
 class Tries:

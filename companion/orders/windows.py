@@ -41,10 +41,7 @@ class Side:
         return (self.low + self.high) // 2 if self.high - self.low > 1 else 0
 
     def take(self, way: int, holds: bool) -> None:
-        if holds:
-            self.low = way
-        else:
-            self.high = way
+        self.low, self.high = (way, self.high) if holds else (self.low, way)
 
 
 def shifted(pieces: Pieces, at: int, turns: int, slack: int) -> Pieces:

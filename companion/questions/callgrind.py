@@ -3,23 +3,19 @@ from __future__ import annotations
 
 import os
 from collections import Counter
-from typing import NamedTuple
+from typing import Tuple
 
 from ..recording.places import Frame
 from .flow import Flow, Open
-from .reading import Asked
+from .reading import Asked, read
 
 
-class Where(NamedTuple):
-    """A file and a function, and the line in it."""
-    file: str
-    function: str
-    line: int
+Where = Tuple[str, str, int]        # a file and a function, and the line in it
 
 
 class Costs:
     """own     {where: instructions}
-    calls   {(where, function that is called): how often, and its instructions}"""
+    times, inner   {(where, function that is called): how often, and its instructions}"""
 
     def __init__(self, asked: Asked) -> None:
         self.asked = asked
@@ -31,24 +27,22 @@ class Costs:
         """The outermost frame's place: the function whose code it is, whatever is inlined there."""
         frames = self.asked.places.frames(pc)
         frame = frames[-1] if frames else Frame(f"{pc:08x}", "", 0, "")
-        return Where(frame.path or "?", frame.function, frame.line)
-
-    def entered(self, hart: int, call: Open) -> None:
-        self.times[self.where(call.call), self.where(call.function)] += 1
+        return frame.path or "?", frame.function, frame.line
 
     def left(self, _hart: int, call: Open, count: int, _place: int) -> None:
-        self.inner[self.where(call.call), self.where(call.function)] += count - call.count
+        key = self.where(call.call), self.where(call.function)
+        self.times[key] += 1
+        self.inner[key] += count - call.count
 
     def lines(self) -> list[str]:
         said = ["# callgrind format", "version: 1", "creator: zelkuma", f"cmd: {os.path.basename(self.asked.elf.name)}",
                 "positions: line", "events: Instructions", ""]
         functions: dict[tuple[str, str], list[str]] = {}
         for place, cost in sorted(self.own.items()):
-            functions.setdefault((place.file, place.function), []).append(f"{place.line} {cost}")
+            functions.setdefault(place[:2], []).append(f"{place[2]} {cost}")
         for (source, callee), times in sorted(self.times.items()):
-            functions.setdefault((source.file, source.function), []).extend([
-                f"cfi={callee.file}", f"cfn={callee.function}", f"calls={times} {callee.line}",
-                f"{source.line} {self.inner[source, callee]}"])
+            functions.setdefault(source[:2], []).extend([
+                f"cfi={callee[0]}", f"cfn={callee[1]}", f"calls={times} {callee[2]}", f"{source[2]} {self.inner[source, callee]}"])
         for (file, function), costs in functions.items():
             said += [f"fl={file}", f"fn={function}", *costs, ""]
         return said
@@ -56,8 +50,8 @@ class Costs:
 
 def callgrind(asked: Asked) -> str:
     costs = Costs(asked)
-    flow = Flow(costs.entered, costs.left)
-    flow.read(asked.chunks())
+    flow = Flow(costs.left)
+    read(asked, flow)
     pcs = {int(pc, 16): times for pc, times in flow.times.items()}
     asked.places.fetch(pcs)
     for hart, calls in flow.open.items():       # of those that didn't return: up to the hart's end

@@ -5,21 +5,21 @@ import operator
 import re
 from collections import deque
 from dataclasses import dataclass, field
-from typing import Any, Callable, Deque, Iterable, Iterator, NamedTuple, Optional, Union
+from typing import Any, Callable, Deque, Iterator, NamedTuple, Optional, Union
 
 from ..call import streams
 from ..call.errors import REFUSED, CompanionError
-from ..call.options import parse, whole
+from ..call.options import read_words, whole
 from ..call.text import clean, columns, counted, number
 from ..recording.answers import place_of, put_answer
 from ..recording.instruction import JUMP, Instruction
 from ..recording.places import Frame
 from .functions import PAIR, PLAIN, WORD, Begin, Function, function_of
-from .reading import Asked, asked_of
+from .reading import Asked, asked_of, read
 from .registers import Registers
-from .types import Leaf, Type, value_text
+from .types import Leaf, Type, signed, value_text
 from .variables import ADDRESS
-from .window import Window
+from .window import RETURNS, Window, has_any
 
 HELP = """Lists each call of a function: hart and count, its arguments and its result, how long it ran, and from where.
 
@@ -35,7 +35,6 @@ Arguments have names and types if gdb tells them (gdb-multiarch, or what $ZELKUM
 An inlined call has neither arguments nor a result. How long a call ran is in instructions of its hart.
 Companions show; the program proves."""
 FORM = "calls LOG ELF FUNCTION [--names ELF] [--where ARG==VALUE] [--last N] [--rows N] [--json]"
-OPTIONS = {"--names": True, "--where": True, "--last": True, "--rows": True, "--json": False}
 TOLD, MOST_TOLD, MOST_FRAMES, MOST_TEXT = 100, 1000000, 3, 40
 WHERE = re.compile(r"\s*(\w+)\s*(==|!=|<=|>=|<|>)\s*(-?\w+)\s*")
 COMPARE: dict[str, Callable[[int, int], bool]] = {"==": operator.eq, "!=": operator.ne, "<": operator.lt, "<=": operator.le,
@@ -86,11 +85,7 @@ class Where:
         return any(self.fits(value, each.type) for each, value in zip(call.begin.parameters, call.values) if each.name == self.name)
 
     def fits(self, value: Optional[int], kind: Type) -> bool:
-        width = 64 if 4 < kind["size"] <= 8 else 32
-        if value is None:
-            return False
-        is_negative = kind.get("signed") and value >> width - 1
-        return self.compare(value - (1 << width) if is_negative else value, self.value)
+        return value is not None and self.compare(signed(kind, value, 64 if 4 < kind["size"] <= 8 else 32), self.value)
 
 
 def number_of(text: str) -> int:
@@ -130,13 +125,8 @@ class Calls:
         self.waiting: Deque[Waiting] = deque()
         self.total = self.waiting_calls = 0
 
-    def read(self, texts: Iterable[bytes]) -> None:
-        for text in texts:
-            self.take(text)
-        self.finish()
-
     def take(self, text: bytes) -> None:
-        """Reads a chunk. While later ones may have all calls that are told, only its calls are counted."""
+        """While later ones may have all calls that are told, only its calls are counted."""
         self.window.add(text)
         base = self.window.begins[-1]
         self.waiting.append(Waiting(text, base, 0 if self.where else self.count_calls(text, base)))
@@ -204,7 +194,7 @@ class Calls:
     def arrive(self, text: bytes, at: int, base: int, address: int) -> None:
         hart, _, count = text[text.rfind(b"\n", 0, at) + 1:at].partition(b" ")
         before = self.row_before(text, at, base)
-        if address in self.backs and is_return(before):
+        if address in self.backs and has_any(before, RETURNS):
             self.back(hart, int(count), address, base + at)
         if address in self.begins:
             source = self.source_of(before)
@@ -299,10 +289,6 @@ def inlined_call(frames: list[Frame], begin: Begin) -> list[Union[str, Frame]]:
     return [frames[over - 1].function, *frames[over:]] if over > 0 else []
 
 
-def is_return(row: bytes) -> bool:
-    return b" jalr zero,0(ra)" in row or b" jalr zero,0(t0)" in row
-
-
 class Values:
     """Arguments and results as text."""
 
@@ -325,6 +311,10 @@ class Values:
         body = bytes(found.body[address - found.address:][:MOST_TEXT]).partition(b"\0")[0]
         return f" {body.decode('ascii')!r}" if body and all(32 <= byte < 127 for byte in body) else ""
 
+    def result(self, call: Call) -> Optional[str]:
+        """None if there is none."""
+        return self.text(call.begin.result, call.result) if call.begin.result and call.rows is not None else None
+
     def arguments(self, call: Call) -> dict[str, str]:
         return {each.name: self.text(each.type, value) for each, value in zip(call.begin.parameters, call.values)}
 
@@ -335,9 +325,9 @@ def call_line(call: Call, asked: Asked, values: Values) -> list[str]:
     if call.begin.inlined:
         return [position, "(inlined)", "", "", places.chain([call.begin.address], MOST_FRAMES)]
     arguments = ", ".join(f"{name}={text}" for name, text in values.arguments(call).items())
-    result = f"-> {values.text(call.begin.result, call.result)}" if call.begin.result and call.rows is not None else ""
+    result = values.result(call)
     came = "jumps from " if call.jumped else "from "
-    return [position, f"({arguments})", result, counted(call.rows, "row") if call.rows is not None else "no return",
+    return [position, f"({arguments})", f"-> {result}" if result else "", counted(call.rows, "row") if call.rows is not None else "no return",
             came + places.chain([call.source], MOST_FRAMES) if call.source else "from before the first row"]
 
 
@@ -357,8 +347,7 @@ def call_answer(call: Call, asked: Asked, values: Values) -> dict[str, Any]:
     return {"hart": int(call.hart), "count": call.count,
             "place": place_of(asked.places, call.begin.address), "inlined": call.begin.inlined,
             "from": place_of(asked.places, call.source) if call.source else None,
-            "arguments": values.arguments(call), "rows": call.rows,
-            "result": values.text(call.begin.result, call.result) if call.begin.result and call.rows is not None else None}
+            "arguments": values.arguments(call), "rows": call.rows, "result": values.result(call)}
 
 
 def calls_answer(found: Calls) -> dict[str, Any]:
@@ -369,12 +358,13 @@ def calls_answer(found: Calls) -> dict[str, Any]:
 
 def calls_of(asked: Asked, function: Function, most: int = TOLD, where: Optional[Where] = None) -> Calls:
     found = Calls(asked, function, most, where)
-    found.read(asked.chunks())
+    read(asked, found)
+    found.finish()
     return found
 
 
 def main(words: list[str]) -> int:
-    (log_name, elf_name, name), given = parse(words, OPTIONS, 3, FORM)
+    (log_name, elf_name, name), given = read_words(words, FORM)
     most = whole(given.get("--last", str(TOLD)), 1, MOST_TOLD, "--last")
     with asked_of(log_name, elf_name, given) as asked:
         function = function_of(asked.named, name)
@@ -383,5 +373,5 @@ def main(words: list[str]) -> int:
         if "--json" in given:
             put_answer("calls", **calls_answer(found))
         else:
-            streams.put("".join(line + "\n" for line in report(found)))
+            streams.put_lines(report(found))
     return 0

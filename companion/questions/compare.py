@@ -7,7 +7,7 @@ from typing import Any, Dict, Iterable, Iterator, List, Mapping, NamedTuple, Opt
 
 from ..call import streams
 from ..call.errors import NO_INTERVAL, CompanionError
-from ..call.options import parse, whole
+from ..call.options import read_words, whole
 from ..call.text import counted, number
 from ..recording.answers import place_of, put_answer
 from ..recording.chunks import STORE, rows_between, rows_with, touching
@@ -29,7 +29,6 @@ though all was the same before, the load behind it, and who had stored that word
 What a hart does while it waits, in a loop that loads but stores and counts nothing, is no difference. Harts come in the order
 in which they parted in BAD. A log that has lost its beginning can't be compared. Companions show; the program proves."""
 FORM = "compare GOOD BAD ELF [--names ELF] [--source DIR] [--rows N] [--json]"
-OPTIONS = {"--names": True, "--source": True, "--rows": True, "--json": False}
 MOST_ROWS, LOOKED_BACK, READ_BACK, MOST_FRAMES = 15000000, 4000, 500, 3
 
 
@@ -289,12 +288,12 @@ def check(runs: Iterable[Asked]) -> None:
 
 
 def main(words: list[str]) -> int:
-    (good, bad, elf_name), given = parse(words, OPTIONS, 3, FORM)
+    (good, bad, elf_name), given = read_words(words, FORM)
     most = whole(given.get("--rows", str(MOST_ROWS)), 1, HIGHEST, "--rows")
     files = {option: given[option] for option in ("--names", "--source") if option in given}
     with compared(good, bad, elf_name, files, most) as found:
         if "--json" in given:
             put_answer("compare", **found.answer())
         else:
-            streams.put("".join(line + "\n" for line in found.lines()))
+            streams.put_lines(found.lines())
     return 0

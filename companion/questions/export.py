@@ -5,7 +5,7 @@ from typing import Callable, Dict
 
 from ..call import streams
 from ..call.errors import REFUSED, CompanionError
-from ..call.options import parse
+from ..call.options import read_words
 from ..call.saving import Kind, target
 from ..call.text import number
 from .callgrind import callgrind
@@ -25,14 +25,13 @@ HELP = """Saves what a recording did for other tools.
 
 FILE is overwritten if it is such a file. Companions show; the program proves."""
 FORM = "export LOG ELF --callgrind FILE | --lcov FILE | --perfetto FILE [--names ELF] [--rows N]"
-OPTIONS = {"--callgrind": True, "--lcov": True, "--perfetto": True, "--names": True, "--rows": True}
 Maker = Callable[[Asked], str]
 MAKERS: Dict[str, Maker] = {"--callgrind": callgrind, "--lcov": lcov, "--perfetto": perfetto}
 HEADS = {"--callgrind": b"# callgrind format", "--lcov": b"TN:", "--perfetto": b'{"traceEvents"'}
 
 
 def main(words: list[str]) -> int:
-    (log_name, elf_name), given = parse(words, OPTIONS, 2, FORM)
+    (log_name, elf_name), given = read_words(words, FORM)
     chosen = [option for option in MAKERS if option in given]
     if len(chosen) != 1:
         raise CompanionError(f"one of {', '.join(MAKERS)} has to be given; the words are: {FORM}", REFUSED)

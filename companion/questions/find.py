@@ -3,16 +3,16 @@ from __future__ import annotations
 
 import re
 from dataclasses import dataclass, field
-from typing import Any, Iterable
+from typing import Any
 
 from ..call import streams
 from ..call.errors import MISSING, REFUSED, CompanionError
-from ..call.options import parse
+from ..call.options import read_words
 from ..call.text import clean, columns, counted, number
 from ..recording.answers import LONGEST, place_of, put_answer
 from ..recording.chunks import rows_with
 from ..recording.elf import Elf
-from .reading import Asked, asked_of
+from .reading import Asked, asked_of, read
 from .variables import ADDRESS, OFFSET, not_found, symbol_of, variable_of
 
 HELP = """Lists the places of the program at which a value occurs, in registers and in words of memory.
@@ -29,7 +29,6 @@ value: put it into a register, loaded it or stored it.
 
 A word that holds the value while no row touches it isn't seen. Companions show; the program proves."""
 FORM = "find LOG ELF VALUE [--names ELF] [--rows N] [--json]"
-OPTIONS = {"--names": True, "--rows": True, "--json": False}
 MOST_ROWS = 2000000         # with the value are told by place; of the others only the number is told
 TOLD, MOST_FRAMES, MOST_WORDS = 100, 3, 3
 VERBS = {b"load ": "loads it from", b"store": "stores it to"}
@@ -47,25 +46,23 @@ class Group:
 
 
 class Found:
-    """total   how many rows have the value; groups: of the first of them, by place and what they do"""
+    """told, more   how many rows have the value; groups: of the first of them, by place and what they do"""
 
     def __init__(self, asked: Asked, value: int) -> None:
         self.asked, self.value = asked, value
         self.needle = b"=%08x" % value
         self.pattern = re.compile(self.needle)
         self.groups: dict[tuple[bytes, str], Group] = {}
-        self.total = self.told = 0
+        self.told = self.more = 0
 
-    def read(self, texts: Iterable[bytes]) -> None:
-        for text in texts:
-            if self.told >= MOST_ROWS:
-                self.total += text.count(self.needle)
-                continue
-            for row in rows_with(text, self.pattern):
-                self.take(row)
-        self.total += self.told
+    def take(self, text: bytes) -> None:
+        if self.told >= MOST_ROWS:
+            self.more += text.count(self.needle)
+            return
+        for row in rows_with(text, self.pattern):
+            self.take_row(row)
 
-    def take(self, row: bytes) -> None:
+    def take_row(self, row: bytes) -> None:
         self.told += 1
         head, *told = row.split(b" | ")
         hart, count, pc, _ = head.split(b" ", 3)
@@ -129,8 +126,8 @@ def group_line(group: Group, asked: Asked) -> list[str]:
 def report(found: Found) -> list[str]:
     asked, groups = found.asked, list(found.groups.values())
     asked.places.fetch(group.pc for group in groups[:TOLD])
-    lines = [f"FIND {found.value:08x}: {counted(found.total, 'row')}, {counted(len(groups), 'place')}"]
-    if found.total > found.told:
+    lines = [f"FIND {found.value:08x}: {counted(found.told + found.more, 'row')}, {counted(len(groups), 'place')}"]
+    if found.more:
         lines.append(f"  Places are those of the first {number(found.told)} rows that have it.")
     in_file = found.in_file()
     if in_file:
@@ -144,7 +141,7 @@ def report(found: Found) -> list[str]:
 
 def find_answer(found: Found) -> dict[str, Any]:
     asked = found.asked
-    return {"value": f"{found.value:08x}", "rows": found.total, "rows_by_place": found.told, "left_out": asked.left_out(),
+    return {"value": f"{found.value:08x}", "rows": found.told + found.more, "rows_by_place": found.told, "left_out": asked.left_out(),
             "in_file": [f"{word:08x}" for word in found.in_file()],
             "places": [{"place": place_of(asked.places, group.pc), "did": group.did, "first": group.first, "last": group.last,
                         "times": group.times, "words": [f"{word:08x}" for word in group.words]}
@@ -152,12 +149,12 @@ def find_answer(found: Found) -> dict[str, Any]:
 
 
 def main(words: list[str]) -> int:
-    (log_name, elf_name, text), given = parse(words, OPTIONS, 3, FORM)
+    (log_name, elf_name, text), given = read_words(words, FORM)
     with asked_of(log_name, elf_name, given) as asked:
         found = Found(asked, value_of(asked.named, text))
-        found.read(asked.chunks())
+        read(asked, found)
         if "--json" in given:
             put_answer("find", **find_answer(found))
         else:
-            streams.put("".join(line + "\n" for line in report(found)))
+            streams.put_lines(report(found))
     return 0

@@ -4,19 +4,20 @@ from __future__ import annotations
 import itertools
 from collections import deque
 from dataclasses import dataclass
-from typing import Any, Deque, Iterable, Optional
+from typing import Any, Deque, Optional
 
 from ..call import streams
-from ..call.options import parse, whole
+from ..call.options import read_words, whole
 from ..call.text import columns, counted, number
 from ..recording.answers import place_of, put_answer
 from ..recording.instruction import STORE, Instruction
+from ..recording.log import SystemCall
 from ..recording.memory import Bytes, words_of
-from .reading import Asked, asked_of
+from .reading import Asked, asked_of, read
 from .types import Leaf, leaves, value_text
 from .variables import Variable, variable_of
 from .window import Window
-from .words import Change, Fill, Words
+from .words import Change, Words
 
 HELP = """Lists each store to a variable: hart and count, the value before and after it, its place and the calls over it.
 
@@ -34,7 +35,6 @@ behind the last two a length can stand (`00011b60:4`).
 Types and parts are gdb's (gdb-multiarch, or what $ZELKUMA_GDB names). Rows are in the order of `joint`.
 Companions show; the program proves."""
 FORM = "history LOG ELF NAME [--names ELF] [--changes] [--last N] [--rows N] [--json]"
-OPTIONS = {"--names": True, "--changes": False, "--last": True, "--rows": True, "--json": False}
 TOLD, MOST_TOLD, MOST_FRAMES, LARGEST = 100, 1000000, 4, 8
 
 
@@ -49,7 +49,7 @@ class Entry:
     part: Leaf
     before: Bytes
     after: Bytes
-    fill: Optional[Fill]
+    fill: Optional[SystemCall]
 
 
 class History:
@@ -64,13 +64,7 @@ class History:
         self.waiting: Deque[Change] = deque(maxlen=most)    # whose text is kept
         self.told: Deque[Entry] = deque(maxlen=most)
 
-    def read(self, texts: Iterable[bytes]) -> None:
-        for text in texts:
-            self.take(text)
-        self.finish()
-
     def take(self, text: bytes) -> None:
-        """Reads a chunk."""
         self.window.add(text)
         for change in self.words.changes(text, self.window.begins[-1]):
             if not self.only_changes or self.is_change(change):
@@ -173,17 +167,18 @@ def history_answer(found: History) -> dict[str, Any]:
 
 def history_of(asked: Asked, variable: Variable, most: int = TOLD, only_changes: bool = False) -> History:
     found = History(asked, variable, most, only_changes)
-    found.read(asked.chunks())
+    read(asked, found)
+    found.finish()
     return found
 
 
 def main(words: list[str]) -> int:
-    (log_name, elf_name, name), given = parse(words, OPTIONS, 3, FORM)
+    (log_name, elf_name, name), given = read_words(words, FORM)
     most = whole(given.get("--last", str(TOLD)), 1, MOST_TOLD, "--last")
     with asked_of(log_name, elf_name, given) as asked:
         found = history_of(asked, variable_of(asked.named, name), most, "--changes" in given)
         if "--json" in given:
             put_answer("history", **history_answer(found))
         else:
-            streams.put("".join(line + "\n" for line in report(found)))
+            streams.put_lines(report(found))
     return 0

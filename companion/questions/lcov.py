@@ -6,17 +6,16 @@ from collections import Counter
 
 from ..recording.addresses import code_of
 from ..recording.elf import FUNCTION
-from .flow import Flow
+from .flow import PCS
 from .reading import Asked
 
 
 def done_times(asked: Asked) -> dict[int, int]:
     """{address: how often it was done}; of code that wasn't, 0."""
-    flow = Flow(lambda _hart, _call: None, lambda _hart, _call, _count, _place: None)
-    flow.read(asked.chunks())
-    found = dict.fromkeys(code_of(asked.named), 0)
-    found.update((int(pc, 16), times) for pc, times in flow.times.items())
-    return found
+    done: Counter[bytes] = Counter()
+    for text in asked.chunks():
+        done.update(PCS.findall(text))
+    return {**dict.fromkeys(code_of(asked.named), 0), **{int(pc, 16): times for pc, times in done.items()}}
 
 
 def lcov(asked: Asked) -> str:

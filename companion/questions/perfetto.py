@@ -4,11 +4,11 @@ from __future__ import annotations
 import json
 import re
 from array import array
-from typing import Any, Iterable, Iterator
+from typing import Any, Iterator
 
 from ..recording.log import is_fault
 from .flow import Flow, Open
-from .reading import Asked
+from .reading import Asked, read
 from .waiting import Loops, Waits
 
 MOST_EVENTS, MOST_EDGES, MOST_TURNS, MOST_WAITS = 500000, 2000, 50000, 50000
@@ -27,10 +27,8 @@ class Events:
         else:
             self.left_out += 1
 
-    def entered(self, _hart: int, _call: Open) -> None:
-        """A call is told once it has ended."""
-
     def left(self, hart: int, call: Open, count: int, place: int) -> None:
+        """A call is told once it has ended."""
         frames = self.asked.places.frames(call.function)
         self.add(frames[-1].function if frames else f"{call.function:08x}", "X", hart, call.place, dur=max(1, place - call.place),
                  args={"count": call.count, "instructions": count - call.count, "from": self.asked.places.where(call.call)})
@@ -52,18 +50,16 @@ class Turns:
         for at in range(max(0, len(edges.counts) - MOST_EDGES), len(edges.counts)):
             yield (edges.sources[at], edges.source_counts[at]), (edges.harts[at], edges.counts[at])
 
-    def pass_on(self, texts: Iterable[bytes]) -> Iterator[bytes]:
-        for text in texts:
-            self.turns(text)
-            self.waits.read(text)
-            for hart, counts in self.order.items():
-                last = text.rfind(b"\n%d " % hart)
-                known = int(text[last:last + 40].split(b" ", 2)[1]) if last >= 0 and counts else -1
-                while counts and counts[0] <= known:
-                    at = text.find(b"\n%d %d " % (hart, counts[0]))
-                    self.wanted[hart, counts.pop(0)] = self.rows + text.count(b"\n", 0, at) if at >= 0 else -1
-            self.rows += text.count(b"\n")
-            yield text
+    def take(self, text: bytes) -> None:
+        self.turns(text)
+        self.waits.take(text)
+        for hart, counts in self.order.items():
+            last = text.rfind(b"\n%d " % hart)
+            known = int(text[last:last + 40].split(b" ", 2)[1]) if last >= 0 and counts else -1
+            while counts and counts[0] <= known:
+                at = text.find(b"\n%d %d " % (hart, counts[0]))
+                self.wanted[hart, counts.pop(0)] = self.rows + text.count(b"\n", 0, at) if at >= 0 else -1
+        self.rows += text.count(b"\n")
 
     def turns(self, text: bytes) -> None:
         at = 0
@@ -94,8 +90,8 @@ class Turns:
 
 def perfetto(asked: Asked) -> str:
     events, turns = Events(asked), Turns(asked)
-    flow = Flow(events.entered, events.left)
-    flow.read(turns.pass_on(asked.chunks()))
+    flow = Flow(events.left)
+    read(asked, turns, flow)
     for hart, end in sorted(asked.log.ends.items()):
         for call in flow.open.get(b"%d" % hart, []):
             events.left(hart, call, end.count, flow.rows)

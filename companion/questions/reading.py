@@ -3,7 +3,7 @@ from __future__ import annotations
 
 import contextlib
 from contextlib import closing
-from typing import Iterator, Mapping, NamedTuple
+from typing import Iterator, Mapping, NamedTuple, Protocol
 
 from ..call.options import whole
 from ..call.text import number
@@ -51,6 +51,18 @@ class Asked(NamedTuple):
         if log.unread:
             return [f"Only the last {number(log.rows())} rows were read; --rows N reads more."]
         return [f"The log gave up {number(log.dropped)} records before its first row."] if log.dropped else []
+
+
+class Reader(Protocol):
+    def take(self, text: bytes) -> None:
+        """Reads a chunk."""
+
+
+def read(asked: Asked, *readers: Reader) -> None:
+    """All of them read the rows, in one go."""
+    for text in asked.chunks():
+        for each in readers:
+            each.take(text)
 
 
 @contextlib.contextmanager

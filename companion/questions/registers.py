@@ -6,7 +6,7 @@ import re
 from typing import Optional
 
 from ..recording.instruction import NAMES
-from ..recording.log import Interval, Log
+from ..recording.log import Log
 from .window import Window
 
 LONGEST_ROW = 100           # bytes, about
@@ -19,9 +19,7 @@ class Registers:
 
     def __init__(self, log: Log, window: Window) -> None:
         self.window = window
-        self.intervals: dict[int, list[Interval]] = {}
-        for interval in log.intervals:
-            self.intervals.setdefault(interval.hart, []).append(interval)
+        self.intervals = log.by_hart()
         self.starts = {hart: [each.start for each in found] for hart, found in self.intervals.items()}
         longest = max((each.end - each.start for each in log.intervals), default=0)
         self.carries = (log.rows() if log.harts > 1 else longest) * LONGEST_ROW > window.kept

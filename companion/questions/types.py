@@ -67,12 +67,15 @@ def value_text(leaf: Leaf, data: Bytes, name_of: Callable[[int], str]) -> str:
     return f"{number:0{2 * len(known)}x}" if len(known) <= 4 else known.hex(" ")
 
 
+def signed(of: Type, number: int, width: int) -> int:
+    """The number that so many bits are by a type."""
+    return number - (1 << width) if of.get("signed") and number >> width - 1 else number
+
+
 def number_text(leaf: Leaf, number: int, width: int) -> str:
     if leaf.bits:
         width, number = leaf.bits, number >> leaf.bit & (1 << leaf.bits) - 1
-    plain = number
-    if leaf.type.get("signed") and number >> width - 1:
-        number -= 1 << width
+    plain, number = number, signed(leaf.type, number, width)
     if leaf.type["kind"] == "enum":
         named = leaf.type["names"].get(str(number))
         return f"{named} ({number})" if named else str(number)
@@ -103,5 +106,4 @@ def field_value(field: Dict[str, Any], data: bytes) -> Any:
     if "bits" not in field:
         return python_value(field["type"], data)
     number = int.from_bytes(data[:8], "little") >> field["bit"] & (1 << field["bits"]) - 1
-    is_negative = field["type"].get("signed") and number >> field["bits"] - 1
-    return number - (1 << field["bits"]) if is_negative else number
+    return signed(field["type"], number, field["bits"])

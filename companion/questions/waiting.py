@@ -82,7 +82,7 @@ class Waits:
         self.found: list[Wait] = []
         self.open: dict[int, tuple[Wait, int]] = {}
 
-    def read(self, text: bytes) -> None:
+    def take(self, text: bytes) -> None:
         owners: Sequence[bytes] = ()
         for hart in range(self.harts):
             pcs, at = addresses_of(text, hart), 0

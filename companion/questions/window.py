@@ -4,12 +4,16 @@ A place is a number of bytes from the text's beginning. A row begins behind the 
 from __future__ import annotations
 
 import bisect
-from typing import Iterator, Optional
+from typing import Iterable, Iterator, Optional
 
 KEPT = 12 << 20             # bytes of text, about
 MOST_JUMPS = 20000          # are looked through behind a row
 CALLS = (b" jal ra,", b" jalr ra,", b" jal t0,", b" jalr t0,")
 RETURNS = (b" jalr zero,0(ra)", b" jalr zero,0(t0)")
+
+
+def has_any(row: bytes, jumps: Iterable[bytes]) -> bool:
+    return any(jump in row for jump in jumps)
 
 
 class Window:
@@ -37,10 +41,14 @@ class Window:
         self.size -= len(self.texts.pop(0))
         del self.begins[0]
 
+    def text_at(self, place: int) -> tuple[bytes, int]:
+        """The chunk that a place is in, and its offset there."""
+        at = bisect.bisect_right(self.begins, place) - 1
+        return self.texts[at], place - self.begins[at]
+
     def row(self, place: int) -> bytes:
         """The row that a place is in, without its newline."""
-        at = bisect.bisect_right(self.begins, place) - 1
-        text, offset = self.texts[at], place - self.begins[at]
+        text, offset = self.text_at(place)
         end = text.find(b"\n", offset + 1)
         return text[text.rfind(b"\n", 0, offset + 1) + 1:len(text) if end < 0 else end]
 
@@ -55,26 +63,22 @@ class Window:
 
     def row_before(self, hart: bytes, place: int) -> bytes:
         """The row of a hart before the row that a place is in, or nothing if the kept text has none."""
-        begin = place - len(self.row_start(place)) - 1
-        for at in self.found_before(b"\n" + hart + b" ", begin):
-            return self.row(at + 1)
-        return b""
+        at = next(self.found_before(b"\n" + hart + b" ", place - len(self.row_start(place)) - 1), None)
+        return b"" if at is None else self.row(at + 1)
 
     def row_start(self, place: int) -> bytes:
         """What its row has before a place."""
-        at = bisect.bisect_right(self.begins, place) - 1
-        text, offset = self.texts[at], place - self.begins[at]
+        text, offset = self.text_at(place)
         return text[text.rfind(b"\n", 0, offset) + 1:offset]
 
     def is_of(self, hart: bytes, place: int) -> bool:
         """Whether the row that a place is in is of a hart."""
-        at = bisect.bisect_right(self.begins, place) - 1
-        text, offset = self.texts[at], place - self.begins[at]
+        text, offset = self.text_at(place)
         return text.startswith(hart + b" ", text.rfind(b"\n", 0, offset) + 1)
 
     def bytes_at(self, place: int, size: int) -> bytes:
-        at = bisect.bisect_right(self.begins, place) - 1
-        return self.texts[at][place - self.begins[at]:place - self.begins[at] + size]
+        text, offset = self.text_at(place)
+        return text[offset:offset + size]
 
     def caller(self, hart: bytes, place: int) -> Optional[int]:
         """The address of the call that a row is in, or None if the kept text doesn't tell it."""

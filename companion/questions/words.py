@@ -2,29 +2,17 @@
 from __future__ import annotations
 
 from collections import deque
-from dataclasses import dataclass
 from typing import Deque, Iterator, NamedTuple, Optional
 
 from ..recording.chunks import LOAD, STORE, touching
-from ..recording.instruction import A7, A1
-from ..recording.log import Interval, Log
+from ..recording.log import READ_CALL, Log, SystemCall
 from ..recording.memory import Bytes, words_of
 from .reading import Asked
 from .variables import Variable
 
-READ, LONGEST = 63, 4096    # the call's number, and the bytes that it moves at most
 WIDTHS = {b"sb": 1, b"sh": 2}
 LAST_WORD = 0xfffffffc
 Word = Optional[int]
-
-
-@dataclass(frozen=True)
-class Fill:
-    """A `read` call that filled bytes: its hart and count, and these."""
-    hart: int
-    count: int
-    address: int
-    size: int
 
 
 class Change(NamedTuple):
@@ -34,7 +22,7 @@ class Change(NamedTuple):
     word: int
     before: tuple[Word, Word, Word]
     after: Word
-    fill: Optional[Fill] = None
+    fill: Optional[SystemCall] = None
 
     def bytes_before(self, address: int, size: int) -> Bytes:
         return self.taken(self.before, address, size)
@@ -50,17 +38,12 @@ class Change(NamedTuple):
         return found[begin:begin + size] if 0 <= begin and begin + size <= len(found) else [None] * size
 
 
-def fills_of(log: Log, first: int, end: int) -> dict[int, Deque[Fill]]:
-    """{hart: the `read` calls that filled some of these bytes}. A call ends an interval, and the next one begins with the
-    registers behind it."""
-    found: dict[int, Deque[Fill]] = {}
-    last: dict[int, Interval] = {}
-    for interval in log.intervals:
-        before, address = last.get(interval.hart), interval.registers[A1]
-        if before and before.reason == "call" and before.end == interval.start and interval.registers[A7] == READ \
-                and 0 < before.value <= LONGEST and address < end and first < address + before.value:
-            found.setdefault(interval.hart, deque()).append(Fill(interval.hart, before.end - 1, address, before.value))
-        last[interval.hart] = interval
+def fills_of(log: Log, first: int, end: int) -> dict[int, Deque[SystemCall]]:
+    """{hart: the `read` calls that filled some of these bytes}"""
+    found: dict[int, Deque[SystemCall]] = {}
+    for call in log.system_calls():
+        if call.kind == READ_CALL and call.size and call.address < end and first < call.address + call.size:
+            found.setdefault(call.hart, deque()).append(call)
     return found
 
 
@@ -113,7 +96,7 @@ class Words:
         self.known[word] = value
         self.unknown.discard(word)
 
-    def filled(self, begin: int, at: int, fill: Fill) -> Iterator[Change]:
+    def filled(self, begin: int, at: int, fill: SystemCall) -> Iterator[Change]:
         """What a `read` call did: no row tells what it put there."""
         first, end = max(fill.address, self.variable.address), min(fill.address + fill.size, self.variable.end)
         yield Change(begin + at, first & ~3, self.around(first & ~3), None, fill)
@@ -121,7 +104,7 @@ class Words:
             self.known[word] = None
             self.unknown.add(word)
 
-    def fills_in(self, text: bytes) -> Iterator[tuple[int, Fill]]:
+    def fills_in(self, text: bytes) -> Iterator[tuple[int, SystemCall]]:
         """The `read` calls whose rows are in a chunk, with the places behind their rows' beginnings."""
         found = []
         for hart, fills in self.fills.items():

@@ -8,13 +8,14 @@ from typing import Iterable, NamedTuple
 
 from ..call.errors import NO_INTERVAL, CompanionError
 from .calls import CallTree
-from .chunks import JUMPS, chunks
+from .chunks import chunks
 from .elf import Elf
-from .instruction import Instruction
 from .log import End, Log, is_fault
 
 LOOP_ROWS, MOST_FRAMES = 300, 200
 EXITS = "exit", "group"
+# The place of a call, or a return and the place of the next row.
+GOES = re.compile(rb" jal(?<=(\w{8}) \w{8} jal)(?:r? (?:ra|t0),|(r zero,-?\d+\((?:ra|t0)\))(?:[^\n]*\n\d+ \d+ (\w{8}))?)")
 
 
 class Cause(NamedTuple):
@@ -41,7 +42,7 @@ class Cause(NamedTuple):
 
 
 class Piece(NamedTuple):
-    """Rows of all harts, how many are the hart's, and its node before them; whether it returned just before."""
+    """Rows, how many, and the hart's node before them; whether it returned just before."""
     text: bytes
     rows: int
     node: int
@@ -52,66 +53,56 @@ class HartCalls:
     """The calls of a hart along chunks of text, of which the last are kept."""
 
     def __init__(self, hart: int) -> None:
-        self.row = b"\n%d " % hart
-        self.rows = re.compile(rb"\n%d \d+ (\w{8}) ([^\n]*)" % hart)
+        self.row, self.rows = b"\n%d " % hart, re.compile(rb"\n%d [^\n]*" % hart)
         self.tree, self.node, self.returned = CallTree(), 0, False
-        self.code: dict[bytes, Instruction] = {}
         self.pieces: deque[Piece] = deque()
-        self.kept = 0                           # rows of the hart in `pieces`
+        self.kept = 0                           # rows in `pieces`
 
     def take(self, text: bytes) -> None:
-        self.pieces.append(Piece(text, text.count(self.row), self.node, self.returned))
+        if text.count(self.row) < text.count(b"\n"):
+            text = b"".join(self.rows.findall(text))
+        self.pieces.append(Piece(text, text.count(b"\n"), self.node, self.returned))
         self.kept += self.pieces[-1].rows
         while self.kept - self.pieces[0].rows >= LOOP_ROWS:
             self.kept -= self.pieces.popleft().rows
         self.follow(text)
 
     def follow(self, text: bytes) -> None:
-        """Takes the jumps of some rows."""
-        if self.returned:
-            self.arrive(text, 0)
-        for found in JUMPS.finditer(text):
-            begin = text.rfind(b"\n", 0, found.start())
-            if text.startswith(self.row, begin):
-                end = text.find(b"\n", found.end())
-                self.jump(text[begin + 1:end if end >= 0 else len(text)].split(b" ", 2)[2])
-                if self.returned:
-                    self.arrive(text, found.end())
+        """Takes the calls and returns of some rows."""
+        self.arrive(text)
+        for place, is_return, target in GOES.findall(text):
+            if target:
+                self.node = self.tree.returned(self.node, int(target, 16))
+            elif is_return:
+                self.returned = True
+            else:
+                self.node = self.tree.called(self.node, int(place, 16))
 
-    def jump(self, row: bytes) -> None:
-        """A jump, as its row tells it from the address on."""
-        key = row.split(b" | ", 1)[0]
-        ins = self.code.get(key)
-        if ins is None:
-            ins = self.code[key] = Instruction(len(self.code), key)
-        if ins.call:
-            self.node = self.tree.called(self.node, ins.pc)
-        self.returned = ins.ret
-
-    def arrive(self, text: bytes, begin: int) -> None:
+    def arrive(self, text: bytes) -> None:
         """A return ends where the hart's next row is."""
-        found = self.rows.search(text, begin)
-        if found:
-            self.node, self.returned = self.tree.returned(self.node, int(found[1], 16)), False
+        if self.returned and text:
+            self.node, self.returned = self.tree.returned(self.node, place_of(text)), False
 
     def last(self) -> list[tuple[int, int]]:
         """The node and the place of each of the last rows."""
         text = b"".join(piece.text for piece in self.pieces)
         begin = len(text)
         for _ in range(min(self.kept, LOOP_ROWS)):
-            begin = text.rfind(self.row, 0, begin)
+            begin = text.rfind(b"\n", 0, begin)
         if self.pieces:
             self.node, self.returned = self.pieces[0].node, self.pieces[0].returned
             self.follow(text[:begin])
         found: list[tuple[int, int]] = []
-        for row in self.rows.finditer(text, begin):
-            pc = int(row[1], 16)
-            if self.returned:
-                self.node, self.returned = self.tree.returned(self.node, pc), False
-            found.append((self.node, pc))
-            if JUMPS.search(row[2]):
-                self.jump(row[1] + b" " + row[2])
+        for row in self.rows.findall(text, begin):
+            self.arrive(row)
+            found.append((self.node, place_of(row)))
+            self.follow(row)
         return found
+
+
+def place_of(text: bytes) -> int:
+    """The address of the first row."""
+    return int(text.split(b" ", 3)[2], 16)
 
 
 def ended_hart(log: Log) -> int:

@@ -148,12 +148,16 @@ class Log:
         """How many instructions its intervals have."""
         return sum(interval.end - interval.start for interval in self.intervals)
 
+    def by_hart(self) -> dict[int, list[Interval]]:
+        """{hart: its intervals}"""
+        found: dict[int, list[Interval]] = {}
+        for interval in self.intervals:
+            found.setdefault(interval.hart, []).append(interval)
+        return found
+
     def first_intervals(self) -> dict[int, Interval]:
         """{hart: its first interval in the log}"""
-        found: dict[int, Interval] = {}
-        for interval in self.intervals:
-            found.setdefault(interval.hart, interval)
-        return found
+        return {hart: found[0] for hart, found in self.by_hart().items()}
 
     def system_calls(self) -> Iterator[SystemCall]:
         """Those after which a hart continued, in their order. What they were asked is in the registers that the next Header has."""
@@ -188,11 +192,15 @@ def check(name: str) -> None:
         raise
 
 
-def read_log(name: str) -> Log:
-    """A log that the program has checked."""
-    check(name)
+def load_log(name: str) -> Log:
+    """A log that the program has made or checked."""
     with open(name, "rb") as file:
         return Log(name, file.read())
+
+
+def read_log(name: str) -> Log:
+    check(name)
+    return load_log(name)
 
 
 def is_fault(reason: str) -> bool:

@@ -7,7 +7,7 @@ from contextlib import closing
 
 from ..call import streams
 from ..call.errors import MISSING, CompanionError
-from ..call.options import parse
+from ..call.options import read_words
 from .addresses import addresses_of
 from .elf import Elf
 from .naming import places_of
@@ -107,7 +107,7 @@ def filter_input(elf: Elf) -> int:
 
 
 def main(words: list[str]) -> int:
-    names, _ = parse(words, {}, range(1, 1000), FORM)
+    names, _ = read_words(words, FORM)
     elf = Elf(names[0])
     if not elf.symbols:
         streams.say(f"{os.path.basename(elf.name)} has no names: it is stripped")

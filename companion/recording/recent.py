@@ -15,7 +15,7 @@ from typing import Iterator, Optional
 from ..call import program, streams
 from ..call.errors import NO_INTERVAL, UNREADABLE, CompanionError
 from ..call.scratch import Scratch
-from .log import END, FIRST_FAULT, HEAD_2, HEADER, REASONS, SEAL, SIZES, At, End, Log, changed, check, runs_of
+from .log import END, FIRST_FAULT, HEAD_2, HEADER, REASONS, SEAL, SIZES, At, End, Log, changed, check, load_log, runs_of
 
 VERSION_1, LARGEST_SMALL = 1, 1 << 20   # a file of version 1 that is larger isn't read whole
 SETTINGS, BLOCK = 92, 4096                      # bytes of a head up to its count of dropped records; of a block's records
@@ -47,8 +47,7 @@ class LogFile:
             return int.from_bytes(file.read(16)[12:], "little")
 
     def whole(self) -> Log:
-        with open(self.name, "rb") as file:
-            return Log(self.name, file.read())
+        return load_log(self.name)
 
     def end(self, rows: int, asked: Optional[At] = None) -> Log:
         """The shortest end that holds so many rows and what else is needed, or the whole log if it is no longer. Of a row that

@@ -18,7 +18,6 @@ from .turns import Pieces, again_at, pieces_of, shown
 MOST_TOLD = 40              # switches
 MOST_ROWS = 2600000         # of a log, and turns of BOOK, among which they are looked for
 MOST_AUDITED = 500000000    # instructions of the run, which audit does again: some ten seconds
-STORY_OPTIONS = {"--book": True, "--input": True}
 STORY_HEAD = "SWITCHES between harts, in the order of BOOK"
 MOST_INLINED = 1            # lines into which a row is inlined are told
 STORE = re.compile(rb"^.*\| store (\w{8})=.*\n", re.M)

@@ -9,7 +9,7 @@ from typing import NamedTuple
 from .rows import KEEPS, LOADS, STORES, Rows
 
 STORE_BITS = 0xffffffff     # of a pair, those that tell its store
-LANES_KEPT = 16             # of so many stores to a word one's lanes are kept
+KEPT = 16                   # of so many rows that a search passes one is kept, so that the next one is shorter
 BESIDE = 64                 # how far from a word another is beside it
 LOADING = bytes(flags & LOADS for flags in range(256))
 
@@ -52,28 +52,30 @@ class Writers:
     def before_counting(self, n: int) -> int:
         """The row that wrote a row's first register. The rounds of a loop that adds a constant to it are one step: what
         counts is the value that it began with."""
-        source, passed, code = self.first[n], [], self.rows.code
+        first, code, began = self.first, self.rows.code, self.began
+        source, passed = first[n], array("I")
         if not self.rows.code_of(n).counts:
             return source
         while source and code[source] == code[n]:
-            if source in self.began:
-                source = self.began[source]
+            if source in began:
+                source = began[source]
                 break
             passed.append(source)
-            source = self.first[source]
-        self.began.update((row, source) for row in passed)
+            source = first[source]
+        began.update(dict.fromkeys(passed[::KEPT], source))
         return source
 
     def changed_by(self, store: int) -> int:
         """The row that gave a word its value: a store that kept it is passed. 0 if that is before all rows."""
-        passed = []
-        while self.rows.flags[store] & KEEPS:
-            if store in self.kept:
-                store = self.kept[store]
-                break
+        flags, word, kept = self.rows.flags, self.word, self.kept
+        if not flags[store] & KEEPS:
+            return store
+        passed = array("I")
+        while flags[store] & KEEPS and store not in kept:
             passed.append(store)
-            store = self.word[store]
-        self.kept.update((row, store) for row in passed)
+            store = word[store]
+        store = kept.get(store, store)
+        kept.update(dict.fromkeys(passed[::KEPT], store))
         return store
 
     def stores(self, load: int) -> Stores:
@@ -101,7 +103,7 @@ class Writers:
         for at, row in enumerate(reversed(passed), 1):
             mask = self.rows.mask(row)
             found = tuple(row if mask >> lane & 1 else before for lane, before in enumerate(found))
-            if at % LANES_KEPT == 0 or at == len(passed):
+            if at % KEPT == 0 or at == len(passed):
                 self.lanes[row] = found
         return found
 

@@ -6,7 +6,7 @@ from contextlib import closing
 from typing import NamedTuple
 
 from ..call import streams
-from ..call.options import parse
+from ..call.options import read_words
 from ..recording.answers import put_answer
 from ..recording.cause import EXITS, Cause, cause_of
 from ..recording.elf import Elf
@@ -56,7 +56,7 @@ def bucket_of(cause: Cause, elf: Elf, places: Places) -> Bucket:
 
 
 def main(words: list[str]) -> int:
-    (log_name, elf_name), given = parse(words, {"--names": True, "--json": False}, 2, FORM)
+    (log_name, elf_name), given = read_words(words, FORM)
     with closing(open_log(log_name)) as source:
         elf = Elf(elf_name)
         named = named_elf(elf, given.get("--names", ""))

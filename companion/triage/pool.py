@@ -12,7 +12,7 @@ from typing import Any, Generator, Iterable, NoReturn, Optional
 
 from ..call import streams
 from ..call.children import lead_group, tie
-from .work import Answer, Task, Work, limit_memory, unread
+from .work import UNREAD, Answer, Task, Work, limit_memory
 
 PATIENCE = 60.0             # seconds by the clock until a process that says nothing is ended
 STUCK, ENDED = f"nothing came of it in {PATIENCE:.0f} s", "the process that read it was ended"
@@ -96,4 +96,4 @@ def answer_of(worker: Worker, workers: list[Worker]) -> Answer:
         why = ENDED
     workers[workers.index(worker)] = Worker()
     worker.end(signal.SIGKILL)
-    return unread(why)
+    return Answer(UNREAD, why)

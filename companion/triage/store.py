@@ -21,10 +21,10 @@ MOST_LOGS = 100000
 
 
 class File(NamedTuple):
-    """A log: its name, when it was changed last, in seconds, and the SHA-256 of its program, or nothing if its head is cut
+    """A log: when it was changed last, in seconds, its name, and the SHA-256 of its program, or nothing if its head is cut
     or of an unknown version."""
-    name: str
     time: float
+    name: str
     program: str
 
 
@@ -62,14 +62,10 @@ def find_logs(folders: Sequence[str]) -> Logs:
             if not head.startswith(MAGIC):
                 others += 1
             elif len(found) == MOST_LOGS:
-                return Logs(sorted(found, key=by_time), others, True)
+                return Logs(sorted(found), others, True)
             else:
-                found.append(File(name, os.fstat(file.fileno()).st_mtime, program_of(head)))
-    return Logs(sorted(found, key=by_time), others, False)
-
-
-def by_time(file: File) -> tuple[float, str]:
-    return file.time, file.name
+                found.append(File(os.fstat(file.fileno()).st_mtime, name, program_of(head)))
+    return Logs(sorted(found), others, False)
 
 
 def cache_name() -> str:

@@ -4,11 +4,11 @@ from __future__ import annotations
 import os
 import shlex
 from contextlib import closing
-from typing import Iterable, Mapping
+from typing import Mapping
 
 from ..call import streams
 from ..call.errors import MISSING, CompanionError
-from ..call.options import parse
+from ..call.options import read_words
 from ..call.page import Part, page
 from ..call.saving import PAGE, Target, target
 from ..call.text import clean, counted, number
@@ -40,26 +40,17 @@ whose program isn't there. Of a large log the last million rows are read. Of the
 is told.
 Companions show; the program proves."""
 FORM = "triage DIR.. --elfs DIR [--json FILE] [--junit FILE] [--html FILE]"
-OPTIONS = {"--elfs": True, "--json": True, "--junit": True, "--html": True}
 KINDS = {"--json": JSON, "--junit": JUNIT, "--html": PAGE}
-MOST_NAMES = 1000
 
 
-class Asker:
-    """Has the tasks done, and tells how far they are."""
-
-    def __init__(self) -> None:
-        self.jobs, self.progress = len(os.sched_getaffinity(0)), streams.Progress()
-
-    def ask(self, tasks: list[Task], what: str) -> dict[str, Answer]:
-        """{log: the answer}"""
-        found: dict[str, Answer] = {}
-        with closing(answers(tasks, min(self.jobs, len(tasks)))) as said:
-            for task, answer in said:
-                found[task.log] = answer
-                self.progress.tell(f"{number(len(found))} of {counted(len(tasks), what)}")
-        self.progress.clear()
-        return found
+def ask(tasks: list[Task], what: str) -> dict[str, Answer]:
+    """{log: the answer}. How many there are is told."""
+    found: dict[str, Answer] = {}
+    with closing(answers(tasks, min(len(os.sched_getaffinity(0)), len(tasks)))) as said, streams.Progress() as progress:
+        for task, answer in said:
+            found[task.log] = answer
+            progress.tell(f"{number(len(found))} of {counted(len(tasks), what)}")
+    return found
 
 
 def table_of(logs: Logs, elfs: Mapping[str, str], found: Mapping[str, Answer]) -> Table:
@@ -75,10 +66,10 @@ def table_of(logs: Logs, elfs: Mapping[str, str], found: Mapping[str, Answer]) -
     return table
 
 
-def with_suspects(table: Table, asker: Asker) -> None:
+def with_suspects(table: Table) -> None:
     """Asks for the suspects of the most frequent causes, each of one log."""
     groups = [group for group in table.sorted() if group.bucket.reason not in EXITS and group.is_whole][:MOST_SUSPECTS]
-    found = asker.ask([Task(group.example.name, group.elf, True) for group in groups], "suspect")
+    found = ask([Task(group.example.name, group.elf, True) for group in groups], "suspect")
     for group in groups:
         answer = found[group.example.name]
         group.suspect = answer.words if answer.state == READ else f"none: {answer.words}"
@@ -106,14 +97,6 @@ def unread_line(why: str, one: Unread) -> str:
     return f"{number(one.count)}  {clean(why)}: {clean(one.first.name)}" + (" and others" if one.count > 1 else "")
 
 
-def text_of(parts: Iterable[Part]) -> str:
-    lines: list[str] = []
-    for part in parts:
-        lines += ["", part.heading] if part.heading else []
-        lines += ["  " + line if part.heading else line for line in part.lines]
-    return "".join(line + "\n" for line in lines)
-
-
 def saved_text(option: str, table: Table, parts: list[Part]) -> str:
     """What an option saves."""
     if option == "--html":
@@ -122,7 +105,7 @@ def saved_text(option: str, table: Table, parts: list[Part]) -> str:
 
 
 def main(words: list[str]) -> int:
-    folders, given = parse(words, OPTIONS, range(1, MOST_NAMES), FORM)
+    folders, given = read_words(words, FORM)
     if "--elfs" not in given:
         raise CompanionError(f"--elfs isn't given; the words are: {FORM}")
     targets: dict[str, Target] = {}
@@ -133,13 +116,12 @@ def main(words: list[str]) -> int:
     if not logs.files:
         raise CompanionError(f"there is no log below {', '.join(map(shlex.quote, folders))}", MISSING)
     elfs = Store([given["--elfs"]]).find({file.program for file in logs.files})
-    asker = Asker()
-    table = table_of(logs, elfs, asker.ask([Task(file.name, elfs[file.program]) for file in logs.files if file.program in elfs], "log"))
-    with_suspects(table, asker)
+    table = table_of(logs, elfs, ask([Task(file.name, elfs[file.program]) for file in logs.files if file.program in elfs], "log"))
+    with_suspects(table)
     parts = parts_of(table)
     for option, place in targets.items():
         place.save(saved_text(option, table, parts).encode("utf-8", "backslashreplace"))
-    streams.put(text_of(parts))
+    streams.put_lines(line for part in parts for line in [""] * bool(part.heading) + part.text())
     if logs.are_more:
         streams.say(f"only {number(MOST_LOGS)} logs were read, and there are more")
     return 0

@@ -41,19 +41,12 @@ class Answer(NamedTuple):
     harts   how many it has"""
     state: str
     words: str
-    bucket: Bucket
-    harts: int
-
-
-NO_BUCKET = Bucket("", "", "", "")
+    bucket: Bucket = Bucket("", "", "", "")
+    harts: int = 0
 
 
 class TooLong(BaseException):
     """The time of a log is over. No handler on the way takes it for a fault."""
-
-
-def unread(words: str) -> Answer:
-    return Answer(UNREAD, words, NO_BUCKET, 0)
 
 
 @contextlib.contextmanager
@@ -89,13 +82,13 @@ class Work:
         except MemoryError:
             failed = TOO_LARGE
         except CompanionError as error:
-            return unread(TOO_LARGE if error.status == NO_MEMORY else str(error))
+            return Answer(UNREAD, TOO_LARGE if error.status == NO_MEMORY else str(error))
         except OSError as error:
             failed = error.strerror or str(error)
         except Exception as error:              # a forged log may meet a fault of ours: the others are read all the same
             failed = f"its reader failed inside ({type(error).__name__})"
         self.close()                            # a question may be under way
-        return unread(failed)
+        return Answer(UNREAD, failed)
 
     def bucket(self, task: Task) -> Answer:
         try:
@@ -117,11 +110,10 @@ class Work:
     def suspect(self, task: Task) -> Answer:
         with closing(analysed(task.log, task.elf)) as facts:
             if not facts.shown:
-                return Answer(READ, "", NO_BUCKET, 0)
+                return Answer(READ, "")
             first = facts.shown[0]
             source = facts.source(first.guilty)
-            words = f"{DID[first.kind]} {facts.where(first.guilty)}" + (f": {source}" if source else "")
-            return Answer(READ, words, NO_BUCKET, 0)
+            return Answer(READ, f"{DID[first.kind]} {facts.where(first.guilty)}" + (f": {source}" if source else ""))
 
 
 def within(seconds: float, work: Callable[[], T]) -> T:

@@ -19,16 +19,6 @@ class Way(NamedTuple):
     kind: str
 
 
-class Ranked(NamedTuple):
-    """A suspect's rank, its guilty row and its kind."""
-    rank: int
-    guilty: int
-    kind: str
-
-
-Drawn = Mapping[str, Any]       # nodes and links as the page's script reads them
-
-
 class Box:
     """rows   those that it represents, from the end backwards
     how    how its first row was needed; next: the boxes behind it"""
@@ -95,8 +85,8 @@ class Ways:
 class Boxes:
     """The nodes and links of the page. A fork's first way continues in its column, each other takes a new one."""
 
-    def __init__(self, page: Page, suspects: Mapping[int, Sequence[Ranked]], origins: Mapping[int, str]) -> None:
-        """Both are by rows; `origins` are in words."""
+    def __init__(self, page: Page, suspects: Mapping[int, Sequence[tuple[int, Way]]], origins: Mapping[int, str]) -> None:
+        """Both are by rows: suspects with their ranks, and origins in words."""
         self.page, self.suspects, self.origins = page, suspects, origins
         self.nodes: list[dict[str, Any]] = []
         self.links: list[list[Any]] = []
@@ -104,32 +94,32 @@ class Boxes:
 
     def add(self, box: Box, column: int, depth: int) -> int:
         """Adds a box and all behind it; gives its number."""
-        at, row = len(self.nodes), box.rows[-1]
-        self.nodes.append(self.gap(box, column, depth) if box.skipped else self.node(row, len(box.rows), column, depth))
+        row = box.rows[-1]
+        at = self.put(column, depth, **({"skipped": box.skipped} if box.skipped else self.row(row, len(box.rows))))
         places = iter(range(len(box.next) + 9))
         for following in box.next:
             self.links.append([at, self.add(following, self.column(column, next(places)), depth + 1), following.how])
         if box.skipped:
             return at
-        for rank, guilty, kind in self.suspects.get(row, ()):
+        for rank, (_, guilty, kind) in self.suspects.get(row, ()):
             if guilty == row:
                 self.nodes[at]["rank"] = self.nodes[at]["rank"] or rank
             else:                               # the guilty row isn't of the history: only what it did is known
-                self.links.append([at, len(self.nodes), kind])
-                self.nodes.append(self.node(guilty, 1, self.column(column, next(places)), depth + 1))
-                self.nodes[-1]["rank"] = rank
+                self.links.append([at, self.put(self.column(column, next(places)), depth + 1, rank, **self.row(guilty, 1)), kind])
         if row in self.origins:
-            self.links.append([at, len(self.nodes), "before"])
-            self.nodes.append({"column": self.column(column, next(places)), "depth": depth + 1, "rank": 0,
-                               "said": self.origins[row], "told": self.loaded(row)})
+            loaded = self.page.rows.text(row).rpartition("load ")[2][:17]
+            self.links.append([at, self.put(self.column(column, next(places)), depth + 1, said=self.origins[row], told=loaded), "before"])
         return at
+
+    def put(self, column: int, depth: int, rank: int = 0, **more: Any) -> int:
+        """Adds a node; gives its number."""
+        self.nodes.append({"column": column, "depth": depth, "rank": rank, **more})
+        return len(self.nodes) - 1
 
     def column(self, column: int, place: int) -> int:
         """The column of the way at a place of a fork."""
-        if place == 0:
-            return column
-        self.columns += 1
-        return self.columns - 1
+        self.columns += place > 0
+        return self.columns - 1 if place else column
 
     def told(self, row: int) -> str:
         """What a row did."""
@@ -137,23 +127,16 @@ class Boxes:
         told = text.split(" | ")[1:]
         return told[-1] if told else text.split(" ", 4)[-1]
 
-    def loaded(self, row: int) -> str:
-        return self.page.rows.text(row).rpartition("load ")[2][:17]
-
-    def gap(self, box: Box, column: int, depth: int) -> dict[str, Any]:
-        return {"column": column, "depth": depth, "rank": 0, "skipped": box.skipped}
-
-    def node(self, row: int, rows: int, column: int, depth: int) -> dict[str, Any]:
-        return {"column": column, "depth": depth, "rank": 0, "place": self.page.place_of_row(row), "rows": rows,
-                "at": self.page.point(row), "told": self.told(row)}
+    def row(self, row: int, rows: int) -> dict[str, Any]:
+        return {"place": self.page.place_of_row(row), "rows": rows, "at": self.page.point(row), "told": self.told(row)}
 
 
-def chain_boxes(page: Page, history: History, suspects: Iterable[Way], origins: Mapping[int, str]) -> Drawn:
-    """{nodes, links} for the page. `suspects` come likeliest first; `origins` is {row of a load that no row stored: where
+def chain_boxes(page: Page, history: History, suspects: Iterable[Way], origins: Mapping[int, str]) -> dict[str, Any]:
+    """{nodes, links} as the page's script reads them. `suspects` come likeliest first; `origins` is {row of a load that no row stored: where
     its word came from}."""
-    by_row: dict[int, list[Ranked]] = {}
+    by_row: dict[int, list[tuple[int, Way]]] = {}
     for rank, way in enumerate(suspects, 1):
-        by_row.setdefault(way.row, []).append(Ranked(rank, way.guilty, way.kind))
+        by_row.setdefault(way.row, []).append((rank, way))
     ways = Ways(page, history, list(by_row) + list(origins) or [history.start])
     boxes = Boxes(page, by_row, origins)
     boxes.add(ways.box(history.start), 0, 0)

@@ -1,7 +1,7 @@
 """What a page shows of a log as a whole: places, intervals, Edges, the functions along each hart."""
 from __future__ import annotations
 
-from typing import NamedTuple, Union
+from typing import Any, Iterator, NamedTuple, Union
 
 from ..call.text import clean
 from ..recording.log import NO_END, Log
@@ -15,18 +15,6 @@ STRIP_SPOTS = 24000     # rows whose function is asked for, of all harts togethe
 SOURCE_LENGTH = 90
 
 
-class PageInterval(NamedTuple):
-    """An interval, with its first row and the row behind its last."""
-    hart: int
-    number: int
-    start: int
-    end: int
-    reason: str
-    value: str
-    first_row: int
-    rows_end: int
-
-
 class PageEdge(NamedTuple):
     """An Edge with the rows of both its accesses, 0 of one that was dropped, and 1 if it is of the even half."""
     hart: int
@@ -38,44 +26,6 @@ class PageEdge(NamedTuple):
     is_even: int
 
 
-class Segments(NamedTuple):
-    """The counts and the rows at which a hart continues after another hart, and 1 if some are left out."""
-    counts: list[int]
-    rows: list[int]
-    left_out: int
-
-
-class Strip(NamedTuple):
-    """A hart, the count behind its last, and its functions: [first count, the function's number].."""
-    hart: int
-    end: int
-    runs: list[list[int]]
-
-
-class Strips(NamedTuple):
-    """The strips, and [function, its share in percent].."""
-    strips: list[Strip]
-    functions: list[list[Union[str, float]]]
-
-
-class Spots(NamedTuple):
-    """The count behind a hart's last, and for each of so many equal parts of it the first count and a row in the middle."""
-    end: int
-    parts: list[tuple[int, int]]
-
-
-class Around(NamedTuple):
-    """Lines of source, and the number of the first."""
-    first: int
-    lines: list[str]
-
-
-class Code(NamedTuple):
-    pc: int
-    text: str
-    place: int
-
-
 class Page:
     """Places and codes have numbers, so that each name stands in the page once."""
 
@@ -83,9 +33,8 @@ class Page:
         self.rows, self.calls, self.places, self.log = trace.rows, trace.calls, places, log
         self.place_known: dict[int, int] = {}
         self.place_list: list[list[Union[str, list[str]]]] = []
-        self.place_pcs: list[int] = []
         self.code_known: dict[int, int] = {}
-        self.code_list: list[Code] = []
+        self.code_list: list[tuple[int, str, int]] = []         # address, text and place of each
 
     def place(self, pc: int) -> int:
         """The number of [function, file:line, text of the line, [function, file:line] it is inlined in..]."""
@@ -98,16 +47,15 @@ class Page:
                 entry += [[frame.function, f"{frame.file}:{frame.line}"] for frame in frames[1:]]
             found = self.place_known[pc] = len(self.place_list)
             self.place_list.append(entry)
-            self.place_pcs.append(pc)
         return found
 
-    def around(self, place: int) -> Around:
-        """The line of source at a place, the one before and the one behind, if the source is there."""
-        frame = self.places.innermost(self.place_pcs[place])
+    def around(self, place: int) -> tuple[int, list[str]]:
+        """The line of source at a place, the one before and the one behind, if the source is there; and the number of the first."""
+        frame = self.places.innermost(list(self.place_known)[place])
         lines = self.places.sources.lines(frame.path) if frame.line else []
         first = max(1, frame.line - 1)
         some = lines[first - 1:frame.line + 1] if frame.line <= len(lines) else []
-        return Around(first, [clean(text.expandtabs(4).rstrip())[:SOURCE_LENGTH] for text in some])
+        return first, [clean(text.expandtabs(4).rstrip())[:SOURCE_LENGTH] for text in some]
 
     def code(self, at: int) -> int:
         """The number of an instruction."""
@@ -115,7 +63,7 @@ class Page:
         if found is None:
             instruction = self.rows.codes[at]
             found = self.code_known[at] = len(self.code_list)
-            self.code_list.append(Code(instruction.pc, instruction.text, self.place(instruction.pc)))
+            self.code_list.append((instruction.pc, instruction.text, self.place(instruction.pc)))
         return found
 
     def point(self, row: int) -> list[int]:
@@ -125,25 +73,21 @@ class Page:
     def place_of_row(self, row: int) -> int:
         return self.place(self.rows.code_of(row).pc)
 
-    def intervals(self) -> list[PageInterval]:
+    def intervals(self) -> list[list[Any]]:
+        """Of each interval the hart, number, counts, reason and value of its end, its first row and the one behind its last."""
         row_of, found = self.rows.row_of, []
         for each in self.log.intervals:
             first, last = row_of(each.hart, each.start), row_of(each.hart, max(each.start, each.end - 1))
             reason = "no end" if each.reason == NO_END else each.reason
-            found.append(PageInterval(each.hart, each.number, each.start, each.end, reason, f"{each.value:08x}", first,
-                                      (last or first) + 1))
+            found.append([each.hart, each.number, each.start, each.end, reason, f"{each.value:08x}", first, (last or first) + 1])
         return found
 
-    def segments(self) -> list[Segments]:
-        """Of each hart."""
-        return [self.segments_of(number) for number in range(self.log.harts)]
-
-    def segments_of(self, number: int) -> Segments:
-        hart = self.rows.harts.get(number)
-        if not hart:
-            return Segments([], [], 0)
-        step = max(1, -(-len(hart.begins) // SEGMENTS))
-        return Segments(list(hart.counts[::step]), list(hart.begins[::step]), int(step > 1))
+    def segments(self) -> Iterator[tuple[list[int], list[int], int]]:
+        """Of each hart the counts and the rows at which it continues after another hart, and 1 if some are left out."""
+        for number in range(self.log.harts):
+            hart = self.rows.harts.get(number)
+            step = max(1, -(-len(hart.begins) // SEGMENTS)) if hart else 1
+            yield (list(hart.counts[::step]), list(hart.begins[::step]), int(step > 1)) if hart else ([], [], 0)
 
     def edges(self) -> list[PageEdge]:
         counts, from_counts, harts, sources = self.log.edges
@@ -169,11 +113,14 @@ class Page:
                 found.add(i)
         return found
 
-    def strips(self) -> Strips:
-        spots, found = self.strip_spots(), []
+    def strips(self) -> tuple[list[list[Any]], list[list[Any]]]:
+        """Of each hart its number, the count behind its last, and its functions as [first count, the function's number]..; and
+        of each function its name and its share in percent."""
+        spots = dict(self.strip_spots())
+        found: list[list[Any]] = []
         numbers: dict[str, int] = {}
         shares: dict[str, int] = {}
-        self.places.fetch({self.rows.code_of(row).pc for each in spots.values() for _, row in each.parts if row})
+        self.places.fetch({self.rows.code_of(row).pc for _, rows in spots.values() for _, row in rows if row})
         for hart, (end, rows) in spots.items():
             runs: list[list[int]] = []
             for count, row in rows:
@@ -182,19 +129,16 @@ class Page:
                 number = numbers.setdefault(name, len(numbers))
                 if not runs or runs[-1][1] != number:
                     runs.append([count, number])
-            found.append(Strip(hart, end, runs))
+            found.append([hart, end, runs])
         total = sum(shares.values()) or 1
-        return Strips(found, [[name, round(100 * shares[name] / total, 1)] for name in numbers])
+        return found, [[name, round(100 * shares[name] / total, 1)] for name in numbers]
 
-    def strip_spots(self) -> dict[int, Spots]:
-        """Of each hart."""
+    def strip_spots(self) -> Iterator[tuple[int, tuple[int, list[tuple[int, int]]]]]:
+        """Of each hart the count behind its last, and for each of so many equal parts of it the first count and a row in the middle."""
         rows = self.rows
         most = max(200, min(3000, STRIP_SPOTS // max(1, len(rows.last))))
-        found = {}
         for hart, last_row in sorted(rows.last.items()):
             first, last = rows.harts[hart].counts[0], rows.count_of(last_row)
             spots = min(most, last - first + 1)
             size = (last - first + 1) / spots
-            found[hart] = Spots(last + 1, [(int(first + i * size), rows.row_of(hart, int(first + (i + 0.5) * size)))
-                                           for i in range(spots)])
-        return found
+            yield hart, (last + 1, [(int(first + i * size), rows.row_of(hart, int(first + (i + 0.5) * size))) for i in range(spots)])

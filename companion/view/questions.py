@@ -7,7 +7,7 @@ from ..call.errors import CompanionError
 from ..questions.calls import Call, Calls, Values
 from ..questions.functions import function_of
 from ..questions.history import Entry, History, value_of
-from ..questions.reading import Asked
+from ..questions.reading import Asked, read
 from ..questions.variables import Variable, variable_of
 from ..recording.elf import Elf
 from ..recording.races import Races
@@ -51,9 +51,7 @@ class Questions:
         self.histories = [History(asked, variable, TOLD, False) for variable in variables_of(asked.named, words)]
         self.calls = list(calls_in(asked, functions))
         every: list[Union[History, Calls]] = [*self.histories, *self.calls]
-        for text in asked.chunks():
-            for each in every:
-                each.take(text)
+        read(asked, *every)
         for each in every:
             each.finish()
 
@@ -94,6 +92,6 @@ def words_at(crash: Analysis, rows: Iterable[int]) -> list[int]:
 def call_row(page: Page, call: Call, values: Values) -> list[Any]:
     """Hart and count, the arguments, the result, how many rows it took, and the place that it came from, -1 if that isn't known."""
     arguments = ", ".join(f"{name}={text}" for name, text in values.arguments(call).items())
-    result = values.text(call.begin.result, call.result) if call.begin.result and call.rows is not None else ""
     place = page.place(call.source or call.begin.address) if call.source or call.begin.inlined else -1
-    return [int(call.hart), call.count, "inlined" if call.begin.inlined else arguments, result, -1 if call.rows is None else call.rows, place]
+    return [int(call.hart), call.count, "inlined" if call.begin.inlined else arguments, values.result(call) or "",
+            -1 if call.rows is None else call.rows, place]

@@ -2,7 +2,7 @@
 from __future__ import annotations
 
 from dataclasses import dataclass, field
-from typing import Iterable, NamedTuple, Sequence
+from typing import Iterable, Sequence
 
 from .data import Page, PageEdge
 
@@ -10,12 +10,6 @@ ROWS = 45000            # in the page at most
 CALLS = 24              # innermost calls that a stack tells
 SPOTS = 1200            # points over the whole run with some rows around each
 EDGES_WITH_ROWS = 400
-
-
-class Node(NamedTuple):
-    """A call: the node outside, and the place of the call; below 0 the number of calls that are left out."""
-    outer: int
-    place: int
 
 
 @dataclass
@@ -30,14 +24,16 @@ class Window:
 
 
 class PageRows:
-    """windows, nodes: what the page holds of rows and of calls"""
+    """windows  what the page holds of rows
+    nodes    what it holds of calls: {(the node outside, the place of the call; below 0 the number of calls that are left out): its
+             number}"""
 
     def __init__(self, page: Page) -> None:
         self.page, self.rows, self.calls = page, page.rows, page.calls
         self.wanted: set[int] = set()
         self.windows: list[Window] = []
-        self.nodes, self.top_known = [Node(0, 0)], {0: 0}
-        self.node_known: dict[Node, int] = {}
+        self.nodes: dict[tuple[int, int], int] = {}
+        self.top_known = {0: 0}
 
     def around(self, row: int, back: int, ahead: int) -> None:
         """Wants a row, and some before and behind it of its hart."""
@@ -119,11 +115,7 @@ class PageRows:
         return self.add_node(top, 1 - tree.depth[node]) if tree.depth[node] > 1 else top
 
     def add_node(self, outer: int, place: int) -> int:
-        key = Node(outer, place)
-        if key not in self.node_known:
-            self.node_known[key] = len(self.nodes)
-            self.nodes.append(key)
-        return self.node_known[key]
+        return self.nodes.setdefault((outer, place), len(self.nodes) + 1)
 
     def as_data(self) -> list[list[object]]:
         return [[each.hart, each.first, each.codes, "\n".join(each.tails), each.calls] for each in self.windows]

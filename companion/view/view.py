@@ -8,17 +8,18 @@ import json
 import os
 import re
 from contextlib import closing
+from pathlib import Path
 from typing import Any, Mapping, Optional, Sequence
 
 from ..call import streams
-from ..call.options import parse, whole
+from ..call.options import read_words, whole
 from ..call.text import as_text, number
 from ..call.version import version
 from ..orders.race import Judged, family_word, pairs_of
 from ..recording.instruction import NAMES
 from ..recording.races import AccessPair, Group, Races
 from ..recording.sources import source_folders
-from ..recording.story import STORY_OPTIONS, Story, Teller, asked_story
+from ..recording.story import Story, Teller, asked_story
 from ..why.analysis import Analysis, analysed
 from ..why.facts import asked_byte
 from ..why.fault import fault_words
@@ -49,7 +50,6 @@ HELP = """Draws a log as one page, to look at in a browser: harts, intervals, Ed
 The page is one file that needs no network and no other file. It holds names and lines of source of the program.
 Companions show; the program proves: rows, intervals, Edges and races are the program's, suspects are a judgement."""
 FORM = "view LOG ELF [--names ELF] [--source DIR] [--row HART:IC] [--output N:BYTE] [--rows N] [--with-questions] [--book BOOK] [--input FILE]"
-OPTIONS = {"--names": True, "--source": True, "--row": True, "--output": True, "--rows": True, "--with-questions": False, **STORY_OPTIONS}
 SCRIPTS = ("model.js", "questions.js", "timeline.js", "arrows.js", "story.js", "rows.js", "panels.js", "chain.js", "controls.js")
 RACES_ASKED, RACE_GROUPS, ARCS = 20000, 40, 12
 SUSPECTS, ORIGINS = 3, 6
@@ -58,8 +58,7 @@ WAY_ROWS = 400          # of a way through the history are read at most
 
 def part(*names: str) -> str:
     """A piece of the page that lies beside this file."""
-    with open(os.path.join(os.path.dirname(os.path.abspath(__file__)), *names), encoding="utf-8") as file:
-        return file.read()
+    return Path(__file__).parent.joinpath(*names).read_text("utf-8")
 
 
 def as_script_data(data: Mapping[str, Any]) -> str:
@@ -140,12 +139,10 @@ class View:
 
     def step(self, words: str, row: int) -> dict[str, Any]:
         told = self.crash.rows.load_of(row)
-        word, about = "", ""
-        if told:
-            word = f"{told.address:08x}={told.value:08x}"
-            names = self.crash.named.data_name(told.address), quoted(as_text(told.value))
-            about = " ".join(name for name in names if name)
-        return dict(words=words, at=self.page.point(row), place=self.page.place_of_row(row), word=word, about=about)
+        text = as_text(told.value) if told else ""
+        names = [self.crash.named.data_name(told.address), f"'{text}'" if text else ""] if told else []
+        return dict(words=words, at=self.page.point(row), place=self.page.place_of_row(row),
+                    word=f"{told.address:08x}={told.value:08x}" if told else "", about=" ".join(filter(None, names)))
 
     def no_suspect(self) -> str:
         """What is said if no row of the log stored the value."""
@@ -189,12 +186,12 @@ class View:
         rows = self.rows(edges, ways, origins)
         data: dict[str, Any] = dict(
             elf=os.path.basename(crash.elf.name), log=os.path.basename(log.shown), harts=log.harts, bytes=log.bytes,
-            rows=self.crash.rows.size, dropped=log.dropped, unread=log.unread, intervals=page.intervals(), segments=page.segments(),
+            rows=self.crash.rows.size, dropped=log.dropped, unread=log.unread, intervals=page.intervals(), segments=list(page.segments()),
             edges=edges, allEdges=len(log.edges.counts), strips=strips, functions=functions,
             ends=[[hart, end.count, end.reason, f"{end.value:08x}"] for hart, end in sorted(log.ends.items())],
             races=self.race_groups, allRaces=self.races.total if self.races else 0,
             raceGroups=self.race_total, racesNote=self.races_note,
-            windows=rows.as_data(), nodes=rows.nodes, chain=chain_boxes(page, crash.history, ways, origins))
+            windows=rows.as_data(), nodes=[(0, 0), *rows.nodes], chain=chain_boxes(page, crash.history, ways, origins))
         data.update(self.end_data(), story=self.story)
         if self.with_questions:
             data["questions"] = questions_of(crash, self.suspects, self.races).data(page)
@@ -239,12 +236,8 @@ class View:
         return f"{elf}: {', '.join(reasons) or 'no end'}"
 
 
-def quoted(text: str) -> str:
-    return f"'{text}'" if text else ""
-
-
 def main(words: list[str]) -> int:
-    (log_name, elf_name), given = parse(words, OPTIONS, 2, FORM)
+    (log_name, elf_name), given = read_words(words, FORM)
     rows = whole(given["--rows"], 1, 1 << 41, "--rows") if "--rows" in given else 0
     byte = asked_byte(given["--output"]) if "--output" in given else None
     with closing(analysed(log_name, elf_name, given.get("--names", ""), given.get("--row", ""), rows, byte,

@@ -9,7 +9,7 @@ from typing import NamedTuple, Optional
 from ..call.text import number
 from .facts import Facts
 from .history import History
-from .loops import operands_of, pairs_of, rows_of
+from .loops import operands_of, pairs_of, rows_of, times_of
 from .lost import cut_behind
 from .suspect import Extra, Suspect
 
@@ -33,10 +33,9 @@ def compared(facts: Facts, row: int) -> Compared:
     return Compared(rows.result_of(writers.first[row]) if ins.rs1 else 0, rows.result_of(writers.second[row]) if ins.rs2 else 0)
 
 
-def branch_suspects(facts: Facts, history: History) -> list[Suspect]:
+def branch_suspects(facts: Facts, history: History, ways: Ways) -> list[Suspect]:
     """The nearest branches that decided of the history's rows, one of each source line."""
     found: dict[str, Suspect] = {}
-    ways = Ways(facts)
     for row in sorted(history.branches, key=lambda n: (history.branches[n].cost, -n))[:MOST]:
         line, decided = facts.line(row), history.branches[row]
         if row in facts.starts:
@@ -104,13 +103,13 @@ class Ways:
     def __init__(self, facts: Facts) -> None:
         self.rows = facts.rows
         self.times: Counter[tuple[int, int]] = Counter()
-        for hart in self.rows.last:
+        for loop in facts.loops:
+            self.times.update(loop.pairs + pairs_of(loop.codes[:loop.begin + 1]))
+        for hart in set(self.rows.last) - {loop.hart for loop in facts.loops}:
             is_alone = len(self.rows.last) == 1         # else its rows are picked
             codes = self.rows.code if is_alone else array("I", compress(self.rows.code, rows_of(self.rows, hart)))
             self.times.update(pairs_of(codes, int(is_alone)))
-        self.all_times: Counter[int] = Counter()
-        for (at, _), times in self.times.items():
-            self.all_times[at] += times
+        self.all_times = times_of(self.times)
 
     def of(self, row: int) -> Way:
         rows, n = self.rows, self.rows.following(row)

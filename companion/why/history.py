@@ -11,6 +11,7 @@ from ..recording.instruction import AMO, BRANCH, CALL, JUMP
 from ..recording.places import Places
 from ..recording.rows import FAULTS, LOADS, STORES
 from ..recording.trace import Trace
+from ..recording.writers import KEPT
 from .control import Control
 
 MOST_ROWS = 150000          # the search is cut off there: it keeps two entries a row
@@ -143,14 +144,16 @@ class History:
                 self.cut = True
                 break
             self.visit(n, price)
-            self.deciding(n, price)
+            if self.control and price <= DEAREST_CONTROL and self.asked < MOST_CONTROL:
+                self.asked += 1
+                self.deciding(self.control, n, price)
 
     def visit(self, n: int, price: int) -> None:
         rows, writers = self.rows, self.writers
         ins, flag = rows.code_of(n), rows.flags[n]
         if flag & FAULTS:                       # its address is the bad value
             self.step(writers.first[n], price + 1, n, "address")
-        elif flag & LOADS and not (ins.name.startswith(STORES_ANOTHER) and self.is_for_memory(n)):
+        elif flag & LOADS and not (ins.kind == AMO and ins.name.startswith(STORES_ANOTHER) and self.is_for_memory(n)):
             unstored = not self.loaded(n, price)
             if ins.kind == AMO:
                 self.step(writers.second[n], price + 1, n, "value")
@@ -180,12 +183,10 @@ class History:
         if price < ADDRESS and self.rows.is_cut(n):
             self.left.add(Left(self.rows.hart[n], register))
 
-    def deciding(self, n: int, price: int) -> None:
+    def deciding(self, control: Control, n: int, price: int) -> None:
         """The branch that decided that a row was reached."""
-        if self.control and price <= DEAREST_CONTROL and self.asked < MOST_CONTROL:
-            self.asked += 1
-            price += NEXT_CONTROL if self.rows.code_of(n).kind == BRANCH else self.control_cost
-            self.decide(self.control.before(n), Decided(price, n, "control"))
+        price += NEXT_CONTROL if self.rows.code_of(n).kind == BRANCH else self.control_cost
+        self.decide(control.before(n), Decided(price, n, "control"))
 
     def decide(self, branch: int, decided: Decided) -> None:
         if branch:
@@ -207,8 +208,9 @@ class History:
             cost = price if is_spill else price + 1
             self.step(store, cost, n, "memory")
             key = Pair(first, store)
-            self.far[key] = min(cost, self.far.get(key, cost))
-            if self.control:
+            if cost < self.far.get(key, LAST):
+                self.far[key] = cost
+            if self.control and price <= DEAREST_CONTROL:
                 self.not_stored(self.control, n, key, price, is_spill)
         if rest or len(found) < len(stores):
             self.before.append(n)
@@ -227,7 +229,7 @@ class History:
             self.decide(control.left(store), Decided(price + AWAITED, n, "awaited"))
         if is_spill:
             return
-        if price <= DEAREST_CONTROL and n - store >= KEPT_ROWS and self.kept < MOST_KEPT:
+        if n - store >= KEPT_ROWS and self.kept < MOST_KEPT:
             self.kept += 1
             for at in sorted({rows.code[store], *self.writers.givers(n)})[:MOST_GIVERS]:
                 branch = control.kept(n, store, rows.codes[at].pc)
@@ -249,9 +251,11 @@ class History:
                 break
             passed.append(load)
             load = source
-        first = self.copied.get(load, load)
-        self.copied.update((row, first) for row in passed)
-        return first
+        else:
+            load = self.copied[load]
+        if passed:
+            self.copied.update(dict.fromkeys(passed[::KEPT], load))
+        return load
 
     def is_far(self, load: int, store: int) -> bool:
         return self.rows.hart[load] != self.rows.hart[store] or load - store > FAR
@@ -288,11 +292,11 @@ class History:
     def lines(self, places: Places) -> list[Line]:
         """The values by source line, nearest first."""
         rows = self.rows
-        alike: dict[tuple[int, int], list[int]] = {}        # {hart and code: how many rows, the latest, the least cost}
+        alike: dict[tuple[int, int], tuple[int, int, int]] = {}     # {hart and code: how many rows, the latest, the least cost}
         for n, price in self.cost.items():
             if n not in self.decided:
-                least = alike.setdefault((rows.hart[n], rows.code[n]), [0, n, price])
-                least[:] = least[0] + 1, max(least[1], n), min(least[2], price)
+                times, latest, least = alike.get((rows.hart[n], rows.code[n]), (0, 0, LAST))
+                alike[rows.hart[n], rows.code[n]] = times + 1, n if n > latest else latest, price if price < least else least
         groups: dict[tuple[int, str], Line] = {}
         places.fetch({rows.codes[code].pc for _, code in alike})
         for (hart, code), (times, latest, price) in alike.items():

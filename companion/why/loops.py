@@ -53,6 +53,7 @@ class Loop:
     first     the row with which the stay among them began, and `last` the hart's last row
     size      how many rows the stay has; rounds: how often the rarest place came
     exits     those that lead out first, then the latest
+    pairs     how often each instruction of it came after each
     stores    the latest stores of each place
     stopped   latest first"""
 
@@ -66,9 +67,10 @@ class Loop:
             self.latest.update(zip(self.codes[begin:begin + AT_ONCE], range(begin, len(self.codes))))
         self.places, self.begin = self.find_places()
         stay = self.codes[self.begin:]
-        self.first, self.size, self.times = self.of_hart[self.begin], len(stay), counted(stay)
+        self.first, self.size, self.pairs = self.of_hart[self.begin], len(stay), pairs_of(stay)
+        self.times = times_of(self.pairs) + Counter(stay[-1:])
         self.rounds = min((self.times[at] for at in self.places), default=0)
-        self.exits = self.find_exits(stay)
+        self.exits = self.find_exits()
         self.stores = self.find_stores()
         self.stopped = self.find_stopped()
 
@@ -91,10 +93,10 @@ class Loop:
         marks = bytes(map(inside.__getitem__, self.codes[:before]))
         return max(map(len, marks.split(b"\0")))
 
-    def find_exits(self, stay: array[int]) -> list[Exit]:
+    def find_exits(self) -> list[Exit]:
         rows, trace, where = self.rows, self.trace, {self.rows.codes[at].pc for at in self.places}
         ways: dict[int, list[int]] = {}
-        for at, following in set(pairs_of(stay)):
+        for at, following in self.pairs:
             if rows.codes[at].kind == BRANCH and at in self.places:
                 ways.setdefault(at, []).append(following)
         found = []
@@ -118,7 +120,7 @@ class Loop:
     def find_stopped(self) -> list[Stopped]:
         if not self.places:
             return []
-        times = counted(self.codes)
+        times = counted(self.codes[:self.begin])
         return sorted((Stopped(self.of_hart[i], times[at]) for at, i in self.latest.items()
                        if at not in self.places and times[at] >= OFTEN), reverse=True)
 
@@ -132,6 +134,14 @@ def pairs_of(codes: array[int], start: int = 0) -> Counter[tuple[int, int]]:
             found.update(array("Q", data[at:at + (len(data) - at) // 8 * 8]))
     first, second = (0, 32) if sys.byteorder == "little" else (32, 0)
     return Counter({(pair >> first & LOW, pair >> second & LOW): times for pair, times in found.items()})
+
+
+def times_of(pairs: Counter[tuple[int, int]]) -> Counter[int]:
+    """How often each code was followed by another."""
+    found: Counter[int] = Counter()
+    for (at, _), times in pairs.items():
+        found[at] += times
+    return found
 
 
 def counted(codes: Sequence[int]) -> Counter[int]:

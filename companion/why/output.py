@@ -9,7 +9,7 @@ from contextlib import closing
 from typing import Any, Iterable, Iterator, Match, NamedTuple, Optional
 
 from ..call import streams
-from ..call.options import parse, whole
+from ..call.options import read_words, whole
 from ..call.text import counted, number
 from ..recording.answers import place_of as code_place, put_answer
 from ..recording.calls import CallTree, entries_of
@@ -201,7 +201,7 @@ def said_of(places: Places, tree: CallTree, write: Write) -> str:
 
 
 def main(words: list[str]) -> int:
-    (log_name, elf_name), given = parse(words, {"--names": True, "--rows": True, "--json": False}, 2, FORM)
+    (log_name, elf_name), given = read_words(words, FORM)
     most = whole(given["--rows"], 1, 1 << 41, "--rows") if "--rows" in given else MOST_ROWS
     with closing(open_log(log_name)) as source:
         elf = Elf(elf_name)

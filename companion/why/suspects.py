@@ -16,7 +16,7 @@ from ..call.text import counted, number
 from ..recording.instruction import AMO, STORE
 from ..recording.log import At
 from ..recording.rows import LOADS
-from .branches import branch_suspects
+from .branches import Ways, branch_suspects
 from .facts import Facts
 from .history import ADDRESS, History, Pair
 from .locks import circle, unlocked
@@ -48,14 +48,14 @@ class Ranking:
         loop or a recursion follows."""
         self.facts, self.trace, self.places = facts, facts.trace, facts.places
         self.rows, self.writers, _ = facts.trace
-        self.history, self.races, self.loop = history, races, set(loop)
+        self.history, self.races, self.loop, self.ways = history, races, set(loop), Ways(facts)
         self.loads: dict[int, int] = {}         # a load's code: how many rows
         for pair, times in self.writers.pairs.items():
             self.loads[pair >> 32] = self.loads.get(pair >> 32, 0) + times
         stores = sorted(self.stores(history), key=rank)
         memory = MemoryUse(facts)
         found = [suspect for item in stores[:MOST_LOOKED_AT] for suspect in memory.judge(item)]
-        found += memory.given_back_twice() + branch_suspects(facts, history)
+        found += memory.given_back_twice() + branch_suspects(facts, history, self.ways)
         found += unlocked(facts, history) + circle(facts) + failed_stores(facts, history) + unset(facts, history)
         found = self.own_first(stores + found + recursion)
         self.found = self.once(sorted(found + self.behind_places(found, memory), key=rank))
@@ -78,7 +78,7 @@ class Ranking:
             row = self.writers.first[item.store] if item.misplaced else 0
             if row:
                 history = History(self.trace, [row], PLACE_ROWS, self.history.control, control_cost=GUARD)
-                for suspect in [one for one in branch_suspects(self.facts, history) + self.stores(history)
+                for suspect in [one for one in branch_suspects(self.facts, history, self.ways) + self.stores(history)
                                 if not memory.blocks.is_own(one.guilty) and not memory.blocks.is_own(one.load)]:
                     suspect.cost += item.cost
                     suspect.score += max(item.score, -MOST_FOR_PLACE) + BEHIND_PLACE
@@ -131,7 +131,7 @@ class Ranking:
             key = rows.code[pair.load], rows.code[pair.store], rows.hart[pair.store] != rows.hart[pair.load]
             alike.setdefault(key, []).append(pair)
         places.fetch({rows.codes[code].pc for key in alike for code in key[:2]} |
-                     {rows.code_of(writers.word[store]).pc for _, store in pairs if writers.word[store]})
+                     {rows.code_of(writers.word[store]).pc for store in {store for _, store in pairs} if writers.word[store]})
         lines: dict[tuple[str, str, bool], list[Pair]] = {}
         for (load, store, is_other), some in alike.items():
             lines.setdefault((places.line(rows.codes[load].pc), places.line(rows.codes[store].pc), is_other), []).extend(some)

@@ -5,12 +5,12 @@ import os
 from contextlib import closing
 
 from ..call import streams
-from ..call.options import parse, whole
+from ..call.options import read_words, whole
 from ..call.page import Part, page
 from ..call.saving import PAGE, target
 from ..recording.answers import put_answer
 from ..recording.sources import source_folders
-from ..recording.story import STORY_HEAD, STORY_OPTIONS, Teller, asked_story
+from ..recording.story import STORY_HEAD, Teller, asked_story
 from .analysis import analysed
 from .answer import why_answer
 from .facts import asked_byte
@@ -35,12 +35,10 @@ HELP = """Explains a crash: what happened, where, and which store, call or branc
 It reads the rows of `joint`, keeps some 30 bytes of each, and shows what they say; the ranking is its own judgement.
 Companions show; the program proves."""
 FORM = "why LOG ELF [--names ELF] [--source DIR] [--row HART:IC] [--output N:BYTE] [--rows N] [--book BOOK] [--input FILE] [--more] [--html FILE] [--json]"
-OPTIONS = {"--names": True, "--source": True, "--row": True, "--output": True, "--rows": True, **STORY_OPTIONS, "--more": False,
-           "--html": True, "--json": False}
 
 
 def main(words: list[str]) -> int:
-    (log, elf), given = parse(words, OPTIONS, 2, FORM)
+    (log, elf), given = read_words(words, FORM)
     rows = whole(given["--rows"], 1, 1 << 41, "--rows") if "--rows" in given else 0
     byte = asked_byte(given["--output"]) if "--output" in given else None
     names = given.get("--names", "")
@@ -55,9 +53,5 @@ def main(words: list[str]) -> int:
         saved.save(page(f"Why {os.path.basename(elf)} ended", parts).encode("utf-8", "backslashreplace"))
     if "--json" in given:
         return 0
-    lines = []
-    for part in parts:
-        lines += [part.heading] if part.heading else []
-        lines += ["  " + line if part.heading else line for line in part.lines]
-    streams.put("".join(line + "\n" for line in lines))
+    streams.put_lines(line for part in parts for line in part.text())
     return 0

@@ -5,7 +5,7 @@ tools/help/make.py [TOP]    TOP is the folder of the sources that these are writ
 
 These are the pages that `zelkuma help` and `zelkuma COMMAND --help` print, what the script knows of words, the manual
 page, the completion of words in bash, and the tables of docs/COMMANDS.md, which stand there between two comments. It also
-lists the files that `zelkuma install` lays. tests/help.sh tries that it was called. A table has this form:
+lists the files that `zelkuma install` lays. tests/pages/help.sh tries that it was called. A table has this form:
 
     # a comment
     ENTRY              at the line's start; several with nothing between them share what follows,

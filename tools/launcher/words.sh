@@ -17,7 +17,7 @@ is_number() { # WORD LOW HIGH
 }
 
 # A number with K, M or G after it (1024 times, each), or 0x before it, in decimal; sets `decimal`. A word that is none,
-# and one that is too large, stay as they are. companion/call/options.py reads them alike: tests/numbers.txt.
+# and one that is too large, stay as they are. companion/call/options.py reads them alike: tests/script/numbers.txt.
 to_decimal() { # WORD
     local digits K=10 M=20 G=30
     decimal=$1

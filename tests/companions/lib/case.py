@@ -1,9 +1,7 @@
 """unittest on top of the companions' common test functions: recordings by example, and what a companion says."""
 import os
-import sys
 import unittest
 
-sys.path.insert(0, os.path.dirname(os.path.dirname(os.path.abspath(__file__))))
 import common
 from companion.call.errors import CompanionError
 
@@ -74,14 +72,3 @@ class Case(unittest.TestCase):
         self.assertEqual(found.exception.status, status, found.exception)
         self.assertNotIn("\n", str(found.exception))
         return str(found.exception)
-
-
-def main():
-    """Runs the cases of the file that calls it; the last line is that of all these tests."""
-    result = unittest.main(module="__main__", verbosity=2, exit=False).result
-    for test, why in result.skipped:
-        common.skip(test, why)
-    failed = len(result.failures) + len(result.errors)
-    common.counts[False] += failed
-    common.counts[True] += result.testsRun - failed - len(result.skipped)
-    common.finish()

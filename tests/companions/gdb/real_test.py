@@ -1,0 +1,205 @@
+"""Tries `zelkuma gdb` by the real gdb-multiarch, whose answers are compared with `sessions`.
+
+If gdb isn't installed, nothing is tried. Sessions that need names aren't tried if the compiler isn't there, or makes
+other programs of the examples than those that are kept. It says so.
+"""
+import os
+import random
+import re
+import shlex
+import shutil
+import subprocess
+import sys
+
+import cases
+from cases import Skipped
+from common import COMPANION, EXAMPLES, TOP, crash
+from recordings import FAULTS, T2, addi
+from reference import run
+
+GDB, COMPILER = "gdb-multiarch", "riscv64-unknown-elf-gcc"
+SESSIONS = os.path.join(os.path.dirname(os.path.abspath(__file__)), "sessions")
+SETTINGS = ["set pagination off", "set confirm off", "set width 0", "set debuginfod enabled off",
+            "set architecture riscv:rv32", "set remotetimeout 60"]
+SIGNALS = {4: "SIGILL", 5: "SIGTRAP", 10: "SIGBUS", 11: "SIGSEGV"}
+FLAGS = ("-march=rv32ima -mabi=ilp32 -mstrict-align -g -ffreestanding -fno-pic -nostdlib -static "
+         "-fno-tree-loop-distribute-patterns -z max-page-size=4096 -Wl,--build-id=none").split()
+MONKEY_MOVES = ("step next stepi nexti reverse-step reverse-next reverse-stepi reverse-nexti continue "
+                "reverse-continue finish reverse-finish until up bt reverse-step reverse-stepi stepi next").split()
+
+
+def bridge(log, elf, *options):
+    return " ".join(map(shlex.quote, [sys.executable, COMPANION, "gdb", log, elf, *options]))
+
+
+def talk(target, commands, names=None):
+    """Returns gdb's answer to each command, after that to `target remote`, with single spaces."""
+    lines = list(SETTINGS)
+    for number, command in enumerate([f"target remote {target}"] + commands):
+        lines += [f"echo \\n@@{number}\\n", command]
+    done = subprocess.run([GDB, "-nx", "-q", *([names] if names else [])], input="\n".join(lines) + "\n",
+                          stdout=subprocess.PIPE, stderr=subprocess.STDOUT, universal_newlines=True, timeout=600,
+                          check=False)
+    text = done.stdout.replace(TOP + "/", "").replace("(gdb) ", "")
+    assert "internal-error" not in text, text
+    answers = re.split(r"^@@\d+\n", text, flags=re.M)[1:]
+    assert len(answers) == len(commands) + 1, text[-2000:]
+    return [re.sub(r"[ \t]+", " ", answer) for answer in answers]
+
+
+def compare(session, target, names):
+    """Has gdb do the commands of a kept session, and looks for its lines in the answers."""
+    with open(os.path.join(SESSIONS, session + ".txt"), encoding="utf-8") as file:
+        lines = [line.rstrip("\n") for line in file if line[:1] not in ("#", "\n")]
+    commands = [line[2:] for line in lines if line.startswith("> ")]
+    answers = iter(talk(target, commands, names)[1:])
+    answer, at, command = "", 0, ""
+    for line in lines:
+        if line.startswith("> "):
+            answer, at, command = next(answers), 0, line[2:]
+        elif line.startswith("! "):
+            assert line[2:] not in answer, f"{session}: {command}: {line!r} is in {answer!r}"
+        else:
+            found = answer.find(line, at)
+            assert found >= 0, f"{session}: {command}: no {line!r} in {answer!r}"
+            at = found + len(line)
+    return len(commands)
+
+
+class Names:
+    """The examples with their names, in a scratch folder."""
+
+    def __init__(self, recordings):
+        self.recordings, self._folder = recordings, recordings.path("names")
+
+    def _compile(self):
+        if os.path.isdir(self._folder):
+            return
+        if not shutil.which(COMPILER):
+            raise Skipped(f"{COMPILER} isn't installed")
+        build = [os.path.join(EXAMPLES, "build.sh"), self.recordings.path("built"), self._folder]
+        subprocess.run(build, check=True, stdout=subprocess.DEVNULL)
+
+    def of(self, example):
+        """Returns the example with names, if it is the kept one but for these."""
+        self._compile()
+        kept, built = os.path.join(EXAMPLES, example), self.recordings.path("built/" + example)
+        with open(kept + ".elf", "rb") as one, open(built + ".elf", "rb") as other:
+            if one.read() != other.read():
+                raise Skipped(f"this {COMPILER} makes another {example}.elf")
+        return os.path.join(self._folder, example + ".elf")
+
+    def without_optimisation(self, example):
+        self._compile()
+        path, library = self.recordings.path(example + ".O0.elf"), os.path.join(EXAMPLES, "lib")
+        sources = [os.path.join(library, "start.S"), os.path.join(library, "machine.c"),
+                   os.path.join(EXAMPLES, example + ".c")]
+        subprocess.run([COMPILER, *FLAGS, "-O0", "-I", library, "-T", os.path.join(library, "program.ld"), "-o", path,
+                        *sources], check=True)
+        return path
+
+
+def case_one_hart(names):
+    elf = names.of("wild_store")
+    log, kept = names.recordings.example("wild_store", "--format", "2")
+    return compare("wild_store", "| " + bridge(log, kept), elf) + compare("watches", "| " + bridge(log, kept), elf)
+
+
+def case_two_harts(names):
+    elf = names.of("tills")
+    log, kept = names.recordings.example("tills", "--harts", "2", "--format", "2")
+    return compare("tills", "| " + bridge(log, kept), elf)
+
+
+def case_lines(names):
+    log, elf = names.recordings.record(names.without_optimisation("wild_store"), "--format", "2")
+    return compare("lines", "| " + bridge(log, elf), elf)
+
+
+def case_port(names):
+    elf = names.of("wild_store")
+    log, kept = names.recordings.example("wild_store", "--format", "2")
+    process = subprocess.Popen([sys.executable, COMPANION, "gdb", log, kept, "--port", "0"], stderr=subprocess.PIPE)
+    port = int(process.stderr.readline().split()[1])
+    done = compare("port", f"localhost:{port}", elf)
+    assert process.wait(timeout=600) == 0
+    process.stderr.close()
+    return done
+
+
+def case_input(names):
+    elf = names.of("word_count")
+    log, kept = names.recordings.example("word_count", "--input", names.recordings.write(
+        "input", b"hello world\nabc def\n"))
+    return compare("word_count", "| " + bridge(log, kept), elf)
+
+
+def case_names_of_the_recorded_file(_):
+    log, elf = crash("use_after_free")
+    return compare("use_after_free", "| " + bridge(log, elf), elf)
+
+
+def case_dropped(names):
+    elf = names.of("counter")
+    log, kept = names.recordings.example("counter", "--harts", "4", "--log-size", "16384", "--interval", "64",
+                                         "--limit", "600")
+    return compare("dropped", "| " + bridge(log, kept), elf)
+
+
+def case_all_examples(names):
+    """To the end of each and back to its start, with call stacks at both."""
+    for example, end, options in (
+            ("wild_store", "SIGSEGV", []), ("tills", "SIGSEGV", ["--harts", "2"]),
+            ("hand_over", "SIGSEGV", ["--harts", "2", "--seed", "3"]), ("lock", "history", ["--harts", "2"]),
+            ("counter", "history", ["--harts", "8", "--limit", "500"]), ("sort", "history", ["--limit", "50000"]),
+            ("two_locks", "history", ["--harts", "2", "--seed", "8", "--limit", "2000"]),
+            ("word_count", "history", ["--input", os.path.join(TOP, "LICENSE")])):
+        elf = names.of(example)
+        log, kept = names.recordings.example(example, *options)
+        answers = talk("| " + bridge(log, kept), ["continue", "bt", "info threads", "reverse-continue", "bt",
+                                                  "monitor at"], elf)
+        assert end in answers[1] and "#0 " in answers[2] and "hart 0 count " in answers[3], (example, answers)
+        assert "No more reverse-execution history" in answers[4] and "#0 _start ()" in answers[5], (example, answers)
+        assert re.search(r"at 0 of \d+ known", answers[6]), (example, answers)
+    return 8
+
+
+def case_faults_without_names(names):
+    for name, (signal, words) in FAULTS.items():
+        log, elf = names.recordings.words(name, [addi(T2, 0, 1), *words])
+        count = int(run("list", log).splitlines()[-1].split()[3])
+        answers = talk("| " + bridge(log, elf), ["continue", "print $t2", "info threads", "reverse-stepi",
+                                                 "continue"])
+        assert f"received signal {SIGNALS[signal]}" in answers[1], (name, answers)
+        assert "= 1" in answers[2] and f"hart 0 count {count} {name})" in answers[3], (name, answers)
+        assert f"received signal {SIGNALS[signal]}" in answers[5], (name, answers)
+    return len(FAULTS)
+
+
+def monkey(seed, harts, functions, variables):
+    """Returns random commands."""
+    drawn = random.Random(seed)
+    for _ in range(100):
+        kind = drawn.choices(("move", "thread", "break", "watch", "delete", "many", "lock"), (60, 10, 8, 6, 4, 5, 2))[0]
+        yield {"move": drawn.choice(MONKEY_MOVES), "thread": f"thread {drawn.randint(1, harts)}",
+               "break": "break " + drawn.choice(functions), "watch": "watch " + drawn.choice(variables),
+               "delete": "delete", "many": drawn.choice(("stepi %d", "reverse-stepi %d")) % drawn.randint(2, 20),
+               "lock": "set scheduler-locking " + drawn.choice(("on", "off", "replay", "step"))}[kind]
+
+
+def case_monkey(names):
+    """Random commands: gdb fails in nothing of its own, and the connection holds."""
+    hits = 0
+    for seed, (example, harts, functions, variables, options) in enumerate((
+            ("tills", 2, ("sell", "main"), ("left", "shelf[199]"), ("--format", "2")),
+            ("counter", 2, ("count", "main"), ("plain", "guarded"), ("--limit", "400", "--interval", "50")))):
+        elf = names.of(example)
+        log, kept = names.recordings.example(example, "--harts", str(harts), *options)
+        commands = [*monkey(seed, harts, functions, variables), "delete", "reverse-continue", "monitor at"]
+        text = "".join(answers := talk("| " + bridge(log, kept), commands, elf))
+        assert re.search(r"at 0 of \d+ known", answers[-1]) and "Remote connection closed" not in text, text[-2000:]
+        hits += text.count(" hit ")
+    assert hits > 5, hits
+
+
+Cases = cases.tests_of(globals(), GDB, Names)

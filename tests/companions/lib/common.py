@@ -1,0 +1,107 @@
+"""What the tests of the companions share: recordings, and calls of companions.
+
+The program is the one that the companions find. case.py has the class of tests on top of these."""
+import os
+import shutil
+import subprocess
+import sys
+import tempfile
+from typing import NamedTuple
+
+TOP = os.path.abspath(os.path.join(os.path.dirname(__file__), "..", "..", ".."))
+COMPANION = os.path.join(TOP, "companion")
+sys.path.insert(0, TOP)
+from companion.call.program import path as program_path      # noqa: E402
+PROGRAM = program_path()
+EXAMPLES = os.path.join(TOP, "examples")
+CRASHES = os.path.join(TOP, "tests", "crashes")
+TOOLS = "riscv64-unknown-elf-addr2line", "riscv64-linux-gnu-addr2line", "llvm-addr2line"
+scratch = tempfile.TemporaryDirectory()
+os.environ["ZELKUMA_PROGRAM"] = PROGRAM
+
+
+def path(name):
+    """A name in the scratch folder."""
+    return os.path.join(scratch.name, name)
+
+
+def record(name, elf, *words):
+    """Records a program: the log's name. Format 2 keeps each crash."""
+    log = path(name + ".log")
+    done = subprocess.run([PROGRAM, "record", "--format", "2"] + list(words) + [elf, log, path(name + ".book")],
+                          stdout=subprocess.PIPE, stderr=subprocess.PIPE)
+    if not os.path.exists(log):
+        sys.exit("no recording of %s: %s" % (elf, done.stderr.decode()))
+    return log
+
+
+def present_tools():
+    return [tool for tool in TOOLS if shutil.which(tool)]
+
+
+def named_examples():
+    """The folder with the examples' files with names and lines, or None if there is no compiler."""
+    folder = path("names")
+    if not os.path.exists(folder):
+        os.mkdir(folder)
+        try:
+            subprocess.run([os.path.join(EXAMPLES, "build.sh"), path("built"), folder], check=True,
+                           stdout=subprocess.DEVNULL, stderr=subprocess.DEVNULL)
+        except (OSError, subprocess.CalledProcessError):
+            return None
+    return folder if os.listdir(folder) else None
+
+
+class Crash(NamedTuple):
+    """A line of tests/crashes/cases.txt."""
+    name: str
+    guilty: str                 # FILE:LINE
+    kind: str
+    group: str
+    harts: str
+    seed: str
+    limit: str
+    ends: str                   # the status of its recording
+    wrong: str                  # the wrong byte of its output, N:BYTE, or nothing
+
+    @property
+    def elf(self):
+        return os.path.join(CRASHES, self.name + ".elf")
+
+    @property
+    def options(self):
+        return ["--harts", self.harts, "--seed", self.seed, "--limit", self.limit]
+
+    @property
+    def lines(self):
+        with open(os.path.join(CRASHES, self.name + ".c")) as file:
+            return file.read().count("\n")
+
+
+def crashes():
+    """The crashing programs, by name."""
+    with open(os.path.join(CRASHES, "cases.txt")) as file:
+        rows = [line.split() for line in file if line.strip() and line[0] != "#"]
+    return {row[0]: Crash(*row[:8], wrong=row[8].strip("-")) for row in rows}
+
+
+def crash(name):
+    """Records one of the crashing programs: (log, elf)."""
+    case = crashes()[name]
+    return record(name, case.elf, *case.options), case.elf
+
+
+def example(name):
+    return os.path.join(EXAMPLES, name + ".elf")
+
+
+def output(*words):
+    """What a command of the program prints."""
+    return subprocess.run([PROGRAM] + list(words), stdout=subprocess.PIPE, stderr=subprocess.DEVNULL).stdout
+
+
+def companion(*words, given=b"", environment=None, bound=None):
+    """(status, output, err) of a companion, which has to end within so many seconds."""
+    done = subprocess.run([sys.executable, COMPANION] + list(words), input=given, stdout=subprocess.PIPE, stderr=subprocess.PIPE,
+                          env=dict(os.environ, **(environment or {})), timeout=bound)
+    return done.returncode, done.stdout.decode("utf-8", "replace"), done.stderr.decode("utf-8", "replace")

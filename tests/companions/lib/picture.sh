@@ -1,0 +1,48 @@
+#!/usr/bin/env bash
+# Makes docs/view.png: the page that `zelkuma view` draws of a recording of examples/tills.elf, in Chromium.
+#
+# tests/companions/lib/picture.sh [PROGRAM [PICTURE [FOLDER]]]: PROGRAM is that of ZELKUMA_PROGRAM, else the one that the companions find.
+# In FOLDER are made, to look at, the pages of a crash, a hang and a byte of the output, each in light and dark.
+# Without Chromium, or without the compiler that gives the example its names, nothing is made.
+set -eu
+top=$(cd "$(dirname "$0")/../../.." && pwd)
+ZELKUMA_PROGRAM=${1:-${ZELKUMA_PROGRAM:-$(cd "$top" && python3 -B -c 'from companion.call import program; print(program.path())')}}
+export ZELKUMA_PROGRAM
+picture=${2:-$top/docs/view.png}
+folder=${3:-}
+
+library=$top/tests/companions/lib
+
+type -P riscv64-unknown-elf-gcc >/dev/null || { echo "skipped: riscv64-unknown-elf-gcc isn't installed"; exit 0; }
+python3 -c 'import sys; sys.path.insert(0, sys.argv[1]); import chromium; sys.exit(not chromium.find())' "$library" ||
+    { echo "skipped: chromium isn't installed"; exit 0; }
+work=$(mktemp -d)
+trap 'rm -rf "$work"' EXIT
+"$top/examples/build.sh" "$work/elf" "$work/names"
+status=0
+"$ZELKUMA_PROGRAM" record --format 2 --seed 1 --harts 2 "$work/elf/tills.elf" "$work/tills.log" "$work/book" 2>/dev/null || status=$?
+[ "$status" -eq 10 ] || { echo "tills.elf ended with $status, not with its fault" >&2; exit 1; }
+python3 "$top/companion" view "$work/tills.log" "$work/elf/tills.elf" --names "$work/names/tills.elf" >"$work/page.html"
+python3 "$library/picture.py" "$work/page.html" "$picture"
+
+# Pictures of the page of one of tests/crashes: draws NAME STATUS [OPTION..] -- [OPTION OF VIEW..]
+draws() {
+    local name=$1 ends=$2 options=() status=0
+    shift 2
+    while [ "$1" != -- ]; do options+=("$1") && shift; done
+    shift
+    local elf=$top/tests/crashes/$name.elf
+    "$ZELKUMA_PROGRAM" record --format 2 --seed 1 "${options[@]}" "$elf" "$work/$name.log" "$work/book" >"$work/said" 2>&1 || status=$?
+    [ "$status" -eq "$ends" ] || { echo "$name.elf ended with $status, not with $ends" >&2; exit 1; }
+    python3 "$top/companion" view "$work/$name.log" "$elf" "$@" >"$work/$name.html"
+    python3 "$library/picture.py" "$work/$name.html" "$folder/$name.png" "$folder/$name-dark.png"
+}
+
+if [ -n "$folder" ]; then
+    mkdir -p "$folder"
+    draws race_settings 10 --harts 2 --
+    draws hang_wakeup 11 --harts 2 --limit 60000 --
+    draws wrong_total 0 -- --output 0:29
+fi
+[ "$(head -c 8 "$picture" | od -An -tx1 | tr -d ' \n')" = 89504e470d0a1a0a ] || { echo "$picture is no picture" >&2; exit 1; }
+echo "made $picture"

@@ -1,0 +1,124 @@
+"""zelkuma race: groups, their order, fences, and what is refused."""
+import re
+
+import case
+import common
+
+import forged
+
+from companion.recording import fences, races
+
+LOAD, STORE, ADD, BRANCH = 0x0007a703, 0x00e7a023, 0x00000013, 0xfef6fce3       # lw, sw, addi, bgeu
+FENCE_ALL, FENCE_RELEASE, FENCE_WRITES = 0x0ff0000f, 0x0310000f, 0x0110000f      # iorw,iorw; rw,w; w,w
+
+
+def counts(text):
+    """The pairs of each group that is told, of those in full and those in one line."""
+    found = re.findall(r"^ *\d+\. ([\d,]+) pairs? on|^ {4} +([\d,]+)  \S.*  and  \S", text, re.M)
+    return [int((full or brief).replace(",", "")) for full, brief in found]
+
+
+class RaceTest(case.Case):
+    def tills(self):
+        return self.record("tills", "--seed", "1", "--harts", "2")
+
+    def test_the_race_behind_the_fault_comes_first(self):
+        text = self.says("race", self.tills(), self.elf("tills"), "--names", self.names("tills"))
+        first = text[text.index(" 1. "):text.index(" 2. ")]
+        self.assertIn("on shelf+796 (0001159c)   (on the chain of values behind the fault)", first)
+        self.assertIn("hart 0 stores in sell tills.c:38   shelf[last] = 0;", first)
+        self.assertIn("hart 1 loads in sell tills.c:37", first)
+
+    def test_fenced_accesses_come_last(self):
+        text = self.says("race", self.tills(), self.elf("tills"), "--names", self.names("tills"))
+        ordered, fenced = text.index("\nORDERED BY FENCES"), text.index("\nFENCED")
+        self.assertLess(ordered, fenced)
+        self.assertNotIn("main tills.c:67", text[:ordered])     # left = THINGS, which `ready` orders
+        self.assertRegex(text[fenced:], r"46\d  ready \(000118c0\) +wait_for_both tills.c:46  and  wait_for_both tills.c:47\n\Z")
+
+    def test_every_pair_of_the_program_is_in_one_group(self):
+        for name, options in (("tills", ("--seed", "1", "--harts", "2")), ("counter", ("--seed", "1", "--harts", "4")),
+                              ("hand_over", ("--seed", "1", "--harts", "2"))):
+            log = self.record(name, *options)
+            exact = int(self.program("races", log, self.elf(name), "1000000").rsplit(" ", 1)[1])
+            self.assertGreater(exact, 0)
+            for more in ((), ("--names", self.names(name))):
+                text = self.says("race", log, self.elf(name), "--more", *more)
+                self.assertEqual(sum(counts(text)), exact, name)
+                self.assertTrue(text.startswith("RACES: {:,} pairs in {} groups.".format(exact, len(counts(text)))), text[:80])
+
+    def test_rows_are_the_programs(self):
+        text = self.says("race", self.tills(), self.elf("tills"))
+        exact = set(self.program("races", self.tills(), self.elf("tills"), "1000").split("\n"))
+        rows = re.findall(r"^        (\d+ \d+ [0-9a-f]{8} .*)$", text, re.M)
+        self.assertGreater(len(rows), 6)
+        self.assertEqual([row for row in rows if row not in exact], [])
+
+    def test_without_names_places_are_addresses(self):
+        text = self.says("race", self.tills(), self.elf("tills"))
+        self.assertIn("hart 0 stores in 0001018c\n", text)
+        self.assertNotIn("tills.c", text)
+
+    def test_a_finished_flag_orders_what_was_before(self):
+        log = self.record("counter", "--seed", "1", "--harts", "4")
+        text = self.says("race", log, self.elf("counter"), "--names", self.names("counter"))
+        behind = text[text.index("\nORDERED BY FENCES"):]
+        self.assertRegex(behind, r"plain \(000112c8\) +count counter.c:15  and  main counter.c:43")
+        self.assertNotRegex(behind, r"plain \(000112c8\) +count counter.c:15  and  count counter.c:15")
+
+    def test_words_of_one_object_are_one_group(self):
+        text = self.says("race", *self.crash("lock_left_held"))
+        self.assertIn(" 1. 8 pairs on accounts (0001935c) and 7 more words\n", text)
+        self.assertEqual(counts(text), [8])
+
+    def test_a_guilty_line_that_races_is_in_the_first_groups(self):
+        for name in ("race_ring", "race_settings"):
+            text = self.says("race", *self.crash(name))
+            self.assertIn(common.crashes()[name].guilty, text[:text.find(" 3. ")], name)
+
+    def test_it_says_whose_judgement_it_is(self):
+        self.assertIn("own judgement; zelkuma races lists each", self.says("race", self.tills(), self.elf("tills")))
+
+    def test_one_hart_has_none(self):
+        text = self.says("race", self.record("wild_store", "--seed", "1"), self.elf("wild_store"))
+        self.assertEqual(text.split(".")[0], "RACES: 0 pairs in 0 groups")
+
+    def test_refusals(self):
+        log = self.tills()
+        self.assertIn("more than 100 pairs", self.refuses(20, "race", log, self.elf("tills"), "--max", "100"))
+        self.refuses(8, "race", log, self.elf("counter"))
+        self.refuses(7, "race", self.elf("tills"), self.elf("tills"))
+        self.assertIn("Stuck", self.refuses(15, "race", forged.stuck(self.elf("tills")), self.elf("tills")))
+        self.refuses(2, "race", log)
+        self.refuses(2, "race", log, self.elf("tills"), "--max", "0")
+        self.refuses(2, "race", log, self.elf("tills"), "--most", "9")
+        self.refuses(4, "race", common.path("none"), self.elf("tills"))
+
+
+class FencesTest(case.Case):
+    def fenced(self, words, at):
+        return fences.is_fenced(dict(zip(range(0, 4 * len(words), 4), words)).get, 4 * at)
+
+    def test_acquire_loads(self):
+        self.assertTrue(self.fenced([LOAD, FENCE_ALL], 0))
+        self.assertTrue(self.fenced([LOAD, ADD, FENCE_ALL], 0))
+        self.assertFalse(self.fenced([LOAD, FENCE_WRITES], 0))
+        self.assertFalse(self.fenced([LOAD, BRANCH, FENCE_ALL], 0))
+        self.assertFalse(self.fenced([LOAD, STORE, FENCE_ALL], 0))
+        self.assertFalse(self.fenced([FENCE_ALL, LOAD], 1))
+        self.assertFalse(self.fenced([LOAD], 0))
+
+    def test_release_stores(self):
+        self.assertTrue(self.fenced([FENCE_RELEASE, STORE], 1))
+        self.assertTrue(self.fenced([FENCE_RELEASE, ADD, STORE], 2))
+        self.assertFalse(self.fenced([FENCE_RELEASE, LOAD, STORE], 2))
+        self.assertFalse(self.fenced([STORE, FENCE_RELEASE], 0))
+        self.assertFalse(self.fenced([0x0320000f, STORE], 1))   # rw,r: no write waits
+
+    def test_a_way_over_a_fence(self):
+        way = races.Way([10, 20, 30], [5, 40, 60])      # fenced stores, and the least count that loads one of them or a later one
+        self.assertTrue(races.leads(way, 20, 40))
+        self.assertTrue(races.leads(way, 15, 41))
+        self.assertFalse(races.leads(way, 21, 59))
+        self.assertFalse(races.leads(way, 31, 99))
+        self.assertFalse(races.leads(None, 1, 2))

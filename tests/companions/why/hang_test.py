@@ -1,0 +1,115 @@
+"""What `why` says of harts that came to their limit: its loop, since when, and what never happened, against the rows."""
+import re
+
+import case
+import common
+from recordings import DATA, T0, T1, T2, addi, atomic, branch_unless_equal, elf_of, lui
+
+from companion.why.analysis import analysed
+
+S0, LR, SC = 8, 2, 3
+HANGS = "hang_width", "hang_wakeup", "hang", "lock_left_held"
+
+
+def rows_of(log, elf):
+    """{hart: [(count, address)] of its rows}"""
+    found = {}
+    for line in common.output("joint", log, elf).decode().split("\n"):
+        words = line.split(" ", 4)
+        if len(words) > 3 and words[0].isdigit():
+            found.setdefault(int(words[0]), []).append((int(words[1]), int(words[2], 16)))
+    return found
+
+
+class HangTest(case.Case):
+    def hang(self, name, *options):
+        log, elf = self.crash(name)
+        text = self.says("why", log, elf, *options)
+        return text[text.index("\nHANG"):text.index("\nCALLS")]
+
+    def test_a_counter_of_another_width(self):
+        said = self.hang("hang_width")
+        self.assertIn("hart 0 goes round since count 51,660: 8,340 rows, 14 rounds\n", said)
+        first = said[said.index("never went the other way"):].split("\n")[1:6]
+        self.assertIn("hang_width.c:92   while (receiver.stored != sender.next) {", first[0])
+        self.assertIn("00010500 ffb792e3 bne a5,s11,000104e4, 99 times, last at count 59,972", first[1])
+        self.assertIn("a5 is 00000000, from sender", first[2])
+        self.assertIn("stored last in prepare hang_width.c:43 (hart 0 at count 51,474)", first[2])
+        self.assertIn("s11 is 00000100, from receiver, stored last in receive hang_width.c:69 (hart 0 at count 51,647)", first[3])
+        stopped = said[said.index("never again:"):].split("\n")
+        self.assertEqual(stopped[1].strip(), "256 times, last at count 51,647: receive hang_width.c:69   receiver.stored++;")
+        self.assertRegex(said, r"still change:\n(.*\n)* +00019608 \(line_is_full\), now 0000000[01], in")
+
+    def test_two_harts_that_wait(self):
+        said = self.hang("hang_wakeup")
+        self.assertEqual(len(re.findall(r"hart [01] goes round", said)), 2)
+        self.assertIn("from giver, stored last in sleep_until_rung hang_wakeup.c:34 (hart 0", said)
+        self.assertIn(", over 00000001 of ring hang_wakeup.c:27 (hart 1", said)
+        self.assertIn("the other value is 0", said)
+        self.assertIn("It stores nothing.", said)
+
+    def test_who_holds_the_locks(self):
+        log = self.record("two_locks", "--seed", "8", "--harts", "2", "--limit", "20000")
+        said = self.says("why", log, self.elf("two_locks"))
+        self.assertIn("a5 is 00000001, from 000112f0, stored last in 0001018c (hart 1 at count 107)", said)
+        self.assertIn("a5 is 00000001, from 000112f8, stored last in 0001025c (hart 0 at count 92)", said)
+
+    def test_a_spinners_own_exchange_is_no_store(self):
+        """A hart took the lock before the log's first row; since then the other one puts 1 in the place of 1."""
+        elf = self.crash("lock_left_held")[1]
+        log = common.record("held", elf, "--seed", "1", "--harts", "2", "--limit", "800000", "--log-size", "16384", "--interval", "2000")
+        said = self.says("why", log, elf)
+        self.assertIn("a5 is 00000001, from lock, which no row of the log stored\n", said)
+        self.assertNotIn("stored last in", said)
+        self.assertNotIn("stored it in acquire", said)
+
+    def test_nor_is_a_pair_of_load_reserved_and_store_conditional(self):
+        """Of a lock that is exchanged by two instructions: the hart that took it stored it last."""
+        elf = common.path("exchange.elf")
+        with open(elf, "wb") as file:
+            file.write(elf_of([lui(S0, DATA), addi(T1, 0, 1), atomic(LR, T0, S0), atomic(SC, T2, S0, T1), branch_unless_equal(T2, 0, -8),
+                               branch_unless_equal(T0, 0, -12), 0x6f]))
+        log = common.record("exchange", elf, "--seed", "3", "--harts", "2", "--limit", "2000")
+        said = self.says("why", log, elf)
+        self.assertIn("t0 is 00000001, from 00020000, stored last in 00010080 (hart 1 at count 3)\n", said)
+
+    def test_a_run_that_ends_has_none(self):
+        log = self.record("counter", "--seed", "1", "--harts", "2")
+        self.assertNotIn("HANG", self.says("why", log, self.elf("counter")))
+
+    def test_a_loop_that_ends_in_time_is_none(self):
+        """The run is stopped in the inner of two loops, which ended in time before: the outer one is told."""
+        log, elf = self.crash("hang_width")
+        facts = analysed(log, elf)
+        facts.close()
+        self.assertIn("checksum_of", {facts.places.function(facts.rows.codes[at].pc) for at in facts.loops[0].places})
+
+    def test_stays_and_exits_are_those_of_the_rows(self):
+        for name in HANGS:
+            log, elf = self.crash(name)
+            facts = analysed(log, elf)
+            facts.close()
+            rows = rows_of(log, elf)
+            self.assertTrue(facts.loops)
+            for loop in facts.loops:
+                self.check_loop(facts, loop, rows[loop.hart])
+
+    def check_loop(self, facts, loop, rows):
+        since = facts.rows.count_of(loop.first)
+        stay = [pc for count, pc in rows if count >= since]
+        before = [pc for count, pc in rows if count < since]
+        self.assertEqual(set(stay), {facts.rows.codes[at].pc for at in loop.places})
+        self.assertNotIn(before[-1], set(stay))
+        self.assertEqual(loop.rounds, min(stay.count(pc) for pc in set(stay)))
+        ways = {}
+        for pc, following in zip(stay, stay[1:]):
+            ways.setdefault(pc, set()).add(following)
+        for item in loop.exits:
+            ins = facts.rows.code_of(item.row)
+            other = {ins.pc + 4, ins.leads} - ways[ins.pc]
+            self.assertEqual(len(other), 1, facts.where(item.row))
+            self.assertEqual(item.leads_out, not other & set(stay))
+            self.assertEqual(item.times, stay.count(ins.pc))
+        for row, times in loop.stopped:
+            pc = facts.rows.code_of(row).pc
+            self.assertEqual((before.count(pc), stay.count(pc)), (times, 0))

@@ -1,0 +1,142 @@
+"""zelkuma output, and `why --output`: what the guest wrote, whole or with what isn't known, and from where a byte came."""
+import re
+import subprocess
+
+import case
+import common
+from recordings import A0, A1, A2, A7, DATA, ECALL, EXIT, FIRST, T0, T1, addi, elf_of, load, lui
+
+READ, WRITE = 63, 64
+
+
+def call(number, stream, address, size):
+    return [addi(A7, 0, number), addi(A0, 0, stream), lui(A1, address + 0x800), addi(A1, A1, address & 0xfff),
+            addi(A2, 0, size), ECALL]
+
+
+def texts(said):
+    """The texts of the writes, put together; what isn't known stands in brackets."""
+    lines = re.findall(r"^ *\d+\. .* to .*, in .*\n {5}(.*)\n {5}\d+ \d+ ", said, re.M)
+    return "".join(re.sub(r"'((?:[^'\\]|\\.)*)'", lambda found: str(found[1]).encode().decode("unicode_escape"), line)
+                   for line in lines)
+
+
+class OutputTest(case.Case):
+    def recorded(self, name, elf, *options, given=b""):
+        """The log of a program, and what it wrote."""
+        log, given_file = common.path(name + ".log"), common.path(name + ".input")
+        with open(given_file, "wb") as file:
+            file.write(given)
+        done = subprocess.run([common.PROGRAM, "record", "--format", "2", "--seed", "1", "--input", given_file, *options, elf,
+                               log, common.path(name + ".book")], stdout=subprocess.PIPE, stderr=subprocess.DEVNULL, check=False)
+        return log, done.stdout.decode("latin-1")
+
+    def words(self, name, words):
+        elf = common.path(name + ".elf")
+        with open(elf, "wb") as file:
+            file.write(elf_of(words, b"of the file\n"))
+        return elf
+
+    def test_it_is_what_the_guest_wrote(self):
+        cases = [(name, self.elf(name), options) for name, options in
+                 (("counter", ("--harts", "2")), ("wild_store", ()), ("word_count", ()))]
+        cases += [(name, common.crashes()[name].elf, ()) for name in ("wrong_total", "wrong_order", "wrong_price", "wrong_date")]
+        for name, elf, options in cases:
+            log, written = self.recorded(name, elf, *options, given=b"three little words\n")
+            said = self.says("output", log, elf)
+            self.assertEqual(texts(said), written, name)
+            self.assertTrue(written)
+            self.assertIn(f", {len(written):,} bytes\n", said)
+
+    def test_each_row_is_one_of_the_log(self):
+        log, elf = self.crash("wrong_order")
+        rows = re.findall(r"^ {5}(\d+ \d+ .* ecall .*)$", self.says("output", log, elf), re.M)
+        self.assertEqual(len(rows), 24)
+        self.assertLessEqual(set(rows), set(common.output("joint", log, elf).decode().split("\n")))
+
+    def test_calls_are_told(self):
+        log, elf = self.crash("wrong_total")
+        self.assertIn("  0. 68 bytes to the output, in system_call machine.h:15  <  write_bytes machine.h:30  <  "
+                      "write_all machine.c:6  <  print_line wrong_total.c:92\n", self.says("output", log, elf))
+
+    def test_what_is_not_known_is_told_so(self):
+        """Eight bytes are read and written as they came; one of their words is loaded before the second write."""
+        elf = self.words("echo", call(READ, 0, DATA, 8) + call(WRITE, 1, DATA, 12) +
+                         [lui(T0, DATA), load(T1, T0)] + call(WRITE, 2, DATA, 12) + list(EXIT))
+        log, written = self.recorded("echo", elf, given=b"unheard!")
+        self.assertEqual(written, "unheard!ile\n")
+        said = self.says("output", log, elf)
+        self.assertEqual(texts(said), "(8 unknown) ile\nunhe (4 unknown) ile\n")
+        self.assertIn("1. 12 bytes to err, in ", said)
+        self.assertIn("OUTPUT: 2 writes, 24 bytes, of which 12 aren't known\n", said)
+
+    def test_calls_that_fail_wrote_nothing(self):
+        elf = self.words("fails", call(WRITE, 7, DATA, 4) + call(WRITE, 1, DATA, 2) + list(EXIT))
+        log, written = self.recorded("fails", elf)
+        self.assertEqual((written, texts(self.says("output", log, elf))), ("of", "of"))
+
+    def test_a_log_without_its_front(self):
+        log, _ = self.recorded("small", self.elf("wild_store"), "--log-size", "16384", "--interval", "500", "--sets", "1", "--ways", "1",
+                               "--line", "1")
+        self.assertIn("earlier writes are lost", self.says("output", log, self.elf("wild_store")))
+
+    def test_refusals(self):
+        log, elf = self.crash("wrong_total")
+        for byte, status in (("0:68", 14), ("4:0", 14), ("0", 2), (":", 2), ("-1:0", 2), ("0:1:2", 2)):
+            self.refuses(status, "why", log, elf, "--output", byte)
+        self.refuses(2, "output", log)
+        self.refuses(7, "output", elf, elf)
+        self.refuses(8, "output", log, self.elf("counter"))
+
+
+class ByteTest(case.Case):
+    def asked(self, name):
+        case_of = common.crashes()[name]
+        return self.says("why", *self.crash(name), "--output", case_of.wrong)
+
+    def test_the_byte_and_its_write(self):
+        said = self.asked("wrong_total")
+        self.assertTrue(said.startswith("OUTPUT\n  Asked of byte 29 of write 0, which took 68 bytes from 0001957c\n"), said[:200])
+        self.assertIn("hart 0 wrote it at count 18,577 in system_call machine.h:15\n", said)
+        self.assertIn("The byte is '5': hart 0 stored it at count 18,281.\n", said)
+
+    def test_the_branch_that_let_a_value_in(self):
+        said = self.asked("wrong_total")
+        first = said[said.index("  1. "):said.index("  2. ")]
+        self.assertIn("chose the way in is_in wrong_total.c:42", first)
+        self.assertIn("it compared 0000005a with 0000005a, which are the same: is the bound one off?", first)
+
+    def test_the_branch_that_kept_a_value(self):
+        said = self.asked("wrong_price")
+        first = said[said.index("  1. "):said.index("  2. ")]
+        self.assertIn("chose the way in price_of wrong_price.c:61", first)
+        self.assertIn("000000fe was cut to 6 bits, and became 0000003e in price_of wrong_price.c:60", first)
+        self.assertIn("so a word beside what it compared kept its value in add_line wrong_price.c:72", first)
+
+    def test_the_store_is_that_of_the_byte(self):
+        """Of each byte of a text the store that is told put it there, and no later row before the write did."""
+        log, elf = self.crash("wrong_price")
+        rows = [line.split(" ") for line in common.output("joint", log, elf).decode().split("\n") if " store " in line]
+        written = texts(self.says("output", log, elf)).split("\n")[6]
+        for place in (0, 8, 27, 39):
+            said = self.says("why", log, elf, "--output", f"6:{place}")
+            address = int(re.search(r"from ([0-9a-f]{8})\n", said).group(1), 16) + place
+            count = int(re.search(r"stored it at count ([\d,]+)", said).group(1).replace(",", ""))
+            last = int(re.search(r"wrote it at count ([\d,]+)", said).group(1).replace(",", ""))
+            stores = [int(row[1]) for row in rows if row[-1].startswith(f"{address:08x}=") and int(row[1]) < last]
+            self.assertEqual(count, stores[-1])
+            self.assertIn(f"The byte is {written[place]!r}: ", said)
+
+    def test_a_byte_that_a_library_formatted(self):
+        """printf took a number apart: what is asked of is the number, not the letter."""
+        said = self.says("why", *self.crash("libc_prices"), "--output", "18:18")
+        self.assertIn("  A library made it of what it was given: below is that.\n  In print_order libc_prices.c:81:  printf(", said)
+        self.assertRegex(said, r"\n  1\. .*\n(?:   .*\n)* +hart 0 loaded it in print_order libc_prices\.c:81 ")
+        self.assertNotIn("A library", self.says("why", *self.crash("wrong_price"), "--output", "6:27"))
+
+    def test_a_byte_that_no_row_stored(self):
+        elf = common.path("constant.elf")
+        with open(elf, "wb") as file:
+            file.write(elf_of(call(WRITE, 1, FIRST, 4) + list(EXIT)))
+        log = common.record("constant", elf, "--seed", "1")
+        self.assertIn("No row stored the byte: below is the write.\n", self.says("why", log, elf, "--output", "0:1"))

@@ -1,0 +1,39 @@
+#!/usr/bin/env python3
+"""Compares what the program prints of small recordings with what the definition does.
+
+tests/program/joined.py
+
+The texts of crates/joint_laws/specs/Corpus.antt are proved to be those of the definition, and the cases
+'joined as the definition has it' of crates/program_cases/stdout are what the program prints. They are in
+one order, and have to be equal.
+"""
+import os
+import re
+import sys
+
+TOP = os.path.dirname(os.path.dirname(os.path.dirname(os.path.realpath(__file__))))
+
+
+def read(path):
+    with open(f"{TOP}/crates/{path}", encoding="utf-8") as file:
+        return file.read()
+
+
+def defined():
+    """Returns the texts that the definition has."""
+    found = re.split(r"^abbrev pub text_of_", read("joint_laws/specs/Corpus.antt"), flags=re.M)[1:]
+    return ["".join(re.findall(r'codes "(.*)\\n"', text)) for text in found]
+
+
+def printed():
+    """Returns the texts that the program prints."""
+    cases = re.split(r"^# joined as the definition has it: .*\n", read("program_cases/stdout"), flags=re.M)[1:]
+    joined = [case.split("run joint LOG ELF\n", 1)[1] for case in cases]
+    return [re.match(r"status 0\nout \d+\n(.*?)err 0\n", text, re.S)[1].replace("\n", "") for text in joined]
+
+
+one, other = defined(), printed()
+if not one or one != other:
+    places = [place for place, pair in enumerate(zip(one, other)) if pair[0] != pair[1]]
+    sys.exit(f"tests/program/joined.py: {len(one)} and {len(other)} texts; not equal: {places}")
+print(f"{len(one)} small recordings are joined by the program as by the definition")

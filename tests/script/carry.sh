@@ -1,0 +1,322 @@
+#!/usr/bin/env bash
+# Tries what `zelkuma install` lays under a folder and `zelkuma uninstall` takes away, and the package of it: from anywhere,
+# moved, linked to and installed by dpkg. The companions here only seem to be some. It takes some seconds.
+#
+# tests/script/carry.sh PROGRAM
+set -u
+top=$(cd "$(dirname "$0")/../.." && pwd)
+program=$(readlink -f -- "${1:?the words are PROGRAM}")
+work=$(mktemp -d)
+trap 'rm -rf "$work"' EXIT
+. "$top/tests/asserts.sh"
+elf=$top/examples/wild_store.elf
+python=$(type -P python3) || skips "calls of companions: python3 isn't here"
+
+# Sources of which to lay: with a companion that tells how it was called, and with what isn't to be laid.
+sources=$work/sources
+mkdir -p "$sources/release" "$sources/companion/__pycache__"
+cp -r "$top/"{zelkuma,crates.txt,tools,packaging,companion,python} "$sources"
+cp "$top/VERSION" "$sources"
+cp "$top/release/"{STAMP,COMMIT} "$sources/release"
+cp "$program" "$sources/release/zelkuma-x86_64-linux"
+echo 'import os, sys; print(os.environ["ZELKUMA_PROGRAM"], *sys.argv[1:]); sys.exit(5)' >"$sources/companion/__main__.py"
+touch "$sources/companion/__pycache__/stale.pyc" "$sources/companion/stray.py" "$sources/tools/launcher/"{stray.sh,.run.sh.swp}
+
+# A toolchain that must never be called.
+mkdir "$work/bin"
+printf '#!/bin/sh\necho called >>"%s"\nexit 1\n' "$work/called" >"$work/bin/rt"
+chmod +x "$work/bin/rt"
+export PATH=$work/bin:$PATH
+
+"$program" record --seed 1 --format 2 "$elf" "$work/LOG" "$work/BOOK" >"$work/said" 2>&1
+"$program" list "$work/LOG" >"$work/list"
+
+# Tries an installed script: its program, its companions and what it refuses.
+works() { # SCRIPT PROGRAM
+    runs 0 "$1" list "$work/LOG"
+    equals "$work/list" "$work/out"
+    runs 10 "$1" record --seed 1 --format 2 "$elf" "$work/LOG2" "$work/BOOK2"
+    equals "$work/LOG" "$work/LOG2"
+    runs 0 "$1" replay "$work/LOG2" "$elf" 0 2
+    has out "0 22675 000100d0 0005c783 lbu a5,0(a1) | fault LoadOutside 6e657472"
+    runs 0 "$1" help
+    equals "$work/out" "$top/tools/help/page.txt"
+    runs 2 "$1" list
+    runs 2 "$1" build
+    has err "build: this zelkuma is installed"
+    [ -n "$python" ] || return
+    runs 5 "$1" why "a LOG" ELF
+    echo "$2 why a LOG ELF" >"$work/wanted"
+    equals "$work/wanted" "$work/out"
+}
+
+# What stands under a folder, with modes and times.
+everything() { find "$1" -printf '%p %m %s %t\n' | LC_ALL=C sort; }
+
+# The files under a folder.
+files_in() { (cd "$1" && find . ! -type d -printf '%P\n' | LC_ALL=C sort); }
+
+# What install lays under a folder, a line each.
+laid_under() { printf '%s\n' "$1"/{bin/zelkuma,lib/zelkuma,share/man/man1/zelkuma.1,share/bash-completion/completions/zelkuma}; }
+
+# The companions that are told.
+companions() (
+    . "$top/tools/help/words.sh"
+    tr -s ' ' '\n' <<<"$companions" | grep .
+)
+
+what="a folder"
+prefix="$work/a & prefix"
+runs 0 "$sources/zelkuma" install "$prefix"
+laid_under "$prefix" >"$work/wanted"
+equals "$work/wanted" "$work/out"
+works "$prefix/bin/zelkuma" "$prefix/lib/zelkuma/zelkuma"
+equals "$top/packaging/zelkuma.1" "$prefix/share/man/man1/zelkuma.1"
+equals "$top/packaging/zelkuma.bash" "$prefix/share/bash-completion/completions/zelkuma"
+{ cat "$top/tools/files.txt" && echo zelkuma; } | LC_ALL=C sort >"$work/wanted"
+files_in "$prefix/lib/zelkuma" >"$work/files"
+equals "$work/wanted" "$work/files"
+[ "$(find "$prefix" -type f -perm 755 -printf '%P\n' | sort | xargs)" = "bin/zelkuma lib/zelkuma/zelkuma" ] ||
+    fails "other files than these two can be run"
+[ -z "$(find "$prefix" -type f ! -perm 755 ! -perm 644)" ] || fails "a file has another mode"
+runs 0 "$prefix/bin/zelkuma" --version
+has out "zelkuma $(<"$top/VERSION")"
+has out "program $(sha256sum <"$program" | cut -d ' ' -f 1) $prefix/lib/zelkuma/zelkuma"
+has out "commit unknown"
+
+what="folders that install makes, and those that it doesn't"
+runs 3 "$sources/zelkuma" install "$work/no/where"
+has err "zelkuma: install: there is no folder $work/no, and a PREFIX that ends in / would make it"
+[ ! -e "$work/no" ] || fails "a folder was made"
+runs 0 "$sources/zelkuma" install "$work/no/where/"
+files_in "$prefix" >"$work/whole"
+files_in "$work/no/where" >"$work/files"
+equals "$work/whole" "$work/files"
+cd "$work" || exit 1
+runs 0 "$sources/zelkuma" install -p
+works ./-p/bin/zelkuma "$work/-p/lib/zelkuma/zelkuma"
+runs 3 "$sources/zelkuma" install "$work/list"
+has err "is no folder"
+for words in "" "a b"; do
+    # shellcheck disable=SC2086
+    runs 2 "$sources/zelkuma" install $words
+    has err "install takes one word, the folder PREFIX"
+done
+runs 2 "$sources/zelkuma" install ""
+mkdir -p "$work/checkout/lib"
+cp -r "$sources" "$work/checkout/lib/zelkuma"
+everything "$work/checkout" >"$work/before"
+for word in install uninstall; do
+    runs 2 "$sources/zelkuma" $word "$work/checkout"
+    has err "has the sources of zelkuma, and no installation"
+done
+everything "$work/checkout" >"$work/after"
+equals "$work/before" "$work/after"
+
+what="what an earlier version laid"
+# (the first had no list; the other's list also names what isn't its own)
+for list in "" "tools/files.txt" ; do
+    older=$work/older${list:+2}
+    runs 0 "$sources/zelkuma" install "$older"
+    touch "$older/bin/other"
+    (cd "$older/lib/zelkuma" && touch companion/gone.py tools/launcher/gone.sh mine)
+    if [ -z "$list" ]; then
+        rm "$older/lib/zelkuma/tools/files.txt"
+    else
+        printf '%s\n' companion/gone.py tools/launcher/gone.sh ../../bin/other "$older/bin/other" >>"$older/lib/zelkuma/tools/files.txt"
+    fi
+    runs 0 "$sources/zelkuma" install "$older"
+    { cat "$work/whole" && echo bin/other && echo lib/zelkuma/mine; } | LC_ALL=C sort >"$work/more"
+    files_in "$older" >"$work/files"
+    equals "$work/more" "$work/files"
+done
+
+what="taking it away"
+runs 0 "$older/bin/zelkuma" uninstall "$older"
+laid_under "$older" | grep -v /lib/zelkuma >"$work/wanted"
+equals "$work/wanted" "$work/out"
+has err "zelkuma: uninstall: '$older'/lib/zelkuma stays: it has files that install didn't lay"
+[ "$(files_in "$older" | xargs)" = "bin/other lib/zelkuma/mine" ] || fails "it left $(files_in "$older" | xargs)"
+runs 3 "$sources/zelkuma" uninstall "$older"
+has err "there is no zelkuma under"
+runs 0 "$sources/zelkuma" uninstall "$work/no/where/"
+laid_under "$work/no/where" | sort >"$work/wanted"
+sort "$work/out" >"$work/files"
+equals "$work/wanted" "$work/files"
+[ -z "$(files_in "$work/no")" ] && [ ! -e "$work/no/where/lib/zelkuma" ] || fails "it left $(files_in "$work/no")"
+if unshare -rm true 2>/dev/null; then
+    runs 0 "$sources/zelkuma" install "$work/no/where"
+    runs 0 unshare -rm bash -c 'mount -t tmpfs proc /proc && exec "$@"' bash "$sources/zelkuma" uninstall "$work/no/where" # no /dev/fd
+    [ ! -s "$work/err" ] || fails "it says something without /dev/fd"
+    sort "$work/out" >"$work/files"
+    equals "$work/wanted" "$work/files"
+else
+    skips "no /dev/fd: there is no unshare"
+fi
+runs 3 "$sources/zelkuma" uninstall "$work/nothing"
+runs 2 "$sources/zelkuma" uninstall
+
+what="links, other files of these names, and what dpkg laid"
+kept=$work/kept
+mkdir -p "$kept" "$work/linked-to/companion" "$work/foreign/bin" "$work/link/bin" && touch "$work/linked-to/companion/why.py"
+for link in lib/zelkuma lib/zelkuma/companion lib/zelkuma/tools/files.txt; do
+    runs 0 "$sources/zelkuma" install "$kept"
+    mv "$kept/$link" "$work/moved-away"
+    ln -s "$work/linked-to/companion" "$kept/$link"
+    for word in install uninstall; do
+        files_in "$work/linked-to" >"$work/wanted"
+        files_in "$kept" >"$work/before"
+        runs 2 "$sources/zelkuma" $word "$kept"
+        has err "zelkuma: $word: '$kept/$link' is a link, which install didn't lay; remove it first"
+        files_in "$work/linked-to" >"$work/files"
+        equals "$work/wanted" "$work/files"
+        files_in "$kept" >"$work/after"
+        equals "$work/before" "$work/after"
+    done
+    rm "$kept/$link" && mv "$work/moved-away" "$kept/$link"
+done
+echo mine >"$work/foreign/bin/zelkuma" && ln -s "$sources/zelkuma" "$work/link/bin/zelkuma"
+for other in foreign link; do
+    cp -r "$kept/lib" "$work/$other"
+    for word in install uninstall; do
+        runs 2 "$sources/zelkuma" $word "$work/$other"
+        has err "zelkuma: $word: '$work/$other/bin/zelkuma' isn't zelkuma's script; remove it first"
+    done
+done
+[ "$(<"$work/foreign/bin/zelkuma")" = mine ] && [ -L "$work/link/bin/zelkuma" ] || fails "another file is gone"
+if type -P dpkg-query >/dev/null; then
+    mkdir -p "$work/dpkg/info" "$work/dpkg/updates"
+    printf '%s\n' "Package: zelkuma" "Status: install ok installed" "Architecture: all" "Version: 1" "Maintainer: none" \
+        "Description: none" "" >"$work/dpkg/status"
+    printf '/.\n%s\n' "$kept/bin/zelkuma" >"$work/dpkg/info/zelkuma.list"
+    for word in install uninstall; do
+        DPKG_ADMINDIR=$work/dpkg runs 2 "$sources/zelkuma" $word "$kept"
+        has err "zelkuma: $word: dpkg laid what is under '$kept': 'apt remove zelkuma' takes it away"
+    done
+    files_in "$kept" >"$work/files"
+    equals "$work/whole" "$work/files"
+else
+    skips "what dpkg laid: dpkg-query isn't here"
+fi
+
+what="every companion that is told"
+for word in ${python:+$(companions)}; do
+    runs 5 "$prefix/bin/zelkuma" "$word" x
+    has out "zelkuma $word x"
+done
+
+what="the companions of the sources"
+if [ -n "$python" ]; then
+    runs 0 env ZELKUMA_PROGRAM="$program" "$top/zelkuma" install "$work/all"
+    everything "$work/all" >"$work/before"
+    for word in $(companions); do
+        runs 0 "$work/all/bin/zelkuma" "$word" --help
+        has out "zelkuma $word "
+    done
+    runs 0 "$work/all/bin/zelkuma" why "$work/LOG" "$elf"
+    has out "LoadOutside 6e657472"
+    runs 0 "$work/all/bin/zelkuma" view "$work/LOG" "$elf"
+    has out "</html>"
+    everything "$work/all" >"$work/after"
+    equals "$work/before" "$work/after"
+fi
+
+what="a link, from another folder"
+ln -s "$prefix/bin/zelkuma" "$work/bin/zelkuma"
+ln -s ../bin/zelkuma "$work/bin/short"
+cd / || exit 1
+works short "$prefix/lib/zelkuma/zelkuma"
+ln -s "$prefix/bin" "$work/linked"
+works "$work/linked/zelkuma" "$prefix/lib/zelkuma/zelkuma"
+cd "$work" || exit 1
+
+what="the tree was moved, and isn't written to"
+mv "$prefix" "$work/moved"
+chmod -R a-w "$work/moved"
+everything "$work/moved" >"$work/before"
+works "$work/moved/bin/zelkuma" "$work/moved/lib/zelkuma/zelkuma"
+everything "$work/moved" >"$work/after"
+equals "$work/before" "$work/after"
+chmod -R u+w "$work/moved"
+
+what="installing from what is installed"
+runs 2 "$work/moved/bin/zelkuma" install "$work/other"
+has err "install: this zelkuma is installed"
+[ ! -e "$work/other" ] || fails "a folder was made"
+
+what="the script alone, and a companion without Python"
+cp "$sources/zelkuma" "$work/alone"
+runs 1 "$work/alone" list "$work/LOG"
+has err "beside it are neither the sources"
+mkdir "$work/few"
+for name in bash readlink stat; do
+    ln -s "$(type -P "$name")" "$work/few/$name"
+done
+PATH=$work/few runs 1 "$work/moved/bin/zelkuma" why LOG ELF
+has err "why is a companion, and needs python3"
+PATH=$work/few runs 0 "$work/moved/bin/zelkuma" list "$work/LOG"
+PATH=$work/few runs 0 "$work/moved/bin/zelkuma" list --help
+has out "zelkuma list LOG"
+
+[ ! -e "$work/called" ] || fails "the toolchain was called"
+
+what="a package"
+if ! type -P dh >/dev/null; then
+    skips "the package: debhelper isn't here"
+    end
+fi
+# Builds the package of these sources, in a folder of their own: it lies beside them then.
+packs() { # FOLDER UMASK
+    mkdir -p "$work/$1"
+    cp -r "$sources" "$work/$1/sources"
+    cp -r "$top/"{README.md,CHANGELOG.md,docs,examples,debian} "$work/$1/sources"
+    (cd "$work/$1/sources" && umask "$2" && dpkg-buildpackage -us -uc -b >"$work/out" 2>"$work/err") || fails "it isn't built"
+}
+packs one 022
+packs other/place 077
+package=$work/one/zelkuma_$(<"$top/VERSION")_amd64.deb
+equals "$package" "$work/other/place/${package##*/}"
+runs 0 dpkg-deb --field "$package" Package Version Architecture Depends Recommends
+for line in "Package: zelkuma" "Version: $(<"$top/VERSION")" "Architecture: amd64" "Depends: libc6 (>= 2.34)" \
+    "Recommends: python3 (>= 3.8), gdb-multiarch, binutils-riscv64-unknown-elf"; do
+    has out "$line"
+done
+runs 0 dpkg-deb --contents "$package"
+! grep -vE '^(d|-)rwxr-xr-x root/root |^-rw-r--r-- root/root ' "$work/out" || fails "a mode or an owner is another"
+for name in docs/GUIDE.md examples/launch.json examples/heap.elf README.md CHANGELOG.md; do
+    has out "./usr/share/doc/zelkuma/$name"
+done
+root=$work/root
+runs 0 dpkg-deb -x "$package" "$root"
+works "$root/usr/bin/zelkuma" "$root/usr/lib/zelkuma/zelkuma"
+equals "$program" "$root/usr/lib/zelkuma/zelkuma"
+gzip -dc "$root/usr/share/man/man1/zelkuma.1.gz" >"$work/page"
+equals "$top/packaging/zelkuma.1" "$work/page"
+if type -P man >/dev/null; then
+    runs 0 man -M "$root/usr/share/man" -P cat zelkuma
+    has out "record [OPTION..] ELF LOG BOOK"
+fi
+
+what="a package as Debian has them"
+if type -P lintian >/dev/null; then
+    runs 0 lintian --allow-root --fail-on error,warning,info "$package"
+    [ ! -s "$work/out" ] || fails "lintian has something to say"
+else
+    skips "the package by lintian, which isn't here"
+fi
+
+what="a package that dpkg installs, and takes away"
+if [ "$(id -u)" -eq 0 ]; then
+    root=$work/installed
+    mkdir -p "$root/var/lib/dpkg/info" "$root/var/lib/dpkg/updates"
+    touch "$root/var/lib/dpkg/status"
+    runs 0 dpkg --root="$root" --log=/dev/null --force-depends --install "$package"
+    works "$root/usr/bin/zelkuma" "$root/usr/lib/zelkuma/zelkuma"
+    runs 0 dpkg --root="$root" --log=/dev/null --verify zelkuma
+    [ ! -s "$work/out" ] || fails "a file isn't that of the package"
+    runs 0 dpkg --root="$root" --log=/dev/null --purge zelkuma
+    [ -z "$(find "$root" -path '*zelkuma*')" ] || fails "it left $(find "$root" -path '*zelkuma*')"
+else
+    skips "dpkg --install: only root may"
+fi
+end

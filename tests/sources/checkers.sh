@@ -1,0 +1,45 @@
+#!/usr/bin/env bash
+# Tries what shellcheck says of the scripts, and mypy and flake8 of what is in Python, and that tests begin free of what
+# the caller has set: tests/sources/checkers.sh
+set -u
+top=$(cd "$(dirname "$0")/../.." && pwd)
+work=$(mktemp -d)
+trap 'rm -rf "$work"' EXIT
+. "$top/tests/asserts.sh"
+cd "$top" || exit 1
+
+what="a fresh start"
+says='umask; echo "<$*>$LANG${!LC_@}${TMPDIR-}"; [[ -d $HOME && $PATH == *:/usr/sbin:* ]] && grep SigIgn /proc/self/status'
+runs 0 env LC_ALL=C TMPDIR=/nowhere HOME=/nowhere PATH=/usr/bin:/bin bash -c 'trap "" HUP INT QUIT && umask 077 && exec bash "$@"' \
+    bash tests/fresh_start.sh bash -c "$says" bash "a b" ''
+equals <(printf '%s\n' 0022 "<a b >C.UTF-8" $'SigIgn:\t0000000000000000') "$work/out"
+
+what="the scripts by shellcheck"
+if type -P shellcheck >/dev/null; then
+    mapfile -t scripts < <(grep -lE '^#!.*(bash|sh)$' zelkuma .ci/run {bench,examples,packaging,tests,tests/*,tests/companions/*,tools}/*.sh)
+    [ "${#scripts[@]}" -gt 30 ] || fails "there are ${#scripts[@]} scripts"
+    runs 0 shellcheck -x --severity=warning "${scripts[@]}"
+else
+    skips "the scripts: shellcheck isn't here"
+fi
+
+# Tools and tests in Python. What a test gets has no types of its own, so what may be None there isn't asked of.
+what="types of tools and tests, by mypy"
+if type -P mypy >/dev/null; then
+    runs 0 mypy --python-version 3.8 --cache-dir "$work/mypy" tools/*.py tools/help/make.py
+    MYPYPATH=tests/companions/lib:tests/companions/why:tests/hostile:tests/crashes:tools:. runs 0 mypy --python-version 3.8 \
+        --cache-dir "$work/mypy" --explicit-package-bases --check-untyped-defs --no-strict-optional --disable-error-code var-annotated \
+        --disable-error-code misc --disable-error-code assignment {bench,tests,tests/*,tests/companions/*}/*.py
+else
+    skips "types of tools and tests: mypy isn't here"
+fi
+
+# Imports follow what adds a folder to the path, and a slice of sums has spaces.
+what="the style of what is in Python, by flake8"
+if type -P flake8 >/dev/null; then
+    runs 0 flake8 --isolated --max-line-length 160 --extend-ignore E127,E128,E203,E402 --per-file-ignores companion/__init__.py:F401,F811 \
+        companion python tools tests bench examples
+else
+    skips "the style: flake8 isn't here"
+fi
+end
