@@ -32,7 +32,7 @@ pub record AreAdded (tells keeps : Bool) (list more before : List ℕ) (now : Se
   pub taken : HasTaken tells now (list ++ more)
   pub kept_is : kept ≡ kept_with keeps before more
 
--- so many harts are live after a list, if its last turn's hart still is; 0 stands for a count that isn't known
+-- so many harts are live after a list, if its last turn's hart still is. Of a count of 0 nothing is said
 abbrev pub IsCounted : Began → List ℕ → (last count : ℕ) → Type 0
 IsCounted b list last count = 0 < count → is_live b.settings (list_run b list) last ≡ true → IsLiveCount b (list_run b list) count
 
