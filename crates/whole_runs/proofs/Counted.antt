@@ -13,8 +13,7 @@ use Rattle.run_model.specs.declared.turn_end.TurnEnd.TheVariants.{GoesOn, NewInt
 use Rattle.run_model.specs.Machine.{Answered, answer, call_of}
 use Rattle.run_model.specs.Turn.{Run, ask_at, is_orderly, is_guarded, guarded_run, by_guard, hart_after, harts_after, other_after, next_of, serve, serve_answered, served_if, turn}
 use Rattle.run_model.specs.Runs.{live_harts}
-use Rattle.run_model.specs.Runs as runs
-use Rattle.bus_core.specs.Bus.{Began, Seen, IsState, first_run}
+use Rattle.bus_core.specs.Bus.{Began, first_run}
 use Rattle.whole_runs.specs.Chosen.{IsCounted}
 use Rattle.whole_runs.specs.Lists.{list_run, live_harts_of, IsLiveCount}
 use Rattle.whole_runs.proofs.Live.{decide, live_first, over_first, live_of}

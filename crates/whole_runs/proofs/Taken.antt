@@ -2,7 +2,6 @@
 use Rattle.std.proofs.Common.{◌≡◌, ℕ, suc, ◌-◌, ◌<◌, Bool, true, false, ◌&&◌, nat_lt, List, [], ◌∷◌, ◌++◌, length, length-append, refl, sym, ◌∙◌, ap, subst, arith}
 use Rattle.std.specs.Prelude.{Option, Some, None, slice_get}
 use Rattle.std.proofs.lemmas.Option.{slice_get_within}
-use Rattle.std.proofs.lemmas.List.{append_assoc, append-nil}
 use Rattle.bn_outside.specs.declared.turn_row.TurnRow.{TurnRow}
 use Rattle.run_model.specs.declared.hart.Hart.{Hart}
 use Rattle.run_model.specs.Represents.Harts.{is_live_hart}
@@ -12,7 +11,7 @@ use Rattle.run_model.specs.Runs as runs
 use Rattle.bus_core.specs.Bus.{Began, Seen, IsState, first_run, turned_run, turn_row, is_live}
 use Rattle.whole_runs.specs.Lists.{HasTaken, list_run, list_rows, is_legal, live_harts_of, seeded_after}
 use Rattle.whole_runs.proofs.Rows.{run_snoc, rows_snoc, legal_snoc, turns_count}
-use Rattle.whole_runs.proofs.Seeds.{seeded_first, seeded_none}
+use Rattle.whole_runs.proofs.Seeds.{seeded_first}
 
 -- ---- a hart that is live in the bus
 
