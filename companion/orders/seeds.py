@@ -1,6 +1,7 @@
 """Searches for turns by which a program ends as wanted."""
 from __future__ import annotations
 
+import contextlib
 import os
 import signal
 from typing import Mapping, Optional, Sequence
@@ -233,11 +234,7 @@ def main(words: list[str]) -> int:
     jobs = whole(options["--jobs"], 1, 1024, "-j") if "--jobs" in options else processors
     if record.folder:
         os.makedirs(record.folder, exist_ok=True)
-    folders = record.scratch()
-    search = Search(record, numbers, kinds, until, jobs, [folder.name for folder in folders])
-    try:
+    with contextlib.ExitStack() as opened:
+        search = Search(record, numbers, kinds, until, jobs, [opened.enter_context(folder) for folder in record.scratch()])
         find(search, "--json" in options, bool(shrinks), good)
-    finally:
-        for folder in folders:
-            folder.close()
     return status_of(search, [name for name, kind in KINDS.items() if kind in kinds])

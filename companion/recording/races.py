@@ -6,6 +6,7 @@ from __future__ import annotations
 
 import bisect
 from array import array
+from functools import lru_cache, partial
 from typing import NamedTuple, Optional, Sequence
 
 from ..call import streams
@@ -96,8 +97,8 @@ class Races:
     def __init__(self, named: Elf, places: Places) -> None:
         self.named, self.places = named, places
         self.by_key: dict[tuple[int, str, str, bool], Group] = {}
-        self.fence_known: dict[int, bool] = {}
-        self.key_known: dict[int, str] = {}
+        self.place_of = lru_cache(maxsize=None)(places.where)
+        self.is_fenced = lru_cache(maxsize=None)(partial(fences.is_fenced, named.word))
         self.pairs = Columns(array("B"), array("Q"), array("B"), array("Q"), array("I"), array("B"))
         self.total, self.over = 0, False
         self.groups: list[Group] = []
@@ -152,16 +153,6 @@ class Races:
         """The pairs that no fences order either."""
         return {frozenset((At(hart, count), At(other, other_count)))
                 for hart, count, other, other_count, number, _ in zip(*self.pairs) if not self.groups[number].kind}
-
-    def place_of(self, pc: int) -> str:
-        if pc not in self.key_known:
-            self.key_known[pc] = self.places.where(pc)
-        return self.key_known[pc]
-
-    def is_fenced(self, pc: int) -> bool:
-        if pc not in self.fence_known:
-            self.fence_known[pc] = fences.is_fenced(self.named.word, pc)
-        return self.fence_known[pc]
 
     def find_ordered(self) -> None:
         """Sets `ordered` of each group that fences may order."""
