@@ -10,6 +10,7 @@ from typing import AbstractSet, Hashable, Mapping, Optional, Union
 
 from ..call.errors import NO_INTERVAL, CompanionError
 from ..recording.cause import MOST_FRAMES, cause_along
+from ..recording.chunks import OTHER_LINES
 from ..recording.elf import Elf
 from ..recording.log import End, Log, is_fault, load_log
 from .record import FAULT, LIMIT, Quick
@@ -105,8 +106,7 @@ class Ends:
 
     def faulted(self, log: Log, hart: int) -> Faulted:
         text, is_cut = self.last_text(log, hart, CALLS_ROWS)
-        rows = b"\n" + b"".join(line for line in text.splitlines(True) if line[:1].isdigit()).rstrip(b"\n")
-        cause = cause_along([rows], hart, log.ends[hart])
+        cause = cause_along([OTHER_LINES.sub(b"", b"\n" + text).rstrip(b"\n")], hart, log.ends[hart])
         return Faulted(cause.reason, cause.pc, cause.functions(self.elf), is_cut)
 
     def last_text(self, log: Log, hart: int, most: int) -> tuple[bytes, bool]:

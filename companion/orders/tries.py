@@ -28,14 +28,14 @@ class Held(NamedTuple):
 class Try:
     """A recording by a list of turns, under way or done.
 
-    asked  the list"""
+    asked  the list; turns: the same as bytes"""
 
     def __init__(self, quick: Quick, options: Mapping[str, str], elf: str, number: int, asked: Pieces) -> None:
-        self.asked, self.number = asked, number
+        self.asked, self.turns, self.number = asked, turns_of(asked), number
         self.log, self.book, self.said, self.err, turns = (
             os.path.join(quick.folder, f"{number}.{name}") for name in ("log", "book", "said", "err", "turns"))
         self.files = [self.log, self.book, self.said, self.err, turns]
-        Path(turns).write_bytes(turns_of(asked))
+        Path(turns).write_bytes(self.turns)
         words = ["record", *(f"{name}={value}" for name, value in options.items()), "--", elf, self.log, self.book]
         self.child = quick.start(self.said, self.err, *words, schedule=f"book:{turns}")
         self.status = 0
@@ -149,8 +149,7 @@ class Tries:
         made = one.made()
         if self.ends.rough(made) != self.rough:
             return None
-        turns = made.turns()
-        asked = turns_of(one.asked)
+        turns, asked = made.turns(), one.turns
         needed = followed(asked, turns) if self.leaves_rest else turns
         pieces = one.asked if needed == asked else pieces_of(needed)
         if size_of(pieces) >= most or (self.ends_within and not asked.startswith(turns)):

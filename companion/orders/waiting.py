@@ -36,8 +36,8 @@ class Stay(NamedTuple):
         return sorted({word for _, word in self.loads})
 
     def outside(self) -> Pattern[bytes]:
-        """Finds the counts of rows that aren't in the loop."""
-        return re.compile(rb"^\d+ (\d+) (?!%s)" % b"|".join(b"%08x" % pc for pc in self.places), re.M)
+        """Finds the counts of rows that aren't in the loop, each behind a newline."""
+        return re.compile(rb"\n\d+ (\d+) (?!%s)" % b"|".join(b"%08x" % pc for pc in self.places))
 
 
 @dataclass(frozen=True)
@@ -54,11 +54,11 @@ class Waiting:
 
     def begin(self, turns: bytes) -> int:
         """How many turns there are before all these harts are in their loops."""
-        left, at = {hart: stay.turns for hart, stay in self.stays.items()}, len(turns)
-        while at and left.get(turns[at - 1]) != 0:
-            at -= 1
-            if turns[at] in left:
-                left[turns[at]] -= 1
+        at = 0
+        for hart, stay in self.stays.items():
+            before, *ends = turns.rsplit(bytes([hart]), stay.turns + 1)
+            if len(ends) > stay.turns:          # it had a turn before its stay
+                at = max(at, len(before) + 1)
         return at
 
 
@@ -75,7 +75,7 @@ def stay_of(log: Log, hart: int, text: bytes) -> Stay:
     known = Stay(tuple(sorted(trace.rows.codes[at].pc for at in loop.places)), tuple(sorted(words)), 0)
     if not known.places:
         return known
-    outside = list(map(int, known.outside().findall(text)))
+    outside = list(map(int, known.outside().findall(b"\n" + text)))
     return known._replace(turns=turns_of_stay(behind(text, hart, outside)))
 
 
@@ -83,7 +83,7 @@ def stay_like(log: Log, hart: int, text: bytes, known: Stay) -> Optional[Stay]:
     """The stay of a hart, if it is in a loop that is known; None if it isn't, or isn't near it."""
     near = [int(pc, 16) in known.places for pc in PC.findall(text[-NEAR_ROWS * MEAN_ROW:])]
     if all(near):
-        counts = [*map(int, known.outside().findall(text)), log.ends[hart].count]
+        counts = [*map(int, known.outside().findall(b"\n" + text)), log.ends[hart].count]
         stay = behind(text, hart, counts[:-1])
         if has_stayed(counts, stay, known):
             return known._replace(turns=turns_of_stay(stay)) if has_loads(text, known.loads) else None

@@ -33,7 +33,7 @@ class Asked(NamedTuple):
         return not self.log.dropped and not self.log.unread
 
     def chunks(self) -> Iterator[bytes]:
-        return chunks(self.log.name, self.elf.name, total=self.log.rows())
+        return chunks(self.log.name, self.elf.name, log=self.log)
 
     def name_of(self, address: int) -> str:
         """The object or the function that an address is in, with the offset, or nothing."""

@@ -5,6 +5,7 @@ import re
 import struct
 from array import array
 from dataclasses import dataclass
+from functools import cached_property
 from typing import Iterator, NamedTuple
 
 from ..call import program
@@ -22,8 +23,8 @@ LONGEST_CALL = 4096                             # bytes that a call moves at mos
 MOST_HARTS = 16
 NO_END = ""                                     # the reason of an interval without an End
 HEAD_1, HEAD_2, DIGEST, SEAL = 92, 136, 32, 48  # bytes before the records, of a digest, of what ends a block
-# Most records are FirstLoads: so many that follow each other are passed at once. The sizes are those of SIZES.
-RUNS = re.compile(rb"(?:\x02.{9}){1,1000}|\x01.{145}|\x05.{18}|\x06.{14}|\x03.|\x04.", re.S)
+# Most records are FirstLoads and Edges: so many that follow each other are passed at once. The sizes are those of SIZES.
+RUNS = re.compile(rb"(?:\x02.{9}){1,1000}|(?:\x05.{18}){1,1000}|\x01.{145}|\x06.{14}|\x03.|\x04.", re.S)
 FIRST_FAULT = 17                                # the number of the first reason that is a fault
 
 
@@ -78,7 +79,6 @@ class Log:
 
     intervals  in the log's order
     ends       {hart: its last End}
-    edges      all of them, as columns
     records    how many records it has
     bytes      how long the file is
     faulted    whether a hart did
@@ -93,7 +93,7 @@ class Log:
         self.called: list[Interval] = []        # those that ended by a system call, in its order
         self.ends: dict[int, End] = {}
         self.records = 0
-        self.edges = Edges(array("Q"), array("Q"), array("B"), array("B"))
+        self.edge_runs: list[bytes] = []
         try:
             self.read_records(self.read_head(data))
         except (struct.error, IndexError, KeyError):
@@ -125,9 +125,7 @@ class Log:
             if tag == HEADER:
                 opened[hart] = self.header(record)
             elif tag == EDGE:
-                count, source, source_count = struct.unpack_from("<QBQ", record, 2)
-                for column, value in zip(self.edges, (count, source_count, hart, source)):
-                    column.append(value)
+                self.edge_runs.append(record)
             elif tag == END:
                 count, reason, value = struct.unpack_from("<QBI", record, 2)
                 self.ends[hart] = End(count, REASONS[reason], value)
@@ -143,6 +141,15 @@ class Log:
         registers = (pc,) + struct.unpack_from("<31I", record, 22)
         self.intervals.append(Interval(record[1], number, count, count, NO_END, 0, registers))
         return self.intervals[-1]
+
+    @cached_property
+    def edges(self) -> Edges:
+        """All Edges of the log."""
+        found = Edges(array("Q"), array("Q"), array("B"), array("B"))
+        for hart, count, source, source_count in struct.iter_unpack("<xBQBQ", b"".join(self.edge_runs)):
+            for column, value in zip(found, (count, source_count, hart, source)):
+                column.append(value)
+        return found
 
     def rows(self) -> int:
         """How many instructions its intervals have."""
@@ -170,7 +177,7 @@ class Log:
 
 
 def runs_of(records: bytes) -> Iterator[bytes]:
-    """Each record; FirstLoads that follow each other are one piece."""
+    """Each record; FirstLoads that follow each other are one piece, and so are Edges."""
     return (found[0] for found in RUNS.finditer(records))
 
 

@@ -1,11 +1,10 @@
 """Lists of turns, as `record` keeps and follows them, in pieces: turns of one hart in a row."""
 from __future__ import annotations
 
-import re
+from itertools import groupby
 from typing import NamedTuple, Sequence, Tuple
 
-
-PIECE = re.compile(rb"(.)\1*", re.S)
+BYTES = [bytes([hart]) for hart in range(256)]
 
 
 class Piece(NamedTuple):
@@ -18,11 +17,11 @@ Pieces = Tuple[Piece, ...]
 
 def pieces_of(turns: bytes) -> Pieces:
     """A byte is a turn, and says whose."""
-    return tuple(Piece(found[0][0], found.end() - found.start()) for found in PIECE.finditer(turns))
+    return tuple([Piece(hart, len(list(same))) for hart, same in groupby(turns)])
 
 
 def turns_of(pieces: Sequence[Piece]) -> bytes:
-    return b"".join(bytes([piece.hart]) * piece.turns for piece in pieces)
+    return b"".join([BYTES[hart] * turns for hart, turns in pieces])
 
 
 def joined(pieces: Sequence[Piece]) -> Pieces:
