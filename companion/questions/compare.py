@@ -5,11 +5,10 @@ import contextlib
 from dataclasses import dataclass, field
 from typing import Any, Dict, Iterable, Iterator, List, Mapping, NamedTuple, Optional
 
-from ..call import streams
 from ..call.errors import NO_INTERVAL, CompanionError
 from ..call.options import read_words, whole
 from ..call.text import counted, number
-from ..recording.answers import place_of, put_answer
+from ..recording.answers import place_of, put_found
 from ..recording.chunks import STORE, rows_between, rows_with, touching
 from ..recording.instruction import NAMES, Instruction
 from .reading import HIGHEST, Asked, asked_of
@@ -290,8 +289,5 @@ def main(words: list[str]) -> int:
     most = whole(given.get("--rows", str(MOST_ROWS)), 1, HIGHEST, "--rows")
     files = {option: given[option] for option in ("--names", "--source") if option in given}
     with compared(good, bad, elf_name, files, most) as found:
-        if "--json" in given:
-            put_answer("compare", **found.answer())
-        else:
-            streams.put_lines(found.lines())
+        put_found("compare", found, Compared.lines, Compared.answer, "--json" in given)
     return 0

@@ -5,11 +5,10 @@ import re
 from dataclasses import dataclass, field
 from typing import Any
 
-from ..call import streams
 from ..call.errors import MISSING, REFUSED, CompanionError
 from ..call.options import read_words
 from ..call.text import clean, columns, counted, number
-from ..recording.answers import LONGEST, place_of, put_answer
+from ..recording.answers import LONGEST, place_of, put_found
 from ..recording.chunks import rows_with
 from ..recording.elf import Elf
 from .reading import Asked, asked_of, read
@@ -152,8 +151,5 @@ def main(words: list[str]) -> int:
     with asked_of(log_name, elf_name, given) as asked:
         found = Found(asked, value_of(asked.named, text))
         read(asked.chunks(), found)
-        if "--json" in given:
-            put_answer("find", **find_answer(found))
-        else:
-            streams.put_lines(report(found))
+        put_found("find", found, report, find_answer, "--json" in given)
     return 0
