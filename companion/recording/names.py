@@ -119,6 +119,5 @@ def main(words: list[str]) -> int:
         found = addresses_of(elf, name)
         if not found:
             raise CompanionError(f"{os.path.basename(elf.name)} has no {name}", MISSING)
-        for each in found:
-            streams.put(f"{each.address:08x} {each.what}\n")
+        streams.put_lines(f"{address:08x} {what}" for address, what in found)
     return 0

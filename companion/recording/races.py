@@ -7,7 +7,7 @@ from __future__ import annotations
 import bisect
 from array import array
 from functools import lru_cache, partial
-from typing import NamedTuple, Optional, Sequence
+from typing import NamedTuple, Optional, Sequence, Tuple
 
 from ..call import streams
 from ..call.program import Output
@@ -49,10 +49,7 @@ class Access:
         return At(self.hart, self.count)
 
 
-class AccessPair(NamedTuple):
-    """The two accesses of a race, in the order of the joint replay."""
-    one: Access
-    other: Access
+AccessPair = Tuple[Access, Access]          # of a race, in the order of the joint replay
 
 
 class Way(NamedTuple):
@@ -143,7 +140,7 @@ class Races:
             group = self.by_key[key] = Group(len(self.by_key), word, names, fenced)
         group.pairs += 1
         if len(group.first) < FIRST_PAIRS:
-            group.first.append(AccessPair(one, other))
+            group.first.append((one, other))
         hands_over = fenced and one.stores and other.loads
         for column, value in zip(self.pairs, (one.hart, one.count, other.hart, other.count, group.number, hands_over)):
             column.append(value)

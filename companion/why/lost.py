@@ -1,11 +1,12 @@
 """Whether a value had lost bits: it was stored in fewer bytes, masked, or shifted up and down again."""
 from __future__ import annotations
 
-from typing import Mapping, NamedTuple, Optional
+from typing import Mapping, Optional
 
 from ..recording.instruction import STORE, Instruction
 from ..recording.rows import LOADS, STORES
 from ..recording.trace import Trace
+from .suspect import Extra
 
 SMALL = 1 << 16             # how far below zero a difference may be
 MASKS = {(1 << width) - 1: width for width in range(4, 12)}
@@ -15,14 +16,8 @@ UNSIGNED = "bltu", "bgeu", "sltu", "sltiu"      # what compares without signs
 STEPS, MOST_SUMS = 14, 8    # rows that are looked at behind a value, and on the way to its use
 
 
-class Cut(NamedTuple):
-    """A row that lost bits, and what, in words."""
-    row: int
-    words: str
-
-
-def cut_behind(trace: Trace, row: int) -> Optional[Cut]:
-    """The nearest row behind a row's value that kept only some bits of a value, if it lost one."""
+def cut_behind(trace: Trace, row: int) -> Optional[Extra]:
+    """The nearest row behind a row's value that kept only some bits of a value, if it lost one, and what it lost, in words."""
     todo, seen = [row], {0}
     users: dict[int, int] = {}
     for n in todo:
@@ -31,7 +26,7 @@ def cut_behind(trace: Trace, row: int) -> Optional[Cut]:
         seen.add(n)
         words = loss(trace, n, users)
         if words:
-            return Cut(n, words)
+            return Extra(words, n)
         if trace.rows.flags[n] & LOADS:
             behind = trace.writers.stores(n).rows
         else:
