@@ -14,7 +14,6 @@ Named = Tuple[int, str]     # an address, and what is there
 
 
 def addresses_of(elf: Elf, name: str) -> list[Named]:
-    """The addresses of a name."""
     found = sorted({(symbol.address, symbol.name) for symbol in elf.symbols if symbol.name == name})
     file, _, line = name.rpartition(":")
     if found or not (file and line.isascii() and line.isdigit() and len(line) <= LONGEST_LINE_NUMBER):

@@ -134,7 +134,6 @@ class Tool:
 
 
 def piece(output: int, until: float) -> bytes:
-    """What a tool says next."""
     if not select.select([output], [], [], max(0, until - time.monotonic()))[0]:
         raise ValueError("it took too long")
     found = os.read(output, 1 << 16)

@@ -139,13 +139,11 @@ class Teller:
         return said
 
     def story(self, story: Story) -> list[str]:
-        """All that is told of an order."""
         if story.left:
             return [story.left]
         return [story.order()] + [line for at, switch in enumerate(story.switches, 1) for line in self.lines(at, switch)]
 
     def answer(self, switch: Switch) -> dict[str, Any]:
-        """A switch for other programs."""
         store, load = switch.clash or (None, None)
         return {"hart": switch.hart, "other": switch.other, "stopped": self.point(switch.stopped), "next": self.point(switch.next),
                 "store": self.point(store), "load": self.point(load)}

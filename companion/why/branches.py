@@ -47,7 +47,6 @@ def branch_suspects(facts: Facts, history: History, ways: Ways) -> list[Suspect]
 
 
 def judge_values(facts: Facts, suspect: Suspect) -> None:
-    """The signs of what a branch compared."""
     rows, row, writers = facts.rows, suspect.guilty, facts.writers
     one = rows.result_of(writers.first[row]) if rows.code_of(row).rs1 else 0
     other = rows.result_of(writers.second[row]) if rows.code_of(row).rs2 else 0
@@ -80,7 +79,6 @@ class Way(NamedTuple):
 
 
 def judge_way(suspect: Suspect, way: Way) -> None:
-    """The signs of the way that a branch went."""
     if way.is_back:
         suspect.shown = bool(suspect.extra)
     elif way.all_times >= USUAL_ROWS and way.times * 10 >= way.all_times * 9:
