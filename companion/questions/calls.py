@@ -97,7 +97,7 @@ def number_of(text: str) -> int:
     return int(text)
 
 
-class Waiting(NamedTuple):
+class WaitingChunk(NamedTuple):
     """A chunk that waits: its place, and how many calls it has."""
     text: bytes
     base: int
@@ -122,14 +122,14 @@ class Calls:
         self.sources: dict[bytes, Instruction] = {}
         self.told: Deque[Call] = deque(maxlen=most)
         self.asks: Deque[tuple[int, Call, bool]] = deque()
-        self.waiting: Deque[Waiting] = deque()
+        self.waiting: Deque[WaitingChunk] = deque()
         self.total = self.waiting_calls = 0
 
     def take(self, text: bytes) -> None:
         """While later ones may have all calls that are told, only its calls are counted."""
         self.window.add(text)
         base = self.window.begins[-1]
-        self.waiting.append(Waiting(text, base, 0 if self.where else self.count_calls(text, base)))
+        self.waiting.append(WaitingChunk(text, base, 0 if self.where else self.count_calls(text, base)))
         self.waiting_calls += self.waiting[-1].calls
         while self.waiting and (self.where or self.is_passed() or self.window.end - self.waiting[0].base > self.window.kept // 2):
             self.take_waiting()

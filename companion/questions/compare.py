@@ -160,7 +160,7 @@ def rows_back(runs: list[Run], lane: Lane) -> Iterator[tuple[Row, Row]]:
             return
 
 
-class Search:
+class StoreSearch:
     """Looks in the order of a run for the row that had stored what was loaded, and for the place at which a hart parted."""
 
     def __init__(self, found: Parting, at: int) -> None:
@@ -182,7 +182,7 @@ class Search:
 
 
 def find_givers(run: Run, at: int, partings: list[Parting]) -> None:
-    rows, left = 0, [Search(found, at) for found in partings]
+    rows, left = 0, [StoreSearch(found, at) for found in partings]
     for text in run.asked.chunks() if left else ():
         left = [search for search in left if search.take(text, rows)]
         rows += text.count(b"\n")

@@ -23,7 +23,7 @@ FENCED, ORDERED = "fenced", "ordered by fences"
 FIRST_PAIRS = 8                     # so many pairs of each group are kept with their rows
 
 
-class Access:
+class RacingAccess:
     """One access of a pair: hart, count, address of its code, and its row as text."""
     __slots__ = ("hart", "count", "pc", "row")
 
@@ -49,7 +49,7 @@ class Access:
         return At(self.hart, self.count)
 
 
-AccessPair = Tuple[Access, Access]          # of a race, in the order of the joint replay
+AccessPair = Tuple[RacingAccess, RacingAccess]          # of a race, in the order of the joint replay
 
 
 class Way(NamedTuple):
@@ -127,11 +127,11 @@ class Races:
                 elif head:
                     rows.append(text)
                     if len(rows) == 2:
-                        self.add(Access(rows[0]), Access(rows[1]), int(head[5], 16))
+                        self.add(RacingAccess(rows[0]), RacingAccess(rows[1]), int(head[5], 16))
                         head = None
         return lines.status == 0
 
-    def add(self, one: Access, other: Access, word: int) -> None:
+    def add(self, one: RacingAccess, other: RacingAccess, word: int) -> None:
         names = sorted((self.place_of(one.pc), self.place_of(other.pc)))
         fenced = self.is_fenced(one.pc) and self.is_fenced(other.pc)
         key = word, names[0], names[1], fenced
