@@ -127,6 +127,7 @@ fn walk(
 const EDGE: u8 = 5;
 
 // Whether some bytes begin with a late Edge.
+#[tactic(auto, using(crate::proofs::Walks::not_late))]
 fn late_at(format: u8, harts: &[HartView], bytes: &[u8]) -> bool
     requires { 0 < length bytes.now }
     ensures { (r : Record) (rest : List ℕ) → Fits format r → bytes.now ≡ bytes_of r ++ rest → result ≡ is_late harts.now r }
@@ -165,6 +166,7 @@ fn late_edge(format: u8, harts: &[HartView], bytes: &[u8]) -> Option<u64>
 
 // The first break of the two rules about the end. The bytes are those of the records of a log of this
 // version, and `harts` are the views after them.
+#[tactic(auto, using(crate::proofs::Walks::ends_unfinished, crate::proofs::Walks::ends_well, crate::proofs::Walks::ends_late))]
 fn ended(format: u8, all: bool, harts: &[HartView], bytes: &[u8]) -> Option<OrderBreak>
     ensures { (rs : List Record) → AllByRecursion (Fits format) rs → bytes.now ≡ flat_map bytes_of rs → result ≡ ended all harts.now rs }
 {
@@ -218,6 +220,7 @@ pub fn tally_of(format: u8, settings: &Settings, dropped: u64, bytes: &[u8]) -> 
 
 /// What is counted of the records with these bytes, of a log of version 1 that has this head and
 /// dropped so many. The error is what is wrong with them.
+#[tactic(auto, using(crate::proofs::Walks::is_counted, crate::proofs::Walks::breaks_order))]
 pub(crate) fn counted(head: &Head, dropped: u64, bytes: &[u8]) -> Result<LogCounts, FileError>
     ensures counted { IfOk result (IsCounted head.now dropped bytes.now) }
     ensures refused { IfErr result (λ e. IsRecordsFault head.now dropped bytes.now e) }
@@ -274,6 +277,7 @@ fn count(bytes: &[u8]) -> Result<LogCounts, FileError>
 
 /// What is counted of the log that a file says, without a list of its records: it takes no memory.
 /// A file is refused as `read_file` refuses it, but never as out of memory.
+#[tactic(auto, using(crate::proofs::Counted::counts_only))]
 pub fn count_file(bytes: &[u8]) -> Result<LogCounts, FileError>
     // The counts are those of a log, and the bytes are its spelling.
     ensures counted { IfOk result (CountsFile bytes.now) }

@@ -21,6 +21,7 @@ use std::alloc::Global;
 
 // Why there is no list of the records with these bytes. They are counted for it, which takes no memory, so that
 // damage is never told as out of memory.
+#[tactic(auto, using(crate::proofs::Walks::in_order))]
 fn unlisted(head: &Head, dropped: u64, bytes: &[u8]) -> FileError
     ensures { IsRecordsFault head.now dropped bytes.now result }
 {
@@ -77,6 +78,7 @@ fn read(alloc: Global, bytes: &[u8]) -> Result<KeptLog, FileError>
 
 /// What a log file says. The error is the first that applies, in the order of `FileError`: so out of memory
 /// comes only of a log's file.
+#[tactic(auto, using(crate::proofs::Again::read_only))]
 pub fn read_file(alloc: Global, bytes: &[u8]) -> Result<KeptLog, FileError>
     // A log that is read is one that version 1 has, and the bytes are its spelling.
     ensures content { IfOk result (λ c. IsVersion1 c) }
