@@ -235,6 +235,7 @@ fn first_bad(raw: &RawSettings) -> Option<BadSetting>
 
 impl Settings {
     /// Tests each setting. The error names the first one out of range, with its value.
+    #[tactic(auto, using(crate::proofs::Tested::in_range))]
     pub fn checked(raw: &RawSettings) -> Result<Settings, BadSetting>
         ensures { result ≡ checked raw.now }
     {

@@ -24,6 +24,7 @@ pub fn memory_holds_nothing_else()
 {}
 
 /// The heap begins at the first page after the highest segment.
+#[tactic(auto, using(crate::proofs::Memory::heap_after))]
 pub fn heap_begins_after_the_highest_segment()
     ensures { HeapIsAfterSegments }
 {}

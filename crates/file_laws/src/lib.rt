@@ -49,6 +49,7 @@ pub fn kept_records_keep_their_rules()
 
 /// At all times the records of a ring of the log's size keep the rules of single records, if it holds the
 /// log of lawful rows, whoever made their asks.
+#[tactic(auto, using(crate::proofs::Rows::held_rules))]
 pub fn rings_keep_their_rules()
     ensures { RingsKeepTheRules }
 {
@@ -201,6 +202,7 @@ pub fn files_of_rows_are_read()
 
 /// With format 2 a crash can be replayed. If the run ends in a fault, the guard has made the log keep the
 /// fault's interval. Its replay is done, with exactly that interval's rows of the run.
+#[tactic(auto, using(crate::proofs::Retained::faults_replayed))]
 pub fn faults_are_replayed()
     ensures { FaultsAreReplayed }
 {

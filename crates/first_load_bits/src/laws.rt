@@ -8,6 +8,7 @@ ghost use Rattle.first_load_bits.specs.Represents.{Contents, RepresentsEvents};
 ghost use Rattle.first_load_bits.specs.Worked.{answers, smallest, small, with_second};
 
 /// The tests that compute say what the history says: which lines are listed, which are held, and which words are warm.
+#[tactic(auto, using(crate::proofs::Listed::listed_is, crate::proofs::Second::held_is, crate::proofs::Warmth::warm_is))]
 pub fn tests_say_the_history()
     ensures listed { (g : Geometry) (l : ℕ) (es : List Event) → 0 < g.ways → (IsTrue (listed g l es) ↔ IsListed g l es) }
     ensures held { (g : Geometry) (l : ℕ) (es : List Event) → 0 < g.ways → (IsTrue (held g l es) ↔ IsHeld g l es) }
@@ -28,6 +29,7 @@ pub fn lists_say_the_history()
 {}
 
 /// No event warms a word but an access of that word. No word of a dropped line is warm, nor any word after a clear.
+#[tactic(auto, using(crate::proofs::Warmth::warm_before_touch, crate::proofs::Warmth::warm_before_drop))]
 pub fn only_a_touch_warms()
     ensures touch { (g : Geometry) (a b : ℕ) (es : List Event) → word_of b ≢ word_of a → IsTrue (warm g a (Touch b ∷ es)) → IsTrue (warm g a es) }
     ensures drop { (g : Geometry) (a b : ℕ) (es : List Event) → IsTrue (warm g a (Drop b ∷ es)) → (line_of g b ≢ line_of g a) × IsTrue (warm g a es) }
@@ -36,6 +38,7 @@ pub fn only_a_touch_warms()
 
 /// A second drop of a line right after the first changes nothing. So a recorder that drops several words one after another
 /// has to drop each line only once.
+#[tactic(auto, using(crate::proofs::Dropped::second_drop))]
 pub fn a_second_drop_changes_nothing()
     ensures { (c : Contents) (a b : ℕ) (es : List Event) → line_of c.geometry a ≡ line_of c.geometry b →
         RepresentsEvents c (Drop b ∷ es) → RepresentsEvents c (Drop a ∷ Drop b ∷ es) }

@@ -8,11 +8,13 @@ ghost use Rattle.guest_gen.specs.Code.{next, draws, slot, opening, closing, code
 ghost use Rattle.guest_gen.specs.File.{guest_bytes};
 
 /// Each instruction of a generated program is what its word decodes to, whatever the number.
+#[tactic(auto, using(crate::proofs::Table::all_code_words))]
 pub fn instructions_decode_to_themselves()
     ensures { (seed : ℕ) (kind : Kind) → AllByRecursion IsCode (code seed kind) }
 {}
 
 /// A generated program's file has 1,156 bytes, whatever the number.
+#[tactic(auto, using(crate::proofs::Bytes::count_file))]
 pub fn files_have_one_size()
     ensures { (seed : ℕ) (kind : Kind) → length (guest_bytes seed kind) ≡ 1156 }
 {}

@@ -87,6 +87,7 @@ fn make_table(kept: &mut Vec<Lookup>)
 }
 
 // Keeps a look-up in a slot of the table, if the table is there.
+#[tactic(auto, using(crate::proofs::Lookups::set_lookups))]
 fn keep(kept: &mut Vec<Lookup>, place: usize, lookup: Lookup)
     ensures { (i : Program) → IsLookup i lookup → AreLookups i kept.old.items → AreLookups i kept.new.items }
 {

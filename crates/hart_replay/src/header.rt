@@ -43,6 +43,7 @@ fn start_in(hart: u64, interval: u64, entry: &Record) -> Option<(HartId, HartSta
 }
 
 /// Finds the Header of an interval, which doesn't come before a place.
+#[tactic(auto, using(crate::proofs::Skipped::skipped))]
 pub fn find(hart: u64, interval: u64, records: &RecordList, from: usize) -> Option<IntervalStart>
     requires before { interval_of hart interval (take from records.now) ≡ None }
     ensures start { interval_of hart interval records.now ≡ found_in result hart records.now }

@@ -72,6 +72,7 @@ impl<'a> Loads<'a> {
     }
 
     /// How many there are.
+    #[tactic(auto, using(crate::proofs::Counts::few_loads))]
     pub(crate) fn left(&self) -> u64
         ensures value { result ≡ length self.now.loads }
         ensures bound { result ≤ 2 ^ 63 }
@@ -143,6 +144,7 @@ impl<'a> Conditionals<'a> {
     }
 
     /// How many there are.
+    #[tactic(auto, using(crate::proofs::Counts::few_conditionals))]
     pub(crate) fn left(&self) -> u64
         ensures value { result ≡ length self.now }
         ensures bound { result < 2 ^ 63 }

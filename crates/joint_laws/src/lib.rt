@@ -40,6 +40,7 @@ pub fn own_logs_are_logs()
 }
 
 /// The joint replay of a log of a recording begins sound: its records are in order.
+#[tactic(auto, using(crate::proofs::Starts::begins_sound))]
 pub fn joint_replays_begin_sound()
     ensures { BeginsSound }
 {
@@ -56,6 +57,7 @@ pub fn chains_lead()
 {}
 
 /// A row fills bytes of an aligned word exactly if the joint memory forgets it.
+#[tactic(auto, using(crate::proofs::Filled::fills_are_filled))]
 pub fn fills_are_filled()
     ensures { FillsAreFilled }
 {}
@@ -137,6 +139,7 @@ pub fn the_states_are_recorded()
 }
 
 /// The word that the joint memory knows at an address is the one that the steps so far tell.
+#[tactic(auto, using(crate::proofs::Words::words_are))]
 pub fn words_are_by_the_steps()
     ensures { WordsAreByTheSteps }
 {}
@@ -183,6 +186,7 @@ pub fn joint_replays_say_the_run()
 }
 
 /// The joint replay of what a log file says, whose bytes are those of the recording's file, says the run.
+#[tactic(auto, using(crate::proofs::Said::files_say_the_run))]
 pub fn files_say_the_run_jointly()
     ensures { JointFilesSayTheRun }
 {

@@ -53,6 +53,7 @@ fn retained_at(hart: HartId, log: &KeptLog, place: usize) -> Option<Retained>
 /// The retained intervals of a hart, the last first.
 // One pass from the last record to the first: that no earlier Header has the same number is a law of logs in
 // order.
+#[tactic(auto, using(crate::proofs::Retaining::none_gathered))]
 pub(crate) fn retained_intervals(
     alloc: Global,
     hart: HartId,

@@ -21,6 +21,7 @@ pub fn steps_pass_their_points()
 {}
 
 /// A step of a ready hart keeps the sources of passed targets passed.
+#[tactic(auto, using(crate::proofs::Soundness::soundness_stays))]
 pub fn soundness_stays()
     ensures { SoundnessStays }
 {
@@ -46,11 +47,13 @@ pub fn runs_go_on()
 {}
 
 /// If no step is taken, the run ends.
+#[tactic(auto, using(crate::proofs::Onward::runs_end))]
 pub fn runs_end()
     ensures { RunsEnd }
 {}
 
 /// The intervals of a hart in a log in order come one after another.
+#[tactic(auto, using(crate::proofs::Shapes::have_shape))]
 pub fn ordered_logs_have_shape()
     ensures { OrderedLogsHaveShape }
 {}
@@ -107,6 +110,7 @@ pub fn sources_are_there()
 }
 
 /// Walks are the merges of the harts' lists in which each point stands after the sources of the Edges into it.
+#[tactic(auto, using(crate::proofs::Merged::walks_are_merges))]
 pub fn walks_are_merges()
     ensures { WalksAreMerges }
 {
@@ -125,6 +129,7 @@ pub fn ready_harts_are_admitted()
 }
 
 /// In a merge that respects the Edges, the source of a kept Edge stands if and only if it is passed.
+#[tactic(auto, using(crate::proofs::Merged::passed_is_standing))]
 pub fn passed_sources_stand()
     ensures { PassedIsStanding }
 {

@@ -34,6 +34,7 @@ impl Model for ReplayMemory {
 
 impl ReplayMemory {
     /// No word is known. It takes no memory.
+    #[tactic(auto, using(crate::proofs::WordLists::no_words))]
     pub(crate) fn new(alloc: Global) -> ReplayMemory
         ensures { result.words ≡ [] }
     {

@@ -18,6 +18,7 @@ pub fn tags_tell_sizes()
 }
 
 /// A record that is written is read back, whatever comes after it.
+#[tactic(auto, using(crate::proofs::Records::record_again))]
 pub fn written_records_are_read()
     ensures { AreRead }
 {
@@ -32,6 +33,7 @@ pub fn read_records_are_written()
 }
 
 /// No record's bytes begin another's, so bytes are those of at most one list of records.
+#[tactic(auto, using(crate::proofs::Records::one_record))]
 pub fn no_record_begins_another()
     ensures { BeginNoOther }
 {
@@ -39,6 +41,7 @@ pub fn no_record_begins_another()
 }
 
 /// A record that a log of version 1 has, one of version 2 has too.
+#[tactic(auto, using(crate::proofs::Records::fit_later))]
 pub fn records_fit_later_versions()
     ensures { FitLater }
 {}

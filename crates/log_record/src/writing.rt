@@ -32,6 +32,7 @@ fn put_registers(bytes: &mut Bytes, x: &Registers)
 
 // Appends words, the least significant byte of each first. The limits are the longest head of a record, and the
 // registers but for x0.
+#[tactic(auto, using(crate::proofs::Words::all_small))]
 fn put_words(bytes: &mut Bytes, words: &[u32])
     requires length { length bytes.old ≤ 22 }
     requires count { length words.now ≤ 31 }

@@ -116,6 +116,7 @@ impl Ring {
     }
 
     /// Tells whether it holds no record.
+    #[tactic(auto, using(crate::proofs::Cuts::empty_when))]
     pub fn is_empty(&self) -> bool
         ensures { IsTrue result ↔ (self.now.records ≡ []) }
     {

@@ -30,6 +30,7 @@ pub fn listed_edges_are_all()
 {}
 
 /// No edge follows from program order and the other edges.
+#[tactic(auto, using(crate::proofs::EdgeLaws::edge_stands_alone))]
 pub fn no_edge_follows()
     ensures { NoEdgeFollows }
 {}
@@ -62,6 +63,7 @@ pub fn edges_are_needed<P: PairSets>()
 
 /// A chain of program order and edges leads from each point to each later one that conflicts with it, and already
 /// the edges that end after the earlier of the two suffice for it.
+#[tactic(auto, using(crate::proofs::EdgeLaws::edges_lead, crate::proofs::MergeLaws::late_edges_lead))]
 pub fn edges_order_conflicts()
     ensures all { EdgesOrderConflicts }
     ensures late { LateEdgesOrderConflicts }
@@ -105,11 +107,13 @@ pub fn places_stand_for_counts()
 {}
 
 /// The counts that hold a place's point and those before it cover the instructions that are its point's or before it.
+#[tactic(auto, using(crate::proofs::CountLaws::times_of))]
 pub fn times_cover_instructions()
     ensures { TimesCoverInstructions }
 {}
 
 /// Kept accesses that each live hart knows of may go, and harts may end: what is left still suffices for the live ones.
+#[tactic(auto, using(crate::proofs::KeptLemmas::fewer_suffice))]
 pub fn known_accesses_may_go()
     ensures { KnownAccessesMayGo }
 {}
@@ -121,6 +125,7 @@ pub fn notes_decide()
 
 /// How much a shadow holds at any time. It has at most 1024 epochs, each with a vector clock, and 2 more for each slot and
 /// 8 for each page. A page has at most the slots of 64 words. [`Shadow::reserve`] says which pages are made.
+#[tactic(auto, using(crate::proofs::SizeLemmas::small))]
 pub fn memory_stays_small()
     ensures epochs { EpochsStayFew }
     ensures pages { PagesStaySmall }

@@ -45,6 +45,7 @@ impl KeptWords {
     ghost use Rattle.race_log.specs.Slots.{slots_of, is_settled, marks_in};
 
     /// Keeps nothing.
+    #[tactic(auto, using(crate::proofs::PagesLemmas::empty_word))]
     pub fn new(alloc: Global, harts: HartId) -> Result<KeptWords, AllocError>
         requires { harts ≤ HARTS }
         ensures harts { IfOk result (λ k. k.harts ≡ harts) }

@@ -43,6 +43,7 @@ impl RaceLists {
     }
 
     /// How many places there are.
+    #[tactic(auto, using(crate::proofs::Lists::lists_length))]
     pub(crate) fn len(&self) -> usize
         ensures { result ≡ length (lists_in self.now.lists.items) }
     {
@@ -50,6 +51,7 @@ impl RaceLists {
     }
 
     /// One more place, which is a race with none.
+    #[tactic(auto, using(crate::proofs::Lists::total_grown, crate::proofs::Lists::lists_grown))]
     pub(crate) fn add_place(&mut self) -> Result<(), AllocError>
         ensures { OnOk result (lists_in self.new.lists.items ≡ lists_in self.old.lists.items ++ [] ∷ []) }
     {
@@ -76,6 +78,7 @@ impl RaceLists {
 }
 
 // The word of the last of some races, if that is with this place.
+#[tactic(auto, using(crate::proofs::Lists::last_with, crate::proofs::Lists::some_there, crate::proofs::Lists::last_without))]
 fn last_with(list: &[Meeting], second: u32) -> Option<Addr>
     ensures { result ≡ last_meets second list.now }
 {

@@ -8,16 +8,19 @@ ghost use Rattle.run_model.specs.Examples.{recorded, program_of, first_header, e
 ghost use Rattle.replay_laws.specs.Examples.{replay_of, a_short_log, without, another_exit};
 
 /// A load that faults: its row, at the End's count.
+#[tactic(auto, using(crate::proofs::Worked::a_fault_is_replayed))]
 pub fn a_fault_is_replayed()
     ensures { replay_of a_fault 0 0 ≡ record { rows = row_of_a_fault ∷ []; outcome = Done } }
 {}
 
 /// A word that another hart's system call filled between two loads of it.
+#[tactic(auto, using(crate::proofs::Worked::a_filled_word_is_loaded_again))]
 pub fn a_filled_word_is_loaded_again()
     ensures { map (λ r. r.load) (replay_of a_filled_word 0 0).rows ≡ None ∷ None ∷ Some (0x20000, 0) ∷ Some (0x20000, 2054781047) ∷ None ∷ None ∷ [] }
 {}
 
 /// An interval that a system call began, in a log that keeps no more than that.
+#[tactic(auto, using(crate::proofs::Worked::the_last_interval_is_replayed, crate::proofs::Worked::the_first_interval_is_gone))]
 pub fn the_last_interval_is_replayed()
     ensures last { map (λ r. r.ic) (replay_of a_short_log 0 1).rows ≡ 3 ∷ 4 ∷ [] }
     ensures first { replay_of a_short_log 0 0 ≡ record { rows = []; outcome = Refused (NoInterval 0 0) } }
@@ -25,6 +28,7 @@ pub fn the_last_interval_is_replayed()
 
 /// With format 2 a load that is guarded is a row of the interval that begins at it. The log has no room
 /// for the interval before.
+#[tactic(auto, using(crate::proofs::Worked::a_guarded_load_has_its_rows, crate::proofs::Worked::a_guarded_load_is_done, crate::proofs::Worked::the_interval_before_is_gone))]
 pub fn a_guarded_load_is_replayed()
     ensures rows { map (λ r. r.ic) (replay_of a_guarded_load 0 1).rows ≡ 10 ∷ 11 ∷ [] }
     ensures done { (replay_of a_guarded_load 0 1).outcome ≡ Done }
@@ -33,6 +37,7 @@ pub fn a_guarded_load_is_replayed()
 
 /// A fault of a hart that began long ago. With format 2 an interval begins right before the fault, so the
 /// log keeps it; with format 1 it is lost.
+#[tactic(auto, using(crate::proofs::Worked::a_late_fault_has_its_row, crate::proofs::Worked::a_late_fault_is_done, crate::proofs::Worked::a_late_fault_is_lost))]
 pub fn a_late_fault_is_replayed()
     ensures rows { map (λ r. r.ic) (replay_of a_late_fault 1 1).rows ≡ 2 ∷ [] }
     ensures done { (replay_of a_late_fault 1 1).outcome ≡ Done }

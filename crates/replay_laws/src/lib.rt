@@ -31,6 +31,7 @@ pub fn ends_suffice()
 
 /// Log sufficiency of a log: the replay of each interval whose Header it keeps gives exactly the recorded
 /// rows.
+#[tactic(auto, using(crate::proofs::Whole::of_kept))]
 pub fn the_log_suffices()
     ensures { LogSuffices }
 {
@@ -77,6 +78,7 @@ pub fn warm_words_stay_known()
 
 /// If the replay of an interval ends otherwise than its End says, the outcome has the End's own mark and
 /// another that differs from it. So it is for every log and every program.
+#[tactic(auto, using(crate::proofs::Differing::ends_differ))]
 pub fn ends_that_differ_are_told()
     ensures { EndsThatDifferAreTold }
 {

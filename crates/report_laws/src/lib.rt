@@ -23,6 +23,7 @@ use row_laws::{
 
 /// Each point that the joint replay of a log of a recording does is a point of the run, with the same
 /// accesses.
+#[tactic(auto, using(crate::proofs::Alike::points_are_recorded))]
 pub fn points_are_recorded()
     ensures { PointsAreRecorded }
 {
@@ -69,6 +70,7 @@ pub fn races_say_the_run()
 
 /// The races that a report lists are those of the retained points as they stand in the run, if the log's
 /// bytes are those of the recording's file.
+#[tactic(auto, using(crate::proofs::Whole::reports_say_the_run))]
 pub fn reports_say_the_run()
     ensures { ReportsSayTheRun }
 {

@@ -14,6 +14,7 @@ use run_laws::{own_asks_are_orderly, turns_move_their_hart};
 
 /// Along the rows of a turn each row has its hart's number and the count, the pc and the code word of the
 /// state reached, and the last state is the hart's after the turn.
+#[tactic(auto, using(crate::proofs::Along::rows_tell_states))]
 pub fn rows_tell_states()
     ensures { RowsTellStates }
 {
@@ -97,6 +98,7 @@ pub fn points_are_of_turns()
 /// The point of a turn that writes a word has a row of its hart and count. This row stores the word that
 /// memory then has, or is that of a read call that fills bytes of the word. The program's code words have
 /// 32 bits, since a larger number could decode as an ECALL without being one.
+#[tactic(auto, using(crate::proofs::Writers::writers_have_rows))]
 pub fn writers_have_rows()
     ensures { WritersHaveRows }
 {

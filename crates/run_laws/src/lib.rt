@@ -83,6 +83,7 @@ pub fn own_rows_go_on()
 
 /// Takes rows that are lawful from the start, each hart's its own. They are the rows of the turns of their
 /// harts, in a legal list whose run they lead to. No ask was out of order.
+#[tactic(auto, using(crate::proofs::Turns::fit_start))]
 pub fn own_rows_are_turns()
     ensures { OwnRowsAreTurns }
 {
@@ -103,6 +104,7 @@ pub fn lists_go_on()
 
 /// Lawful rows from the start, each hart's its own, and after them those of the turns of a list, are the
 /// rows of one legal list. All of them are lawful and each hart's own.
+#[tactic(auto, using(crate::proofs::Converse::joined))]
 pub fn own_rows_are_joined()
     ensures { OwnRowsAreJoined }
 {
@@ -132,6 +134,7 @@ pub fn kept_ends_are_marks()
 {}
 
 /// An instruction has at most one Edge from each hart.
+#[tactic(auto, using(crate::proofs::Few::few))]
 pub fn edges_are_few()
     ensures { EdgesAreFew }
 {

@@ -13,11 +13,13 @@ pub fn each_turn_moves_on()
 }
 
 /// After such a turn the hart's counts stay within the settings, and fewer turns are left to it.
+#[tactic(auto, using(crate::proofs::Fits::fit_after, crate::proofs::Fits::fewer_left))]
 pub fn each_turn_fits()
     ensures { EachTurnFits }
 {}
 
 /// The other harts stay within the settings too, and no more turns are left to them.
+#[tactic(auto, using(crate::proofs::Fits::fit_other, crate::proofs::Fits::no_more_left))]
 pub fn others_stay_fit()
     ensures { OthersStayFit }
 {}
@@ -37,6 +39,7 @@ pub fn format_1_is_unguarded()
 
 /// The records themselves decide nothing: the machine, harts, caches, points, turns and number of bytes
 /// do.
+#[tactic(auto, using(crate::proofs::Alike::alike))]
 pub fn records_decide_nothing()
     ensures { RecordsDecideNothing }
 {}

@@ -172,6 +172,7 @@ impl Machine {
     /// Makes the pages of the words that an ask may write. The machine stays as it is, also on `Err`, and
     /// the only error is out of memory. The ask passes the program's tests, so the words that it accesses
     /// are addresses, whatever the reply.
+    #[tactic(auto, using(crate::proofs::Spans::accessed_addresses))]
     pub fn pages(
         &mut self,
         image: &Image,

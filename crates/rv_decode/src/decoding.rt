@@ -237,6 +237,7 @@ fn placed(name: Name, format: Format, word: u32) -> Instr
 /// if and only if it fits no row of the table.
 // It has one clause, and that it is exactly the table is a law over `decoded`: so no caller's proof carries the
 // table's 59 rows.
+#[tactic(auto, using(crate::proofs::Fields::decoded_some))]
 pub fn decode(word: u32) -> Option<Instr>
     ensures { option_map seen result ≡ decoded word }
 {

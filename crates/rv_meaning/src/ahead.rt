@@ -89,6 +89,7 @@ fn start_of(image: &Image) -> Addr
 
 /// The place of a pc among the ops, if it has one.
 #[inline(always)]
+#[tactic(auto, using(crate::proofs::DecodedAhead::entered))]
 pub(crate) fn place_in(ops: &[Op], first: Addr, pc: Addr) -> Option<u32>
     requires { IsBelowEnd first ops.now }
     ensures { IfSome result (λ place. pc_of first place ≡ pc) }

@@ -6,6 +6,7 @@ ghost use Rattle.rv_meaning.specs.Held.{IsCode};
 use bn_base::{Addr, Image, Segment};
 
 // The executable segment that an address is in, looked up.
+#[tactic(auto, using(crate::proofs::Held::is_code))]
 fn found<'a>(image: &'a Image, pc: Addr) -> Option<&'a Segment>
     ensures none { IfNone result (code_in (part_at image.now.parts pc) pc ≡ None) }
     ensures code { IfSome result (λ s. IsCode image.now s.now) }

@@ -17,6 +17,7 @@ pub fn each_instruction_is_counted_or_asks()
 
 /// What a hart asks is orderly for its count and budget, and its count passes that of the hart by
 /// no more than the budget.
+#[tactic(auto, using(crate::proofs::Orderly::ask_count, crate::proofs::Orderly::ask_orderly))]
 pub fn each_ask_is_orderly()
     ensures count { (i : Program) (budget : ℕ) (s : HartState) → (ask_of i budget s).state.ic ≤ s.ic + budget }
     ensures orderly { (i : Program) (budget : ℕ) (s : HartState) → s.ic + budget < 2 ^ 64 → IsTrue (orderly i s.ic budget (ask_of i budget s)) }

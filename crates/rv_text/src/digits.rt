@@ -6,6 +6,7 @@ ghost use Rattle.rv_text.specs.Instructions.{hex8};
 ///
 /// The halves of the number are moved apart, then their bytes, and then the digits of each byte, so that each digit has
 /// a byte of its own. A digit from 10 on is a letter: 39 codes stand between `9` and `a` that are no digits.
+#[tactic(auto, using(crate::proofs::HexDigits::ascii_of, crate::proofs::HexDigits::digits_of, crate::proofs::HexDigits::bytes_of, crate::proofs::HexDigits::halves_of, crate::proofs::HexDigits::ascii_of_hex8))]
 pub fn eight_digits(n: u32) -> [u8; 8]
     ensures { result ≡ hex8 n }
 {

@@ -96,6 +96,7 @@ impl Reservations {
     }
 
     /// A hart wrote an aligned word: the other harts' reservations of it end.
+    #[tactic(auto, using(crate::proofs::EachHart::made_stays))]
     pub fn end_others(&mut self, hart: HartId, addr: Addr)
         ensures { (f : ℕ → Option ℕ) → AreReserved self.old f → AreReserved self.new (others_lose hart addr f) }
     {
@@ -107,6 +108,7 @@ impl Reservations {
     }
 
     /// So many words from the first on were filled: all harts' reservations of them end.
+    #[tactic(auto, using(crate::proofs::EachHart::made_stays))]
     pub fn end_among(&mut self, first: Addr, count: u32)
         ensures { (f : ℕ → Option ℕ) → AreReserved self.old f → AreReserved self.new (all_lose first count f) }
     {
