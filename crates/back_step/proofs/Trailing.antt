@@ -128,7 +128,7 @@ module _ (every : ℕ) (start : Joining) (entries : List Entry) (now : Joining) 
 
       by : Steps now h (Err e) new → TrailSteps (trailed every start entries now) h (Err e) (trailed every start entries new)
       by (inl r) = inl (record { refusal = r.refusal; there = ap (step_in old h) r.there; error_is = r.error_is; repeated = ap (λ (j : Joining). trailed every start entries j) r.repeated })
-      by (inr x) = inr (x.0, inr (record { calm = x.1; unrefused = λ r e. refused_there old h (next_step now h) refl x.3 r e; halted = x.2; same = refl }))
+      by (inr x) = inr (x.0, inr (record { calm = x.1; unrefused = λ r e. refused_there old h (next_step now h) refl x.3 r e; ran_out = x.2; same = refl }))
 
   pub tells_step : (stepped : Stepped) (after : List Entry) (e : Entry) (new : Joining) → (s : Steps now h (Ok stepped) new) → e ≡ entry_told h stepped → after ≡ entries ++ e ∷ [] → TrailSteps v h (Ok stepped) (trailed every start after new)
   tells_step stepped after e new s told longer =

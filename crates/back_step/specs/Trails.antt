@@ -8,7 +8,7 @@ use Rattle.joint_replay.specs.declared.kinds.Stepped.{Stepped}
 use Rattle.joint_replay.specs.Lanes.{Item}
 use Rattle.joint_replay.specs.Joining.{Joining, error_of}
 use Rattle.joint_replay.specs.Orders.{ready_step}
-use Rattle.joint_replay.specs.Calls.{bare, stepped_of, IsHalted}
+use Rattle.joint_replay.specs.Calls.{bare, stepped_of, RanOut}
 use Rattle.back_step.specs.declared.entry.Entry.{Entry}
 use Rattle.back_step.specs.Traces.{entry_of, Trailed, trace_step, refusing}
 
@@ -80,7 +80,7 @@ pub record IsRefused (old : Trailed) (h : ℕ) (e : JointError) (new : Trailed) 
 pub record IsStarved (old : Trailed) (h : ℕ) (new : Trailed) : Type 0 where
   pub calm : old.trace.now.refused ≡ None
   pub unrefused : (r : ReplayError) → trace_step old.trace h ≡ Some (Err r) → r ≡ replay.OutOfMemory
-  pub halted : IsHalted old.trace.now new.trace.now
+  pub ran_out : RanOut old.trace.now new.trace.now
   pub same : new ≡ trailed old.every old.trace.start old.trace.entries new.trace.now
 
 -- a step does the hart's next item, and has its entry; or it is refused as that is; or memory runs out

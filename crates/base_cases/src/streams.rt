@@ -33,11 +33,11 @@ fn print_file<R: Print>(rt: &R, how: &str, name: &str, bytes: &[u8]) -> anyhow::
 fn print_load<R: Print, S: Store>(
     rt: &R,
     alloc: Global,
-    store: &mut S,
+    files: &mut S,
     name: &str,
     limit: usize,
 ) -> anyhow::Result<()> {
-    match store.load(alloc, name, limit) {
+    match files.load(alloc, name, limit) {
         Ok(bytes) => print_file(rt, "load", name, &bytes),
         Err(error) => Ok(println!(rt; "load {name} {error:?}")?),
     }
@@ -46,17 +46,17 @@ fn print_load<R: Print, S: Store>(
 // Prints what comes of a save.
 fn print_save<R: Print, S: Store>(
     rt: &R,
-    store: &mut S,
+    files: &mut S,
     name: &str,
     text: &str,
 ) -> anyhow::Result<()> {
-    println!(rt; "save {name} {:?}", store.save(name, text.as_bytes()))?;
+    println!(rt; "save {name} {:?}", files.save(name, text.as_bytes()))?;
     Ok(())
 }
 
 // Prints what a store has under a name, without a call of it.
-fn print_held<R: Print>(rt: &R, store: &MemoryStore, name: &str) -> anyhow::Result<()> {
-    match store.bytes(name) {
+fn print_held<R: Print>(rt: &R, files: &MemoryStore, name: &str) -> anyhow::Result<()> {
+    match files.bytes(name) {
         Some(bytes) => print_file(rt, "held", name, bytes),
         None => Ok(println!(rt; "held {name} nothing")?),
     }
@@ -66,17 +66,17 @@ fn print_held<R: Print>(rt: &R, store: &MemoryStore, name: &str) -> anyhow::Resu
 fn act<R: Print>(
     rt: &R,
     alloc: Global,
-    store: &mut MemoryStore,
+    files: &mut MemoryStore,
     words: &[&str],
     place: usize,
 ) -> anyhow::Result<()> {
     let name = word(words, place.saturating_add(3));
     let rest = place.saturating_add(4);
     match word(words, place.saturating_add(2)) {
-        "save" => print_save(rt, store, name, word(words, rest)),
-        "load" => print_load(rt, alloc, store, name, wide(words, rest) as usize),
-        "held" => print_held(rt, store, name),
-        "put" => Ok(store.put(name, word(words, rest).as_bytes())?),
+        "save" => print_save(rt, files, name, word(words, rest)),
+        "load" => print_load(rt, alloc, files, name, wide(words, rest) as usize),
+        "held" => print_held(rt, files, name),
+        "put" => Ok(files.put(name, word(words, rest).as_bytes())?),
         verb => Err(anyhow::anyhow!("no call of a store: {verb}")),
     }
 }
@@ -85,11 +85,11 @@ fn act<R: Print>(
 fn act_all<R: Print>(
     rt: &R,
     alloc: Global,
-    store: &mut MemoryStore,
+    files: &mut MemoryStore,
     words: &[&str],
 ) -> anyhow::Result<()> {
     for call in 0..words.len() / 3 {
-        act(rt, alloc, store, words, call.saturating_mul(3))?;
+        act(rt, alloc, files, words, call.saturating_mul(3))?;
     }
     Ok(())
 }

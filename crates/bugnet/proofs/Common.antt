@@ -78,7 +78,7 @@ pub use Rattle.sha2.specs.Sha256.{sha256}
 pub use Rattle.slice_back.specs.Texts.{text_of}
 pub use Rattle.step_debugger.specs.Answers.{Moves, Session, address_text, answer, back_by, back_to, back_to_stop, begin_at, break_limit, go_by, go_for, go_on, go_past, hart_text, is_set, moved, places_from, registers_text, says, step_by, step_up_to, stop_below, stop_unless, unknown, word_text}
 pub use Rattle.step_debugger.specs.Commands.{command_of}
-pub use Rattle.step_debugger.specs.Lines.{Input, RefusalsStay, ends_in, input_from, input_limit, input_of, is_line_feed, is_over, with_line}
+pub use Rattle.step_debugger.specs.Lines.{Input, RefusalsStay, ends_in, input_from, input_limit, input_of, is_line_feed, is_too_long, with_line}
 pub use Rattle.step_debugger.specs.Transcript.{Debugged, Debugs, EndsAll, EndsThere, EndsWithLine, IsReadOnce, ReadsUpTo, StopsAtEnd, StopsAtLine, StopsInLine, answers, goes_on_by, lines_in, result_by, transcript, transcript_from}
 pub use Rattle.step_debugger.specs.declared.command.DebugCommand.{DebugCommand}
 pub use Rattle.step_debugger.specs.declared.error.DebugError.{DebugError}
@@ -100,7 +100,7 @@ pub use Rattle.log_commands.specs.Answering.{Answers, IsByFiles}
 pub use Rattle.log_commands.specs.Audits.{Agrees, IsAuditOf, audited, by_turns, by_verdict, roles_of, shown}
 pub use Rattle.log_commands.specs.Commands.{Either, IsByFile, IsByInput, IsByLog, by_log, check_of, interval_told, list_of, replay_found, replay_with}
 unfoldable pub use Rattle.log_commands.specs.Commands.{WithFile, ended}
-pub use Rattle.log_commands.specs.Effects.{Acts, AreKept, Call, IsByWords, IsClosed, IsFree, IsUnsaved, SomeTold, StoppedBy, Tells, World, between, call, printing_on, world}
+pub use Rattle.log_commands.specs.Effects.{Acts, AreKept, Call, IsByWords, GivesStatus, IsFree, IsUnsaved, SomeTold, StoppedBy, Tells, World, between, call, printing_on, world}
 pub use Rattle.log_commands.specs.Evaluated.{told_by}
 pub use Rattle.log_commands.specs.FileCalls.{CallsBy, CallsTo, FileCall, IsOfContent, IsOfSave, LoadsTo, LoadsUpTo, Note, SaveRefused, Saves, SavesTold, StopsAt, elf_roles, has_save, input_roles, loads_of, noted_after, record_roles, saved_in, saves_in, saves_of}
 pub use Rattle.log_commands.specs.Inputs.{Bytes, IsLoaded, input_by, limit_of, no_bytes, put}
@@ -108,7 +108,7 @@ pub use Rattle.log_commands.specs.Joined.{CanJoin, joined, joint_with}
 unfoldable pub use Rattle.log_commands.specs.Joined.{ran_told}
 pub use Rattle.log_commands.specs.Names.{FileNames, name_of, no_names}
 pub use Rattle.log_commands.specs.NewLogs.{IsBySalvage, by_salvage, renewed}
-pub use Rattle.log_commands.specs.Outside.{CauseBy, FetchTells, GivesBy, GivesOf, IsEarly, IsPrinted, KeptFiles, KeptSaved, MayChange, ProgramTells, RefusalCause, Refuses, ResultCause, SameFiles, SendStops, ToldRefusal, WithFiles, Wrote, list_in, told_of, told_of_recording}
+pub use Rattle.log_commands.specs.Outside.{CauseBy, FetchTells, GivesBy, GivesOf, IsEarly, IsPrinted, KeptFiles, KeptSaved, MayChange, ProgramTells, RefusalCause, Refuses, ResultCause, SameFiles, SendStops, ToldRefusal, WithFiles, Wrote, book_in, told_of, told_of_recording}
 pub use Rattle.log_commands.specs.Pairs.{ArePair, ByPair, HasPair, HoldsLog, IsPair, IsPairOf, LoadedPair, pair_loaded, pair_of, pair_roles, pair_same}
 pub use Rattle.log_commands.specs.RaceAnswers.{CanRace, races_in, races_listed, races_unless, races_with}
 pub use Rattle.log_commands.specs.Refusals.{joint_refusal, name_refusal, replay_status, status_of}
@@ -129,7 +129,7 @@ pub use Rattle.log_commands.specs.declared.pairs.JointReading.{JointReading}
 pub use Rattle.log_commands.specs.declared.refusal.Refusal.{Refusal}
 pub use Rattle.log_commands.specs.declared.refusal.Refusal.TheVariants.{BookRefused, ElfRefused, FileDiffers, LogRefused, Missing, OutOfMemory, OutOfRange, ProgramDiffers, ReplayStopped, SameName, TooLong, WordsRefused}
 pub use Rattle.log_commands.specs.declared.status.Status.{Status}
-pub use Rattle.bugnet.specs.Answers.{IsAnswer, IsByLine, IsGiven, IsOn, KindOf, UnlessRefused, line_roles, manner_by, manner_of, names_by, names_in, refusal_by, refusal_in, setting_refusal, words_refusal}
+pub use Rattle.bugnet.specs.Answers.{IsAnswer, IsByLine, IsGiven, IsOn, KindOf, UnlessRefused, line_roles, scheduling_by, scheduling_of, names_by, names_in, refusal_by, refusal_in, setting_refusal, words_refusal}
 pub use Rattle.bugnet.specs.Asks.{FitsLine, LineSaves}
 pub use Rattle.bugnet.specs.ClosedRuns.{IsRecordingBy, IsRecordingOf}
 pub use Rattle.bugnet.specs.Command.Record.{IsByNames, IsByProgram, IsBySettings, IsRecord, is_clash}
@@ -141,9 +141,9 @@ pub use Rattle.bugnet.specs.Jointly.{DoneJointly, HasRun, IsJoined, JoinsRun, Jo
 pub use Rattle.bugnet.specs.Laws.{AreAlike, AreOfOneList, FilesKeepToTheirSize, IsNoRecording, IsNoSession, IsReadOnly, OneAnswer, OneSession, SeedsAreWhole, book_of}
 pub use Rattle.bugnet.specs.LineAnswers.{AnswersLine}
 pub use Rattle.bugnet.specs.LineCalls.{AnswersDemo, CallsOnly, CallsSo, HasShape, IsSaved, MaySave, RefusedAfter, TellsDemo, TellsRefusal, calls_of, is_printed, is_recorded, is_replayed, line_past, needed_of, needed_roles, past_of}
-pub use Rattle.bugnet.specs.Recordings.{AreScheduled, AreTaken, IsRun, Manner, began_by, book_if, end_by, instructions_of, is_fault, is_limit, marks_of, recorded}
+pub use Rattle.bugnet.specs.Recordings.{AreScheduled, AreTaken, IsRun, Scheduling, began_by, book_if, end_by, instructions_of, is_fault, is_limit, marks_of, recorded}
 unfoldable pub use Rattle.bugnet.specs.Recordings.{told_run}
-pub use Rattle.bugnet.specs.Replies.{Does, RepliesTo, closed}
+pub use Rattle.bugnet.specs.Replies.{Does, RepliesTo, with_end}
 pub use Rattle.bugnet.specs.Run.{ByWords, ChangesFew, IsCounted, Keeps, Obeys, StoppedEarly, TellsAnswer}
 pub use Rattle.bugnet.specs.Saves.{HasElf, HasList, HoldsBytes, IsWithin, KeepsSchedule, Leaves, LeavesRun, LeavesScheduled, SameButSaved, TellsEnd}
 pub use Rattle.bugnet.specs.Sessions.{AreRead, CanDebug, Commands, EndsBy, EndsWithQuit, IsDebug, IsSession, IsUnread, NoQuit, NoneEnds, Reading, ReadsAll, ReadsOnce, SessionOver, SessionReads, debug_with, input_in, is_begun, reading, session_line, session_status, stop_status, whole_input}

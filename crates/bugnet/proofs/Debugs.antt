@@ -1,5 +1,5 @@
 -- What a session of the debugger tells, and what it shows.
-use Rattle.bugnet.proofs.Common.{◌≡◌, ◌≢◌, ◌⊎◌, ℕ, ◌+◌, Bool, true, false, nat_lt, List, [], ◌∷◌, ◌++◌, length, Option, Some, None, ◌∙◌, ap, subst, sym, refl, arith, inl, inr, Result, Ok, Err, Appends, Consumes, sha256, Head, Record, Content, Counts, Rose, Files, WhereTold, AppendsPart, ReadNote, Supply, Stream, Line, DebugLine, JointError, Replay, Joining, fresh, Recording, IsLogOf, begin, Trace, at_start, begin_at, Input, input_limit, is_line_feed, is_over, ends_in, with_line, input_from, input_of, RefusalsStay, answers, lines_in, result_by, transcript, transcript_from, Debugs, Debugged, DebugError, Ending, FileNames, status_of, joint_refusal, Told, refused, Either, joined, LoadedPair, HasPair, names_in, names_by, IsAnswer, ShowsRun, SessionsShowTheRun, session_of, DoneSession, ShowsSession, RecordingsCanBeDebugged, PrefixesCanBeDebugged, SessionIs, DebugsFiles, IsNoSession, WithFiles, SendStops, ToldRefusal, Wrote, SameFiles, IsEarly, GivesOf, RefusalCause, Call, printing_on, IsFree, SomeTold, Tells, StoppedBy, StoppedEarly, TellsAnswer, Commands, CanDebug, whole_input, input_in, IsUnread, SessionReads, SessionOver, AreRead, stop_status, session_status, session_line, session_told, debug_with, IsSession, IsDebug, is_begun, Reading, reading, ToldStop, DebugsPair, DebugsNamed, DebugsEnds, JointReading, Refusal, TooLong, Causes, caused, told-apart, appends-nothing, part-none, part-whole, with-files, refused-told, stopped-told, stopped-free, same-files, untouched, with-any, Does, Note}
+use Rattle.bugnet.proofs.Common.{◌≡◌, ◌≢◌, ◌⊎◌, ℕ, ◌+◌, Bool, true, false, nat_lt, List, [], ◌∷◌, ◌++◌, length, Option, Some, None, ◌∙◌, ap, subst, sym, refl, arith, inl, inr, Result, Ok, Err, Appends, Consumes, sha256, Head, Record, Content, Counts, Rose, Files, WhereTold, AppendsPart, ReadNote, Supply, Stream, Line, DebugLine, JointError, Replay, Joining, fresh, Recording, IsLogOf, begin, Trace, at_start, begin_at, Input, input_limit, is_line_feed, is_too_long, ends_in, with_line, input_from, input_of, RefusalsStay, answers, lines_in, result_by, transcript, transcript_from, Debugs, Debugged, DebugError, Ending, FileNames, status_of, joint_refusal, Told, refused, Either, joined, LoadedPair, HasPair, names_in, names_by, IsAnswer, ShowsRun, SessionsShowTheRun, session_of, DoneSession, ShowsSession, RecordingsCanBeDebugged, PrefixesCanBeDebugged, SessionIs, DebugsFiles, IsNoSession, WithFiles, SendStops, ToldRefusal, Wrote, SameFiles, IsEarly, GivesOf, RefusalCause, Call, printing_on, IsFree, SomeTold, Tells, StoppedBy, StoppedEarly, TellsAnswer, Commands, CanDebug, whole_input, input_in, IsUnread, SessionReads, SessionOver, AreRead, stop_status, session_status, session_line, session_told, debug_with, IsSession, IsDebug, is_begun, Reading, reading, ToldStop, DebugsPair, DebugsNamed, DebugsEnds, JointReading, Refusal, TooLong, Causes, caused, told-apart, appends-nothing, part-none, part-whole, with-files, refused-told, stopped-told, stopped-free, same-files, untouched, with-any, Does, Note}
 use Rattle.std.proofs.KnownBytes.{Consumes-nil}
 use Rattle.hart_replay.specs.declared.error.ReplayError.TheVariants as replay
 use Rattle.joint_replay.specs.declared.error.JointError.TheVariants as joint
@@ -331,7 +331,7 @@ own-refusal count line (byte ∷ bytes) e f =
     let more : Input = input_from (count + 1) (line ++ byte ∷ []) bytes in
     let read : Input = elim (is_line_feed byte) as (λ z. Input) [ true ↦ next | false ↦ more ] in
     let kept : Input = elim (nat_lt count input_limit) as (λ z. Input) [ true ↦ read | false ↦ ends_in line (Some (stop.TooMuch (count + 1))) ] in
-    fed (is_over line byte) (ends_in line (Some (stop.LineTooLong (length line + 1)))) kept e (λ g. absurd cc)
+    fed (is_too_long line byte) (ends_in line (Some (stop.LineTooLong (length line + 1)))) kept e (λ g. absurd cc)
     (fed (nat_lt count input_limit) read (ends_in line (Some (stop.TooMuch (count + 1)))) e
     (fed (is_line_feed byte) next more e (own-refusal (count + 1) [] bytes e) (own-refusal (count + 1) (line ++ byte ∷ []) bytes e)) (λ g. absurd cc)) f
 

@@ -1,5 +1,5 @@
 -- Which calls a line makes of its store.
-use Rattle.bugnet.proofs.Common.{◌≡◌, ◌≢◌, ℕ, List, [], ◌++◌, Option, Some, None, ◌∙◌, ap, subst, sym, refl, arith, true, false, Bool, inl, inr, ◌⊎◌, append_assoc, Result, Ok, Err, IfOk, is_some, option_map, Appends, append-nil, first_bad, Line, RecordLine, ReplayLine, JointLine, DebugLine, ConvertLine, SalvageLine, DemoLine, seen_recording, RecordOptions, demo_text, Outcome, Refused, interval_of, replayed, ReplayError, JointError, Replay, run_all, joint_text, Content, Program, EndMark, FileNames, no_names, names_in, names_by, manner_of, setting_refusal, refusal_in, refusal_by, IsAnswer, line_roles, replay_status, joint_refusal, IsRenewed, IsRecordedRun, IsMade, FitsLine, FileCall, Note, Saves, noted_after, loads_of, saves_of, has_save, input_roles, record_roles, elf_roles, saved_in, saves_in, IsOfContent, StopsAt, LoadsUpTo, CallsTo, LoadsTo, CallsBy, IsOfSave, SaveRefused, SavesTold, needed_roles, IsSaved, MaySave, calls_of, needed_of, is_printed, is_replayed, is_recorded, line_past, past_of, RefusedAfter, CallsSo, CallsOnly, TellsRefusal, HasShape, AnswersDemo, TellsDemo, is_clash, replay_found, ended, ran_told, joined, joint_with, IsReadOnly, IsNoSession, WithFiles, CauseBy, IsPrinted, ToldRefusal, told_of, pair_roles, end_status, Call, IsFree, SomeTold, Tells, is_begun, Told, Saved, refused, printed, printed_until, Answer, Recorded, Joined, Listed, Checked, Agreed, Renewed, Shown, RunEnd, Manner, Role, Refusal, OutOfMemory, ReplayStopped, WordsRefused, part-longer, part-whole, from, stopped-free, memory-names, memory, same-files, with-files, ends-behind, noted-append, loads-alone, Stored}
+use Rattle.bugnet.proofs.Common.{◌≡◌, ◌≢◌, ℕ, List, [], ◌++◌, Option, Some, None, ◌∙◌, ap, subst, sym, refl, arith, true, false, Bool, inl, inr, ◌⊎◌, append_assoc, Result, Ok, Err, IfOk, is_some, option_map, Appends, append-nil, first_bad, Line, RecordLine, ReplayLine, JointLine, DebugLine, ConvertLine, SalvageLine, DemoLine, seen_recording, RecordOptions, demo_text, Outcome, Refused, interval_of, replayed, ReplayError, JointError, Replay, run_all, joint_text, Content, Program, EndMark, FileNames, no_names, names_in, names_by, scheduling_of, setting_refusal, refusal_in, refusal_by, IsAnswer, line_roles, replay_status, joint_refusal, IsRenewed, IsRecordedRun, IsMade, FitsLine, FileCall, Note, Saves, noted_after, loads_of, saves_of, has_save, input_roles, record_roles, elf_roles, saved_in, saves_in, IsOfContent, StopsAt, LoadsUpTo, CallsTo, LoadsTo, CallsBy, IsOfSave, SaveRefused, SavesTold, needed_roles, IsSaved, MaySave, calls_of, needed_of, is_printed, is_replayed, is_recorded, line_past, past_of, RefusedAfter, CallsSo, CallsOnly, TellsRefusal, HasShape, AnswersDemo, TellsDemo, is_clash, replay_found, ended, ran_told, joined, joint_with, IsReadOnly, IsNoSession, WithFiles, CauseBy, IsPrinted, ToldRefusal, told_of, pair_roles, end_status, Call, IsFree, SomeTold, Tells, is_begun, Told, Saved, refused, printed, printed_until, Answer, Recorded, Joined, Listed, Checked, Agreed, Renewed, Shown, RunEnd, Scheduling, Role, Refusal, OutOfMemory, ReplayStopped, WordsRefused, part-longer, part-whole, from, stopped-free, memory-names, memory, same-files, with-files, ends-behind, noted-append, loads-alone, Stored}
 use Rattle.std.specs.Prelude.{not}
 use Rattle.hart_replay.specs.Replay as rows
 use Rattle.hart_replay.specs.declared.error.ReplayError.TheVariants as replay
@@ -59,8 +59,8 @@ mapped A B f None = refl
 mapped A B f (Some a) = refl
 
 -- and by what a recording's line asks for
-pub record-calls : (A : Type 0) (note : Note) (names : FileNames) (r : RecordOptions) (how : Manner) (has : Bool) (before after : ℕ) (result : Result A Refusal) → names ≡ names_in (RecordLine (seen_recording r))
-    → how ≡ manner_of (seen_recording r) → has ≡ is_some r.input
+pub record-calls : (A : Type 0) (note : Note) (names : FileNames) (r : RecordOptions) (how : Scheduling) (has : Bool) (before after : ℕ) (result : Result A Refusal) → names ≡ names_in (RecordLine (seen_recording r))
+    → how ≡ scheduling_of (seen_recording r) → has ≡ is_some r.input
     → CallsBy (setting_refusal (first_bad r.settings) (is_clash how.lean names.log names.book)) names (record_roles has) elf_roles note before after result
     → CallsBy (refusal_in (RecordLine (seen_recording r))) names (line_roles (RecordLine (seen_recording r))) (needed_roles (RecordLine (seen_recording r))) note before after result
 record-calls A note names r how has before after result e m input h =
@@ -68,7 +68,7 @@ record-calls A note names r how has before after result e m input h =
     let there : has ≡ is_some s.input = input ∙ sym (mapped _ _ _ r.input) in
     subst (λ (n : FileNames). CallsBy (setting_refusal (first_bad s.settings) (is_clash s.lean n.log n.book)) names (record_roles (is_some s.input)) elf_roles note before after result) e
     (subst (λ (b : Bool). CallsBy (setting_refusal (first_bad s.settings) (is_clash s.lean names.log names.book)) names (record_roles b) elf_roles note before after result) there
-    (subst (λ (x : Manner). CallsBy (setting_refusal (first_bad s.settings) (is_clash x.lean names.log names.book)) names (record_roles has) elf_roles note before after result) m h))
+    (subst (λ (x : Scheduling). CallsBy (setting_refusal (first_bad s.settings) (is_clash x.lean names.log names.book)) names (record_roles has) elf_roles note before after result) m h))
 
 -- ---- what an answer saves is what its line may save
 

@@ -1,12 +1,12 @@
 -- What a recording answers after its loads.
-use Rattle.bugnet.proofs.Common.{◌≡◌, ℕ, List, Option, Some, None, ◌∙◌, ap, subst, sym, refl, arith, Bool, inl, inr, Result, Ok, Err, IfOk, is_some, Counts, Files, Program, checked_by, first_bad, BadSetting, RawSettings, image_of, ElfError, RecordLine, seen_recording, RecordOptions, FileNames, refused, is_clash, IsByProgram, IsRecord, Manner, Schedule, names_in, manner_by, manner_of, IsGiven, setting_refusal, refusal_in, IsRecordedRun, FitsLine, HoldsBytes, HasElf, WithFiles, ProgramTells, GivesBy, CauseBy, Answer, Refusal}
+use Rattle.bugnet.proofs.Common.{◌≡◌, ℕ, List, Option, Some, None, ◌∙◌, ap, subst, sym, refl, arith, Bool, inl, inr, Result, Ok, Err, IfOk, is_some, Counts, Files, Program, checked_by, first_bad, BadSetting, RawSettings, image_of, ElfError, RecordLine, seen_recording, RecordOptions, FileNames, refused, is_clash, IsByProgram, IsRecord, Scheduling, Schedule, names_in, scheduling_by, scheduling_of, IsGiven, setting_refusal, refusal_in, IsRecordedRun, FitsLine, HoldsBytes, HasElf, WithFiles, ProgramTells, GivesBy, CauseBy, Answer, Refusal}
 use Rattle.std.specs.Prelude.{IsErrAnd}
 use Rattle.bugnet.proofs.LineCalls.{mapped}
 
 -- ---- what a recording loads
 
 -- a program that is refused ends the command
-pub program-refused : (known : Option Files) (names : FileNames) (bytes : List ℕ) (c : RawSettings) (how : Manner) (has : Bool) (digest : List ℕ) (r : Refusal) → ProgramTells bytes c (Err r)
+pub program-refused : (known : Option Files) (names : FileNames) (bytes : List ℕ) (c : RawSettings) (how : Scheduling) (has : Bool) (digest : List ℕ) (r : Refusal) → ProgramTells bytes c (Err r)
     → WithFiles known (λ files. GivesBy names (λ f. IsByProgram (image_of bytes c) f names c how has digest) files (Err r))
 program-refused None names bytes c how has digest r h = tt
 program-refused (Some files) names bytes c how has digest r (inl e) = inl (inl e)
@@ -29,13 +29,13 @@ none-bad (Some other) s x e = grind arith
 -- what a recording's line asks for that is given a schedule, or none, by the names in it
 pub record-answers : (known : Option Files) (names : FileNames) (r : RecordOptions) (o : Option Schedule) (has : Bool) (result : Result Answer Refusal) → names ≡ names_in (RecordLine (seen_recording r))
     → has ≡ is_some r.input
-    → WithFiles known (λ files. GivesBy names (λ f. IsRecord f names r.settings (manner_by (seen_recording r) o) has) files result)
+    → WithFiles known (λ files. GivesBy names (λ f. IsRecord f names r.settings (scheduling_by (seen_recording r) o) has) files result)
     → WithFiles known (λ files. GivesBy names (IsGiven (seen_recording r) o) files result)
 record-answers known names r o has result e input h =
     let s = seen_recording r in
     let there : has ≡ is_some s.input = input ∙ sym (mapped _ _ _ r.input) in
-    subst (λ (n : FileNames). WithFiles known (λ files. GivesBy names (λ f. IsRecord f n s.settings (manner_by s o) (is_some s.input)) files result)) e
-    (subst (λ (b : Bool). WithFiles known (λ files. GivesBy names (λ f. IsRecord f names s.settings (manner_by s o) b) files result)) there h)
+    subst (λ (n : FileNames). WithFiles known (λ files. GivesBy names (λ f. IsRecord f n s.settings (scheduling_by s o) (is_some s.input)) files result)) e
+    (subst (λ (b : Bool). WithFiles known (λ files. GivesBy names (λ f. IsRecord f names s.settings (scheduling_by s o) b) files result)) there h)
 
 -- a refusal gives no answer
 pub none-given : (known : Option Files) (e : Refusal) (result : Result Answer Refusal) (P : Files → Answer → Type 0) → IsErrAnd result (λ y. y ≡ e) → WithFiles known (λ files. IfOk result (P files))
@@ -44,16 +44,16 @@ none-given (Some files) e (Ok answer) P is = absurd is
 none-given (Some files) e (Err x) P is = tt
 
 -- what the words of such a line refuse, whether it is lean, and what its program file holds
-pub record-cause : (names : FileNames) (r : RecordOptions) (how : Manner) (before now : Counts) (result : Result Answer Refusal) → names ≡ names_in (RecordLine (seen_recording r))
-    → how ≡ manner_of (seen_recording r) → CauseBy (setting_refusal (first_bad r.settings) (is_clash how.lean names.log names.book)) before now result
+pub record-cause : (names : FileNames) (r : RecordOptions) (how : Scheduling) (before now : Counts) (result : Result Answer Refusal) → names ≡ names_in (RecordLine (seen_recording r))
+    → how ≡ scheduling_of (seen_recording r) → CauseBy (setting_refusal (first_bad r.settings) (is_clash how.lean names.log names.book)) before now result
     → CauseBy (refusal_in (RecordLine (seen_recording r))) before now result
 record-cause names r how before now result e m h =
     let s = seen_recording r in
     subst (λ (n : FileNames). CauseBy (setting_refusal (first_bad s.settings) (is_clash s.lean n.log n.book)) before now result) e
-    (subst (λ (x : Manner). CauseBy (setting_refusal (first_bad s.settings) (is_clash x.lean names.log names.book)) before now result) m h)
+    (subst (λ (x : Scheduling). CauseBy (setting_refusal (first_bad s.settings) (is_clash x.lean names.log names.book)) before now result) m h)
 
-pub record-lean : (r : RecordOptions) (how : Manner) (answer : Answer) → how ≡ manner_of (seen_recording r) → IsRecordedRun how.lean answer → FitsLine (RecordLine (seen_recording r)) answer
-record-lean r how answer m h = subst (λ (x : Manner). IsRecordedRun x.lean answer) m h
+pub record-lean : (r : RecordOptions) (how : Scheduling) (answer : Answer) → how ≡ scheduling_of (seen_recording r) → IsRecordedRun how.lean answer → FitsLine (RecordLine (seen_recording r)) answer
+record-lean r how answer m h = subst (λ (x : Scheduling). IsRecordedRun x.lean answer) m h
 
 pub record-bytes : (known : Option Files) (names : FileNames) (r : RecordOptions) → names ≡ names_in (RecordLine (seen_recording r))
     → WithFiles known (λ files. HoldsBytes (files names.elf)) → HasElf (RecordLine (seen_recording r)) known

@@ -1,5 +1,5 @@
 -- What a recording leaves that is given a schedule.
-use Rattle.bugnet.proofs.Common.{◌≡◌, ℕ, Option, Some, None, sym, refl, subst, Result, Ok, Err, IfOk, Stored, Files, WhereTold, Stream, Schedule, Line, RecordingLine, RecordLine, World, between, world, Tells, FileNames, Told, told_of, Answer, Refusal, Status, IsClosed, KeptFiles, WithFiles, with-files, from, tells-from, told-apart, IsRecorded, names_in, IsGiven, AnswersLine, HasElf, LeavesScheduled, LogsAreContents, SeedsAreWhole, FilesKeepToTheirSize, Note}
+use Rattle.bugnet.proofs.Common.{◌≡◌, ℕ, Option, Some, None, sym, refl, subst, Result, Ok, Err, IfOk, Stored, Files, WhereTold, Stream, Schedule, Line, RecordingLine, RecordLine, World, between, world, Tells, FileNames, Told, told_of, Answer, Refusal, Status, GivesStatus, KeptFiles, WithFiles, with-files, from, tells-from, told-apart, IsRecorded, names_in, IsGiven, AnswersLine, HasElf, LeavesScheduled, LogsAreContents, SeedsAreWhole, FilesKeepToTheirSize, Note}
 use Rattle.std.specs.Prelude.{IsSome}
 use Rattle.log_commands.specs.Acting.{with_err, ActsTo}
 use Rattle.log_commands.specs.Statuses.{code}
@@ -46,7 +46,7 @@ scheduled-seeded o line old new (Ok value) needs = by line needs
 scheduled-seeded o line old new (Err e) needs = tt
 
 -- so it is once the refusal, if there is one, is told
-pub scheduled-closed : (o : Option Schedule) (line : Option Line) (names : FileNames) (ending : Result Status Refusal) (status : ℕ) (err end : Stream) (old new : Option Files) → IsClosed names ending status err end
+pub scheduled-closed : (o : Option Schedule) (line : Option Line) (names : FileNames) (ending : Result Status Refusal) (status : ℕ) (err end : Stream) (old new : Option Files) → GivesStatus names ending status err end
     → IfOk ending (λ value. LeavesScheduled o line (code value) old new) → LeavesScheduled o line status old new
 scheduled-closed o line names (Ok value) status err end old new closed h = subst (λ (n : ℕ). LeavesScheduled o line n old new) (sym closed.0) h
 scheduled-closed o line names (Err e) status err end old new closed h =

@@ -1,5 +1,5 @@
 -- A session whose whole input isn't refused is refused at no prefix of it.
-use Rattle.bugnet.proofs.Common.{◌≡◌, ◌⊎◌, ℕ, ◌+◌, Bool, true, false, nat_lt, List, [], ◌∷◌, ◌++◌, length, Option, Some, None, ◌∙◌, ap, subst, sym, refl, inl, inr, append_assoc, Result, Ok, Err, Consumes, Program, Files, ConsumesAll, ReadNote, Stream, Supply, image_of, ElfError, Reads, Damage, Content, IsContent, saved_bytes, file_bytes2, JointError, Joining, Trace, at_start, Session, begin_at, answer, command_of, Input, input_limit, is_line_feed, is_over, ends_in, with_line, input_from, input_of, goes_on_by, answers, lines_in, result_by, transcript_from, EndsThere, EndsAll, Debugs, DebugError, Ending, joined, HoldsLog, ArePair, LoadedPair, IsFree, EndsBy, SessionOver, CanDebug, whole_input}
+use Rattle.bugnet.proofs.Common.{◌≡◌, ◌⊎◌, ℕ, ◌+◌, Bool, true, false, nat_lt, List, [], ◌∷◌, ◌++◌, length, Option, Some, None, ◌∙◌, ap, subst, sym, refl, inl, inr, append_assoc, Result, Ok, Err, Consumes, Program, Files, ConsumesAll, ReadNote, Stream, Supply, image_of, ElfError, Reads, Damage, Content, IsContent, saved_bytes, file_bytes2, JointError, Joining, Trace, at_start, Session, begin_at, answer, command_of, Input, input_limit, is_line_feed, is_too_long, ends_in, with_line, input_from, input_of, goes_on_by, answers, lines_in, result_by, transcript_from, EndsThere, EndsAll, Debugs, DebugError, Ending, joined, HoldsLog, ArePair, LoadedPair, IsFree, EndsBy, SessionOver, CanDebug, whole_input}
 use Rattle.std.proofs.Common.{append-nil}
 use Rattle.step_debugger.specs.Answers.{Answer}
 use Rattle.step_debugger.specs.declared.error.DebugError.TheVariants as stop
@@ -28,7 +28,7 @@ ComeFirst one two = (rest : List (List ℕ)) × (two.lines ≡ one.lines ++ rest
 
 refused-so : (bytes more : List ℕ) (count : ℕ) (line : List ℕ) → StaysSo (input_from count line bytes) (input_from count line (bytes ++ more))
 refused-so [] more count line e is = absurd cc
-refused-so (byte ∷ bytes) more count line e is = by (is_over line byte) (nat_lt count input_limit) (is_line_feed byte) (λ l f. refused-so bytes more (count + 1) l e f) is
+refused-so (byte ∷ bytes) more count line e is = by (is_too_long line byte) (nat_lt count input_limit) (is_line_feed byte) (λ l f. refused-so bytes more (count + 1) l e f) is
   where
     by : (over room feed : Bool) → ((l : List ℕ) → (input_from (count + 1) l bytes).refused ≡ Some e → input_from (count + 1) l (bytes ++ more) ≡ input_from (count + 1) l bytes)
         → (next count line byte over room feed bytes).refused ≡ Some e → next count line byte over room feed (bytes ++ more) ≡ next count line byte over room feed bytes
@@ -39,7 +39,7 @@ refused-so (byte ∷ bytes) more count line e is = by (is_over line byte) (nat_l
 
 lines-first : (bytes more : List ℕ) (count : ℕ) (line : List ℕ) → ComeFirst (input_from count line bytes) (input_from count line (bytes ++ more))
 lines-first [] more count line = ((input_from count line more).lines, refl)
-lines-first (byte ∷ bytes) more count line = by (is_over line byte) (nat_lt count input_limit) (is_line_feed byte) (λ l. lines-first bytes more (count + 1) l)
+lines-first (byte ∷ bytes) more count line = by (is_too_long line byte) (nat_lt count input_limit) (is_line_feed byte) (λ l. lines-first bytes more (count + 1) l)
   where
     by : (over room feed : Bool) → ((l : List ℕ) → ComeFirst (input_from (count + 1) l bytes) (input_from (count + 1) l (bytes ++ more)))
         → ComeFirst (next count line byte over room feed bytes) (next count line byte over room feed (bytes ++ more))

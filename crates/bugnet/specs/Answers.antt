@@ -15,7 +15,7 @@ use Rattle.bugnet.specs.Command.Record.{is_clash, IsRecord}
 use Rattle.log_commands.specs.Answering.{IsByFiles}
 use Rattle.log_commands.specs.Commands.{IsByLog, list_of, check_of, replay_with}
 use Rattle.log_commands.specs.FileCalls.{log_roles, origin_roles, record_roles}
-use Rattle.bugnet.specs.Recordings.{Manner}
+use Rattle.bugnet.specs.Recordings.{Scheduling}
 use Rattle.log_commands.specs.Joined.{joint_with}
 use Rattle.log_commands.specs.RaceAnswers.{races_with}
 use Rattle.log_commands.specs.SliceAnswers.{slice_with}
@@ -53,12 +53,12 @@ names_by None = no_names
 names_by (Some line) = names_in line
 
 -- how a line records that is given a schedule, or none
-abbrev pub manner_by : RecordingLine → Option Schedule → Manner
-manner_by r schedule = record { seed = r.seed; lean = r.lean; schedule = schedule }
+abbrev pub scheduling_by : RecordingLine → Option Schedule → Scheduling
+scheduling_by r schedule = record { seed = r.seed; lean = r.lean; schedule = schedule }
 
 -- how a line records, if nothing is known of its schedule
-abbrev pub manner_of : RecordingLine → Manner
-manner_of r = manner_by r None
+abbrev pub scheduling_of : RecordingLine → Scheduling
+scheduling_of r = scheduling_by r None
 
 -- a setting out of range comes before two files of one name
 abbrev pub setting_refusal : Option BadSetting → Bool → Option Refusal
@@ -118,12 +118,12 @@ IsByLine line files what = UnlessRefused (refusal_in line) (names_in line) (λ w
 
 -- what the recording of a line has to answer by the files that are there, if it is given this schedule
 abbrev pub IsGiven : RecordingLine → Option Schedule → Files → Told → Type 0
-IsGiven r schedule files what = IsRecord files (names_in (RecordLine r)) r.settings (manner_by r schedule) (is_some r.input) what
+IsGiven r schedule files what = IsRecord files (names_in (RecordLine r)) r.settings (scheduling_by r schedule) (is_some r.input) what
 
 -- what words have to answer, by the line that they say; words that say none are refused
 abbrev pub IsAnswer : Option Line → Files → Told → Type 0
 IsAnswer None files what = what ≡ refused no_names WordsRefused
-IsAnswer (Some (RecordLine r)) files what = IsRecord files (names_in (RecordLine r)) r.settings (manner_of r) (is_some r.input) what
+IsAnswer (Some (RecordLine r)) files what = IsRecord files (names_in (RecordLine r)) r.settings (scheduling_of r) (is_some r.input) what
 IsAnswer (Some (DebugLine log elf)) files what = IsDebug files (names_in (DebugLine log elf)) what
 IsAnswer (Some line) files what = IsByLine line files what
 

@@ -8,10 +8,10 @@ use Rattle.log_record.specs.Spelling.{total}
 use Rattle.run_model.specs.declared.start.Start.{Start}
 use Rattle.bus_core.specs.declared.closed.Closed.{Closed}
 use Rattle.log_commands.specs.Texts.{summary_text}
-use Rattle.bugnet.specs.Recordings.{instructions_of, end_by, Manner, IsRun}
+use Rattle.bugnet.specs.Recordings.{instructions_of, end_by, Scheduling, IsRun}
 use Rattle.log_commands.specs.RunEnds.{end_word}
 use Rattle.log_commands.specs.SaveCounts.{is_lean}
-use Rattle.log_commands.specs.Outside.{list_in, told_of_recording}
+use Rattle.log_commands.specs.Outside.{book_in, told_of_recording}
 use Rattle.log_commands.specs.declared.answer.RunToTell.{RunToTell}
 
 -- the log of the ring, the list, and the texts
@@ -20,13 +20,13 @@ pub record IsRecordingOf {B : _} (start : Start) (closed : Closed B) (book : Opt
   pub out : r.out.items ≡ closed.out.items
   pub err : r.err.items ≡ closed.err.items ++ summary_text closed.turns (instructions_of closed.ends.items) closed.ring.dropped (total closed.ring.records) (end_word (end_by closed.ends.items))
   pub log : r.log.items ≡ saved_bytes (content (record { settings = start.settings; digest = start.digest }) closed.ring.dropped closed.ring.records)
-  pub list : list_in r ≡ book
+  pub list : book_in r ≡ book
 
 -- a recording made in this manner from what a run begins with
-pub record IsRecordingBy (start : Start) (how : Manner) (r : RunToTell) : Type 0 where
+pub record IsRecordingBy (start : Start) (how : Scheduling) (r : RunToTell) : Type 0 where
   pub told : IsRun start.settings start.image start.digest how start.input.items (told_of_recording r)
   pub lean : is_lean r ≡ how.lean
 
 -- each recording that f makes from what a run begins with is one in this manner
-abbrev pub MakesRecordings : {F E : Type 0} → Once F (Bor Start × Unit {0}) (Result RunToTell E) → F → Manner → Type 0
+abbrev pub MakesRecordings : {F E : Type 0} → Once F (Bor Start × Unit {0}) (Result RunToTell E) → F → Scheduling → Type 0
 MakesRecordings make f how = (start : Start) (r : RunToTell) → FnOnceReturnsAt make f start (Ok r) → IsRecordingBy start how r

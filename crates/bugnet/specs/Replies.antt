@@ -11,7 +11,7 @@ use Rattle.bugnet.specs.Run.{Obeys}
 use Rattle.bugnet.specs.Saves.{LeavesRun}
 use Rattle.bugnet.specs.Sessions.{Reading, is_begun}
 use Rattle.log_commands.specs.Acting.{with_err}
-use Rattle.log_commands.specs.Effects.{Call, IsClosed, between}
+use Rattle.log_commands.specs.Effects.{Call, GivesStatus, between}
 use Rattle.log_commands.specs.FileCalls.{Note}
 use Rattle.log_commands.specs.Names.{FileNames}
 use Rattle.log_commands.specs.Outside.{WithFiles}
@@ -42,13 +42,13 @@ pub record Does {I : Type 0} (line : Option Line) (status : ℕ) (note : Note) (
 -- ---- before a refusal is told
 
 -- a call, once err was given more
-abbrev pub closed : Call → Stream → Call
-closed k end = between k.old (with_err k.new end)
+abbrev pub with_end : Call → Stream → Call
+with_end k end = between k.old (with_err k.new end)
 
 -- a command that reads no commands does so once its refusal, if there is one, is told
 abbrev pub RepliesTo : Line → FileNames → Note → Call → Result Status Refusal → Type 0
-RepliesTo line names note k result = (status : ℕ) (end : Stream) → IsClosed names result status k.new.err end → Replies (Some line) status note (closed k end) × (status ≢ code exit.ReadFailed)
+RepliesTo line names note k result = (status : ℕ) (end : Stream) → GivesStatus names result status k.new.err end → Replies (Some line) status note (with_end k end) × (status ≢ code exit.ReadFailed)
 
 -- the same of any command
 abbrev pub DoesTo : {I : Type 0} → Line → FileNames → Note → Reading I → Call → Result Status Refusal → Type 0
-DoesTo line names note i k result = (status : ℕ) (end : Stream) → IsClosed names result status k.new.err end → Does (Some line) status note i (closed k end)
+DoesTo line names note i k result = (status : ℕ) (end : Stream) → GivesStatus names result status k.new.err end → Does (Some line) status note i (with_end k end)

@@ -4,7 +4,7 @@ use Rattle.bn_outside.specs.Counts.{Rose}
 use Rattle.joint_replay.specs.Joining.{Joining}
 use Rattle.step_debugger.specs.Transcript.{transcript}
 use Rattle.step_debugger.specs.declared.error.DebugError.{DebugError}
-use Rattle.log_commands.specs.Effects.{Call, printing_on, SomeTold, Tells, StoppedBy, IsClosed, done_of, world, between}
+use Rattle.log_commands.specs.Effects.{Call, printing_on, SomeTold, Tells, StoppedBy, GivesStatus, done_of, world, between}
 use Rattle.log_commands.specs.FileCalls.{Note, loads_of}
 use Rattle.bn_outside.specs.Files.{Stored}
 use Rattle.log_commands.specs.Names.{FileNames}
@@ -41,7 +41,7 @@ pub record SessionEnds {I : Type 0} (names : FileNames) (j : Joining) (status : 
 
 -- whatever its line on err is, if it is refused: so it is once that is told
 abbrev pub SessionTo : {I : Type 0} → Joining → Reading I → (out printed : Stream) → Result (Unit {0}) Refusal → Type 0
-SessionTo j i out printed result = (names : FileNames) (status : ℕ) (err end : Stream) → IsClosed names (done_of result) status err end → SessionEnds names j status i out printed err end
+SessionTo j i out printed result = (names : FileNames) (status : ℕ) (err end : Stream) → GivesStatus names (done_of result) status err end → SessionEnds names j status i out printed err end
 
 -- by the names of a log and a program: commands were read, and what they make the command tell is told, or it was stopped
 -- before it had an answer
@@ -65,4 +65,4 @@ pub record DebugsEnds {I : Type 0} (names : FileNames) (status : ℕ) (note : No
 
 -- whatever its line on err is, if it is refused: so it is once that is told
 abbrev pub DebugsTo : {I : Type 0} → FileNames → Note → Reading I → (old new : Stored) → (out printed : Stream) → Result (Unit {0}) Refusal → Type 0
-DebugsTo names note i old new out printed result = (status : ℕ) (err end : Stream) → IsClosed names (done_of result) status err end → DebugsEnds names status note i (between (world old out err) (world new printed end))
+DebugsTo names note i old new out printed result = (status : ℕ) (err end : Stream) → GivesStatus names (done_of result) status err end → DebugsEnds names status note i (between (world old out err) (world new printed end))

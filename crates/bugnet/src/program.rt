@@ -6,7 +6,7 @@ ghost use Rattle.bn_outside.specs.declared.schedule.Schedule.{Schedule};
 ghost use Rattle.command_words.specs.Words.{command_in, seen, seen_recording, RecordLine};
 ghost use Rattle.std.specs.Str.{bytes_eq};
 ghost use Rattle.bugnet.specs.ClosedRuns.{IsRecordingBy, MakesRecordings};
-ghost use Rattle.bugnet.specs.Answers.{manner_by, manner_of, names_in, refusal_in, words_refusal, IsOn, KindOf, line_roles};
+ghost use Rattle.bugnet.specs.Answers.{scheduling_by, scheduling_of, names_in, refusal_in, words_refusal, IsOn, KindOf, line_roles};
 ghost use Rattle.bugnet.specs.LineAnswers.{AnswersLine};
 ghost use Rattle.bugnet.specs.Replies.{RepliesTo, Does, DoesTo};
 ghost use Rattle.log_commands.specs.Answering.{Answers};
@@ -46,7 +46,7 @@ use log_commands::commands::{audit, check, convert, joint, list, races, replay, 
 use log_commands::inputs::{Inputs, load_inputs};
 use log_commands::names::{Names, Role};
 use log_commands::refusal::Refusal;
-use log_commands::send::{close, done, refuse};
+use log_commands::send::{done, give_status, refuse};
 use log_commands::status::Status;
 use run_model::Start;
 use std::alloc::{AllocError, Global};
@@ -182,15 +182,15 @@ fn answer_loaded<S: Store>(
     alloc: Global,
     command: &Command,
     names: &Names,
-    store: &mut S,
+    files: &mut S,
 ) -> Result<Answer, Refusal>
     requires named { names.now ≡ names_in (seen command.now) }
     requires no_session { IsNoSession (Some (seen command.now)) }
     requires no_recording { IsNoRecording (Some (seen command.now)) }
     requires passes { refusal_in (seen command.now) ≡ None }
-    ensures { AnswersLine (seen command.now) names.now S.note (S.stored store.old) (S.stored store.new) result }
+    ensures { AnswersLine (seen command.now) names.now S.note (S.stored files.old) (S.stored files.new) result }
 {
-    let inputs = load_inputs(alloc, names, roles_of(command), store)?;
+    let inputs = load_inputs(alloc, names, roles_of(command), files)?;
     evaluate(alloc, command, inputs)
 }
 
@@ -200,16 +200,16 @@ fn answer_to<S: Store>(
     alloc: Global,
     command: &Command,
     names: &Names,
-    store: &mut S,
+    files: &mut S,
 ) -> Result<Answer, Refusal>
     requires named { names.now ≡ names_in (seen command.now) }
     requires no_session { IsNoSession (Some (seen command.now)) }
     requires no_recording { IsNoRecording (Some (seen command.now)) }
-    ensures { AnswersLine (seen command.now) names.now S.note (S.stored store.old) (S.stored store.new) result }
+    ensures { AnswersLine (seen command.now) names.now S.note (S.stored files.old) (S.stored files.new) result }
 {
     match refusal_of(command) {
         Some(refusal) => Err(refusal),
-        None => answer_loaded(alloc, command, names, store),
+        None => answer_loaded(alloc, command, names, files),
     }
 }
 
@@ -218,17 +218,17 @@ fn reply<S: Store, O: Sink, X: Sink>(
     alloc: Global,
     command: &Command,
     names: &Names,
-    store: &mut S,
+    files: &mut S,
     out: &mut O,
     err: &mut X,
 ) -> Result<Status, Refusal>
     requires named { names.now ≡ names_in (seen command.now) }
     requires no_session { IsNoSession (Some (seen command.now)) }
     requires no_recording { IsNoRecording (Some (seen command.now)) }
-    ensures { RepliesTo (seen command.now) names.now S.note (call S.stored O.stream X.stream store.old out.old err.old store.new out.new err.new) result }
+    ensures { RepliesTo (seen command.now) names.now S.note (call S.stored O.stream X.stream files.old out.old err.old files.new out.new err.new) result }
 {
-    let answer = answer_to(alloc, command, names, store)?;
-    act(alloc, names, &answer, store, out, err)
+    let answer = answer_to(alloc, command, names, files)?;
+    act(alloc, names, &answer, files, out, err)
 }
 
 // Does what the words of a recording ask for. Its run is what `make` gives.
@@ -236,24 +236,24 @@ fn keep_recording<S: Store, O: Sink, X: Sink, F: FnOnce(&Start) -> Result<RunToT
     alloc: Global,
     options: &RecordOptions,
     names: &Names,
-    store: &mut S,
+    files: &mut S,
     out: &mut O,
     err: &mut X,
     make: F,
 ) -> Result<Status, Refusal>
     requires named { names.now ≡ names_in (RecordLine (seen_recording options.now)) }
     requires callable { F.IsAlwaysCallable make }
-    requires made { MakesRecordings F.FnOnce make (manner_of (seen_recording options.now)) }
-    ensures does { RepliesTo (RecordLine (seen_recording options.now)) names.now S.note (call S.stored O.stream X.stream store.old out.old err.old store.new out.new err.new) result }
-    ensures given { (schedule : Option Schedule) → MakesRecordings F.FnOnce make (manner_by (seen_recording options.now) schedule)
-        → IfOk result (λ status. LeavesScheduled schedule (Some (RecordLine (seen_recording options.now))) (code status) (S.stored store.old).files (S.stored store.new).files) }
+    requires made { MakesRecordings F.FnOnce make (scheduling_of (seen_recording options.now)) }
+    ensures does { RepliesTo (RecordLine (seen_recording options.now)) names.now S.note (call S.stored O.stream X.stream files.old out.old err.old files.new out.new err.new) result }
+    ensures given { (schedule : Option Schedule) → MakesRecordings F.FnOnce make (scheduling_by (seen_recording options.now) schedule)
+        → IfOk result (λ status. LeavesScheduled schedule (Some (RecordLine (seen_recording options.now))) (code status) (S.stored files.old).files (S.stored files.new).files) }
 {
     // Laws:
     seeds_are_whole();
     files_keep_to_their_size();
     logs_are_contents();
-    let answer = record::evaluate(alloc, names, options, store, make)?;
-    act(alloc, names, &answer, store, out, err)
+    let answer = record::evaluate(alloc, names, options, files, make)?;
+    act(alloc, names, &answer, files, out, err)
 }
 
 // The options of a recording without a seed.
@@ -275,7 +275,7 @@ pub fn perform<S: Store, I: Source<O>, O: Sink, X: Sink>(
     alloc: Global,
     command: &Command,
     names: &Names,
-    store: &mut S,
+    files: &mut S,
     input: &mut I,
     out: &mut O,
     err: &mut X,
@@ -283,7 +283,7 @@ pub fn perform<S: Store, I: Source<O>, O: Sink, X: Sink>(
     requires named { names.now ≡ names_in (seen command.now) }
     requires no_threads { NeedsNoThreads (Some (seen command.now)) }
     ensures { DoesTo (seen command.now) names.now S.note (reading I.source I.note input.old input.new)
-        (call S.stored O.stream X.stream store.old out.old err.old store.new out.new err.new) result }
+        (call S.stored O.stream X.stream files.old out.old err.old files.new out.new err.new) result }
 {
     // Laws:
     readings_are_unique();
@@ -295,7 +295,7 @@ pub fn perform<S: Store, I: Source<O>, O: Sink, X: Sink>(
     refusals_stay();
     // What `debug` prints depends on what it reads meanwhile, so it has no answer that is made first.
     match command {
-        Command::Debug { .. } => done(debug_files(alloc, names, store, input, out)),
+        Command::Debug { .. } => done(debug_files(alloc, names, files, input, out)),
         Command::Record(options) => match options.seed {
             None => unreachable!(),
             Some(seed) => {
@@ -304,7 +304,7 @@ pub fn perform<S: Store, I: Source<O>, O: Sink, X: Sink>(
                     alloc,
                     options,
                     names,
-                    store,
+                    files,
                     out,
                     err,
                     |start: &Start| -> Result<RunToTell, AllocError>
@@ -313,7 +313,7 @@ pub fn perform<S: Store, I: Source<O>, O: Sink, X: Sink>(
                 )
             }
         },
-        _ => reply(alloc, command, names, store, out, err),
+        _ => reply(alloc, command, names, files, out, err),
     }
 }
 
@@ -344,7 +344,7 @@ fn keep_unseeded<S: Store, O: Sink, X: Sink, D: Given, G: Gate, R: Threads + Wai
     alloc: Global,
     options: &RecordOptions,
     names: &Names,
-    store: &mut S,
+    files: &mut S,
     out: &mut O,
     err: &mut X,
     gate: &G,
@@ -352,15 +352,15 @@ fn keep_unseeded<S: Store, O: Sink, X: Sink, D: Given, G: Gate, R: Threads + Wai
 ) -> Result<Status, Refusal>
     requires named { names.now ≡ names_in (RecordLine (seen_recording options.now)) }
     requires unseeded { options.now.seed ≡ None }
-    ensures does { RepliesTo (RecordLine (seen_recording options.now)) names.now S.note (call S.stored O.stream X.stream store.old out.old err.old store.new out.new err.new) result }
-    ensures given { IfOk result (λ status. LeavesScheduled (D.given given.now) (Some (RecordLine (seen_recording options.now))) (code status) (S.stored store.old).files (S.stored store.new).files) }
+    ensures does { RepliesTo (RecordLine (seen_recording options.now)) names.now S.note (call S.stored O.stream X.stream files.old out.old err.old files.new out.new err.new) result }
+    ensures given { IfOk result (λ status. LeavesScheduled (D.given given.now) (Some (RecordLine (seen_recording options.now))) (code status) (S.stored files.old).files (S.stored files.new).files) }
 {
     let lean = options.lean;
     keep_recording(
         alloc,
         options,
         names,
-        store,
+        files,
         out,
         err,
         |start: &Start| -> Result<RunToTell, AllocError>
@@ -375,7 +375,7 @@ fn attempt<S: Store, I: Source<O>, O: Sink, X: Sink, G: Gate, R: Threads + Wait 
     alloc: Global,
     command: &Command,
     names: &Names,
-    store: &mut S,
+    files: &mut S,
     input: &mut I,
     out: &mut O,
     err: &mut X,
@@ -384,12 +384,12 @@ fn attempt<S: Store, I: Source<O>, O: Sink, X: Sink, G: Gate, R: Threads + Wait 
 ) -> Result<Status, Refusal>
     requires { names.now ≡ names_in (seen command.now) }
     ensures does { DoesTo (seen command.now) names.now S.note (reading I.source I.note input.old input.new)
-        (call S.stored O.stream X.stream store.old out.old err.old store.new out.new err.new) result }
-    ensures given { IfOk result (λ status. LeavesScheduled schedule.entry (Some (seen command.now)) (code status) (S.stored store.old).files (S.stored store.new).files) }
+        (call S.stored O.stream X.stream files.old out.old err.old files.new out.new err.new) result }
+    ensures given { IfOk result (λ status. LeavesScheduled schedule.entry (Some (seen command.now)) (code status) (S.stored files.old).files (S.stored files.new).files) }
 {
     match unseeded(command) {
-        Some(options) => keep_unseeded(rt, alloc, options, names, store, out, err, gate, &schedule),
-        None => perform(alloc, command, names, store, input, out, err),
+        Some(options) => keep_unseeded(rt, alloc, options, names, files, out, err, gate, &schedule),
+        None => perform(alloc, command, names, files, input, out, err),
     }
 }
 
@@ -408,7 +408,7 @@ fn obey<S: Store, I: Source<O>, O: Sink, X: Sink, G: Gate, R: Threads + Wait + S
     rt: &R,
     alloc: Global,
     words: &[String],
-    store: &mut S,
+    files: &mut S,
     input: &mut I,
     out: &mut O,
     err: &mut X,
@@ -416,17 +416,17 @@ fn obey<S: Store, I: Source<O>, O: Sink, X: Sink, G: Gate, R: Threads + Wait + S
     schedule: Option<Schedule>,
 ) -> Status
     ensures does { Does (command_in words.now) (code result) S.note (reading I.source I.note input.old input.new)
-        (call S.stored O.stream X.stream store.old out.old err.old store.new out.new err.new) }
-    ensures given { LeavesScheduled schedule.entry (command_in words.now) (code result) (S.stored store.old).files (S.stored store.new).files }
+        (call S.stored O.stream X.stream files.old out.old err.old files.new out.new err.new) }
+    ensures given { LeavesScheduled schedule.entry (command_in words.now) (code result) (S.stored files.old).files (S.stored files.new).files }
 {
     match read_words(alloc, words) {
         Err(error) => refuse(alloc, &Names::none(), &words_refusal(error), err),
         Ok(command) => {
             let names = names_of(&command);
             let ending = attempt(
-                rt, alloc, &command, &names, store, input, out, err, gate, schedule,
+                rt, alloc, &command, &names, files, input, out, err, gate, schedule,
             );
-            close(alloc, &names, ending, err)
+            give_status(alloc, &names, ending, err)
         }
     }
 }
@@ -489,7 +489,7 @@ pub fn run<S: Store, I: Source<O>, O: Sink, X: Sink, G: Gate, R: Threads + Wait 
     rt: &R,
     alloc: Global,
     words: &[String],
-    store: &mut S,
+    files: &mut S,
     input: &mut I,
     out: &mut O,
     err: &mut X,
@@ -499,56 +499,56 @@ pub fn run<S: Store, I: Source<O>, O: Sink, X: Sink, G: Gate, R: Threads + Wait 
     // If the store's files are known, they and the words determine the status, the texts and the files
     // that are left. A recording without a seed has one more input: its list of turns. By any store the
     // words alone say whether the status is 2.
-    ensures told { TellsAnswer (command_in words.now) result (call S.stored O.stream X.stream store.old out.old err.old store.new out.new err.new) }
-    ensures words { ByWords (command_in words.now) result (call S.stored O.stream X.stream store.old out.old err.old store.new out.new err.new) }
+    ensures told { TellsAnswer (command_in words.now) result (call S.stored O.stream X.stream files.old out.old err.old files.new out.new err.new) }
+    ensures words { ByWords (command_in words.now) result (call S.stored O.stream X.stream files.old out.old err.old files.new out.new err.new) }
 
     // The log of a recording gives the recorded run: the replay of an interval from it prints that run's
     // own rows. A program file of more than 2 ^ 26 bytes is too long, also for a recording.
-    ensures headline { WithFiles (S.stored store.old).files (λ files. PrintsRun (command_in words.now) files result (O.stream out.old).text (O.stream out.new).text) }
+    ensures headline { WithFiles (S.stored files.old).files (λ files. PrintsRun (command_in words.now) files result (O.stream out.old).text (O.stream out.new).text) }
 
     // Its joint replay says the run: it keeps the recorded order of conflicting accesses, and prints each
     // hart's own rows, and words that the run had in memory.
-    ensures jointly { WithFiles (S.stored store.old).files (λ files. PrintsJointly (command_in words.now) files result (O.stream out.old).text (O.stream out.new).text) }
+    ensures jointly { WithFiles (S.stored files.old).files (λ files. PrintsJointly (command_in words.now) files result (O.stream out.old).text (O.stream out.new).text) }
 
     // If the words and the files are as the command needs them, it is done, unless it runs out of memory,
     // or the store or a write fails.
-    ensures done { WithFiles (S.stored store.old).files (λ files. IsDone (command_in words.now) files result) }
+    ensures done { WithFiles (S.stored files.old).files (λ files. IsDone (command_in words.now) files result) }
 
     // What was to be saved is saved, LOG before BOOK. Whatever happens, only a recording, `convert` and
     // `salvage` change files, and of these only LOG and BOOK, or NEW. If nothing was to be saved, as at a
     // replay, all stay as they were. Until LOG is saved BOOK does.
-    ensures kept { Keeps (command_in words.now) result (S.stored store.old).files (S.stored store.new).files }
-    ensures others { ChangesFew (command_in words.now) (S.stored store.old).files (S.stored store.new).files }
-    ensures still { IsReadOnly (command_in words.now) → (S.stored store.new).files ≡ (S.stored store.old).files }
+    ensures kept { Keeps (command_in words.now) result (S.stored files.old).files (S.stored files.new).files }
+    ensures others { ChangesFew (command_in words.now) (S.stored files.old).files (S.stored files.new).files }
+    ensures still { IsReadOnly (command_in words.now) → (S.stored files.new).files ≡ (S.stored files.old).files }
 
     // A recording that is done has saved each of its two files once, a lean one its log once, as have
     // `convert` and `salvage` NEW. A refused one has saved at most so often, and no other command saves.
-    ensures saves { LineSaves (command_in words.now) result (S.stored store.old).saves (S.stored store.new).saves }
+    ensures saves { LineSaves (command_in words.now) result (S.stored files.old).saves (S.stored files.new).saves }
 
     // It makes the calls of its words, in their order, and no other. Whatever its status, even out of memory, each
     // save has the bytes of an answer to the files that are there. If the store refuses a call, that is the last,
     // nothing is printed, and err has the line of that call's file. A recording that is done has made them all;
     // words that are refused make none.
-    ensures calls { CallsOnly (command_in words.now) result S.note (call S.stored O.stream X.stream store.old out.old err.old store.new out.new err.new) }
+    ensures calls { CallsOnly (command_in words.now) result S.note (call S.stored O.stream X.stream files.old out.old err.old files.new out.new err.new) }
 
     // By any store a command that isn't done is refused, unless memory ran out or a write failed. Then
     // nothing is printed, and err has the line of a refusal of this status. But what `replay`, `joint` and
     // `debug` print may end with 15, if a replay that was begun stops. That of `debug` may end too when it
     // can read no more commands. `demo` tells its text.
-    ensures shape { HasShape (command_in words.now) result (call S.stored O.stream X.stream store.old out.old err.old store.new out.new err.new) }
-    ensures demo { TellsDemo (command_in words.now) result (call S.stored O.stream X.stream store.old out.old err.old store.new out.new err.new) }
+    ensures shape { HasShape (command_in words.now) result (call S.stored O.stream X.stream files.old out.old err.old files.new out.new err.new) }
+    ensures demo { TellsDemo (command_in words.now) result (call S.stored O.stream X.stream files.old out.old err.old files.new out.new err.new) }
 
     // A recording leaves under LOG the file of the run of a legal and finished list of turns: with a seed
     // of the list that it chooses. The file has the version of the settings' format. Its records have at
     // most log-size bytes. The file has 124 bytes more in version 1; in version 2 it has 136 more, and 48
     // for each block. The status says how that run ended. BOOK has the list; only a lean recording leaves
     // BOOK as it was.
-    ensures recorded { LeavesRun (command_in words.now) result (S.stored store.old).files (S.stored store.new).files }
+    ensures recorded { LeavesRun (command_in words.now) result (S.stored files.old).files (S.stored files.new).files }
 
     // Without a seed that list is the schedule's, if one was given, also if there is one hart. A number's is what it
     // draws; a list is followed as far as it is legal, and then seed 0 chooses. So one that is legal and finished is
     // BOOK's own. Of a lean recording it is the list whose run's file LOG is.
-    ensures scheduled { LeavesScheduled schedule.entry (command_in words.now) result (S.stored store.old).files (S.stored store.new).files }
+    ensures scheduled { LeavesScheduled schedule.entry (command_in words.now) result (S.stored files.old).files (S.stored files.new).files }
 
     // Only `debug` reads commands, and only once its files are loaded and tested. What they make it tell is
     // told: the text of its session, up to a read that failed, a line or commands that are too long, or a
@@ -558,22 +558,22 @@ pub fn run<S: Store, I: Source<O>, O: Sink, X: Sink, G: Gate, R: Threads + Wait 
     // whole lines read so far, and nothing else. A session that isn't stopped by its whole input is stopped
     // at no prefix of it. If the log is a recording's, all that it shows is the run's, and no replay is
     // refused.
-    ensures session { Debugs (command_in words.now) result (reading I.source I.note input.old input.new) (call S.stored O.stream X.stream store.old out.old err.old store.new out.new err.new) }
+    ensures session { Debugs (command_in words.now) result (reading I.source I.note input.old input.new) (call S.stored O.stream X.stream files.old out.old err.old files.new out.new err.new) }
     ensures first { (is_begun result ≡ true) ⊎ (input.new ≡ input.old) }
-    ensures begins { (input.new ≡ input.old) ⊎ WithFiles (S.stored store.old).files (λ files. CanBegin (command_in words.now) files) }
+    ensures begins { (input.new ≡ input.old) ⊎ WithFiles (S.stored files.old).files (λ files. CanBegin (command_in words.now) files) }
     ensures unread { IsNoSession (command_in words.now) → input.new ≡ input.old }
 
     // If an audit is done, LOG is the file of the run of BOOK's turns, or that file in version 2. They are
     // legal and finished, with settings in range, the program and the input.
-    ensures audited { WithFiles (S.stored store.old).files (λ files. AuditsRun (command_in words.now) files result) }
+    ensures audited { WithFiles (S.stored files.old).files (λ files. AuditsRun (command_in words.now) files result) }
 
     // A refusal by the outside comes only if its count rose, and no count falls.
-    ensures failed { result ≡ 3 → Rose (S.stored store.old).counts.faults (S.stored store.new).counts.faults }
-    ensures missing { result ≡ 4 → Rose (S.stored store.old).counts.misses (S.stored store.new).counts.misses }
-    ensures long { result ≡ 5 → Rose (S.stored store.old).counts.longs (S.stored store.new).counts.longs }
+    ensures failed { result ≡ 3 → Rose (S.stored files.old).counts.faults (S.stored files.new).counts.faults }
+    ensures missing { result ≡ 4 → Rose (S.stored files.old).counts.misses (S.stored files.new).counts.misses }
+    ensures long { result ≡ 5 → Rose (S.stored files.old).counts.longs (S.stored files.new).counts.longs }
     ensures read { result ≡ 12 → Rose (I.source input.old).faults (I.source input.new).faults }
     ensures write { result ≡ 13 → Rose (O.stream out.old).faults (O.stream out.new).faults ⊎ Rose (X.stream err.old).faults (X.stream err.new).faults }
-    ensures later { NoneFell (S.stored store.old).counts (S.stored store.new).counts }
+    ensures later { NoneFell (S.stored files.old).counts (S.stored files.new).counts }
     ensures out_later { (O.stream out.old).faults ≤ (O.stream out.new).faults }
     ensures err_later { (X.stream err.old).faults ≤ (X.stream err.new).faults }
     ensures read_later { (I.source input.old).faults ≤ (I.source input.new).faults }
@@ -583,5 +583,5 @@ pub fn run<S: Store, I: Source<O>, O: Sink, X: Sink, G: Gate, R: Threads + Wait 
     one_answer();
     each_can_be_done();
     audits_agree();
-    obey(rt, alloc, words, store, input, out, err, gate, schedule).code()
+    obey(rt, alloc, words, files, input, out, err, gate, schedule).code()
 }

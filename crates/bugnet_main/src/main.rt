@@ -18,8 +18,8 @@ fn main(rt: HostRuntime) -> ExitCode {
     let Ok(words) = words_of(&rt) else {
         return ExitCode::from(tell_out_of_memory(&mut err).code());
     };
-    let mut store = FileStore::new(&rt);
-    let turns = match turns_of(&rt, rt.alloc(), &words, &mut store, &mut err) {
+    let mut files = FileStore::new(&rt);
+    let turns = match turns_of(&rt, rt.alloc(), &words, &mut files, &mut err) {
         Ok(turns) => turns,
         Err(status) => return ExitCode::from(status.code()),
     };
@@ -29,7 +29,7 @@ fn main(rt: HostRuntime) -> ExitCode {
         &rt,
         rt.alloc(),
         &words,
-        &mut store,
+        &mut files,
         &mut input,
         &mut out,
         &mut err,

@@ -119,11 +119,11 @@ fn harts_in(alloc: Global, words: &[String]) -> Result<Option<u8>, WordsError>
 fn listed<S: Store, X: Sink>(
     alloc: Global,
     name: &str,
-    store: &mut S,
+    files: &mut S,
     err: &mut X,
 ) -> Result<Turns, Status>
-    ensures files { (S.stored store.new).files ≡ (S.stored store.old).files }
-    ensures saves { (S.stored store.new).saves ≡ (S.stored store.old).saves }
+    ensures still { (S.stored files.new).files ≡ (S.stored files.old).files }
+    ensures saves { (S.stored files.new).saves ≡ (S.stored files.old).saves }
 {
     let names = Names {
         elf: "",
@@ -132,7 +132,7 @@ fn listed<S: Store, X: Sink>(
         input: "",
         origin: "",
     };
-    match fetch(alloc, &names, Role::Book, store) {
+    match fetch(alloc, &names, Role::Book, files) {
         Ok(list) => Ok(Turns::Listed(list)),
         Err(refusal) => Err(refuse(alloc, &names, &refusal, err)),
     }
@@ -149,11 +149,11 @@ fn named<S: Store, X: Sink>(
     alloc: Global,
     text: &str,
     harts: u8,
-    store: &mut S,
+    files: &mut S,
     err: &mut X,
 ) -> Result<Turns, Status>
-    ensures files { (S.stored store.new).files ≡ (S.stored store.old).files }
-    ensures saves { (S.stored store.new).saves ≡ (S.stored store.old).saves }
+    ensures still { (S.stored files.new).files ≡ (S.stored files.old).files }
+    ensures saves { (S.stored files.new).saves ≡ (S.stored files.old).saves }
 {
     let Some(said) = said_by(text) else {
         return Err(tell_refused(err));
@@ -163,7 +163,7 @@ fn named<S: Store, X: Sink>(
     }
     match said {
         Said::Drawn { manner, number } => Ok(Turns::Drawn { manner, number }),
-        Said::Book(name) => listed(alloc, name, store, err),
+        Said::Book(name) => listed(alloc, name, files, err),
     }
 }
 
@@ -172,18 +172,18 @@ fn turns_for<R: Env + AllocGlobal, S: Store, X: Sink>(
     rt: &R,
     alloc: Global,
     harts: u8,
-    store: &mut S,
+    files: &mut S,
     err: &mut X,
 ) -> Result<Turns, Status>
-    ensures files { (S.stored store.new).files ≡ (S.stored store.old).files }
-    ensures saves { (S.stored store.new).saves ≡ (S.stored store.old).saves }
+    ensures still { (S.stored files.new).files ≡ (S.stored files.old).files }
+    ensures saves { (S.stored files.new).saves ≡ (S.stored files.old).saves }
 {
     match env::var(rt, "ZELKUMA_SCHEDULE") {
         Ok(text) => {
             if text.is_empty() {
                 return Ok(Turns::OfThreads);
             }
-            named(alloc, text.as_str(), harts, store, err)
+            named(alloc, text.as_str(), harts, files, err)
         }
         Err(VarError::NotPresent) => Ok(Turns::OfThreads),
         Err(VarError::NotUnicode) => Err(tell_refused(err)),
@@ -199,15 +199,15 @@ pub fn turns_of<R: Env + AllocGlobal, S: Store, X: Sink>(
     rt: &R,
     alloc: Global,
     words: &[String],
-    store: &mut S,
+    files: &mut S,
     err: &mut X,
 ) -> Result<Turns, Status>
-    ensures unasked { (AskForTurns (command_in words.now) → ⊥) → (store.new ≡ store.old) × IsUnasked result }
-    ensures files { (S.stored store.new).files ≡ (S.stored store.old).files }
-    ensures saves { (S.stored store.new).saves ≡ (S.stored store.old).saves }
+    ensures unasked { (AskForTurns (command_in words.now) → ⊥) → (files.new ≡ files.old) × IsUnasked result }
+    ensures still { (S.stored files.new).files ≡ (S.stored files.old).files }
+    ensures saves { (S.stored files.new).saves ≡ (S.stored files.old).saves }
 {
     match harts_in(alloc, words) {
-        Ok(Some(harts)) => turns_for(rt, alloc, harts, store, err),
+        Ok(Some(harts)) => turns_for(rt, alloc, harts, files, err),
         Ok(None) => Ok(Turns::OfThreads),
         Err(_) => Err(tell_out_of_memory(err)),
     }

@@ -9,7 +9,7 @@ use Rattle.log_order.specs.Order.{broken_by}
 use Rattle.log_ring.specs.Kept.{Held, HoldsLog}
 use Rattle.bn_outside.specs.declared.turn_row.TurnRow.{TurnRow}
 use Rattle.run_model.specs.Turn.{Run}
-use Rattle.run_model.specs.Runs.{is_over}
+use Rattle.run_model.specs.Runs.{has_finished}
 use Rattle.run_laws.specs.History.{after_rows, are_orderly}
 use Rattle.file_laws.specs.Recorded.{counts_of, KeepsRules, HoldsLogOfRows}
 use Rattle.file_laws.specs.Laws.{RingsKeepTheRules, LogsOfRowsAreContents}
@@ -46,16 +46,16 @@ thirty_two : length a_digest ≡ 32
 thirty_two = refl
 
 pub order_is : LogsOfRowsAreContents → (s : Seen) (rows : List TurnRow) (ring : Held) → IsSetting s.began.settings → IsLogged s ring rows → ring.size ≡ s.began.settings.log_size → AllByRecursion (Fits 2) ring.records
-    → (not s.halted && not s.disordered && is_over s.began.settings (run_after s.began s.halted rows)) ≡ true → broken_by s.began.settings ring.dropped ring.records ≡ None
+    → (not s.halted && not s.disordered && has_finished s.began.settings (run_after s.began s.halted rows)) ≡ true → broken_by s.began.settings ring.dropped ring.records ≡ None
 order_is law s rows ring setting l size fit whole =
     let b = s.began in
-    let end = ended_of s.halted s.disordered (is_over b.settings (run_after b s.halted rows)) whole in
+    let end = ended_of s.halted s.disordered (has_finished b.settings (run_after b s.halted rows)) whole in
     let same = ap (λ (x : Bool). run_after b x rows) end.0 in
     let holds : HoldsLogOfRows b.settings b.image b.input rows ring = record {
       setting = setting;
       lawful = l.told.lawful;
       orderly = orderly_if s.disordered (are_orderly b.settings b.image (first_run b) rows) l.told.orderly end.1;
-      over = subst (λ (r : Run). is_over b.settings r ≡ true) same end.2;
+      over = subst (λ (r : Run). has_finished b.settings r ≡ true) same end.2;
       log = subst (λ (r : Run). HoldsLog ring r.stream) same l.log;
       size = size;
       fit = fit;

@@ -6,7 +6,7 @@ ghost use Rattle.log_record.specs.Spelling.{Fits};
 ghost use Rattle.log_order.specs.Order.{broken_by};
 ghost use Rattle.log_ring.specs.Kept.{HoldsLog};
 ghost use Rattle.run_model.specs.Represents.Harts.{hart_in};
-ghost use Rattle.run_model.specs.Runs.{is_over, most_turns};
+ghost use Rattle.run_model.specs.Runs.{has_finished, most_turns};
 ghost use Rattle.run_model.specs.Runs as runs;
 ghost use Rattle.run_model.specs.Turn.{Run, budget, halted, is_orderly};
 ghost use Rattle.bn_outside.specs.declared.turn_row.TurnRow.{TurnRow};
@@ -154,7 +154,7 @@ impl<B: Book> Bus<B> {
         ensures err { (run : Run) → IsState self run → result.err.items ≡ run.machine.err }
         ensures ends { (run : Run) → IsState self run → result.ends.items ≡ marks 0 self.began.settings.harts run.harts }
         ensures turns { result.turns ≡ self.turns }
-        ensures finished { (run : Run) → IsState self run → result.finished ≡ (not self.halted && not self.disordered && is_over self.began.settings run) }
+        ensures finished { (run : Run) → IsState self run → result.finished ≡ (not self.halted && not self.disordered && has_finished self.began.settings run) }
         ensures book { B.told result.book ≡ self.rows }
         ensures order { result.finished ≡ true → broken_by self.began.settings result.ring.dropped result.ring.records ≡ None }
         ensures last_marks { AreLastMarks result.ring.records result.ends.items }

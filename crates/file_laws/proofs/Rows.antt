@@ -13,7 +13,7 @@ use Rattle.bn_outside.specs.declared.turn_row.TurnRow.{TurnRow}
 use Rattle.log_record.specs.declared.record.Record.{Record}
 use Rattle.log_order.specs.declared.view.OrderLimits.{OrderLimits}
 use Rattle.log_order.specs.declared.view.HartView.{HartView}
-use Rattle.log_order.specs.Rules.{fresh, is_over}
+use Rattle.log_order.specs.Rules.{fresh, is_done}
 use Rattle.log_order.specs.Order.{after_all, order_limits_of, late_edge, broken, broken_by}
 use Rattle.log_order.specs.Suffix.{Keeps, IsEarly, EndsLast}
 use Rattle.log_order.specs.Weak.{AreWeak}
@@ -95,7 +95,7 @@ abbrev pub KeptKeepRules : Type 0
 KeptKeepRules = (t : OrderLimits) (count dropped : ℕ) (kept : List Record) (harts : List HartView) → Keeps t count dropped kept harts → (weaker : List HartView) × (after_all t 0 (replicate count (fresh (dropped == 0))) kept ≡ Ok weaker) × AreWeak weaker harts
 
 abbrev pub KeptAreInOrder : Type 0
-KeptAreInOrder = (t : OrderLimits) (count dropped : ℕ) (kept : List Record) (harts : List HartView) → Keeps t count dropped kept harts → AllByRecursion (λ v. is_over v.phase ≡ true) harts → late_edge harts 0 kept ≡ None → broken t count (dropped == 0) kept ≡ None
+KeptAreInOrder = (t : OrderLimits) (count dropped : ℕ) (kept : List Record) (harts : List HartView) → Keeps t count dropped kept harts → AllByRecursion (λ v. is_done v.phase ≡ true) harts → late_edge harts 0 kept ≡ None → broken t count (dropped == 0) kept ≡ None
 
 abbrev pub EarlyAreNotLate : Type 0
 EarlyAreNotLate = (counts : ℕ → ℕ) (harts : List HartView) (start : ℕ) (rs : List Record) → EndsLast counts harts → AllByRecursion (IsEarly counts) rs → late_edge harts start rs ≡ None
@@ -169,7 +169,7 @@ over_known false e = refl
 same_view : (v w : HartView) (o : Option HartView) → o ≡ Some v → o ≡ Some w → v ≡ w
 same_view v w o e f = let g : ◌≡◌ {A = Option HartView} (Some v) (Some w) = sym e ∙ f in cc
 
-all_over : (vs : Views) → ((j : ℕ) (v : HartView) → slice_get vs j ≡ Some v → is_over v.phase ≡ true) → AllByRecursion (λ v. is_over v.phase ≡ true) vs
+all_over : (vs : Views) → ((j : ℕ) (v : HartView) → slice_get vs j ≡ Some v → is_done v.phase ≡ true) → AllByRecursion (λ v. is_done v.phase ≡ true) vs
 all_over [] each = tt
 all_over (v ∷ vs) each = (each 0 v refl, all_over vs (λ j w e. each (suc j) w e))
 
@@ -180,7 +180,7 @@ get_within (y ∷ xs) (suc j) x e = omega (arith, get_within xs j x e)
 
 -- the view of a hart that isn't live
 record Ended (ic : ℕ) (v : HartView) : Type 0 where
-  over : is_over v.phase ≡ true
+  over : is_done v.phase ≡ true
   last : v.last ≡ Some ic
 
 ended_at : (c : RawSettings) (run : Run) (known : Recording c run) → any_live c.harts run.harts ≡ false → (j : ℕ) (v : HartView) → slice_get known.views j ≡ Some v → Ended (counts_of run j) v
@@ -195,7 +195,7 @@ ends_last c run known none s v last e l =
     let g : ◌≡◌ {A = Option ℕ} (Some (counts_of run s)) (Some last) = sym end ∙ l in
     let same : counts_of run s ≡ last = cc in omega (arith, same)
 
-pub kept_in_order : SuffixIsKept → FirstAreGivenUp → KeptAreInOrder → EarlyAreNotLate → (c : RawSettings) (run : Run) → Recording c run → runs.is_over c run ≡ true → broken_by c (dropped_of c run) (kept_of c run) ≡ None
+pub kept_in_order : SuffixIsKept → FirstAreGivenUp → KeptAreInOrder → EarlyAreNotLate → (c : RawSettings) (run : Run) → Recording c run → runs.has_finished c run ≡ true → broken_by c (dropped_of c run) (kept_of c run) ≡ None
 kept_in_order suffix given order early c run known over =
     let none = over_known (any_live c.harts run.harts) over in
     let w = written c run known in
@@ -204,7 +204,7 @@ kept_in_order suffix given order early c run known over =
     (early (counts_of run) known.views 0 (kept_of c run) (ends_last c run known none) (kept_early suffix c run w))
 
 -- so are all records, if none is dropped
-pub stream_in_order : KeptAreInOrder → EarlyAreNotLate → (c : RawSettings) (run : Run) → Recording c run → runs.is_over c run ≡ true → broken_by c 0 run.stream ≡ None
+pub stream_in_order : KeptAreInOrder → EarlyAreNotLate → (c : RawSettings) (run : Run) → Recording c run → runs.has_finished c run ≡ true → broken_by c 0 run.stream ≡ None
 stream_in_order order early c run known over =
     let none = over_known (any_live c.harts run.harts) over in
     let w = written c run known in

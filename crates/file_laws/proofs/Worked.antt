@@ -7,13 +7,13 @@ use Rattle.elf_loader.specs.Loaded as loaded
 use Rattle.elf_loader.specs.Loaded.{header_refusal, segment_refusal, refusal, image_of}
 use Rattle.elf_loader.specs.Segments.{segments, file_words}
 use Rattle.bn_base.specs.Ranges.{IsSetting, default_settings}
-use Rattle.log_order.specs.Order.{step, after_all, late_edge, ended, broken, order_break, broken_by}
+use Rattle.log_order.specs.Order.{step, after_all, late_edge, end_break, broken, order_break, broken_by}
 use Rattle.log_order.specs.Rules.{after_header}
 use Rattle.log_ring.specs.Kept.{kept}
 use Rattle.run_laws.specs.History.{are_orderly, IsLawful}
 use Rattle.run_model.specs.Examples.{an_exit, program_of}
 use Rattle.run_model.specs.KeptRecords.{kept_of, dropped_of}
-use Rattle.run_model.specs.Runs.{is_over}
+use Rattle.run_model.specs.Runs.{has_finished}
 use Rattle.run_model.specs.Turn.{serve}
 use Rattle.file_laws.specs.Given.{IsRecording}
 use Rattle.file_laws.specs.Examples.{file_of_words, an_exit_begun, a_stray_store, after_a_stray_store}
@@ -74,10 +74,10 @@ stray_is_lawful = (refl, refl, refl, tt)
 pub stray_is_not_orderly : are_orderly an_exit.settings (program_of an_exit) an_exit_begun (a_stray_store ∷ []) ≡ false
 stray_is_not_orderly = refl
 
-pub stray_is_over : is_over an_exit.settings after_a_stray_store ≡ true
+pub stray_is_over : has_finished an_exit.settings after_a_stray_store ≡ true
 unfolding serve
 stray_is_over = refl
 
 pub stray_is_broken : broken_by an_exit.settings (dropped_of an_exit.settings after_a_stray_store) (kept_of an_exit.settings after_a_stray_store) ≡ Some (order_break 146 6)
-unfolding serve kept number_bytes step after_all late_edge ended broken after_header
+unfolding serve kept number_bytes step after_all late_edge end_break broken after_header
 stray_is_broken = refl

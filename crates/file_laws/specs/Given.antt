@@ -5,7 +5,7 @@ use Rattle.bn_base.specs.Ranges.{IsSetting}
 use Rattle.bn_base.specs.declared.settings.RawSettings.{RawSettings}
 use Rattle.le_numbers.specs.Numbers.{AreBytes}
 use Rattle.elf_loader.specs.Loaded.{image_of}
-use Rattle.run_model.specs.Runs.{start, run_of, legal_from, is_over}
+use Rattle.run_model.specs.Runs.{start, run_of, legal_from, has_finished}
 
 -- A recording: settings in range, the bytes of a program file, the program that is loaded from them, and a list of turns
 -- that is legal and finished. (Definitions have no type of bytes, so that items are below 256 is said here.)
@@ -14,4 +14,4 @@ pub record IsRecording (c : RawSettings) (i : Program) (elf input b : List ℕ) 
   pub bytes : AreBytes elf
   pub loaded : image_of elf c ≡ Ok i
   pub legal : legal_from c i (start c i input) b ≡ true
-  pub over : is_over c (run_of c i input b) ≡ true
+  pub over : has_finished c (run_of c i input b) ≡ true

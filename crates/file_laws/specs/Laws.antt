@@ -17,7 +17,7 @@ use Rattle.log_blocks.specs.Readings.{Reads}
 use Rattle.hart_replay.specs.Replay.{Interval, interval_of, replayed}
 use Rattle.hart_replay.specs.Replay.{Done}
 use Rattle.run_model.specs.Rows.{rows_in}
-use Rattle.run_model.specs.Runs.{start, run_of, is_over}
+use Rattle.run_model.specs.Runs.{start, run_of, has_finished}
 use Rattle.run_files.specs.Files.{file_of}
 use Rattle.run_model.specs.KeptRecords.{kept_of, dropped_of, content_of, IsEndOf}
 use Rattle.run_laws.specs.History.{after_rows, are_orderly, IsLawful}
@@ -37,7 +37,7 @@ RingsKeepTheRules = (c : RawSettings) (i : Program) (input : List ℕ) (rows : L
 -- After lawful rows of orderly asks that leave no hart live, they keep all rules
 abbrev pub FinishedLogsAreInOrder : Type 0
 FinishedLogsAreInOrder = (c : RawSettings) (i : Program) (input : List ℕ) (rows : List TurnRow) → IsSetting c → IsLawful c i (start c i input) rows
-    → are_orderly c i (start c i input) rows ≡ true → let run = after_rows c i (start c i input) rows in is_over c run ≡ true
+    → are_orderly c i (start c i input) rows ≡ true → let run = after_rows c i (start c i input) rows in has_finished c run ≡ true
     → broken_by c (dropped_of c run) (kept_of c run) ≡ None
 
 -- What is kept of a recording is what a log can say

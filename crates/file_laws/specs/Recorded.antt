@@ -14,7 +14,7 @@ use Rattle.log_order.specs.Rules.{fresh}
 use Rattle.log_order.specs.Suffix.{IsEarly}
 use Rattle.log_order.specs.Content.{Content, content}
 use Rattle.run_model.specs.Turn.{Run}
-use Rattle.run_model.specs.Runs.{start, is_over}
+use Rattle.run_model.specs.Runs.{start, has_finished}
 use Rattle.run_laws.specs.History.{after_rows, are_orderly, IsLawful}
 
 -- how many instructions each hart has done
@@ -34,7 +34,7 @@ pub record HoldsLogOfRows (c : RawSettings) (i : Program) (input : List ℕ) (ro
   pub setting : IsSetting c
   pub lawful : IsLawful c i (start c i input) rows
   pub orderly : are_orderly c i (start c i input) rows ≡ true
-  pub over : is_over c (after_rows c i (start c i input) rows) ≡ true
+  pub over : has_finished c (after_rows c i (start c i input) rows) ≡ true
   pub log : HoldsLog ring (after_rows c i (start c i input) rows).stream
   pub size : ring.size ≡ c.log_size
   pub fit : AllByRecursion (Fits 2) ring.records

@@ -4,7 +4,7 @@ ghost use Rattle.log_order.specs.Order.{order_break, broken_by};
 ghost use Rattle.run_laws.specs.History.{are_orderly, IsLawful};
 ghost use Rattle.run_model.specs.Examples.{an_exit, program_of};
 ghost use Rattle.run_model.specs.KeptRecords.{kept_of, dropped_of};
-ghost use Rattle.run_model.specs.Runs.{is_over};
+ghost use Rattle.run_model.specs.Runs.{has_finished};
 ghost use Rattle.file_laws.specs.Given.{IsRecording};
 ghost use Rattle.file_laws.specs.Examples.{file_of_words, an_exit_begun, a_stray_store, after_a_stray_store};
 
@@ -21,6 +21,6 @@ pub fn an_exit_is_a_recording()
 pub fn a_stray_store_leaves_a_header()
     ensures lawful { IsLawful an_exit.settings (program_of an_exit) an_exit_begun (a_stray_store ∷ []) }
     ensures orderly { are_orderly an_exit.settings (program_of an_exit) an_exit_begun (a_stray_store ∷ []) ≡ false }
-    ensures over { is_over an_exit.settings after_a_stray_store ≡ true }
+    ensures over { has_finished an_exit.settings after_a_stray_store ≡ true }
     ensures broken { broken_by an_exit.settings (dropped_of an_exit.settings after_a_stray_store) (kept_of an_exit.settings after_a_stray_store) ≡ Some (order_break 146 6) }
 {}

@@ -17,8 +17,8 @@ use Rattle.rv_meaning.specs.declared.asks.Reply.TheVariants as replies
 use Rattle.rv_meaning.specs.Rows.{row_of, call_row, fault_row}
 use Rattle.hart_replay.specs.declared.error.ReplayError.TheVariants.{EndDiffers, ScMissing}
 use Rattle.hart_replay.specs.Replay.{Outcome, Refused, Replayed, Interval, Position, Next, On, Stop, missing, after_ask, after_sc, ask_step, one_step, found, call_reason, steps, finish, onto, left_over, fault_end, ended, first, interval_from, Logged, puts, nothing, interval_of, replayed_in}
-use Rattle.hart_replay.specs.Codes.{CodeOf}
-use Rattle.hart_replay.specs.Coming.{after_row, reply_in, with_rows, without_rows, to_come, over, Replaying, Begins, a_word_comes}
+use Rattle.hart_replay.specs.DecodeCaches.{CacheOf}
+use Rattle.hart_replay.specs.Coming.{after_row, reply_in, with_rows, without_rows, to_come, outcome_only, Replaying, Begins, a_word_comes}
 use Rattle.hart_replay.specs.Sides.{Side, Goes, interval_at, position_at, later, side, side_to_come, left_by, KeepsWord, Does}
 use Rattle.std.specs.Prelude.{Result, Ok, Err, drop, ◌⊎◌}
 use Rattle.std.proofs.Common.{inl, inr}
@@ -275,7 +275,7 @@ SamePlan o n = (n.image ≡ o.image) × (n.hart ≡ o.hart) × (n.mark ≡ o.mar
 
 same_to_come : (o n : IntervalCursor) → SamePlan o n → side_to_come o.image.now o.hart o.mark n.state n.called (side_of n) ≡ cursor_to_come n
 same_to_come o n same =
-    let i : n.image.now ≡ o.image.now = ap (λ (b : CodeOf). b.now) same.0 in
+    let i : n.image.now ≡ o.image.now = ap (λ (b : CacheOf). b.now) same.0 in
     sym (ap (λ (x : Program). side_to_come x n.hart n.mark n.state n.called (side_of n)) i
     ∙ ap (λ (x : ℕ). side_to_come o.image.now x n.mark n.state n.called (side_of n)) same.1
     ∙ ap (λ (x : EndMark). side_to_come o.image.now o.hart x n.state n.called (side_of n)) same.2)
@@ -289,20 +289,20 @@ stepped_on o n ended now row view none lt fits does same =
     subst (λ (r : Replaying). (r.left ≡ with_rows (row ∷ []) (left_by ended (cursor_to_come n))) × (n.state ≡ after_row r.program r.state row) × (n.image.now ≡ r.program) × (n.mark ≡ r.mark)) view (
       ap (λ (x : Option (Result (Unit {0}) ReplayError)). left_by x (cursor_to_come o)) none ∙ gone ∙ sym (ap (λ (x : Option (Result (Unit {0}) ReplayError)). with_rows (row ∷ []) (left_by x (cursor_to_come n))) none),
       state_after o.image.now o.hart o.mark o.state o.called (side_of o) row n.state n.called (side_of n) does.0,
-      ap (λ (b : CodeOf). b.now) same.0,
+      ap (λ (b : CacheOf). b.now) same.0,
       same.2,
     )
 
 -- it was refused
 pub stepped_out : (o n : IntervalCursor) (ended : Option (Result (Unit {0}) ReplayError)) (now : Replaying) (e : ReplayError) (row : Row) → seen_as o ended ≡ now → ended ≡ None → o.state.ic < o.mark.ic
     → Does (side_of o) (one_step o.image.now o.hart (interval_at o.state o.mark (side_of o)) (position_at o.state o.called (side_of o))) o.state (Err e) row n.state n.called (side_of n) → SamePlan o n
-    → ((now.left ≡ over (Refused e)) ⊎ (e ≡ OutOfMemory)) × (◌≡◌ {A = Replaying} (record { program = n.image.now; mark = n.mark; state = n.state; left = over (Refused e) }) (record { program = now.program; mark = now.mark; state = now.state; left = over (Refused e) }))
-    × ((now.left ≡ over (Refused e)) ⊎ (a_word_comes now.left.rows ≡ true))
+    → ((now.left ≡ outcome_only (Refused e)) ⊎ (e ≡ OutOfMemory)) × (◌≡◌ {A = Replaying} (record { program = n.image.now; mark = n.mark; state = n.state; left = outcome_only (Refused e) }) (record { program = now.program; mark = now.mark; state = now.state; left = outcome_only (Refused e) }))
+    × ((now.left ≡ outcome_only (Refused e)) ⊎ (a_word_comes now.left.rows ≡ true))
 stepped_out o n ended now e row view none lt does same =
-    subst (λ (r : Replaying). ((r.left ≡ over (Refused e)) ⊎ (e ≡ OutOfMemory)) × (◌≡◌ {A = Replaying} (record { program = n.image.now; mark = n.mark; state = n.state; left = over (Refused e) }) (record { program = r.program; mark = r.mark; state = r.state; left = over (Refused e) })) × ((r.left ≡ over (Refused e)) ⊎ (a_word_comes r.left.rows ≡ true))) view (
+    subst (λ (r : Replaying). ((r.left ≡ outcome_only (Refused e)) ⊎ (e ≡ OutOfMemory)) × (◌≡◌ {A = Replaying} (record { program = n.image.now; mark = n.mark; state = n.state; left = outcome_only (Refused e) }) (record { program = r.program; mark = r.mark; state = r.state; left = outcome_only (Refused e) })) × ((r.left ≡ outcome_only (Refused e)) ⊎ (a_word_comes r.left.rows ≡ true))) view (
       by_answer does.0,
-      ap (λ (b : CodeOf). record { program = b.now; mark = n.mark; state = n.state; left = over (Refused e) }) same.0 ∙ ap (λ (m : EndMark). record { program = o.image.now; mark = m; state = n.state; left = over (Refused e) }) same.2
-          ∙ ap (λ (s : HartState). record { program = o.image.now; mark = o.mark; state = s; left = over (Refused e) }) does.1,
+      ap (λ (b : CacheOf). record { program = b.now; mark = n.mark; state = n.state; left = outcome_only (Refused e) }) same.0 ∙ ap (λ (m : EndMark). record { program = o.image.now; mark = m; state = n.state; left = outcome_only (Refused e) }) same.2
+          ∙ ap (λ (s : HartState). record { program = o.image.now; mark = o.mark; state = s; left = outcome_only (Refused e) }) does.1,
       by_row does.0,
     )
   where
@@ -312,11 +312,11 @@ stepped_out o n ended now e row view none lt does same =
     all : left_by ended (cursor_to_come o) ≡ cursor_to_come o
     all = ap (λ (x : Option (Result (Unit {0}) ReplayError)). left_by x (cursor_to_come o)) none
 
-    by_answer : (next ≡ Stop (Refused e)) ⊎ ((e ≡ OutOfMemory) × KeepsWord next) → (left_by ended (cursor_to_come o) ≡ over (Refused e)) ⊎ (e ≡ OutOfMemory)
+    by_answer : (next ≡ Stop (Refused e)) ⊎ ((e ≡ OutOfMemory) × KeepsWord next) → (left_by ended (cursor_to_come o) ≡ outcome_only (Refused e)) ⊎ (e ≡ OutOfMemory)
     by_answer (inl a) = inl (all ∙ stopped o.image.now o.hart o.mark o.state o.called (side_of o) (Refused e) lt a)
     by_answer (inr a) = inr a.0
 
-    by_row : (next ≡ Stop (Refused e)) ⊎ ((e ≡ OutOfMemory) × KeepsWord next) → (left_by ended (cursor_to_come o) ≡ over (Refused e)) ⊎ (a_word_comes (left_by ended (cursor_to_come o)).rows ≡ true)
+    by_row : (next ≡ Stop (Refused e)) ⊎ ((e ≡ OutOfMemory) × KeepsWord next) → (left_by ended (cursor_to_come o) ≡ outcome_only (Refused e)) ⊎ (a_word_comes (left_by ended (cursor_to_come o)).rows ≡ true)
     by_row (inl a) = inl (all ∙ stopped o.image.now o.hart o.mark o.state o.called (side_of o) (Refused e) lt a)
     by_row (inr a) = inr (ap (λ (x : Replayed). a_word_comes x.rows) all ∙ kept_first o.image.now o.hart o.mark o.state o.called (side_of o) lt a.1)
 

@@ -75,8 +75,8 @@ pub record Replaying : Type 0 where
   pub left : Replayed
 
 -- nothing is left but the outcome
-abbrev pub over : Outcome → Replayed
-over o = record { rows = []; outcome = o }
+abbrev pub outcome_only : Outcome → Replayed
+outcome_only o = record { rows = []; outcome = o }
 
 -- what a step gives that writes its row, or another answer, to a place of the caller
 abbrev pub given : {A : Type 0} → Result Bool ReplayError → A → Result (Option A) ReplayError
@@ -105,6 +105,6 @@ a_word_comes (r ∷ rs) = tells_word r
 -- what a step does: it gives the first row that is left, or none if the replay is done, or the outcome. It may run
 -- out of memory instead, but only if the first row that is left tells a word
 abbrev pub Stepped : Replaying → Result (Option Row) ReplayError → Replaying → Type 0
-Stepped old (Ok None) new = (old.left ≡ over Done) × (new ≡ old)
+Stepped old (Ok None) new = (old.left ≡ outcome_only Done) × (new ≡ old)
 Stepped old (Ok (Some row)) new = (old.left ≡ with_rows (row ∷ []) new.left) × (new.state ≡ after_row old.program old.state row) × (new.program ≡ old.program) × (new.mark ≡ old.mark)
-Stepped old (Err e) new = ((old.left ≡ over (Refused e)) ⊎ (e ≡ OutOfMemory)) × (new ≡ record old { left = over (Refused e) }) × ((old.left ≡ over (Refused e)) ⊎ (a_word_comes old.left.rows ≡ true))
+Stepped old (Err e) new = ((old.left ≡ outcome_only (Refused e)) ⊎ (e ≡ OutOfMemory)) × (new ≡ record old { left = outcome_only (Refused e) }) × ((old.left ≡ outcome_only (Refused e)) ⊎ (a_word_comes old.left.rows ≡ true))

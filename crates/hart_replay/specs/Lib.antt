@@ -1,7 +1,7 @@
 pub mod Replay
 pub mod Pages
 pub mod Directories
-pub mod Codes
+pub mod DecodeCaches
 pub mod Scans
 pub mod Coming
 pub mod Sides

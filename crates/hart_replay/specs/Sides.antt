@@ -17,7 +17,7 @@ use Rattle.hart_replay.specs.declared.error.ReplayError.TheVariants.{OutOfMemory
 use Rattle.hart_replay.specs.Replay.{Outcome, Done, Refused, Replayed, Interval, Position, Next, On, Stop, logged, taken_from, slot, or_else}
 use Rattle.hart_replay.specs.Scans.{Pending, due}
 use Rattle.hart_replay.specs.Pages.{Frame, word_at}
-use Rattle.hart_replay.specs.Coming.{over, to_come, a_word_comes}
+use Rattle.hart_replay.specs.Coming.{outcome_only, to_come, a_word_comes}
 
 -- the log's part, with how much of it is met, and the rows
 pub record Side : Type 0 where
@@ -86,7 +86,7 @@ outcome_of (Err e) = Refused e
 -- what is left, if the replay may be over
 abbrev pub left_by : Option (Result (Unit {0}) ReplayError) → Replayed → Replayed
 left_by None x = x
-left_by (Some r) x = over (outcome_of r)
+left_by (Some r) x = outcome_only (outcome_of r)
 
 -- the row that was written, if one was
 abbrev pub rows_if : Bool → Row → List Row

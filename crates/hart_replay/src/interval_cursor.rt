@@ -13,7 +13,7 @@ ghost use Rattle.hart_replay.specs.Sides.{IsSystem, call_reg, call_answer, fault
 ghost use Rattle.hart_replay.specs.Cursors.{CursorDoes, DoneAndKept, answered, next_asked, next_of, replied_row, replied, left_of, end_of};
 ghost use Rattle.hart_replay.specs.Scans.{met, IsWaiting};
 
-use crate::code::Code;
+use crate::decode_cache::DecodeCache;
 use crate::error::ReplayError;
 use crate::pending::{Conditionals, Loads};
 use crate::rows::write_row;
@@ -31,7 +31,7 @@ use std::alloc::AllocError;
 /// call that ends the interval.
 #[derive(Drop)]
 pub(crate) struct IntervalCursor<'a> {
-    pub(crate) image: Code<'a>,
+    pub(crate) image: DecodeCache<'a>,
     pub(crate) hart: HartId,
     pub(crate) mark: EndMark,
     pub(crate) state: HartState,

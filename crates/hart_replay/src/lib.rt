@@ -4,7 +4,7 @@
 //! Files that no `pub` below names may change with this crate's proofs alone.
 #![tactic(auto)]
 
-mod code;
+mod decode_cache;
 mod directory;
 pub mod error;
 pub mod header;

@@ -4,7 +4,7 @@ ghost use Rattle.hart_replay.specs.declared.error.ReplayError.TheVariants.{NoInt
 ghost use Rattle.hart_replay.specs.Replay.{interval_of};
 ghost use Rattle.hart_replay.specs.Coming.{Begins, Stepped, given};
 
-use crate::code::Code;
+use crate::decode_cache::DecodeCache;
 use crate::error::ReplayError;
 use crate::header::find;
 use crate::interval_cursor::IntervalCursor;
@@ -74,7 +74,7 @@ impl<'a> Replayer<'a> {
             None => Err(ReplayError::NoInterval { hart, interval }),
             Some(start) => Ok(Replayer {
                 cursor: IntervalCursor {
-                    image: Code::new(alloc, image),
+                    image: DecodeCache::new(alloc, image),
                     hart: start.hart,
                     // The End is looked for once, here, and what it says is kept.
                     mark: next_mark(start.hart, records, start.next),

@@ -18,31 +18,31 @@ use std::test::Fail;
 use std::{env, fs, io, process};
 
 // A load through the bound, which tells of the bytes that they are these.
-fn loads<S: Store>(alloc: Global, store: &mut S, name: &str, limit: usize, bytes: &[u8]) -> bool {
-    match store.load(alloc, name, limit) {
+fn loads<S: Store>(alloc: Global, files: &mut S, name: &str, limit: usize, bytes: &[u8]) -> bool {
+    match files.load(alloc, name, limit) {
         Ok(found) => found.as_slice() == bytes,
         Err(_) => false,
     }
 }
 
 // Why a load through the bound gives no bytes.
-fn refusal<S: Store>(alloc: Global, store: &mut S, name: &str, limit: usize) -> Option<LoadError> {
-    store.load(alloc, name, limit).err()
+fn refusal<S: Store>(alloc: Global, files: &mut S, name: &str, limit: usize) -> Option<LoadError> {
+    files.load(alloc, name, limit).err()
 }
 
 // Whether these bytes are saved, and loaded if the limit is their length, but not with a lower one.
-fn is_kept<S: Store>(alloc: Global, store: &mut S, name: &str, bytes: &[u8]) -> bool
+fn is_kept<S: Store>(alloc: Global, files: &mut S, name: &str, bytes: &[u8]) -> bool
     requires { 0 < length bytes.now }
 {
-    store.save(name, bytes) == Ok(())
-        && loads(alloc, store, name, bytes.len(), bytes)
-        && refusal(alloc, store, name, bytes.len() - 1) == Some(LoadError::TooLong)
+    files.save(name, bytes) == Ok(())
+        && loads(alloc, files, name, bytes.len(), bytes)
+        && refusal(alloc, files, name, bytes.len() - 1) == Some(LoadError::TooLong)
 }
 
 // Whether what is a folder is neither loaded nor saved.
-fn is_refused<S: Store>(alloc: Global, store: &mut S, folder: &str) -> bool {
-    refusal(alloc, store, folder, 4) == Some(LoadError::Failed)
-        && store.save(folder, b"text") == Err(SaveError::Failed)
+fn is_refused<S: Store>(alloc: Global, files: &mut S, folder: &str) -> bool {
+    refusal(alloc, files, folder, 4) == Some(LoadError::Failed)
+        && files.save(folder, b"text") == Err(SaveError::Failed)
 }
 
 // The name of a file of this process in a folder.
@@ -59,11 +59,11 @@ fn replaced<R: Files + RandomSource + AllocGlobal>(
     folder: &str,
 ) -> [bool; 5] {
     let longer = FileStore::new(rt).save(name, b"a longer text") == Ok(());
-    let mut store = FileStore::new(rt);
-    let kept = is_kept(alloc, &mut store, name, b"text");
+    let mut files = FileStore::new(rt);
+    let kept = is_kept(alloc, &mut files, name, b"text");
     let removed = fs::remove_file(rt, name).is_ok();
-    let missing = refusal(alloc, &mut store, name, 4) == Some(LoadError::Missing);
-    let refused = is_refused(alloc, &mut store, folder);
+    let missing = refusal(alloc, &mut files, name, 4) == Some(LoadError::Missing);
+    let refused = is_refused(alloc, &mut files, folder);
     [longer, kept, removed, missing, refused]
 }
 
@@ -90,8 +90,8 @@ fn kept_and_removed<R: Files + RandomSource + AllocGlobal>(
 ) -> bool
     requires { 0 < length bytes.now }
 {
-    let mut store = FileStore::new(rt);
-    let kept = is_kept(alloc, &mut store, name, bytes);
+    let mut files = FileStore::new(rt);
+    let kept = is_kept(alloc, &mut files, name, bytes);
     fs::remove_file(rt, name).is_ok() && kept
 }
 
@@ -133,11 +133,11 @@ fn is_spared<R: Files + RandomSource + AllocGlobal>(
     let alloc = rt.alloc();
     let name = format!(in alloc; "{folder}/FILE")?;
     let spelled = format!(in alloc; "{folder}/{spelling}")?;
-    let mut store = FileStore::new(rt);
+    let mut files = FileStore::new(rt);
     Ok(
-        loads(alloc, &mut store, name.as_str(), 6, b"loaded")
-            && store.save(spelled.as_str(), b"saved") == Err(SaveError::Failed)
-            && loads(alloc, &mut store, name.as_str(), 6, b"loaded"),
+        loads(alloc, &mut files, name.as_str(), 6, b"loaded")
+            && files.save(spelled.as_str(), b"saved") == Err(SaveError::Failed)
+            && loads(alloc, &mut files, name.as_str(), 6, b"loaded"),
     )
 }
 
@@ -163,9 +163,9 @@ fn others_are_saved<R: Files + RandomSource + AllocGlobal>(
     let alloc = rt.alloc();
     let name = format!(in alloc; "{folder}/FILE")?;
     let other = format!(in alloc; "{folder}/OTHER")?;
-    let mut store = FileStore::new(rt);
-    let loaded = loads(alloc, &mut store, name.as_str(), 6, b"loaded");
-    let saved = is_kept(alloc, &mut store, other.as_str(), b"saved");
+    let mut files = FileStore::new(rt);
+    let loaded = loads(alloc, &mut files, name.as_str(), 6, b"loaded");
+    let saved = is_kept(alloc, &mut files, other.as_str(), b"saved");
     let anew = FileStore::new(rt).save(name.as_str(), b"anew") == Ok(());
     Ok([loaded, saved, anew])
 }
@@ -197,11 +197,11 @@ fn is_saved_once<R: Files + RandomSource + AllocGlobal>(
     let alloc = rt.alloc();
     let name = format!(in alloc; "{folder}/FILE")?;
     let spelled = format!(in alloc; "{folder}/{spelling}")?;
-    let mut store = FileStore::new(rt);
+    let mut files = FileStore::new(rt);
     Ok(
-        store.save(name.as_str(), b"first") == Ok(())
-            && store.save(spelled.as_str(), b"second") == Err(SaveError::Failed)
-            && loads(alloc, &mut store, name.as_str(), 5, b"first"),
+        files.save(name.as_str(), b"first") == Ok(())
+            && files.save(spelled.as_str(), b"second") == Err(SaveError::Failed)
+            && loads(alloc, &mut files, name.as_str(), 5, b"first"),
     )
 }
 
@@ -356,8 +356,8 @@ fn saved_by<R: Files>(rt: &R, alloc: Global, name: &str) -> u32 {
         },
         alloc,
     );
-    let mut store = FileStore::new(&host);
-    if store.save(name, b"new") == Ok(()) {
+    let mut files = FileStore::new(&host);
+    if files.save(name, b"new") == Ok(()) {
         host.0.mode.get() & 0o7777
     } else {
         0
@@ -376,14 +376,14 @@ fn replaced_alone<R: Files + RandomSource + AllocGlobal>(
     let victim = format!(in alloc; "{folder}/VICTIM")?;
     let left = format!(in alloc; "{folder}/.zelkuma-save-0000000000000001")?;
     let made = saved_by(rt, alloc, soft.as_str());
-    let mut store = FileStore::new(rt);
+    let mut files = FileStore::new(rt);
     Ok([
         made == 0o600,
         is_link(rt, soft.as_str()),
-        loads(alloc, &mut store, file.as_str(), 3, b"new"),
+        loads(alloc, &mut files, file.as_str(), 3, b"new"),
         mode_of(rt, file.as_str()) == 0o644,
-        refusal(alloc, &mut store, victim.as_str(), 3) == Some(LoadError::Missing),
-        refusal(alloc, &mut store, left.as_str(), 3) == Some(LoadError::Missing),
+        refusal(alloc, &mut files, victim.as_str(), 3) == Some(LoadError::Missing),
+        refusal(alloc, &mut files, left.as_str(), 3) == Some(LoadError::Missing),
     ])
 }
 
@@ -395,10 +395,10 @@ fn taken_meanwhile<R: Files + RandomSource + AllocGlobal>(
     let alloc = rt.alloc();
     let first = format!(in alloc; "{folder}/FIRST")?;
     let made = saved_by(rt, alloc, first.as_str());
-    let mut store = FileStore::new(rt);
+    let mut files = FileStore::new(rt);
     Ok([
         made == 0o600,
-        loads(alloc, &mut store, first.as_str(), 3, b"new"),
+        loads(alloc, &mut files, first.as_str(), 3, b"new"),
     ])
 }
 
@@ -426,10 +426,10 @@ fn stream_is_saved<R: Files + RandomSource + AllocGlobal>(
     alloc: Global,
     name: &str,
 ) -> bool {
-    let mut store = FileStore::new(rt);
-    loads(alloc, &mut store, name, 0, b"")
-        && store.save(name, b"text") == Ok(())
-        && store.save(name, b"more") == Ok(())
+    let mut files = FileStore::new(rt);
+    loads(alloc, &mut files, name, 0, b"")
+        && files.save(name, b"text") == Ok(())
+        && files.save(name, b"more") == Ok(())
 }
 
 #[test]

@@ -13,7 +13,7 @@ use Rattle.log_order.specs.declared.view.HartView.{HartView}
 use Rattle.log_order.specs.declared.view.Phase.TheVariants.{Unknown}
 use Rattle.log_order.specs.declared.walk.OrderBreak.{OrderBreak}
 use Rattle.log_order.specs.Rules.{is_number, is_unfinished, fresh as fresh_view}
-use Rattle.log_order.specs.Order.{step, after_all, ended, broken, broken_in, order_limits_of, order_break}
+use Rattle.log_order.specs.Order.{step, after_all, end_break, broken, broken_in, order_limits_of, order_break}
 use Rattle.hart_replay.specs.Replay.{Interval, interval_of, interval_from, puts, nothing, replayed}
 use Rattle.joint_replay.specs.Points.{intervals_in, first_count, is_below, points_below}
 use Rattle.joint_replay.specs.Lanes.{Cursor, Lane, with_cursor, cursors_of, lane_of}
@@ -197,8 +197,8 @@ not_any p (x ∷ xs) (suc h) w e f = not_any p xs h w (or_right (p x) (list_any 
     or_right true b e = cc
     or_right false b e = e
 
-all_ended : (all : Bool) (ends : List HartView) (rs : List Record) → ended all ends rs ≡ None → list_any (is_unfinished all) ends ≡ false
-unfolding ended
+all_ended : (all : Bool) (ends : List HartView) (rs : List Record) → end_break all ends rs ≡ None → list_any (is_unfinished all) ends ≡ false
+unfolding end_break
 all_ended all ends rs e = by _ (list_any (is_unfinished all) ends) e
   where
     by : (x : Option OrderBreak) (b : Bool) → (if b then Some (order_break (total rs) 6) else x) ≡ None → b ≡ false

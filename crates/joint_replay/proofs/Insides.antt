@@ -10,7 +10,7 @@ use Rattle.log_order.specs.declared.view.OrderLimits.{OrderLimits}
 use Rattle.log_order.specs.declared.view.HartView.{HartView}
 use Rattle.log_order.specs.declared.view.Phase.{Phase}
 use Rattle.log_order.specs.declared.view.Phase.TheVariants.{Unknown, Awaiting, Open, Done}
-use Rattle.log_order.specs.Rules.{takes_header, takes_other, is_awaited, is_number, has_edge, has_end, goes_on, phase_after, after_one, is_over, is_unfinished}
+use Rattle.log_order.specs.Rules.{takes_header, takes_other, is_awaited, is_number, has_edge, has_end, goes_on, phase_after, after_one, is_done, is_unfinished}
 use Rattle.hart_replay.specs.Replay.{puts, nothing, Logged}
 use Rattle.joint_replay.specs.Sound.{HasEdge}
 use Rattle.joint_replay.specs.Shape.{Span, mark_of, spans, AreSpans, Fits, is_known}
@@ -112,7 +112,7 @@ module _ (t : OrderLimits) (all : Bool) (h : ℕ) (w : HartView) (over : is_unfi
     pub seen : HasSeen v.phase v.seen (mark_of h rs) (spans h rs)
     pub inside : (ic s j : ℕ) → HasEdge rs h ic s j → IsInside v.phase (mark_of h rs) (spans h rs) ic
 
-  at_nothing : (p : Phase) (seen : ℕ) (met : Bool) → (is_known p ≡ true → (all || met) ≡ true) → ((all || met) && not (is_over p)) ≡ false → HasSeen p seen (mark_of h []) []
+  at_nothing : (p : Phase) (seen : ℕ) (met : Bool) → (is_known p ≡ true → (all || met) ≡ true) → ((all || met) && not (is_done p)) ≡ false → HasSeen p seen (mark_of h []) []
   at_nothing Unknown seen met k e = tt
   at_nothing (Awaiting next begin) seen met k e = tt
   at_nothing (Open next since) seen met k e = absurd (unfinished (all || met) (k refl) e)

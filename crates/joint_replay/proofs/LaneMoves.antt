@@ -7,7 +7,7 @@ use Rattle.log_record.specs.declared.record.Record.{Record}
 use Rattle.hart_replay.specs.declared.error.ReplayError.{ReplayError}
 use Rattle.hart_replay.specs.declared.error.ReplayError.TheVariants.{OutOfMemory}
 use Rattle.hart_replay.specs.Replay.{Outcome, Done, Refused, Replayed}
-use Rattle.hart_replay.specs.Coming.{after_row, with_rows, over}
+use Rattle.hart_replay.specs.Coming.{after_row, with_rows, outcome_only}
 use Rattle.joint_replay.specs.declared.intervals.Retained.{Retained}
 use Rattle.joint_replay.specs.declared.lane.Did.{Did}
 use Rattle.joint_replay.specs.declared.lane.Moved.TheVariants as to
@@ -91,7 +91,7 @@ module _ (i : Program) (records : List Record) (h : ℕ) (later : List Retained)
   -- ---- a refusal
 
   -- what a step refuses is left to be told
-  refusal_left : (c : Cursor) (cs : List Cursor) (r : ReplayError) → cursor_step i c cs ≡ Err r → c.left ≡ over (Refused r)
+  refusal_left : (c : Cursor) (cs : List Cursor) (r : ReplayError) → cursor_step i c cs ≡ Err r → c.left ≡ outcome_only (Refused r)
   refusal_left c cs r e = by c.left.rows c.left.outcome e
     where
       same : (a b : ReplayError) → ◌≡◌ {A = Result (Item × Lane) ReplayError} (Err a) (Err b) → a ≡ b
@@ -100,10 +100,10 @@ module _ (i : Program) (records : List Record) (h : ℕ) (later : List Retained)
       with_left : Replayed → Cursor
       with_left x = record { number = c.number; mark = c.mark; state = c.state; left = x; faulted = c.faulted }
 
-      by : (rows : List Row) (o : Outcome) → cursor_step i (with_left (record { rows = rows; outcome = o })) cs ≡ Err r → ◌≡◌ {A = Replayed} (record { rows = rows; outcome = o }) (over (Refused r))
+      by : (rows : List Row) (o : Outcome) → cursor_step i (with_left (record { rows = rows; outcome = o })) cs ≡ Err r → ◌≡◌ {A = Replayed} (record { rows = rows; outcome = o }) (outcome_only (Refused r))
       by (row ∷ rs) o g = absurd cc
       by [] Done g = absurd cc
-      by [] (Refused a) g = ap (λ (y : ReplayError). over (Refused y)) (same a r g)
+      by [] (Refused a) g = ap (λ (y : ReplayError). outcome_only (Refused y)) (same a r g)
 
   -- a hart is refused a step as its interval is
   pub refuses : (old new : List ℕ) (cursor after : Running) (e : ReplayError) → old ≡ [] → new ≡ [] → CursorSteps cursor (Err e) after
@@ -125,7 +125,7 @@ module _ (i : Program) (records : List Record) (h : ℕ) (later : List Retained)
           given : Some (cursor_step i cursor.cursor cs) ≡ Some (Err r) → cursor_step i cursor.cursor cs ≡ Err r
           given g = cc
 
-      by : ((cursor.cursor.left ≡ over (Refused e)) × (after.cursor ≡ cursor.cursor)) ⊎ ((e ≡ OutOfMemory) × (bare_cursor after.cursor ≡ bare_cursor cursor.cursor) × CursorUnrefused cursor.cursor)
+      by : ((cursor.cursor.left ≡ outcome_only (Refused e)) × (after.cursor ≡ cursor.cursor)) ⊎ ((e ≡ OutOfMemory) × (bare_cursor after.cursor ≡ bare_cursor cursor.cursor) × CursorUnrefused cursor.cursor)
           → ((lane_step i (lane old cursor.cursor) ≡ Some (Err e)) × (lane new after.cursor ≡ lane old cursor.cursor))
           ⊎ ((e ≡ OutOfMemory) × (bare (lane new after.cursor) ≡ bare (lane old cursor.cursor)) × LaneUnrefused (hart_lane i records h old (Some cursor) later))
       by (inl a) = inl (

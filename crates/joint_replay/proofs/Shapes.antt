@@ -9,7 +9,7 @@ use Rattle.log_order.specs.declared.view.OrderLimits.{OrderLimits}
 use Rattle.log_order.specs.declared.view.HartView.{HartView}
 use Rattle.log_order.specs.declared.view.Phase.{Phase}
 use Rattle.log_order.specs.declared.view.Phase.TheVariants.{Unknown, Awaiting, Open, Done}
-use Rattle.log_order.specs.Rules.{takes_header, takes_other, is_awaited, is_number, has_edge, has_end, goes_on, phase_after, after_one, after_header, after_edge, after_end, after_other, is_over, is_unfinished}
+use Rattle.log_order.specs.Rules.{takes_header, takes_other, is_awaited, is_number, has_edge, has_end, goes_on, phase_after, after_one, after_header, after_edge, after_end, after_other, is_done, is_unfinished}
 use Rattle.hart_replay.specs.Replay.{puts, nothing, Logged}
 use Rattle.joint_replay.specs.Shape.{Span, mark_of, spans, AreSpans, Fits, is_known}
 use Rattle.joint_replay.specs.Laws.{OrderedLogsHaveShape}
@@ -220,7 +220,7 @@ module _ (t : OrderLimits) (all : Bool) (h : ℕ) (w : HartView) (over : is_unfi
   abbrev pub Fit : HartView → List Record → Type 0
   Fit v rs = Fits t.limit v.phase (mark_of h rs) (spans h rs)
 
-  at_nothing : (p : Phase) (met : Bool) → (is_known p ≡ true → (all || met) ≡ true) → ((all || met) && not (is_over p)) ≡ false → Fits t.limit p (mark_of h []) []
+  at_nothing : (p : Phase) (met : Bool) → (is_known p ≡ true → (all || met) ≡ true) → ((all || met) && not (is_done p)) ≡ false → Fits t.limit p (mark_of h []) []
   at_nothing Unknown met k e = tt
   at_nothing (Awaiting next begin) met k e = tt
   at_nothing (Open next since) met k e = absurd (unfinished (all || met) (k refl) e)

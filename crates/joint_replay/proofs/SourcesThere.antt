@@ -13,8 +13,8 @@ use Rattle.log_order.specs.declared.view.OrderLimits.{OrderLimits}
 use Rattle.log_order.specs.declared.view.HartView.{HartView}
 use Rattle.log_order.specs.declared.view.Phase.{Phase}
 use Rattle.log_order.specs.declared.view.Phase.TheVariants.{Unknown, Awaiting, Open, Done}
-use Rattle.log_order.specs.Rules.{takes_header, takes_other, goes_on, phase_after, after_one, is_over, is_unfinished, fresh as fresh_view}
-use Rattle.log_order.specs.Order.{◌>>=◌, has_source, step_at, step, after_all, is_from, is_past, is_late, late_edge, ended as ended_by, broken, broken_in, order_limits_of, order_break}
+use Rattle.log_order.specs.Rules.{takes_header, takes_other, goes_on, phase_after, after_one, is_done, is_unfinished, fresh as fresh_view}
+use Rattle.log_order.specs.Order.{◌>>=◌, has_source, step_at, step, after_all, is_from, is_past, is_late, late_edge, end_break as ended_by, broken, broken_in, order_limits_of, order_break}
 use Rattle.hart_replay.specs.Replay.{puts, nothing, Logged}
 use Rattle.joint_replay.specs.Points.{intervals_in, first_count, is_below, points_below}
 use Rattle.joint_replay.specs.Lanes.{Cursor, Lane, cursors_of, lane_of}
@@ -90,7 +90,7 @@ module _ (limit : ℕ) where
       never e = cc
 
 module _ (t : OrderLimits) (all : Bool) (h : ℕ) (w : HartView) (over : is_unfinished all w ≡ false) where
-  at_nothing : (p : Phase) (met : Bool) (last : Option ℕ) → (is_known p ≡ true → (all || met) ≡ true) → ((all || met) && not (is_over p)) ≡ false → LastIs p (mark_of h []) [] last last
+  at_nothing : (p : Phase) (met : Bool) (last : Option ℕ) → (is_known p ≡ true → (all || met) ≡ true) → ((all || met) && not (is_done p)) ≡ false → LastIs p (mark_of h []) [] last last
   at_nothing Unknown met last k e = tt
   at_nothing (Awaiting next begin) met last k e = refl
   at_nothing (Open next since) met last k e = absurd (unfinished (all || met) (k refl) e)

@@ -14,7 +14,7 @@ use Rattle.joint_replay.specs.declared.kinds.Next.TheVariants.{Hart, NoneReady}
 use Rattle.joint_replay.specs.declared.kinds.Stepped.{Stepped}
 use Rattle.joint_replay.specs.Lanes.{Lane, Item, Passing, Doing, Ending}
 use Rattle.joint_replay.specs.Joining.{Joining, Taken, Walk, Ran, begun, ran, choice, choice_from, readiness, readiness_of, positions_from, error_of, next_step, run_for, run_all}
-use Rattle.joint_replay.specs.Calls.{stepped_of, IsHalted, IsRefused, StepUnrefused, Steps}
+use Rattle.joint_replay.specs.Calls.{stepped_of, RanOut, IsRefused, StepUnrefused, Steps}
 use Rattle.joint_replay.specs.Texts.{item_text, stepped_text, steps_text}
 use Rattle.joint_replay.specs.Runs.{one_step, IsStep, Advanced, IsStarved, RunUnrefused, Advances, Runs, IsFirstTaken, RunsGoOn, RunsEnd}
 use Rattle.joint_replay.proofs.Onward.{walk_of, taken_by, step_made, first_step, none_ready, step_fewer, step_taken, step_refused, longer_run}
@@ -75,8 +75,8 @@ told_step old new h stepped out_old out_new none lowest s text = record {
   text = text ∙ ap (λ (t : List ℕ). out_old ++ t) (ap stepped_text s.2 ∙ line_is h s.0);
 }
 
-pub untold_step : (old mid new : Joining) (h : ℕ) (stepped : Stepped) → old.refused ≡ None → choice old ≡ Hart h → Steps old h (Ok stepped) mid → IsHalted mid new → IsStarved old new
-untold_step old mid new h stepped none lowest s halted = inr (taken_by h s.0, mid, step_taken old h (s.0, mid) none lowest s.1, halted)
+pub untold_step : (old mid new : Joining) (h : ℕ) (stepped : Stepped) → old.refused ≡ None → choice old ≡ Hart h → Steps old h (Ok stepped) mid → RanOut mid new → IsStarved old new
+untold_step old mid new h stepped none lowest s ran_out = inr (taken_by h s.0, mid, step_taken old h (s.0, mid) none lowest s.1, ran_out)
 
 -- ---- no refusal comes first
 
@@ -174,8 +174,8 @@ stands_done end old now new out_old out_now out_new s e =
       text = e.1 ∙ sym (ended_text old now new out_old out_now None s ended);
     })
 
-halted_here : (old now new : Joining) (s : Walk) (steps : ℕ) → run_for steps (begun old) ≡ ran s None → s.now ≡ now → IsHalted now new → IsHalted (run_for steps (begun old)).walk.now new
-halted_here old now new s steps so_far here h = subst (λ (k : Joining). IsHalted k new) (sym (ap (λ (r : Ran). r.walk.now) so_far ∙ here)) h
+halted_here : (old now new : Joining) (s : Walk) (steps : ℕ) → run_for steps (begun old) ≡ ran s None → s.now ≡ now → RanOut now new → RanOut (run_for steps (begun old)).walk.now new
+halted_here old now new s steps so_far here h = subst (λ (k : Joining). RanOut k new) (sym (ap (λ (r : Ran). r.walk.now) so_far ∙ here)) h
 
 -- or it stopped
 pub stands_stopped : RunsEnd → (old now new : Joining) (out_old out_now out_new : List ℕ) (e : JointError) → Stands old now out_old out_now → Advances now (Err e) new out_now out_new → Runs old (Err e) new out_old out_new
@@ -188,7 +188,7 @@ stands_stopped end old now new out_old out_now out_new e s a = by a.1
     begins u = subst RunUnrefused (sym (ap (λ (r : Ran). r.walk.now) s.so_far ∙ s.here)) u
 
     starved : e ≡ why.OutOfMemory → RunUnrefused now → IsStarved now new → Runs old (Err e) new out_old out_new
-    starved is u (inl h) = inr (ap (λ (x : JointError). failed x) is, record { steps = s.steps; told = s.steps; last = (omega arith, omega arith); unrefused = begins u; halted = halted_here old now new s.walk s.steps s.so_far s.here h; text = text_is })
+    starved is u (inl h) = inr (ap (λ (x : JointError). failed x) is, record { steps = s.steps; told = s.steps; last = (omega arith, omega arith); unrefused = begins u; ran_out = halted_here old now new s.walk s.steps s.so_far s.here h; text = text_is })
       where
         failed : JointError → Result (Unit {0}) JointError
         failed x = Err x
@@ -199,7 +199,7 @@ stands_stopped end old now new out_old out_now out_new e s a = by a.1
         told = s.steps;
         last = (omega arith, omega arith);
         unrefused = begins u;
-        halted = halted_here old m.1 new (walk_of (m.0 ∷ s.walk.taken) m.1) (suc s.steps) (longer_run s.steps [] old s.walk m.0 m.1 s.so_far (step_here s.walk now m.0 m.1 s.here m.2)) refl m.3;
+        ran_out = halted_here old m.1 new (walk_of (m.0 ∷ s.walk.taken) m.1) (suc s.steps) (longer_run s.steps [] old s.walk m.0 m.1 s.so_far (step_here s.walk now m.0 m.1 s.here m.2)) refl m.3;
         text = text_is;
       },
     )

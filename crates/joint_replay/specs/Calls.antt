@@ -4,7 +4,7 @@ use Rattle.bn_base.specs.declared.state.HartState.{HartState}
 use Rattle.hart_replay.specs.declared.error.ReplayError.{ReplayError}
 use Rattle.hart_replay.specs.declared.error.ReplayError.TheVariants as replay
 use Rattle.hart_replay.specs.Replay.{Done}
-use Rattle.hart_replay.specs.Coming.{over}
+use Rattle.hart_replay.specs.Coming.{outcome_only}
 use Rattle.joint_replay.specs.declared.error.JointError.{JointError}
 use Rattle.joint_replay.specs.declared.error.JointError.TheVariants as why
 use Rattle.joint_replay.specs.declared.kinds.Stepped.{Stepped}
@@ -27,14 +27,14 @@ state_at j h = elim (slice_get j.lanes h) [ None ↦ None | Some lane ↦ state_
 
 -- a hart, whatever is left of its replays
 abbrev pub bare_cursor : Cursor → Cursor
-bare_cursor c = record c { left = over Done }
+bare_cursor c = record c { left = outcome_only Done }
 
 -- the same of a hart's intervals
 abbrev pub bare : Lane → Lane
 bare lane = record lane { cursors = map bare_cursor lane.cursors }
 
 -- memory ran out: nothing changes, but that the refusal is repeated, and a replay that found no memory does the same
-pub record IsHalted (old new : Joining) : Type 0 where
+pub record RanOut (old new : Joining) : Type 0 where
   pub program : new.program ≡ old.program
   pub records : new.records ≡ old.records
   pub lanes : map bare new.lanes ≡ map bare old.lanes
@@ -67,4 +67,4 @@ StepUnrefused j h = (r : ReplayError) → next_step j h ≡ Some (Err r) → r �
 abbrev pub Steps : Joining → ℕ → Result Stepped JointError → Joining → Type 0
 Steps old h (Ok stepped) new = (item : Item) × (next_step old h ≡ Some (Ok (item, new))) × (stepped ≡ stepped_of h item)
 Steps old h (Err e) new =
-    IsRefused old h e new ⊎ ((e ≡ why.OutOfMemory) × (old.refused ≡ None) × IsHalted old new × StepUnrefused old h)
+    IsRefused old h e new ⊎ ((e ≡ why.OutOfMemory) × (old.refused ≡ None) × RanOut old new × StepUnrefused old h)

@@ -6,7 +6,7 @@ use Rattle.log_record.specs.declared.record.Record.{Record}
 use Rattle.log_order.specs.Content.{Content}
 use Rattle.hart_replay.specs.declared.error.ReplayError.TheVariants.{OutOfMemory}
 use Rattle.hart_replay.specs.Replay.{Replayed, Refused}
-use Rattle.hart_replay.specs.Coming.{Replaying, over}
+use Rattle.hart_replay.specs.Coming.{Replaying, outcome_only}
 use Rattle.joint_replay.specs.declared.intervals.Retained.{Retained}
 use Rattle.joint_replay.specs.declared.kinds.Coming.{Coming}
 use Rattle.joint_replay.specs.declared.kinds.Coming.TheVariants.{RowAt, EndAt}
@@ -30,11 +30,11 @@ shown (Some before) state = before
 -- what it has left: if memory ran out, that alone
 abbrev pub left_then : Option HartState → Replayed → Replayed
 left_then None left = left
-left_then (Some before) left = over (Refused OutOfMemory)
+left_then (Some before) left = outcome_only (Refused OutOfMemory)
 
 -- an interval for which memory ran out at a state, if it did
-abbrev pub halted : Option HartState → Running → Running
-halted before r = record {
+abbrev pub ran_out : Option HartState → Running → Running
+ran_out before r = record {
   program = r.program;
   cursor = record r.cursor { state = shown before r.cursor.state; left = left_then before r.cursor.left };
 }

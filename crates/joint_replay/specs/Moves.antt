@@ -6,7 +6,7 @@ use Rattle.bn_base.specs.declared.state.HartState.{HartState}
 use Rattle.hart_replay.specs.declared.error.ReplayError.{ReplayError}
 use Rattle.hart_replay.specs.declared.error.ReplayError.TheVariants.{OutOfMemory}
 use Rattle.hart_replay.specs.Replay.{Done, Refused}
-use Rattle.hart_replay.specs.Coming.{after_row, with_rows, over}
+use Rattle.hart_replay.specs.Coming.{after_row, with_rows, outcome_only}
 use Rattle.joint_replay.specs.declared.error.JointError.{JointError}
 use Rattle.joint_replay.specs.declared.kinds.Stepped.{Stepped}
 use Rattle.joint_replay.specs.declared.kinds.Stepped.TheVariants as has
@@ -34,7 +34,7 @@ did before row = record { row = row; filled = option_map range_of (filled before
 
 -- the next step of an interval isn't refused, unless it is out of memory
 abbrev pub CursorUnrefused : Cursor → Type 0
-CursorUnrefused c = (r : ReplayError) → c.left ≡ over (Refused r) → r ≡ OutOfMemory
+CursorUnrefused c = (r : ReplayError) → c.left ≡ outcome_only (Refused r) → r ≡ OutOfMemory
 
 -- the next step of a hart isn't refused, unless it is out of memory
 abbrev pub LaneUnrefused : HartLane → Type 0
@@ -43,11 +43,11 @@ LaneUnrefused l = (r : ReplayError) → lane_step l.program l.lane ≡ Some (Err
 -- a step of the interval under way: its next row, or its end, or its refusal. If memory runs out, no refusal was to come, and
 -- only what is left changes
 abbrev pub CursorSteps : Running → Result (Option Did) ReplayError → Running → Type 0
-CursorSteps old (Ok None) new = (old.cursor.left ≡ over Done) × (new ≡ old)
+CursorSteps old (Ok None) new = (old.cursor.left ≡ outcome_only Done) × (new ≡ old)
 CursorSteps old (Ok (Some x)) new = (old.cursor.left ≡ with_rows (x.row ∷ []) new.cursor.left) × (x ≡ did old.cursor.state x.row) × (new.program ≡ old.program)
     × (new.cursor ≡ record { number = old.cursor.number; mark = old.cursor.mark; state = after_row old.program old.cursor.state x.row; left = new.cursor.left; faulted = is_some x.row.fault })
 CursorSteps old (Err e) new = (new.program ≡ old.program)
-    × (((old.cursor.left ≡ over (Refused e)) × (new.cursor ≡ old.cursor))
+    × (((old.cursor.left ≡ outcome_only (Refused e)) × (new.cursor ≡ old.cursor))
     ⊎ ((e ≡ OutOfMemory) × (bare_cursor new.cursor ≡ bare_cursor old.cursor) × CursorUnrefused old.cursor))
 
 -- a step of a hart is told so, and what it wrote is its row

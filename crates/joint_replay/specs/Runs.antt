@@ -5,7 +5,7 @@ use Rattle.hart_replay.specs.declared.error.ReplayError.TheVariants as replay
 use Rattle.joint_replay.specs.declared.error.JointError.{JointError}
 use Rattle.joint_replay.specs.declared.error.JointError.TheVariants as why
 use Rattle.joint_replay.specs.Joining.{Joining, Taken, Ran, begun, ran, positions_from, steps_left, error_of, run_for, run_all}
-use Rattle.joint_replay.specs.Calls.{IsHalted}
+use Rattle.joint_replay.specs.Calls.{RanOut}
 use Rattle.joint_replay.specs.Texts.{item_text, steps_text}
 
 -- ---- one step
@@ -31,7 +31,7 @@ RunUnrefused j = (r : ReplayError) → (one_step j).stopped ≡ Some (error_of r
 
 -- memory ran out for the step, or for its line once it was done
 abbrev pub IsStarved : Joining → Joining → Type 0
-IsStarved old new = IsHalted old new ⊎ ((t : Taken) × (next : Joining) × IsStep old t next × IsHalted next new)
+IsStarved old new = RanOut old new ⊎ ((t : Taken) × (next : Joining) × IsStep old t next × RanOut next new)
 
 -- a step is done and told, or none is left, or the run stops there; or memory ran out, not in place of a refusal
 abbrev pub Advances : Joining → Result Bool JointError → Joining → List ℕ → List ℕ → Type 0
@@ -43,7 +43,7 @@ Advances old (Err e) new out_old out_new = (out_new ≡ out_old)
 
 -- the harts that aren't done with their next counts, or there is no memory for that
 abbrev pub IsStuck : Joining → JointError → Joining → Type 0
-IsStuck old e new = ((e ≡ why.Stuck (positions_from 0 old.lanes)) × (new ≡ old)) ⊎ ((e ≡ why.OutOfMemory) × IsHalted old new)
+IsStuck old e new = ((e ≡ why.Stuck (positions_from 0 old.lanes)) × (new ≡ old)) ⊎ ((e ≡ why.OutOfMemory) × RanOut old new)
 
 -- ---- all steps
 
@@ -64,7 +64,7 @@ pub record FoundNoMemory (old new : Joining) (out_old out_new : List ℕ) : Type
   pub told : ℕ
   pub last : (told ≤ steps) × (steps ≤ told + 1)
   pub unrefused : RunUnrefused (run_for told (begun old)).walk.now
-  pub halted : IsHalted (run_for steps (begun old)).walk.now new
+  pub ran_out : RanOut (run_for steps (begun old)).walk.now new
   pub text : out_new ≡ out_old ++ steps_text (run_for told (begun old)).walk.taken
 
 -- all steps are done and their lines are sent, or the run ends early as it has to, or it runs out of memory

@@ -5,7 +5,7 @@ ghost use Rattle.joint_replay.specs.declared.error.JointError.TheVariants.{OutOf
 ghost use Rattle.joint_replay.specs.Points.{sources_into};
 ghost use Rattle.joint_replay.specs.Joining.{fresh, is_passed, first_waited, waits_for, readiness, coming, choice, positions_from, error_of};
 ghost use Rattle.joint_replay.specs.Memory.{word_in, known_from};
-ghost use Rattle.joint_replay.specs.Calls.{Steps, state_at, IsHalted, IsReached};
+ghost use Rattle.joint_replay.specs.Calls.{Steps, state_at, RanOut, IsReached};
 ghost use Rattle.joint_replay.specs.Together.{ArePassed, AreBegun};
 ghost use Rattle.joint_replay.specs.Sources.{edges_into};
 ghost use Rattle.joint_replay.specs.Merges.{IsAtMerge};
@@ -255,7 +255,7 @@ impl<'a> Joint<'a> {
 
     /// Stops it as out of memory.
     pub(crate) fn halt(&mut self)
-        ensures { IsHalted self.old self.new }
+        ensures { RanOut self.old self.new }
     {
         self.refused = Some(ReplayError::OutOfMemory);
     }

@@ -27,7 +27,7 @@ pub(crate) struct HartCursor<'a> {
     number: u64,
     replayer: Replayer<'a>,
     faulted: bool,
-    halted_at: Option<HartState>,
+    ran_out_at: Option<HartState>,
 }
 
 /// A row, and the bytes that its call filled: the address of the first, and how many they are. It is the
@@ -72,11 +72,11 @@ impl Did {
 }
 
 impl<'a> Model for HartCursor<'a> {
-    ghost use Rattle.joint_replay.specs.Harts.{Running, running, halted};
+    ghost use Rattle.joint_replay.specs.Harts.{Running, running, ran_out};
 
     ghost Value = { Running };
 
-    ghost view = { λ c. halted c.halted_at (running c.number c.replayer c.faulted) };
+    ghost view = { λ c. ran_out c.ran_out_at (running c.number c.replayer c.faulted) };
 }
 
 impl<'a> HartCursor<'a> {
@@ -85,7 +85,7 @@ impl<'a> HartCursor<'a> {
     fn state(&self) -> &HartState
         ensures { result.now ≡ self.now.cursor.state }
     {
-        match &self.halted_at {
+        match &self.ran_out_at {
             None => self.replayer.state(),
             Some(before) => before,
         }
@@ -133,7 +133,7 @@ impl<'a> HartCursor<'a> {
     fn step(&mut self, did: &mut Did) -> Result<bool, ReplayError>
         ensures { CursorSteps self.old (given result did.new) self.new }
     {
-        if self.halted_at.is_some() {
+        if self.ran_out_at.is_some() {
             return Err(ReplayError::OutOfMemory);
         }
         let asked = Asked::by(self.replayer.state());
@@ -155,14 +155,14 @@ impl<'a> HartCursor<'a> {
     fn starve(&mut self) -> ReplayError
         ensures { CursorSteps self.old (Err result) self.new }
     {
-        if self.halted_at.is_some() {
+        if self.ran_out_at.is_some() {
             return ReplayError::OutOfMemory;
         }
         let before = *self.replayer.state();
         match self.replayer.step() {
             Err(refusal) => refusal,
             Ok(_) => {
-                self.halted_at = Some(before);
+                self.ran_out_at = Some(before);
                 ReplayError::OutOfMemory
             }
         }
@@ -178,7 +178,7 @@ impl<'a> HartCursor<'a> {
                 number: self.number,
                 replayer,
                 faulted: self.faulted,
-                halted_at: self.halted_at,
+                ran_out_at: self.ran_out_at,
             }),
         }
     }
@@ -402,7 +402,7 @@ fn next_cursor<'a>(
                 number: next.number,
                 replayer,
                 faulted: false,
-                halted_at: None,
+                ran_out_at: None,
             }),
             Err(_) => unreachable!(),
         },

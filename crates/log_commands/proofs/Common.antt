@@ -14,7 +14,7 @@ pub use Rattle.bn_outside.specs.Counts.{Counts, LoadCause, NoneFell, Rose, count
 pub use Rattle.bn_outside.specs.Files.{Files, LoadTells, SameElsewhere, Stored, WhereTold}
 pub use Rattle.bn_outside.specs.StoreCalls.{LoadCall, SaveCall, StoreCall}
 pub use Rattle.bn_outside.specs.Streams.{AppendsPart, AppendsShort, Stream}
-pub use Rattle.hart_replay.specs.Coming.{Replaying, Stepped, over, with_rows}
+pub use Rattle.hart_replay.specs.Coming.{Replaying, Stepped, outcome_only, with_rows}
 pub use Rattle.hart_replay.specs.Replay.{Done, Interval, Logged, Outcome, Refused, Replayed, interval_of}
 pub use Rattle.hart_replay.specs.declared.error.ReplayError.{ReplayError}
 pub use Rattle.joint_replay.specs.Joining.{Joining, Ran, begun, ran, run_all, steps_left}
@@ -45,7 +45,7 @@ unfoldable pub use Rattle.log_commands.specs.Joined.{ran_told}
 pub use Rattle.log_commands.specs.JointEnds.{IsOutOfMemory, SendsJoint, SendsSteps, told_of_joint}
 pub use Rattle.log_commands.specs.Names.{FileNames, name_of, no_names}
 pub use Rattle.log_commands.specs.NewLogs.{IsBySalvage, renewed, salvage_refusal}
-pub use Rattle.log_commands.specs.Outside.{Always, CauseBy, FetchTells, Gathered, Gives, GivesOf, GivesTo, IsOwn, IsPrinted, KeptBoth, KeptFiles, KeptLog, KeptSaved, LogAlone, LogTells, MayChange, RefusalCause, Refuses, ResultCause, SameFiles, SaveBroke, SendStops, Sends, SendsBytes, SendsUntil, Sent, SentUntil, ToldRefusal, Unsaved, WithFiles, Wrote, saved_new, saved_of, told_of, told_of_new, told_of_reading, told_of_recording, unless, without}
+pub use Rattle.log_commands.specs.Outside.{Always, CauseBy, FetchTells, Gathered, Gives, GivesOf, GivesTo, IsOwn, IsPrinted, KeptBoth, KeptFiles, KeptLog, KeptSaved, LogAlone, LogTells, MayChange, RefusalCause, Refuses, ResultCause, SameFiles, SaveBroke, SendStops, Sends, SendsBytes, SendsUntil, Sent, SentUntil, ToldRefusal, Unsaved, WithFiles, Wrote, saved_new, saved_of, told_of, told_of_new, told_of_reading, told_of_recording, none_if, without}
 pub use Rattle.log_commands.specs.PairAnswers.{LoadsPair, by_reading}
 pub use Rattle.log_commands.specs.Pairs.{ByPair, LoadedPair, pair_loaded, pair_of, pair_roles, pair_same}
 pub use Rattle.log_commands.specs.Printed.{EndsAs, IsCutShort, LacksALine, SendsReplay, end_of_interval, ending_of, outcome_of, rest_text, text_from}

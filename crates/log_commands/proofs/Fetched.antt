@@ -1,5 +1,5 @@
 -- The loads of a command's files, one after another.
-use Rattle.log_commands.proofs.Common.{◌≡◌, ℕ, ◌≤◌, ◌<◌, length, List, ◌∷◌, Option, Some, None, ◌∙◌, ap, subst, sym, refl, arith, true, false, Bool, inl, inr, ◌⊎◌, Vec, Global, Result, Ok, Err, IsSomeAnd, bytes_eq, bytes_eq-Decides, Counts, NoneFell, Files, Stored, StoreCall, FileNames, name_of, Bytes, bytes_of, put, limit_of, unless_long, file_bytes, on_bytes, loaded_with, loaded, Misses, IsLoaded, OnlyLoads, WithFiles, FetchTells, unless, without, ResultCause, Inputs, Role, Refusal, WordsRefused, OutOfRange, SameName, StoreFailed, Missing, TooLong, WriteFailed, ReadFailed, LineTooLong, CommandsTooLong}
+use Rattle.log_commands.proofs.Common.{◌≡◌, ℕ, ◌≤◌, ◌<◌, length, List, ◌∷◌, Option, Some, None, ◌∙◌, ap, subst, sym, refl, arith, true, false, Bool, inl, inr, ◌⊎◌, Vec, Global, Result, Ok, Err, IsSomeAnd, bytes_eq, bytes_eq-Decides, Counts, NoneFell, Files, Stored, StoreCall, FileNames, name_of, Bytes, bytes_of, put, limit_of, unless_long, file_bytes, on_bytes, loaded_with, loaded, Misses, IsLoaded, OnlyLoads, WithFiles, FetchTells, none_if, without, ResultCause, Inputs, Role, Refusal, WordsRefused, OutOfRange, SameName, StoreFailed, Missing, TooLong, WriteFailed, ReadFailed, LineTooLong, CommandsTooLong}
 use Rattle.log_commands.proofs.Loads.{passes, fits}
 use Rattle.log_commands.proofs.Prints.{rose-later}
 use Rattle.log_commands.proofs.FileCalls.{CalledSoFar}
@@ -31,7 +31,7 @@ step files names r rest had found e = ap (λ (f : Result (List ℕ) Refusal). on
 lacks : (files : Files) (names : FileNames) (r : Role) (rest : List Role) (had : Bytes) (name : List ℕ) (b : Bool) → bytes_eq (name_of names r) name ≡ b → b ≡ true
     → loaded_with (without name files) names (r ∷ rest) had ≡ Err (Missing r)
 lacks files names r rest had name b t is =
-    step (without name files) names r rest had (Err (Missing r)) (missing r (without name files (name_of names r)) (ap (λ (x : Bool). unless x (files (name_of names r))) (t ∙ is)))
+    step (without name files) names r rest had (Err (Missing r)) (missing r (without name files (name_of names r)) (ap (λ (x : Bool). none_if x (files (name_of names r))) (t ∙ is)))
 
 pub reached-more : (files : Files) (names : FileNames) (roles : List Role) (r : Role) (rest : List Role) (had : Bytes) (bytes : Vec ℕ Global)
     → Reached files names roles (r ∷ rest) had → FetchTells r (limit_of r) (files (name_of names r)) (Ok bytes) → Reached files names roles rest (put had r bytes.items)
@@ -46,7 +46,7 @@ reached-more files names roles r rest had bytes so_far h = record {
     by name (inl m) b t = inl m
     by name (inr e) true t = inl (r, (bytes_eq-Decides (name_of names r) name).0 t, e ∙ lacks files names r rest had name true t refl)
     by name (inr e) false t =
-        inr (e ∙ step (without name files) names r rest had (Ok bytes.items) (there-is r (without name files (name_of names r)) bytes.items (ap (λ (x : Bool). unless x (files (name_of names r))) t ∙ h.0) h.1))
+        inr (e ∙ step (without name files) names r rest had (Ok bytes.items) (there-is r (without name files (name_of names r)) bytes.items (ap (λ (x : Bool). none_if x (files (name_of names r))) t ∙ h.0) h.1))
 
 pub reached-stopped : (files : Files) (names : FileNames) (roles : List Role) (r : Role) (rest : List Role) (had : Bytes) (refusal : Refusal)
     → Reached files names roles (r ∷ rest) had → FetchTells r (limit_of r) (files (name_of names r)) (Err refusal) → IsLoaded names roles files (Err refusal)

@@ -1,5 +1,5 @@
 -- What a command answers after its loads.
-use Rattle.log_commands.proofs.Common.{◌≡◌, ℕ, ◌≤◌, ◌<◌, length, List, [], ◌++◌, Option, Some, None, ap, subst, sym, refl, arith, true, false, Bool, nat_lt, inl, inr, ◌⊎◌, Vec, Global, Result, Ok, Err, IsSomeAnd, codes, bytes_eq, bytes_eq-Decides, nat_tests, Counts, Files, Content, IsRefusal, Reads, Damage, FileNames, name_of, line_of, said_of, log_refusal, Told, refused, Either, IsByFile, WithFile, IsByLog, WithFiles, FetchTells, LogTells, Gives, unless, without, GivesTo, GivesOf, RefusalCause, told_of, Role, Answer, Refusal, Missing, TooLong, LogRefused, OutOfMemory}
+use Rattle.log_commands.proofs.Common.{◌≡◌, ℕ, ◌≤◌, ◌<◌, length, List, [], ◌++◌, Option, Some, None, ap, subst, sym, refl, arith, true, false, Bool, nat_lt, inl, inr, ◌⊎◌, Vec, Global, Result, Ok, Err, IsSomeAnd, codes, bytes_eq, bytes_eq-Decides, nat_tests, Counts, Files, Content, IsRefusal, Reads, Damage, FileNames, name_of, line_of, said_of, log_refusal, Told, refused, Either, IsByFile, WithFile, IsByLog, WithFiles, FetchTells, LogTells, Gives, none_if, without, GivesTo, GivesOf, RefusalCause, told_of, Role, Answer, Refusal, Missing, TooLong, LogRefused, OutOfMemory}
 use Rattle.log_file.specs.declared.error.FileError.TheVariants as file
 use Rattle.log_blocks.specs.declared.damage.Damage.TheVariants.{File, BadBlock}
 
@@ -48,7 +48,7 @@ same_name : (bs : List ℕ) → bytes_eq bs bs ≡ true
 same_name bs = (bytes_eq-Decides bs bs).1 refl
 
 gone : (name : List ℕ) (files : Files) → without name files name ≡ None
-gone name files = ap (λ (b : Bool). unless b (files name)) (same_name name)
+gone name files = ap (λ (b : Bool). none_if b (files name)) (same_name name)
 
 -- the line that a file is missing says its name alone
 pub missing-named : (names : FileNames) (a b : Role) → name_of names a ≡ name_of names b → refused names (Missing a) ≡ refused names (Missing b)
@@ -77,7 +77,7 @@ made-stopped A tells (Some files) names role limit r Go h = stopped A tells file
 -- a load that gave bytes leads on by them
 apart : (b : Bool) (names : FileNames) (here role : Role) (there : Option (List ℕ)) (bytes : List ℕ) (limit : ℕ) (Go : List ℕ → Told → Type 0)
     → (b ≡ true → name_of names here ≡ name_of names role) → there ≡ Some bytes → length bytes ≤ limit → Go bytes (refused names (Missing role))
-    → IsByFile (unless b there) names here limit Go (refused names (Missing role))
+    → IsByFile (none_if b there) names here limit Go (refused names (Missing role))
 apart true names here role there bytes limit Go same e h go = missing-named names role here (sym (same refl))
 apart false names here role there bytes limit Go same e h go = by-bytes there names here bytes limit Go (refused names (Missing role)) e h go
 

@@ -1,5 +1,5 @@
 -- The rows of a replay, sent one after another.
-use Rattle.log_commands.proofs.Common.{length-append, Replaying, Err, Ok, Result, ◌≡◌, ℕ, ◌≤◌, List, [], ◌∷◌, Option, ◌∙◌, ap, subst, sym, refl, ◌++◌, inl, inr, ◌⊎◌, arith, append_assoc, Appends, Row, AppendsPart, AppendsShort, Stream, length, ◌<◌, IfErr, LacksALine, IsCutShort, WriteFailed, Outcome, Done, Refused, Replayed, with_rows, over, ReplayError, rows_text, EndMark, outcome_of, ending_of, end_of_interval, Sent, SendStops, Refusal}
+use Rattle.log_commands.proofs.Common.{length-append, Replaying, Err, Ok, Result, ◌≡◌, ℕ, ◌≤◌, List, [], ◌∷◌, Option, ◌∙◌, ap, subst, sym, refl, ◌++◌, inl, inr, ◌⊎◌, arith, append_assoc, Appends, Row, AppendsPart, AppendsShort, Stream, length, ◌<◌, IfErr, LacksALine, IsCutShort, WriteFailed, Outcome, Done, Refused, Replayed, with_rows, outcome_only, ReplayError, rows_text, EndMark, outcome_of, ending_of, end_of_interval, Sent, SendStops, Refusal}
 use Rattle.rv_text.specs.Rows.{row_text}
 use Rattle.rv_text.specs.Marks.{end_text}
 use Rattle.log_commands.specs.Texts.{begin_text}
@@ -58,23 +58,23 @@ pub stands-short : (whole rest : Replayed) (waiting : List ℕ) (old now next : 
 stands-short whole rest waiting old now next before after last r s h =
     so_far-stopped (rows_text whole.rows) waiting (rows_text rest.rows) old now next before after last r s.sent h
 
-no-rows : (rest : Replayed) (o : Outcome) → rest ≡ over o → rows_text rest.rows ≡ []
+no-rows : (rest : Replayed) (o : Outcome) → rest ≡ outcome_only o → rows_text rest.rows ≡ []
 unfolding rows_text
 no-rows rest o e = ap (λ (r : Replayed). rows_text r.rows) e
 
 -- no row is left, and the replay is done
-pub stands-done : (whole rest : Replayed) (old now : Option (List ℕ)) (before after : ℕ) → rest ≡ over Done → RowsSoFar whole rest [] old now before after
+pub stands-done : (whole rest : Replayed) (old now : Option (List ℕ)) (before after : ℕ) → rest ≡ outcome_only Done → RowsSoFar whole rest [] old now before after
     → Appends old now (rows_text whole.rows) × (outcome_of ending.Done ≡ whole.outcome)
 stands-done whole rest old now before after e s =
     (so_far-done (rows_text whole.rows) (rows_text rest.rows) old now before after s.sent (no-rows rest Done e), ap (λ (r : Replayed). r.outcome) (sym e) ∙ s.outcome)
 
-stopped-so : (whole rest : Replayed) (old now : Option (List ℕ)) (before after : ℕ) (e : ReplayError) → rest ≡ over (Refused e) → RowsSoFar whole rest [] old now before after
+stopped-so : (whole rest : Replayed) (old now : Option (List ℕ)) (before after : ℕ) (e : ReplayError) → rest ≡ outcome_only (Refused e) → RowsSoFar whole rest [] old now before after
     → Appends old now (rows_text whole.rows) × (outcome_of (ending.Stopped e) ≡ whole.outcome)
 stopped-so whole rest old now before after e is s =
     (so_far-done (rows_text whole.rows) (rows_text rest.rows) old now before after s.sent (no-rows rest (Refused e) is), ap (λ (r : Replayed). r.outcome) (sym is) ∙ s.outcome)
 
 -- no row is left, and the replay was refused or ran out of memory
-pub stands-refused : (whole rest : Replayed) (old now : Option (List ℕ)) (before after : ℕ) (e : ReplayError) → (rest ≡ over (Refused e)) ⊎ (e ≡ replay.OutOfMemory) → RowsSoFar whole rest [] old now before after
+pub stands-refused : (whole rest : Replayed) (old now : Option (List ℕ)) (before after : ℕ) (e : ReplayError) → (rest ≡ outcome_only (Refused e)) ⊎ (e ≡ replay.OutOfMemory) → RowsSoFar whole rest [] old now before after
     → Sent old now before after (rows_text whole.rows) (λ x. outcome_of x ≡ whole.outcome) (ending_of e)
 stands-refused whole rest old now before after replay.OutOfMemory h s = (so_far-ends (rows_text whole.rows) (rows_text rest.rows) old now before after s.sent, tt)
 stands-refused whole rest old now before after e (inr h) s = grind arith
@@ -124,7 +124,7 @@ stands-lacking whole rest next row waiting old here there e s h =
     so_far-short (rows_text whole.rows) (waiting ++ row_text row) (rows_text next.rows) old.text here.text there.text old.faults here.faults (with-row whole rest next row waiting old.text here.text old.faults here.faults e s) h
 
 -- the replay itself found no memory
-pub ends-without : (text : List ℕ) (old here : Stream) (now : Replaying) (e : ReplayError) → now.left ≡ over (Refused e) → IfErr (ending_of e) (IsCutShort text now old here)
+pub ends-without : (text : List ℕ) (old here : Stream) (now : Replaying) (e : ReplayError) → now.left ≡ outcome_only (Refused e) → IfErr (ending_of e) (IsCutShort text now old here)
 ends-without text old here now replay.OutOfMemory is = λ m. inl is
 ends-without text old here now e is = tt
 
@@ -132,7 +132,7 @@ ends-without text old here now e is = tt
 pub cut-longer : (s t : List ℕ) (now : Replaying) (old new : Stream) (r : Refusal) → IsCutShort s now old new r → IsCutShort (s ++ t) now old new r
 cut-longer s t now old new r h = λ m. by (h m)
   where
-    by : (now.left ≡ over (Refused replay.OutOfMemory)) ⊎ AppendsShort old.text new.text s → (now.left ≡ over (Refused replay.OutOfMemory)) ⊎ AppendsShort old.text new.text (s ++ t)
+    by : (now.left ≡ outcome_only (Refused replay.OutOfMemory)) ⊎ AppendsShort old.text new.text s → (now.left ≡ outcome_only (Refused replay.OutOfMemory)) ⊎ AppendsShort old.text new.text (s ++ t)
     by (inl is) = inl is
     by (inr x) = inr (short-longer old.text new.text s t x)
 
@@ -140,7 +140,7 @@ cut-longer s t now old new r h = λ m. by (h m)
 pub cut-behind : (s t : List ℕ) (now : Replaying) (old mid new : Stream) (r : Refusal) → Appends old.text mid.text s → IsCutShort t now mid new r → IsCutShort (s ++ t) now old new r
 cut-behind s t now old mid new r sent h = λ m. by (h m)
   where
-    by : (now.left ≡ over (Refused replay.OutOfMemory)) ⊎ AppendsShort mid.text new.text t → (now.left ≡ over (Refused replay.OutOfMemory)) ⊎ AppendsShort old.text new.text (s ++ t)
+    by : (now.left ≡ outcome_only (Refused replay.OutOfMemory)) ⊎ AppendsShort mid.text new.text t → (now.left ≡ outcome_only (Refused replay.OutOfMemory)) ⊎ AppendsShort old.text new.text (s ++ t)
     by (inl is) = inl is
     by (inr x) = inr (short-behind old.text mid.text new.text s t sent x)
 

@@ -3,7 +3,7 @@ use Rattle.std.specs.Prelude.{◌≡◌, ◌⊎◌, ℕ, Bool, List, Some, Resul
 use Rattle.bn_outside.specs.Counts.{Rose, NoneFell, counted}
 use Rattle.bn_outside.specs.Files.{SameElsewhere, Stored, WhereTold}
 use Rattle.bn_outside.specs.Streams.{Stream}
-use Rattle.log_commands.specs.Effects.{World, between, Acts, IsClosed}
+use Rattle.log_commands.specs.Effects.{World, between, Acts, GivesStatus}
 use Rattle.log_commands.specs.FileCalls.{Note, Saves, store_call, saves_in, saves_of, SavesTo, SavesTold}
 use Rattle.log_commands.specs.Names.{FileNames, name_of}
 use Rattle.log_commands.specs.Outside.{SaveTells, IsPrinted, told_of}
@@ -53,4 +53,4 @@ pub record ActsOn (names : FileNames) (answer : Answer) (status : ℕ) (note : N
 
 -- so it is once the refusal, if there is one, is told
 abbrev pub ActsTo : FileNames → Answer → Note → (old new : World) → Result Status Refusal → Type 0
-ActsTo names answer note old new result = (status : ℕ) (end : Stream) → IsClosed names result status new.err end → ActsOn names answer status note old (with_err new end)
+ActsTo names answer note old new result = (status : ℕ) (end : Stream) → GivesStatus names result status new.err end → ActsOn names answer status note old (with_err new end)

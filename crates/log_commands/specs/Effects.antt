@@ -170,9 +170,9 @@ done_of (Ok value) = Ok exit.Done
 done_of (Err refusal) = Err refusal
 
 -- what a command ends with gives the status: a status itself, and err stays; a refusal, which is told on err
-abbrev pub IsClosed : FileNames → Result Status Refusal → (status : ℕ) → (err end : Stream) → Type 0
-IsClosed names (Ok value) status err end = (status ≡ code value) × (end ≡ err)
-IsClosed names (Err refusal) status err end = Refuses names refusal status err end
+abbrev pub GivesStatus : FileNames → Result Status Refusal → (status : ℕ) → (err end : Stream) → Type 0
+GivesStatus names (Ok value) status err end = (status ≡ code value) × (end ≡ err)
+GivesStatus names (Err refusal) status err end = Refuses names refusal status err end
 
 -- a call that leaves a store alone
 abbrev pub printing_on : Stored → (out printed err end : Stream) → Call
@@ -181,4 +181,4 @@ printing_on store out printed err end = between (world store out err) (world sto
 -- once the refusal is told, if there is one, this is printed, or it was stopped
 abbrev pub PrintsTo : {A : Type 0} → (FileNames → Told) → (old new : Stream) → Result A Refusal → Type 0
 PrintsTo what old new result = (names : FileNames) (store : Stored) (status : ℕ) (err end : Stream)
-    → IsClosed names (done_of result) status err end → Prints names (what names) status (printing_on store old new err end)
+    → GivesStatus names (done_of result) status err end → Prints names (what names) status (printing_on store old new err end)

@@ -62,12 +62,12 @@ ProgramTells bytes c (Err refusal) = (refusal ≡ why.OutOfMemory) ⊎ ((e : Elf
 -- ---- what is answered
 
 -- the list of turns that a recording has
-abbrev pub list_in : RunToTell → Option (List ℕ)
-list_in r = option_map (λ (list : Vec ℕ Global). list.items) r.book
+abbrev pub book_in : RunToTell → Option (List ℕ)
+book_in r = option_map (λ (list : Vec ℕ Global). list.items) r.book
 
 -- the log and the list of turns that a recording saves
 abbrev pub saved_of : RunToTell → Saved
-saved_of r = record { log = r.log.items; book = list_in r }
+saved_of r = record { log = r.log.items; book = book_in r }
 
 -- a recording is told by its end's status and its outputs, and is saved
 abbrev pub told_of_recording : RunToTell → Told
@@ -112,13 +112,13 @@ abbrev pub Gives : FileNames → (Told → Type 0) → Result Answer Refusal →
 Gives names Is result = GivesTo (told_of names) names Is result
 
 -- nothing if the test holds, else what is there
-abbrev pub unless : Bool → Option (List ℕ) → Option (List ℕ)
-unless true there = None
-unless false there = there
+abbrev pub none_if : Bool → Option (List ℕ) → Option (List ℕ)
+none_if true there = None
+none_if false there = there
 
 -- the files without the one under a name
 abbrev pub without : List ℕ → Files → Files
-without name files other = unless (bytes_eq other name) (files other)
+without name files other = none_if (bytes_eq other name) (files other)
 
 -- Out of memory; or the store failed at a file that the command comes to: if that one weren't there, the answer would be
 -- that it is missing

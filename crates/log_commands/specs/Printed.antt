@@ -2,7 +2,7 @@
 use Rattle.std.specs.Prelude.{◌≡◌, ◌⊎◌, List, [], ◌++◌, ℕ, Result, Ok, Err, IfErr}
 use Rattle.bn_base.specs.declared.end_mark.EndMark.{EndMark}
 use Rattle.hart_replay.specs.Replay.{Outcome, Done, Refused, Replayed}
-use Rattle.hart_replay.specs.Coming.{Replaying, over}
+use Rattle.hart_replay.specs.Coming.{Replaying, outcome_only}
 use Rattle.hart_replay.specs.declared.error.ReplayError.{ReplayError}
 use Rattle.hart_replay.specs.declared.error.ReplayError.TheVariants as replay
 use Rattle.rv_text.specs.Marks.{end_text}
@@ -47,7 +47,7 @@ LacksALine text old new refusal = refusal ≡ why.OutOfMemory → AppendsShort o
 
 -- or it ran out for the replay itself. So no other refusal of a replay is told as out of memory
 abbrev pub IsCutShort : List ℕ → (now : Replaying) → (old new : Stream) → Refusal → Type 0
-IsCutShort text now old new refusal = refusal ≡ why.OutOfMemory → (now.left ≡ over (Refused replay.OutOfMemory)) ⊎ AppendsShort old.text new.text text
+IsCutShort text now old new refusal = refusal ≡ why.OutOfMemory → (now.left ≡ outcome_only (Refused replay.OutOfMemory)) ⊎ AppendsShort old.text new.text text
 
 -- a text was sent, and the replay ends so; or a prefix of it was sent
 pub record SendsReplay (text : List ℕ) (outcome : Outcome) (now : Replaying) (old new : Stream) (result : Result ReplayEnd Refusal) : Type 0 where

@@ -16,10 +16,10 @@ use bn_outside::{SaveError, Sink, Store};
 use std::alloc::Global;
 
 // Saves the file in a role.
-fn save_file<S: Store>(names: &Names, role: Role, file: &[u8], store: &mut S) -> Result<(), Refusal>
-    ensures { SavesFile names.now role file.now S.note (S.stored store.old) (S.stored store.new) result }
+fn save_file<S: Store>(names: &Names, role: Role, file: &[u8], files: &mut S) -> Result<(), Refusal>
+    ensures { SavesFile names.now role file.now S.note (S.stored files.old) (S.stored files.new) result }
 {
-    match store.save(names.of(role), file) {
+    match files.save(names.of(role), file) {
         Ok(()) => Ok(()),
         Err(SaveError::Failed) => Err(Refusal::StoreFailed(role)),
         Err(SaveError::OutOfMemory) => Err(Refusal::OutOfMemory),
@@ -27,13 +27,13 @@ fn save_file<S: Store>(names: &Names, role: Role, file: &[u8], store: &mut S) ->
 }
 
 // Saves the log of a recording, and then the list of its turns, if there is one.
-fn save_run<S: Store>(names: &Names, run: &RunToTell, store: &mut S) -> Result<(), Refusal>
-    ensures { SavesAll names.now (saved_of run.now) (is_lean run.now) S.note (S.stored store.old) (S.stored store.new) result }
+fn save_run<S: Store>(names: &Names, run: &RunToTell, files: &mut S) -> Result<(), Refusal>
+    ensures { SavesAll names.now (saved_of run.now) (is_lean run.now) S.note (S.stored files.old) (S.stored files.new) result }
 {
-    save_file(names, Role::Log, &run.log, store)?;
+    save_file(names, Role::Log, &run.log, files)?;
     match &run.book {
         None => Ok(()),
-        Some(list) => save_file(names, Role::Book, list, store),
+        Some(list) => save_file(names, Role::Book, list, files),
     }
 }
 
@@ -41,13 +41,13 @@ fn save_run<S: Store>(names: &Names, run: &RunToTell, store: &mut S) -> Result<(
 fn keep_run<S: Store, O: Sink, X: Sink>(
     names: &Names,
     run: &RunToTell,
-    store: &mut S,
+    files: &mut S,
     out: &mut O,
     err: &mut X,
 ) -> Result<Status, Refusal>
-    ensures { ActsTo names.now (Recorded run.now) S.note (world (S.stored store.old) (O.stream out.old) (X.stream err.old)) (world (S.stored store.new) (O.stream out.new) (X.stream err.new)) result }
+    ensures { ActsTo names.now (Recorded run.now) S.note (world (S.stored files.old) (O.stream out.old) (X.stream err.old)) (world (S.stored files.new) (O.stream out.new) (X.stream err.new)) result }
 {
-    save_run(names, run, store)?;
+    save_run(names, run, files)?;
     send_bytes(out, &run.out)?;
     send_bytes(err, &run.err)?;
     Ok(run.end.status())
@@ -58,12 +58,12 @@ fn keep_new<S: Store, O: Sink>(
     alloc: Global,
     names: &Names,
     new: &NewLog,
-    store: &mut S,
+    files: &mut S,
     out: &mut O,
 ) -> Result<(), Refusal>
-    ensures { (err : Stream) → ActsTo names.now (Renewed new.now) S.note (world (S.stored store.old) (O.stream out.old) err) (world (S.stored store.new) (O.stream out.new) err) (done_of result) }
+    ensures { (err : Stream) → ActsTo names.now (Renewed new.now) S.note (world (S.stored files.old) (O.stream out.old) err) (world (S.stored files.new) (O.stream out.new) err) (done_of result) }
 {
-    save_file(names, Role::Log, &new.file, store)?;
+    save_file(names, Role::Log, &new.file, files)?;
     check::send_check(alloc, &new.counts, out)
 }
 
@@ -72,15 +72,15 @@ pub fn act<S: Store, O: Sink, X: Sink>(
     alloc: Global,
     names: &Names,
     answer: &Answer,
-    store: &mut S,
+    files: &mut S,
     out: &mut O,
     err: &mut X,
 ) -> Result<Status, Refusal>
-    ensures { ActsTo names.now answer.now S.note (world (S.stored store.old) (O.stream out.old) (X.stream err.old)) (world (S.stored store.new) (O.stream out.new) (X.stream err.new)) result }
+    ensures { ActsTo names.now answer.now S.note (world (S.stored files.old) (O.stream out.old) (X.stream err.old)) (world (S.stored files.new) (O.stream out.new) (X.stream err.new)) result }
 {
     match answer {
-        Answer::Recorded(run) => keep_run(names, run, store, out, err),
-        Answer::Renewed(new) => done(keep_new(alloc, names, new, store, out)),
+        Answer::Recorded(run) => keep_run(names, run, files, out, err),
+        Answer::Renewed(new) => done(keep_new(alloc, names, new, files, out)),
         Answer::Interval(reading) => done(replay::print_interval(alloc, reading, out)),
         Answer::Joined(reading) => done(joint::print_joint(alloc, reading, out)),
         Answer::Listed(log) => done(list::send_list(alloc, log, out)),

@@ -25,11 +25,11 @@ pub fn fetch<S: Store>(
     alloc: Global,
     names: &Names,
     role: Role,
-    store: &mut S,
+    files: &mut S,
 ) -> Result<Vec<u8>, Refusal>
-    ensures { Fetches names.now role S.note (S.stored store.old) (S.stored store.new) result }
+    ensures { Fetches names.now role S.note (S.stored files.old) (S.stored files.new) result }
 {
-    match store.load(alloc, names.of(role), limit_of(role)) {
+    match files.load(alloc, names.of(role), limit_of(role)) {
         Ok(bytes) => Ok(bytes),
         Err(LoadError::OutOfMemory) => Err(Refusal::OutOfMemory),
         Err(LoadError::Failed) => Err(Refusal::StoreFailed(role)),
@@ -92,13 +92,13 @@ pub fn load_inputs<S: Store>(
     alloc: Global,
     names: &Names,
     roles: &[Role],
-    store: &mut S,
+    files: &mut S,
 ) -> Result<Inputs, Refusal>
-    ensures { LoadsAll names.now roles.now S.note (S.stored store.old) (S.stored store.new) result }
+    ensures { LoadsAll names.now roles.now S.note (S.stored files.old) (S.stored files.new) result }
 {
     let mut inputs = Inputs::none(alloc);
     for role in roles {
-        let bytes = fetch(alloc, names, *role, store)?;
+        let bytes = fetch(alloc, names, *role, files)?;
         inputs.put(*role, bytes);
     }
     Ok(inputs)

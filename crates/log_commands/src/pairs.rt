@@ -63,10 +63,10 @@ fn pair_roles() -> &'static [Role]
 pub fn load_pair<S: Store>(
     alloc: Global,
     names: &Names,
-    store: &mut S,
+    files: &mut S,
 ) -> Result<JointReading, Refusal>
-    ensures { LoadsPair names.now S.note (S.stored store.old) (S.stored store.new) result }
+    ensures { LoadsPair names.now S.note (S.stored files.old) (S.stored files.new) result }
 {
-    let inputs = load_inputs(alloc, names, pair_roles(), store)?;
+    let inputs = load_inputs(alloc, names, pair_roles(), files)?;
     read_pair(alloc, &inputs.log, &inputs.elf)
 }

@@ -1,6 +1,6 @@
 //! Texts sent to an output, whole or in blocks, and how a command ends.
 ghost use Rattle.std.specs.Prelude.{◌≡◌, IfErr};
-ghost use Rattle.log_commands.specs.Effects.{done_of, IsClosed};
+ghost use Rattle.log_commands.specs.Effects.{done_of, GivesStatus};
 ghost use Rattle.log_commands.specs.Outside.{Sends, SendsBytes, Gathers, Refuses, Always};
 ghost use Rattle.log_commands.specs.Statuses.{code};
 ghost use Rattle.log_commands.specs.declared.refusal.Refusal.TheVariants.{WriteFailed};
@@ -59,13 +59,13 @@ pub fn done(printed: Result<(), Refusal>) -> Result<Status, Refusal>
 }
 
 /// Ends a command: a refusal, if there is one, is told on err, and gives the status.
-pub fn close<X: Sink>(
+pub fn give_status<X: Sink>(
     alloc: Global,
     names: &Names,
     ending: Result<Status, Refusal>,
     err: &mut X,
 ) -> Status
-    ensures { IsClosed names.now ending (code result) (X.stream err.old) (X.stream err.new) }
+    ensures { GivesStatus names.now ending (code result) (X.stream err.old) (X.stream err.new) }
 {
     match ending {
         Ok(status) => status,

@@ -12,7 +12,7 @@ use Rattle.bn_base.specs.declared.settings.RawSettings.{RawSettings}
 use Rattle.log_order.specs.declared.view.OrderLimits.{OrderLimits}
 use Rattle.log_order.specs.declared.view.HartView.{HartView}
 use Rattle.log_order.specs.declared.walk.OrderBreak.{OrderBreak}
-use Rattle.log_order.specs.Order.{◌>>=◌, at_place, order_break, step, after_all, is_late, late_edge, ended, broken_in, broken, broken_by, order_limits_of}
+use Rattle.log_order.specs.Order.{◌>>=◌, at_place, order_break, step, after_all, is_late, late_edge, end_break, broken_in, broken, broken_by, order_limits_of}
 use Rattle.log_order.specs.Rules.{is_unfinished, fresh}
 use Rattle.log_file.proofs.Again.{some_bytes}
 use Rattle.log_file.specs.declared.counting.LogCounts.{LogCounts}
@@ -187,22 +187,22 @@ module _ (tell : TellTheirSize) where
 
 -- ---- the end
 
-pub ends_unfinished : (all : Bool) (harts : Harts) (rs : List Record) (place : ℕ) → list_any (is_unfinished all) harts ≡ true → place ≡ total rs → Some (order_break place 6) ≡ ended all harts rs
-unfolding ended
+pub ends_unfinished : (all : Bool) (harts : Harts) (rs : List Record) (place : ℕ) → list_any (is_unfinished all) harts ≡ true → place ≡ total rs → Some (order_break place 6) ≡ end_break all harts rs
+unfolding end_break
 ends_unfinished all harts rs place open_one is = rw open_one (ap (λ (p : ℕ). Some (order_break p 6)) is)
 
-pub ends_well : (all : Bool) (harts : Harts) (rs : List Record) → list_any (is_unfinished all) harts ≡ false → None ≡ late_edge harts 0 rs → None ≡ ended all harts rs
-unfolding ended
+pub ends_well : (all : Bool) (harts : Harts) (rs : List Record) → list_any (is_unfinished all) harts ≡ false → None ≡ late_edge harts 0 rs → None ≡ end_break all harts rs
+unfolding end_break
 ends_well all harts rs none_open none_late = rw (none_open, sym none_late) refl
 
-pub ends_late : (all : Bool) (harts : Harts) (rs : List Record) (place : ℕ) → list_any (is_unfinished all) harts ≡ false → Some place ≡ late_edge harts 0 rs → Some (order_break place 7) ≡ ended all harts rs
-unfolding ended
+pub ends_late : (all : Bool) (harts : Harts) (rs : List Record) (place : ℕ) → list_any (is_unfinished all) harts ≡ false → Some place ≡ late_edge harts 0 rs → Some (order_break place 7) ≡ end_break all harts rs
+unfolding end_break
 ends_late all harts rs place none_open late = rw (none_open, sym late) refl
 
 pub breaks_by_rule : (all : Bool) (harts : Harts) (rs : List Record) (ran : Ran) (found : OrderBreak) → Walks ran (Some found) harts → Some found ≡ broken_in all rs ran
 breaks_by_rule all harts rs ran found is = rw is refl
 
-pub breaks_at_end : (all : Bool) (harts : Harts) (rs : List Record) (ran : Ran) (result : Option OrderBreak) → Walks ran None harts → result ≡ ended all harts rs → result ≡ broken_in all rs ran
+pub breaks_at_end : (all : Bool) (harts : Harts) (rs : List Record) (ran : Ran) (result : Option OrderBreak) → Walks ran None harts → result ≡ end_break all harts rs → result ≡ broken_in all rs ran
 breaks_at_end all harts rs ran result is ends = rw is ends
 
 -- the first break of the order, if the harts began as in a log with so many dropped

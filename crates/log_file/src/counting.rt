@@ -5,7 +5,7 @@ ghost use Rattle.log_record.specs.declared.record.Record.{Record};
 ghost use Rattle.log_record.specs.Spelling.{bytes_of, total, Fits};
 ghost use Rattle.log_order.specs.declared.view.HartView.{HartView};
 ghost use Rattle.log_order.specs.declared.walk.OrderBreak.{OrderBreak};
-ghost use Rattle.log_order.specs.Order.{after_all, is_late, late_edge, ended, broken_in};
+ghost use Rattle.log_order.specs.Order.{after_all, is_late, late_edge, end_break, broken_in};
 ghost use Rattle.log_file.specs.File.{NoRecord};
 ghost use Rattle.log_file.specs.Counts.{headers_of, Walks, IsWalked, IsTallied};
 
@@ -157,8 +157,8 @@ fn late_edge(format: u8, harts: &[HartView], bytes: &[u8]) -> Option<u64>
 
 // The first break of the two rules about the end. The bytes are those of the records of a log of this
 // version, and `harts` are the views after them.
-fn ended(format: u8, all: bool, harts: &[HartView], bytes: &[u8]) -> Option<OrderBreak>
-    ensures { (rs : List Record) → AllByRecursion (Fits format) rs → bytes.now ≡ flat_map bytes_of rs → result ≡ ended all harts.now rs }
+fn end_break(format: u8, all: bool, harts: &[HartView], bytes: &[u8]) -> Option<OrderBreak>
+    ensures { (rs : List Record) → AllByRecursion (Fits format) rs → bytes.now ≡ flat_map bytes_of rs → result ≡ end_break all harts.now rs }
 {
     if any_unfinished(all, harts) {
         return Some(OrderBreak::of(bytes.len() as u64, OrderRule::HartsDone));
@@ -182,7 +182,7 @@ fn first_break(
 {
     match found {
         Some(found) => Some(found),
-        None => ended(format, all, harts, bytes),
+        None => end_break(format, all, harts, bytes),
     }
 }
 

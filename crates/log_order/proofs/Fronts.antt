@@ -12,8 +12,8 @@ use Rattle.log_order.specs.declared.view.Phase.{Phase}
 use Rattle.log_order.specs.declared.view.Phase.TheVariants.{Unknown, Awaiting, Open, Done}
 use Rattle.log_order.specs.declared.view.HartView.{HartView}
 use Rattle.log_record.specs.Spelling.{hart_of, total}
-use Rattle.log_order.specs.Rules.{after_one, fresh, is_over, is_unfinished}
-use Rattle.log_order.specs.Order.{◌>>=◌, has_source, step_at, step, at_place, after_all, is_from, is_past, is_late, late_edge, ended, broken_in, broken}
+use Rattle.log_order.specs.Rules.{after_one, fresh, is_done, is_unfinished}
+use Rattle.log_order.specs.Order.{◌>>=◌, has_source, step_at, step, at_place, after_all, is_from, is_past, is_late, late_edge, end_break, broken_in, broken}
 use Rattle.log_order.specs.Weak.{IsWeakPhase, IsWeakNumber, IsWeak, AreWeak}
 use Rattle.log_order.proofs.Weaker.{weak_one}
 use Rattle.log_order.specs.declared.walk.OrderBreak.{OrderBreak}
@@ -202,7 +202,7 @@ unfinished false true false false false m o h = absurd (no_true (m refl))
     no_true e = cc
 
 weak_unfinished : (all : Bool) (w v : HartView) → IsWeak w v → is_unfinished all v ≡ false → is_unfinished false w ≡ false
-weak_unfinished all w v k h = unfinished all w.met v.met (is_over w.phase) (is_over v.phase) k.met k.over h
+weak_unfinished all w v k h = unfinished all w.met v.met (is_done w.phase) (is_done v.phase) k.met k.over h
 
 or_both : (a b : Bool) → (a || b) ≡ false → (a ≡ false) × (b ≡ false)
 or_both true b h = absurd cc
@@ -270,8 +270,8 @@ no_place : (o : Option ℕ) (f : ℕ → OrderBreak) → option_map f o ≡ unbr
 no_place None f h = refl
 no_place (Some p) f h = absurd cc
 
-weak_ended : (all : Bool) (ws vs : Harts) (front back : List Record) → AreWeak ws vs → ended all vs (front ++ back) ≡ None → ended false ws back ≡ None
-unfolding ended
+weak_ended : (all : Bool) (ws vs : Harts) (front back : List Record) → AreWeak ws vs → end_break all vs (front ++ back) ≡ None → end_break false ws back ≡ None
+unfolding end_break
 weak_ended all ws vs front back k e =
     let n = not_ended (list_any (is_unfinished all) vs) (order_break (total (front ++ back)) 6) _ e in
     let l = late_back vs 0 front back (no_place (late_edge vs 0 (front ++ back)) _ n.1) in

@@ -9,8 +9,8 @@ use Rattle.log_record.specs.Spelling.{bytes_of}
 use Rattle.log_order.specs.declared.view.OrderLimits.{OrderLimits}
 use Rattle.log_order.specs.declared.view.HartView.{HartView}
 use Rattle.bn_base.specs.declared.settings.RawSettings.{RawSettings}
-use Rattle.log_order.specs.Rules.{fresh, is_over, is_unfinished}
-use Rattle.log_order.specs.Order.{step, after_all, is_late, late_edge, ended, broken, is_past, is_from, order_limits_of, broken_by}
+use Rattle.log_order.specs.Rules.{fresh, is_done, is_unfinished}
+use Rattle.log_order.specs.Order.{step, after_all, is_late, late_edge, end_break, broken, is_past, is_from, order_limits_of, broken_by}
 use Rattle.log_order.specs.Suffix.{Keeps, IsEarly, EndsLast}
 use Rattle.log_order.proofs.Fronts.{appended, suffix_fresh, front_given_up, weak_any, weak_late_edge, Runs2, weak_all, all_same}
 
@@ -40,7 +40,7 @@ not_zero a h = grind arith
 
 by_gone : (t : OrderLimits) (n : ℕ) (gone kept : List Record) (vs : Harts) → after_all t 0 (replicate n (fresh true)) (gone ++ kept) ≡ Ok vs
     → list_any (is_unfinished true) vs ≡ false → late_edge vs 0 kept ≡ None → broken t n (length gone == 0) kept ≡ None
-unfolding broken ended
+unfolding broken end_break
 by_gone t n [] kept vs e h l = rw (e, h, l) refl
 by_gone t n (g ∷ gone) kept vs e h l =
     let s = suffix_fresh t n true vs (g ∷ gone) kept e in
@@ -107,12 +107,12 @@ unfolding late_edge
 early counts vs p [] e a = refl
 early counts vs p (r ∷ rs) e a = rw (early_one counts vs r e a.0) (early counts vs (p + length (bytes_of r)) rs e a.1)
 
-over_not_unfinished : (v : HartView) → is_over v.phase ≡ true → is_unfinished true v ≡ false
+over_not_unfinished : (v : HartView) → is_done v.phase ≡ true → is_unfinished true v ≡ false
 over_not_unfinished v h = rw h refl
 
-none_unfinished : (vs : Harts) → AllByRecursion (λ v. is_over v.phase ≡ true) vs → list_any (is_unfinished true) vs ≡ false
+none_unfinished : (vs : Harts) → AllByRecursion (λ v. is_done v.phase ≡ true) vs → list_any (is_unfinished true) vs ≡ false
 none_unfinished [] a = refl
 none_unfinished (v ∷ vs) a = rw (over_not_unfinished v a.0) (none_unfinished vs a.1)
 
-pub keeps_order_over : (t : OrderLimits) (n d : ℕ) (kept : List Record) (vs : Harts) → Keeps t n d kept vs → AllByRecursion (λ v. is_over v.phase ≡ true) vs → late_edge vs 0 kept ≡ None → broken t n (d == 0) kept ≡ None
+pub keeps_order_over : (t : OrderLimits) (n d : ℕ) (kept : List Record) (vs : Harts) → Keeps t n d kept vs → AllByRecursion (λ v. is_done v.phase ≡ true) vs → late_edge vs 0 kept ≡ None → broken t n (d == 0) kept ≡ None
 keeps_order_over t n d kept vs k over l = keeps_order t n d kept vs k (none_unfinished vs over) l

@@ -8,7 +8,7 @@ use Rattle.log_order.specs.declared.view.OrderLimits.{OrderLimits}
 use Rattle.log_order.specs.declared.view.Phase.{Phase}
 use Rattle.log_order.specs.declared.view.Phase.TheVariants.{Unknown, Awaiting, Open, Done}
 use Rattle.log_order.specs.declared.view.HartView.{HartView}
-use Rattle.log_order.specs.Rules.{takes_header, takes_other, is_number, is_awaited, has_edge, has_end, next_number, goes_on, phase_after, after_header, after_edge, after_end, after_other, after_one, is_over}
+use Rattle.log_order.specs.Rules.{takes_header, takes_other, is_number, is_awaited, has_edge, has_end, next_number, goes_on, phase_after, after_header, after_edge, after_end, after_other, after_one, is_done}
 use Rattle.log_order.specs.Weak.{IsWeakNumber, IsWeakPhase, IsWeak}
 
 passes : {X : Type 0} (b : Bool) (e : ℕ) (x : Result X ℕ) (y : X) → (if b then Err e else x) ≡ Ok y → (b ≡ false) × (x ≡ Ok y)
@@ -101,7 +101,7 @@ weak_choice : (b : Bool) (p q : Phase) (ic : ℕ) → IsWeakPhase p q → IsWeak
 weak_choice true p q ic k = (weak_next_number p q k, refl)
 weak_choice false p q ic k = tt
 
-over_choice : (b : Bool) (p q : Phase) (ic : ℕ) → is_over (choice b q ic) ≡ true → is_over (choice b p ic) ≡ true
+over_choice : (b : Bool) (p q : Phase) (ic : ℕ) → is_done (choice b q ic) ≡ true → is_done (choice b p ic) ≡ true
 over_choice true p q ic h = h
 over_choice false p q ic h = refl
 
@@ -109,7 +109,7 @@ lt_down : (a b c : ℕ) → b ≤ c → nat_lt a c ≡ false → nat_lt a b ≡ 
 lt_down a b c le h = grind arith
 
 -- a hart that takes another record is not over
-open_not_over : {P : Type 0} (q : Phase) → takes_other q ≡ true → is_over q ≡ true → P
+open_not_over : {P : Type 0} (q : Phase) → takes_other q ≡ true → is_done q ≡ true → P
 open_not_over Unknown h k = absurd cc
 open_not_over (Awaiting n c) h k = absurd cc
 open_not_over (Open n c) h k = absurd cc

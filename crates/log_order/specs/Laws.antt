@@ -8,7 +8,7 @@ use Rattle.log_order.specs.declared.view.OrderLimits.{OrderLimits}
 use Rattle.log_order.specs.declared.view.HartView.{HartView}
 use Rattle.log_order.specs.declared.view.Phase.{Phase}
 use Rattle.log_order.specs.declared.view.Phase.TheVariants.{Awaiting, Open}
-use Rattle.log_order.specs.Rules.{fresh, is_over, phase_after}
+use Rattle.log_order.specs.Rules.{fresh, is_done, phase_after}
 use Rattle.log_order.specs.Order.{step, after_all, late_edge, broken}
 use Rattle.log_order.specs.Weak.{AreWeak}
 use Rattle.log_order.specs.Suffix.{Keeps}
@@ -23,7 +23,7 @@ SuffixesKeepTheRules = (t : OrderLimits) (count dropped : ℕ) (kept : List Reco
 -- in the end, if each hart is done and no Edge is late, kept records are in order
 abbrev pub SuffixesAreInOrder : Type 0
 SuffixesAreInOrder = (t : OrderLimits) (count dropped : ℕ) (kept : List Record) (harts : List HartView) → Keeps t count dropped kept harts
-    → AllByRecursion (λ v. is_over v.phase ≡ true) harts → late_edge harts 0 kept ≡ None → broken t count (dropped == 0) kept ≡ None
+    → AllByRecursion (λ v. is_done v.phase ≡ true) harts → late_edge harts 0 kept ≡ None → broken t count (dropped == 0) kept ≡ None
 
 -- ---- what may follow
 

@@ -75,15 +75,15 @@ late_edge harts place [] = None
 late_edge harts place (r ∷ rs) = if is_late harts r then Some place else late_edge harts (place + length (bytes_of r)) rs
 
 -- the first break of the two rules about the end, if the records left the harts so
-unfoldable pub ended : Bool → List HartView → List Record → Option OrderBreak
-ended all harts rs =
+unfoldable pub end_break : Bool → List HartView → List Record → Option OrderBreak
+end_break all harts rs =
     if list_any (is_unfinished all) harts then Some (order_break (total rs) (number_of HartsDone)) else
     option_map (λ place. order_break place (number_of SourcesDone)) (late_edge harts 0 rs)
 
 -- the break that was met among the records, else the first one about the end
 abbrev pub broken_in : Bool → List Record → Result (List HartView) OrderBreak → Option OrderBreak
 broken_in all rs (Err b) = Some b
-broken_in all rs (Ok harts) = ended all harts rs
+broken_in all rs (Ok harts) = end_break all harts rs
 
 -- the first break of the order of records of so many harts; none of records in order
 unfoldable pub broken : OrderLimits → ℕ → Bool → List Record → Option OrderBreak

@@ -134,12 +134,12 @@ abbrev pub fresh : Bool → HartView
 fresh all = record { phase = if all then Awaiting (Some 0) 0 else Unknown; seen = 0; met = false; last = None }
 
 -- the phase after a hart's last End
-abbrev pub is_over : Phase → Bool
-is_over Unknown = false
-is_over (Awaiting next ic) = false
-is_over (Open next since) = false
-is_over Done = true
+abbrev pub is_done : Phase → Bool
+is_done Unknown = false
+is_done (Awaiting next ic) = false
+is_done (Open next since) = false
+is_done Done = true
 
 -- a hart that has to be Done in the end and isn't
 abbrev pub is_unfinished : Bool → HartView → Bool
-is_unfinished all v = (all || v.met) && not (is_over v.phase)
+is_unfinished all v = (all || v.met) && not (is_done v.phase)

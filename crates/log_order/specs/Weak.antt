@@ -3,7 +3,7 @@ use Rattle.std.specs.Prelude.{◌≡◌, ℕ, ◌≤◌, true, List, [], ◌∷�
 use Rattle.log_order.specs.declared.view.Phase.{Phase}
 use Rattle.log_order.specs.declared.view.Phase.TheVariants.{Unknown, Awaiting, Open, Done}
 use Rattle.log_order.specs.declared.view.HartView.{HartView}
-use Rattle.log_order.specs.Rules.{is_over}
+use Rattle.log_order.specs.Rules.{is_done}
 
 -- the left number is not known, or is the right one
 abbrev pub IsWeakNumber : Option ℕ → Option ℕ → Type 0
@@ -33,7 +33,7 @@ pub record IsWeak (w v : HartView) : Type 0 where
   pub seen : w.seen ≤ v.seen
   pub met : w.met ≡ true → v.met ≡ true
   pub last : IsWeakNumber w.last v.last
-  pub over : is_over v.phase ≡ true → w.met ≡ true → is_over w.phase ≡ true
+  pub over : is_done v.phase ≡ true → w.met ≡ true → is_done w.phase ≡ true
 
 -- each view says no more than the one at its place, and there are as many
 abbrev pub AreWeak : List HartView → List HartView → Type 0

@@ -1,6 +1,6 @@
 //! What the records so far say of a hart: which of its records may come next. `specs/Rules.antt` has the rules.
 ghost use Rattle.std.specs.Prelude.{◌≡◌};
-ghost use Rattle.log_order.specs.Rules.{by_number, takes_header, takes_other, is_awaited, has_edge, has_end, next_number, phase_after, after_header, after_edge, after_end, after_other, after_one, fresh, is_over, is_unfinished};
+ghost use Rattle.log_order.specs.Rules.{by_number, takes_header, takes_other, is_awaited, has_edge, has_end, next_number, phase_after, after_header, after_edge, after_end, after_other, after_one, fresh, is_done, is_unfinished};
 
 use crate::rule::OrderRule;
 use bn_base::end_mark::{CALL, GUARD, LENGTH, LIMIT};
@@ -128,8 +128,8 @@ impl Phase {
         }
     }
 
-    fn is_over(self) -> bool
-        ensures { result ≡ is_over self }
+    fn is_done(self) -> bool
+        ensures { result ≡ is_done self }
     {
         match self {
             Phase::Done => true,
@@ -290,6 +290,6 @@ impl HartView {
     pub fn is_unfinished(&self, all: bool) -> bool
         ensures { result ≡ is_unfinished all self.now }
     {
-        (all || self.met) && !self.phase.is_over()
+        (all || self.met) && !self.phase.is_done()
     }
 }

@@ -27,7 +27,7 @@ fn call_words(alloc: Global, words: &[&str]) -> Result<Vec<String>, AllocError> 
 #[derive(Drop)]
 pub struct Surroundings {
     alloc: Global,
-    pub store: MemoryStore,
+    pub files: MemoryStore,
     /// The writes of the next call's out that fail.
     pub failing: Vec<u64>,
     /// The writes of the next call's err that fail.
@@ -47,7 +47,7 @@ impl Surroundings {
     pub fn new(alloc: Global, failing: Vec<u64>) -> Surroundings {
         Surroundings {
             alloc,
-            store: MemoryStore::new(alloc, failing),
+            files: MemoryStore::new(alloc, failing),
             failing: Vec::new(alloc),
             failing_err: Vec::new(alloc),
             keys: Vec::new(alloc),
@@ -60,7 +60,7 @@ impl Surroundings {
 
     /// The bytes of a file; none if it isn't there.
     pub fn bytes(&self, name: &str) -> &[u8] {
-        self.store.bytes(name).unwrap_or(&[])
+        self.files.bytes(name).unwrap_or(&[])
     }
 
     // What the next call reads.
@@ -91,7 +91,7 @@ impl Surroundings {
             rt,
             self.alloc,
             words,
-            &mut self.store,
+            &mut self.files,
             &mut input,
             &mut self.out,
             &mut self.err,

@@ -8,7 +8,7 @@ use std::thread::Threads;
 
 // A copy of a file.
 fn copy_file(alloc: Global, machine: &Surroundings, name: &str) -> anyhow::Result<Vec<u8>> {
-    match machine.store.bytes(name) {
+    match machine.files.bytes(name) {
         Some(bytes) => Ok(bytes.to_vec(alloc)?),
         None => Err(anyhow::anyhow!("run-prefixes: the file is not there")),
     }
@@ -36,7 +36,7 @@ fn run_prefix<R: Print + Threads + Wait + Sync>(
     prefix: &[u8],
     words: &[&str],
 ) -> anyhow::Result<()> {
-    machine.store.put(name, prefix)?;
+    machine.files.put(name, prefix)?;
     let status = machine.run(rt, words, &OpenGate)?;
     print_prefix(rt, prefix.len(), status, machine)
 }
@@ -75,7 +75,7 @@ fn run_on<R: Print + Threads + Wait + Sync>(
     let last = number(words.get(3))?;
     println!(rt; "{line}")?;
     run_each(rt, machine, name, bytes, first, last, call)?;
-    Ok(machine.store.put(name, bytes)?)
+    Ok(machine.files.put(name, bytes)?)
 }
 
 /// Runs the program on prefixes of a file as a line says, and leaves the file whole.

@@ -282,7 +282,7 @@ fn compare<R: Print>(
 
 // Prints how long a file is.
 fn print_size<R: Print>(rt: &R, machine: &Surroundings, name: &str) -> anyhow::Result<()> {
-    match machine.store.bytes(name) {
+    match machine.files.bytes(name) {
         Some(bytes) => println!(rt; "{name} {}", bytes.len())?,
         None => println!(rt; "{name} is not there")?,
     }
@@ -397,7 +397,7 @@ impl Case {
     // Makes or changes a file as a line says.
     fn put_file(&mut self, verb: &str, name: &str, rest: &[&str]) -> anyhow::Result<()> {
         let file = changed(self.alloc, self.machine.bytes(name), verb, rest)?;
-        Ok(self.machine.store.put(name, &file)?)
+        Ok(self.machine.files.put(name, &file)?)
     }
 
     // Begins a case, and prints its line.

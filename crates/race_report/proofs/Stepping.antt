@@ -206,7 +206,7 @@ stuck_memory law old new e r out_old out_new none stuck (inl f) t is = absurd (n
   where
     no : ◌≡◌ {A = Option JointError} (Some why.OutOfMemory) (Some (why.Stuck (positions_from 0 old.lanes))) → ⊥
     no e = cc
-stuck_memory law old new e r out_old out_new none stuck (inr f) t is = f.1.halted.refused
+stuck_memory law old new e r out_old out_new none stuck (inr f) t is = f.1.ran_out.refused
 
 -- ---- all steps
 

@@ -9,7 +9,7 @@ use Rattle.bn_base.specs.declared.state.HartState.{HartState}
 use Rattle.log_record.specs.declared.record.Record.{Record}
 use Rattle.run_model.specs.KeptRecords.{kept_of, IsEndOf}
 use Rattle.run_model.specs.Rows.{rows_of, rows_in, quiet_part}
-use Rattle.run_model.specs.Runs.{start, run_of, legal_from, is_over}
+use Rattle.run_model.specs.Runs.{start, run_of, legal_from, has_finished}
 use Rattle.run_model.specs.Turn.{Run, ask_at, is_guarded}
 use Rattle.hart_replay.specs.Replay.{Interval, interval_of, replayed}
 use Rattle.hart_replay.specs.Replay.{Done}
@@ -17,7 +17,7 @@ use Rattle.hart_replay.specs.Replay.{Done}
 -- the list of turns is legal, and finished
 pub record IsWhole (c : RawSettings) (i : Program) (input b : List ℕ) : Type 0 where
   pub legal : legal_from c i (start c i input) b ≡ true
-  pub over : is_over c (run_of c i input b) ≡ true
+  pub over : has_finished c (run_of c i input b) ≡ true
 
 -- Log sufficiency: what is left of a log is enough to replay it. Take a list of turns that is legal and finished, an end of its
 -- stream, and an interval whose Header stands in that end. The replay of the interval is done, and its rows are the recorded

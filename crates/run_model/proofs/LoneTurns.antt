@@ -27,7 +27,7 @@ use Rattle.rv_meaning.specs.declared.asks.Want.{Want}
 use Rattle.rv_meaning.specs.declared.asks.Reply.{Reply}
 use Rattle.run_model.specs.declared.trace.Trace.{Trace}
 use Rattle.run_model.specs.Turn.{Run, turn, serve, served_if, ask_at, budget, counted, is_orderly, is_guarded, serve_call, guarded_run, by_guard, span_of, point_of, edge_records, load_record, sc_record, next_records, run_over_records, warmth, loading, word_before, bytes_since, header_size, hart_after, harts_after, other_after, skipped_after, events_after, next_of}
-use Rattle.run_model.specs.Represents.Accessed.{IsFinished, IsTaken}
+use Rattle.run_model.specs.Represents.Accessed.{EndsTurn, IsTaken}
 use Rattle.run_model.specs.Represents.EachCache.{steps_in, AreCaches}
 use Rattle.run_model.specs.Represents.Harts.{hart_in, is_live_hart, no_hart}
 use Rattle.std.proofs.lemmas.List.{get_or-set_same}
@@ -80,10 +80,10 @@ same_steps false n = refl
 never_ends : (b : Bool) → (false && b) ≡ true → ⊥
 never_ends b e = cc
 
-pub finished_on : (old new : Trace) (next : TurnEnd) → next ≡ GoesOn → new.caches ≡ old.caches → new.shadow ≡ old.shadow → new.log ≡ old.log → length new.harts.items ≡ length old.harts.items → IsFinished old new 0 next
+pub finished_on : (old new : Trace) (next : TurnEnd) → next ≡ GoesOn → new.caches ≡ old.caches → new.shadow ≡ old.shadow → new.log ≡ old.log → length new.harts.items ≡ length old.harts.items → EndsTurn old new 0 next
 finished_on old new next e ec es el len =
     let swept = subst (λ (x : Shadow). IsSwept old.shadow x new.harts.items) (sym es) (swept_itself old.shadow new.harts.items) in
-    subst (λ (n : TurnEnd). IsFinished old new 0 n) (sym e) (record {
+    subst (λ (n : TurnEnd). EndsTurn old new 0 n) (sym e) (record {
       len = len;
       count = ap (λ (cs : List Contents). length cs) ec;
       steps = λ j. ap (λ (cs : List Contents). steps_in cs j) ec ∙ same_steps (j == 0) (steps_in old.caches j);

@@ -17,7 +17,7 @@ use Rattle.run_model.specs.Represents.Harts.{AreHarts, others_after, stopped_at,
 use Rattle.run_model.specs.Represents.Logs.{taken}
 use Rattle.run_model.specs.Represents.EachCache.{steps_in}
 use Rattle.run_model.specs.Represents.Plain.{IsSwept, GivesUpKnown, is_walk_due, is_end, clears}
-use Rattle.run_model.specs.Represents.Accessed.{IsFinished}
+use Rattle.run_model.specs.Represents.Accessed.{EndsTurn}
 
 -- hart k of a list in which one was set
 pub set_one : (hs : List Hart) (n k : ℕ) (t y : Hart) (g : ℕ → Hart) → AreHarts hs g → n < length hs → k < length hs → slice_get (slice_set hs n t) k ≡ Some (elim (k == n) [ true ↦ t | false ↦ g k ])
@@ -163,8 +163,8 @@ ends_are n m own x h t s hs kept f rs en ex el =
 -- what a turn leaves, by what the code does one after the other: to a race log that is the old one, by harts that are the new
 pub is_finished : (old new : Trace) (k : ℕ) (n m : TurnEnd) (s : Shadow) (hs : List Hart) → n ≡ m → s ≡ old.shadow → hs ≡ new.harts.items → length new.harts.items ≡ length old.harts.items → length new.caches ≡ length old.caches
     → ((j : ℕ) → steps_in new.caches j ≡ (if j == k then steps_in old.caches j + clears n else steps_in old.caches j)) → IsSwept s new.shadow hs → GivesUpKnown (is_end n && is_walk_due s) s new.shadow hs
-    → taken new.log.ring ≤ taken old.log.ring + 18 → new.log.ring.size ≡ old.log.ring.size → IsFinished old new k m
-is_finished old new k n m s hs en es eh len count steps swept due took size = subst (λ (x : TurnEnd). IsFinished old new k x) en (record {
+    → taken new.log.ring ≤ taken old.log.ring + 18 → new.log.ring.size ≡ old.log.ring.size → EndsTurn old new k m
+is_finished old new k n m s hs en es eh len count steps swept due took size = subst (λ (x : TurnEnd). EndsTurn old new k x) en (record {
   len = len;
   count = count;
   steps = steps;

@@ -8,7 +8,7 @@ use Rattle.bn_base.specs.declared.fault.Fault.TheVariants.{LoadOutside}
 use Rattle.log_record.specs.declared.record.Record.{Record}
 use Rattle.log_record.specs.declared.record.Record.TheVariants.{Header, FirstLoad, Edge, End}
 use Rattle.run_model.specs.Turn.{Run, turn, header, mark}
-use Rattle.run_model.specs.Runs.{start, start_state, run_of, legal_from, is_over}
+use Rattle.run_model.specs.Runs.{start, start_state, run_of, legal_from, has_finished}
 use Rattle.run_model.specs.Rows.{rows_of, rows_in}
 use Rattle.run_model.specs.KeptRecords.{kept_of}
 use Rattle.race_log.specs.Points.{Point}
@@ -48,7 +48,7 @@ rows e k = rows_of e.settings (program_of e) (start e.settings (program_of e) e.
 
 -- the list is legal, and finished
 abbrev pub is_whole : Recording → Type 0
-is_whole e = (legal_from e.settings (program_of e) (start e.settings (program_of e) e.input) e.turns ≡ true) × (is_over e.settings (recorded e) ≡ true)
+is_whole e = (legal_from e.settings (program_of e) (start e.settings (program_of e) e.input) e.turns ≡ true) × (has_finished e.settings (recorded e) ≡ true)
 
 -- ---- one hart
 

@@ -23,7 +23,7 @@ ghost use Rattle.run_model.specs.declared.hart.Hart.{Hart};
 ghost use Rattle.run_model.specs.declared.span.Span.{Span};
 ghost use Rattle.run_model.specs.declared.turn_end.TurnEnd.TheVariants.{GoesOn};
 ghost use Rattle.run_model.specs.Turn.{Run, span, bytes_since, warmth, point_of, edge_records, counted, turn};
-ghost use Rattle.run_model.specs.Represents.Accessed.{CanFinish, IsAccessed, IsFinished, IsNoted, IsTurnedHere, AsksHere};
+ghost use Rattle.run_model.specs.Represents.Accessed.{CanFinish, IsAccessed, EndsTurn, IsNoted, IsTurnedHere, AsksHere};
 ghost use Rattle.run_model.specs.Represents.Alone.{CanNoteAlone, CanAccessAlone, IsOneOn, IsOnWay, CanTakeAlone, IsUnguarded, TakesAlone, TurnsAlone, HaveTurned, HaveStopped};
 ghost use Rattle.run_model.specs.Represents.EachCache.{AreCaches};
 ghost use Rattle.run_model.specs.Represents.Harts.{AreHarts, hart_in};
@@ -82,7 +82,7 @@ impl Trace {
             IsLog self.new.log (with_ends settings.now None self.old.harts.items 0 (ask_here (hart_in self.old.harts.items 0) want.now) reply f rs) }
         ensures caches { (c : RawSettings) (span : Option Span) (events : ℕ → List Event) →
             CachesGoOn c (next_by settings.now None self.old.harts.items 0 (ask_here (hart_in self.old.harts.items 0) want.now) reply) 0 None span events self.old.caches self.new.caches }
-        ensures finished { IsFinished self.old self.new 0 (next_by settings.now None self.old.harts.items 0 (ask_here (hart_in self.old.harts.items 0) want.now) reply) }
+        ensures finished { EndsTurn self.old self.new 0 (next_by settings.now None self.old.harts.items 0 (ask_here (hart_in self.old.harts.items 0) want.now) reply) }
     {
         let own = &mut self.harts[0];
         own.skipped = skipped_after(load, own.skipped);

@@ -29,7 +29,7 @@ ghost use Rattle.run_model.specs.Represents.Logs.{taken, IsLog, is_marked_next};
 ghost use Rattle.run_model.specs.Represents.Tracing.{CachesGoOn, next_by, harts_by, with_ends};
 ghost use Rattle.run_model.specs.Represents.EachCache.{AreCaches, steps_in};
 ghost use Rattle.run_model.specs.Represents.InPlace.{ask_here, IsMoved};
-ghost use Rattle.run_model.specs.Represents.Accessed.{CanAccess, IsAccessed, CanFinish, IsFinished, IsOnlySwept, IsTurnedHere, AsksHere, Takes};
+ghost use Rattle.run_model.specs.Represents.Accessed.{CanAccess, IsAccessed, CanFinish, EndsTurn, IsOnlySwept, IsTurnedHere, AsksHere, Takes};
 ghost use Rattle.run_model.specs.Represents.Parts.{IsSpanReady};
 ghost use Rattle.run_model.specs.Represents.Plain.{everyone, IsRaceReady, count_after, clears};
 
@@ -122,7 +122,7 @@ impl Trace {
             IsLog self.new.log (with_ends settings.now None self.old.harts.items hart (ask_here (hart_in self.old.harts.items hart) want.now) reply f rs) }
         ensures caches { (c : RawSettings) (span : Option Span) (events : ℕ → List Event) →
             CachesGoOn c (next_by settings.now None self.old.harts.items hart (ask_here (hart_in self.old.harts.items hart) want.now) reply) hart None span events self.old.caches self.new.caches }
-        ensures finished { IsFinished self.old self.new hart (next_by settings.now None self.old.harts.items hart (ask_here (hart_in self.old.harts.items hart) want.now) reply) }
+        ensures finished { EndsTurn self.old self.new hart (next_by settings.now None self.old.harts.items hart (ask_here (hart_in self.old.harts.items hart) want.now) reply) }
     {
         let own = &mut self.harts[hart as usize];
         let next = take_turn_here(settings, own, &mut self.log, hart, want, reply, load);

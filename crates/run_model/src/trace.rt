@@ -17,7 +17,7 @@ ghost use Rattle.run_model.specs.Turn.{Run, begun_anew, guarded_run, span_of, ne
 ghost use Rattle.run_model.specs.Represents.Harts.{AreHarts, hart_in};
 ghost use Rattle.run_model.specs.Represents.Logs.{taken, IsLog, is_marked_next};
 ghost use Rattle.run_model.specs.Represents.Tracing.{IsAnew, CachesGoOn, next_by, harts_by, with_ends, with_access};
-ghost use Rattle.run_model.specs.Represents.Accessed.{CanNote, IsNoted, CanFinish, IsFinished};
+ghost use Rattle.run_model.specs.Represents.Accessed.{CanNote, IsNoted, CanFinish, EndsTurn};
 ghost use Rattle.run_model.specs.Represents.EachCache.{AreCaches, steps_in, where_loading, touched_word, touches};
 ghost use Rattle.run_model.specs.Counts.{is_loading};
 ghost use Rattle.run_model.specs.Represents.Parts.{AreAddresses};
@@ -234,7 +234,7 @@ impl Trace {
             IsLog self.new.log (with_ends settings.now call self.old.harts.items hart ask.now reply f rs) }
         ensures caches { (c : RawSettings) (span : Option Span) (events : ℕ → List Event) →
             CachesGoOn c (next_by settings.now call self.old.harts.items hart ask.now reply) hart call span events self.old.caches self.new.caches }
-        ensures finished { IsFinished self.old self.new hart (next_by settings.now call self.old.harts.items hart ask.now reply) }
+        ensures finished { EndsTurn self.old self.new hart (next_by settings.now call self.old.harts.items hart ask.now reply) }
     {
         let own = &mut self.harts[hart as usize];
         let next = take_turn(settings, own, &mut self.log, hart, call, ask, reply, load);

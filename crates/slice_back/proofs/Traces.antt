@@ -2,7 +2,7 @@
 use Rattle.std.proofs.Common.{arith, ◌≡◌, ◌≤◌, ◌<◌, ℕ, suc, length, true, ◌⊎◌, List, [], ◌∷◌, Option, Some, None, refl, sym, ◌∙◌, ap, inl, inr, subst}
 use Rattle.bn_base.specs.declared.row.Row.{Row}
 use Rattle.hart_replay.specs.Replay.{Replayed, Done, Refused}
-use Rattle.hart_replay.specs.Coming.{over, with_rows, a_word_comes}
+use Rattle.hart_replay.specs.Coming.{outcome_only, with_rows, a_word_comes}
 use Rattle.hart_replay.specs.declared.error.ReplayError.{ReplayError}
 use Rattle.hart_replay.specs.declared.error.ReplayError.TheVariants.{NoInterval, LoadMissing, ScMissing, RecordsLeft, EndDiffers, OutOfMemory}
 use Rattle.slice_back.specs.declared.noted.Noted.{Noted}
@@ -31,7 +31,7 @@ stands-more ic loads whole left more row s t e h r = record {
       omega (arith, one, h.rest);
 }
 
-pub stands-done : (ic : ℕ) (loads : List (ℕ × ℕ)) (whole left : Replayed) (s : Tracing) (found : Option (List Noted)) → left ≡ over Done → TracedSoFar ic loads whole left s → reached s [] ≡ found → IsTraced ic loads whole found
+pub stands-done : (ic : ℕ) (loads : List (ℕ × ℕ)) (whole left : Replayed) (s : Tracing) (found : Option (List Noted)) → left ≡ outcome_only Done → TracedSoFar ic loads whole left s → reached s [] ≡ found → IsTraced ic loads whole found
 stands-done ic loads whole left s found e h r = (sym h.outcome ∙ ap (λ (x : Replayed). x.outcome) e, sym h.noted ∙ ap (λ (x : Replayed). reached s x.rows) e ∙ r)
 
 -- a word comes only with a row
@@ -39,7 +39,7 @@ a_row_comes : (rows : List Row) → a_word_comes rows ≡ true → 0 < length ro
 a_row_comes [] e = absurd (cc)
 a_row_comes (r ∷ rs) e = omega arith
 
-stands-refused : (ic : ℕ) (loads : List (ℕ × ℕ)) (whole left : Replayed) (s : Tracing) (e : ReplayError) → left ≡ over (Refused e) → TracedSoFar ic loads whole left s → IsStop whole (error_of e)
+stands-refused : (ic : ℕ) (loads : List (ℕ × ℕ)) (whole left : Replayed) (s : Tracing) (e : ReplayError) → left ≡ outcome_only (Refused e) → TracedSoFar ic loads whole left s → IsStop whole (error_of e)
 stands-refused ic loads whole left s (NoInterval a b) p h = sym h.outcome ∙ ap (λ (x : Replayed). x.outcome) p
 stands-refused ic loads whole left s (LoadMissing a b c) p h = sym h.outcome ∙ ap (λ (x : Replayed). x.outcome) p
 stands-refused ic loads whole left s (ScMissing a b) p h = sym h.outcome ∙ ap (λ (x : Replayed). x.outcome) p
@@ -47,7 +47,7 @@ stands-refused ic loads whole left s (RecordsLeft a b) p h = sym h.outcome ∙ a
 stands-refused ic loads whole left s (EndDiffers a b c) p h = sym h.outcome ∙ ap (λ (x : Replayed). x.outcome) p
 stands-refused ic loads whole left s OutOfMemory p h = inl (sym h.outcome ∙ ap (λ (x : Replayed). x.outcome) p)
 
-pub stands-stopped : (ic : ℕ) (loads : List (ℕ × ℕ)) (whole left : Replayed) (s : Tracing) (e : ReplayError) → (left ≡ over (Refused e)) ⊎ (e ≡ OutOfMemory) → (left ≡ over (Refused e)) ⊎ (a_word_comes left.rows ≡ true)
+pub stands-stopped : (ic : ℕ) (loads : List (ℕ × ℕ)) (whole left : Replayed) (s : Tracing) (e : ReplayError) → (left ≡ outcome_only (Refused e)) ⊎ (e ≡ OutOfMemory) → (left ≡ outcome_only (Refused e)) ⊎ (a_word_comes left.rows ≡ true)
     → TracedSoFar ic loads whole left s → IsStop whole (error_of e)
 stands-stopped ic loads whole left s e (inl p) w h = stands-refused ic loads whole left s e p h
 stands-stopped ic loads whole left s e (inr q) (inl p) h = stands-refused ic loads whole left s e p h
@@ -58,10 +58,10 @@ stands-stopped ic loads whole left s e (inr q) (inr w) h = subst (λ (x : Replay
 pub rest-more : (whole left more : Replayed) (row : Row) → left ≡ with_rows (row ∷ []) more → left.outcome ≡ whole.outcome → more.outcome ≡ whole.outcome
 rest-more whole left more row e is = sym (ap (λ (x : Replayed). x.outcome) e) ∙ is
 
-pub ends-done : (whole left now : Replayed) → left ≡ over Done → left.outcome ≡ whole.outcome → EndsUnnoted whole ends.OutOfMemory now
+pub ends-done : (whole left now : Replayed) → left ≡ outcome_only Done → left.outcome ≡ whole.outcome → EndsUnnoted whole ends.OutOfMemory now
 ends-done whole left now e is = inl (sym is ∙ ap (λ (x : Replayed). x.outcome) e)
 
-ends-as : (whole left now : Replayed) (e : ReplayError) → left ≡ over (Refused e) → now ≡ over (Refused e) → left.outcome ≡ whole.outcome → EndsUnnoted whole (error_of e) now
+ends-as : (whole left now : Replayed) (e : ReplayError) → left ≡ outcome_only (Refused e) → now ≡ outcome_only (Refused e) → left.outcome ≡ whole.outcome → EndsUnnoted whole (error_of e) now
 ends-as whole left now (NoInterval a b) p n is = sym is ∙ ap (λ (x : Replayed). x.outcome) p
 ends-as whole left now (LoadMissing a b c) p n is = sym is ∙ ap (λ (x : Replayed). x.outcome) p
 ends-as whole left now (ScMissing a b) p n is = sym is ∙ ap (λ (x : Replayed). x.outcome) p
@@ -69,9 +69,9 @@ ends-as whole left now (RecordsLeft a b) p n is = sym is ∙ ap (λ (x : Replaye
 ends-as whole left now (EndDiffers a b c) p n is = sym is ∙ ap (λ (x : Replayed). x.outcome) p
 ends-as whole left now OutOfMemory p n is = inr n
 
-pub ends-stopped : (whole left now : Replayed) (e : ReplayError) → (left ≡ over (Refused e)) ⊎ (e ≡ OutOfMemory) → now ≡ over (Refused e) → left.outcome ≡ whole.outcome → EndsUnnoted whole (error_of e) now
+pub ends-stopped : (whole left now : Replayed) (e : ReplayError) → (left ≡ outcome_only (Refused e)) ⊎ (e ≡ OutOfMemory) → now ≡ outcome_only (Refused e) → left.outcome ≡ whole.outcome → EndsUnnoted whole (error_of e) now
 ends-stopped whole left now e (inl p) n is = ends-as whole left now e p n is
-ends-stopped whole left now e (inr q) n is = subst (λ (x : ReplayError). EndsUnnoted whole (error_of x) now) (sym q) (inr (n ∙ ap (λ (x : ReplayError). over (Refused x)) q))
+ends-stopped whole left now e (inr q) n is = subst (λ (x : ReplayError). EndsUnnoted whole (error_of x) now) (sym q) (inr (n ∙ ap (λ (x : ReplayError). outcome_only (Refused x)) q))
 
 pub ends-whole : (whole more now : Replayed) (e : SliceError) → more.outcome ≡ whole.outcome → EndsUnnoted more e now → EndsUnnoted whole e now
 ends-whole whole more now (ends.Replay e) is x = sym is ∙ x

@@ -2,7 +2,7 @@
 use Rattle.std.specs.Prelude.{◌≡◌, ◌⊎◌, ℕ, ◌<◌, ◌++◌, Bool, true, false, List, length, Option, Some, None}
 use Rattle.bn_base.specs.declared.row.Row.{Row}
 use Rattle.hart_replay.specs.Replay.{Replayed, Done, Refused}
-use Rattle.hart_replay.specs.Coming.{over}
+use Rattle.hart_replay.specs.Coming.{outcome_only}
 use Rattle.hart_replay.specs.Scans.{Pending}
 use Rattle.hart_replay.specs.declared.error.ReplayError.{ReplayError}
 use Rattle.hart_replay.specs.declared.error.ReplayError.TheVariants.{NoInterval, LoadMissing, ScMissing, RecordsLeft, EndDiffers, OutOfMemory}
@@ -51,7 +51,7 @@ IsStop y ends.OutOfMemory = (y.outcome ≡ Refused OutOfMemory) ⊎ (0 < length 
 abbrev pub EndsUnnoted : Replayed → SliceError → Replayed → Type 0
 EndsUnnoted y (Replay e) left = y.outcome ≡ Refused e
 EndsUnnoted y (NoRow ic) left = ⊥
-EndsUnnoted y ends.OutOfMemory left = (y.outcome ≡ Done) ⊎ (left ≡ over (Refused OutOfMemory))
+EndsUnnoted y ends.OutOfMemory left = (y.outcome ≡ Done) ⊎ (left ≡ outcome_only (Refused OutOfMemory))
 
 -- the rows that are noted of a whole replay that is done, if the wanted one is among them
 abbrev pub IsTraced : ℕ → List (ℕ × ℕ) → Replayed → Option (List Noted) → Type 0

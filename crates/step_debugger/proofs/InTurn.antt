@@ -5,7 +5,7 @@ use Rattle.std.specs.Io.KnownBytes.{Appends}
 use Rattle.bn_outside.specs.Streams.{ReadNote, Stream, Supply, noted_after}
 use Rattle.back_step.specs.Traces.{Trace}
 use Rattle.step_debugger.specs.declared.error.DebugError.{DebugError}
-use Rattle.step_debugger.specs.Lines.{Reading, input_limit, is_line_feed, is_over, input_from, NoLine, NextLine, reads_for}
+use Rattle.step_debugger.specs.Lines.{Reading, input_limit, is_line_feed, is_too_long, input_from, NoLine, NextLine, reads_for}
 use Rattle.step_debugger.specs.Transcript.{answered_in, InTurn, AnswersInTurn}
 use Rattle.step_debugger.proofs.Prefixes.{next}
 
@@ -42,7 +42,7 @@ unended_more line new_line byte is none other = subst NoLine (sym is) (by line n
 -- they hold no whole line
 pub no_lines : (count : ℕ) (line front : List ℕ) → NoLine front → (input_from count line front).lines ≡ []
 no_lines count line [] none = refl
-no_lines count line (byte ∷ front) none = by (is_over line byte) (nat_lt count input_limit) (is_line_feed byte) none.0 (no_lines (count + 1) (line ++ byte ∷ []) front none.1)
+no_lines count line (byte ∷ front) none = by (is_too_long line byte) (nat_lt count input_limit) (is_line_feed byte) none.0 (no_lines (count + 1) (line ++ byte ∷ []) front none.1)
   where
     by : (over room feed : Bool) → feed ≡ false → (input_from (count + 1) (line ++ byte ∷ []) front).lines ≡ [] → (next count line byte over room feed front).lines ≡ []
     by true room feed other rest = refl

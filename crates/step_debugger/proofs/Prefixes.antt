@@ -2,7 +2,7 @@
 use Rattle.std.proofs.Common.{◌≡◌, ℕ, ◌+◌, Bool, true, false, List, [], ◌∷◌, ◌++◌, length, nat_lt, Option, Some, None, refl}
 use Rattle.step_debugger.specs.declared.error.DebugError.{DebugError}
 use Rattle.step_debugger.specs.declared.error.DebugError.TheVariants.{LineTooLong, TooMuch}
-use Rattle.step_debugger.specs.Lines.{Input, input_limit, is_line_feed, is_over, ends_in, with_line, input_from, RefusalsStay}
+use Rattle.step_debugger.specs.Lines.{Input, input_limit, is_line_feed, is_too_long, ends_in, with_line, input_from, RefusalsStay}
 
 no_error : (e : DebugError) → ◌≡◌ {A = Option DebugError} (Some e) None → ⊥
 no_error e is = cc
@@ -20,7 +20,7 @@ next count line byte over room feed rest = elim over as (λ y. Input) [
 from : (bytes more : List ℕ) (count : ℕ) (line : List ℕ) → (input_from count line (bytes ++ more)).refused ≡ None → (input_from count line bytes).refused ≡ None
 from [] more count line e = refl
 from (byte ∷ bytes) more count line e =
-    by (is_over line byte) (nat_lt count input_limit) (is_line_feed byte) (λ l f. from bytes more (count + 1) l f) e
+    by (is_too_long line byte) (nat_lt count input_limit) (is_line_feed byte) (λ l f. from bytes more (count + 1) l f) e
   where
     by : (over room feed : Bool) → ((l : List ℕ) → (input_from (count + 1) l (bytes ++ more)).refused ≡ None → (input_from (count + 1) l bytes).refused ≡ None)
         → (next count line byte over room feed (bytes ++ more)).refused ≡ None → (next count line byte over room feed bytes).refused ≡ None

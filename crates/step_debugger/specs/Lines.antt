@@ -35,13 +35,13 @@ abbrev pub is_line_feed : ℕ → Bool
 is_line_feed byte = byte == 10
 
 -- a line is full, and another byte than LF comes
-abbrev pub is_over : List ℕ → ℕ → Bool
-is_over line byte = not (is_line_feed byte) && not (nat_lt (length line) line_limit)
+abbrev pub is_too_long : List ℕ → ℕ → Bool
+is_too_long line byte = not (is_line_feed byte) && not (nat_lt (length line) line_limit)
 
 -- what further bytes hold, if so many came before them and the line begins with these of those
 abbrev pub input_from : ℕ → List ℕ → List ℕ → Input
 input_from count line [] = ends_in line None
-input_from count line (byte ∷ bytes) = elim (is_over line byte) [
+input_from count line (byte ∷ bytes) = elim (is_too_long line byte) [
   | true ↦ ends_in line (Some (LineTooLong (length line + 1)))
   | false ↦ elim (nat_lt count input_limit) [
     | false ↦ ends_in line (Some (TooMuch (count + 1)))

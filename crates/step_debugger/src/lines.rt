@@ -1,6 +1,6 @@
 //! The lines of the commands, read from a source.
 ghost use Rattle.std.specs.Prelude.{◌≡◌, ◌≤◌, []};
-ghost use Rattle.step_debugger.specs.Lines.{is_over, TakesByte, GivesByte, NextLine};
+ghost use Rattle.step_debugger.specs.Lines.{is_too_long, TakesByte, GivesByte, NextLine};
 
 use crate::error::DebugError;
 use bn_outside::{Failed, Sink, Source};
@@ -53,8 +53,8 @@ impl LineReader {
     }
 
     // Whether the line is full, and another byte than LF comes.
-    fn is_over(&self, byte: u8) -> bool
-        ensures { result ≡ is_over self.now.line byte }
+    fn is_too_long(&self, byte: u8) -> bool
+        ensures { result ≡ is_too_long self.now.line byte }
     {
         byte != LINE_FEED && !(self.line.len() < LINE_LIMIT)
     }
@@ -63,7 +63,7 @@ impl LineReader {
     fn take(&mut self, byte: u8) -> Result<bool, DebugError>
         ensures { TakesByte self.old byte result self.new }
     {
-        if self.is_over(byte) {
+        if self.is_too_long(byte) {
             return Err(DebugError::LineTooLong {
                 length: self.line.len() as u64 + 1,
             });

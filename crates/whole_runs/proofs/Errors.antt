@@ -4,7 +4,7 @@ use Rattle.std.specs.Prelude.{Option, Some, None, slice_get}
 use Rattle.bn_base.specs.Programs.{Program}
 use Rattle.bn_base.specs.declared.settings.RawSettings.{RawSettings}
 use Rattle.run_model.specs.Turn.{Run, turn}
-use Rattle.run_model.specs.Runs.{run_from, legal_from, is_live, is_over, live_harts}
+use Rattle.run_model.specs.Runs.{run_from, legal_from, is_live, has_finished, live_harts}
 use Rattle.run_model.specs.Lists.{unfinished, error_from}
 use Rattle.whole_runs.specs.Laws.{WholeRunsHaveNoError}
 use Rattle.run_model.specs.declared.error.TurnError.{TurnError}
@@ -50,14 +50,14 @@ none_in : (xs : List ℕ) → ◌≡◌ {A = Option ℕ} None (slice_get xs 0) �
 none_in [] e = refl
 none_in (x ∷ xs) e = cc
 
-pub none_over : (c : RawSettings) (run : Run) → ◌≡◌ {A = Option ℕ} None (slice_get (live_harts 0 c.harts run.harts) 0) → is_over c run ≡ true
+pub none_over : (c : RawSettings) (run : Run) → ◌≡◌ {A = Option ℕ} None (slice_get (live_harts 0 c.harts run.harts) 0) → has_finished c run ≡ true
 none_over c run e = over_none c run (any_false c.harts run.harts (none_in (live_harts 0 c.harts run.harts) e))
 
 none_left : (xs : List ℕ) → unfinished xs ≡ None → xs ≡ []
 none_left [] e = refl
 none_left (x ∷ xs) e = cc
 
-over_list : (c : RawSettings) (run : Run) (xs : List ℕ) → live_harts 0 c.harts run.harts ≡ xs → is_over c run ≡ true → xs ≡ []
+over_list : (c : RawSettings) (run : Run) (xs : List ℕ) → live_harts 0 c.harts run.harts ≡ xs → has_finished c run ≡ true → xs ≡ []
 over_list c run [] e over = refl
 over_list c run (x ∷ xs) e over = absurd (over_any c run (length xs) over (ap length e))
 
@@ -65,14 +65,14 @@ some_none : (e : TurnError) → Some e ≡ None → ⊥
 some_none x e = cc
 
 -- of a list from any run on
-error_none : (c : RawSettings) (i : Program) (run : Run) (at : ℕ) (b : List ℕ) → error_from c i run at b ≡ None → (legal_from c i run b ≡ true) × (is_over c (run_from c i run b) ≡ true)
+error_none : (c : RawSettings) (i : Program) (run : Run) (at : ℕ) (b : List ℕ) → error_from c i run at b ≡ None → (legal_from c i run b ≡ true) × (has_finished c (run_from c i run b) ≡ true)
 error_none c i run at [] e = (refl, over_none c run (any_false c.harts run.harts (none_left (live_harts 0 c.harts run.harts) e)))
 error_none c i run at (k ∷ ks) e = elim (decide (is_live c run k)) [
   | inl p ↦ let rest = error_none c i (turn c i run k) (at + 1) ks (sym (error_live c i run at k ks p) ∙ e) in (legal_cons c i run k ks p rest.0, rest.1)
   | inr p ↦ absurd (some_none (IllegalTurn at k) (sym (error_over c i run at k ks p) ∙ e))
 ]
 
-whole_none : (c : RawSettings) (i : Program) (run : Run) (at : ℕ) (b : List ℕ) → legal_from c i run b ≡ true → is_over c (run_from c i run b) ≡ true → error_from c i run at b ≡ None
+whole_none : (c : RawSettings) (i : Program) (run : Run) (at : ℕ) (b : List ℕ) → legal_from c i run b ≡ true → has_finished c (run_from c i run b) ≡ true → error_from c i run at b ≡ None
 whole_none c i run at b legal over =
     let after = run_from c i run b in
     error_end c i run at b legal ∙ ap unfinished (over_list c after (live_harts 0 c.harts after.harts) refl over)

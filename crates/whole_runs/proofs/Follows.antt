@@ -5,7 +5,7 @@ use Rattle.std.proofs.lemmas.List.{append-nil, take_all}
 use Rattle.bn_base.specs.Programs.{Program}
 use Rattle.bn_base.specs.declared.settings.RawSettings.{RawSettings}
 use Rattle.run_model.specs.Turn.{Run, turn}
-use Rattle.run_model.specs.Runs.{run_from, legal_from, is_live, is_over, any_live, most_turns}
+use Rattle.run_model.specs.Runs.{run_from, legal_from, is_live, has_finished, any_live, most_turns}
 use Rattle.run_model.specs.declared.error.TurnError.TheVariants.{IllegalTurn}
 use Rattle.bus_core.specs.Bus.{Began, Seen, first_run}
 use Rattle.whole_runs.specs.Lists.{HasTaken, error_of, list_run, seeded_after}
@@ -76,7 +76,7 @@ stops_last tells b s list at h is most =
     let all = prefix_take b.settings b.image (first_run b) list ∙ ap (λ (m : ℕ). take m list) (sym n) ∙ take_all at list most in
     subst (λ (xs : List ℕ). HasTaken tells s xs) all h
 
-none_live : (c : RawSettings) (run : Run) → is_over c run ≡ true → any_live c.harts run.harts ≡ false
+none_live : (c : RawSettings) (run : Run) → has_finished c run ≡ true → any_live c.harts run.harts ≡ false
 none_live c run over = by (any_live c.harts run.harts) over
   where
     by : (b : Bool) → (elim b as (λ z. Bool) [ true ↦ false | false ↦ true ]) ≡ true → b ≡ false

@@ -4,7 +4,7 @@ use Rattle.bn_base.specs.Programs.{Program}
 use Rattle.bn_base.specs.Ranges.{IsSetting}
 use Rattle.bn_base.specs.declared.settings.RawSettings.{RawSettings}
 use Rattle.run_model.specs.Turn.{Run, turn}
-use Rattle.run_model.specs.Runs.{start, run_of, run_from, legal_from, is_over, any_live, live_harts, draw, chosen, seeded, seeded_from, most_turns}
+use Rattle.run_model.specs.Runs.{start, run_of, run_from, legal_from, has_finished, any_live, live_harts, draw, chosen, seeded, seeded_from, most_turns}
 use Rattle.run_laws.specs.Laws.{RunsEnd}
 use Rattle.whole_runs.specs.Laws.{SeededListsEnd}
 use Rattle.whole_runs.proofs.Rows.{legal_cons, legal_snoc}
@@ -59,7 +59,7 @@ seeded_spent c i run s (suc n) =
 one_too_many : (n : ℕ) (b : List ℕ) (k : ℕ) → length b ≡ n → length (b ++ k ∷ []) ≤ n → ⊥
 one_too_many n b k e h = omega (arith, e, h, length-append b (k ∷ []))
 
-over_by : RunsEnd → (c : RawSettings) (i : Program) (input : List ℕ) (b : List ℕ) → IsSetting c → legal_from c i (start c i input) b ≡ true → IsSpent c i (start c i input) (most_turns c) b → is_over c (run_of c i input b) ≡ true
+over_by : RunsEnd → (c : RawSettings) (i : Program) (input : List ℕ) (b : List ℕ) → IsSetting c → legal_from c i (start c i input) b ≡ true → IsSpent c i (start c i input) (most_turns c) b → has_finished c (run_of c i input b) ≡ true
 unfolding IsSpent
 over_by ends c i input b setting legal (inl p) = over_none c (run_of c i input b) p
 over_by ends c i input b setting legal (inr p) =

@@ -4,7 +4,7 @@ use Rattle.std.specs.Prelude.{Some, slice_get}
 use Rattle.std.specs.List.{AllByRecursion}
 use Rattle.std.proofs.Math.Seq.{take-suc}
 use Rattle.std.proofs.lemmas.List.{take-append-drop}
-use Rattle.run_model.specs.Runs.{is_live, is_over, seeded, seeded_from, most_turns}
+use Rattle.run_model.specs.Runs.{is_live, has_finished, seeded, seeded_from, most_turns}
 use Rattle.log_record.specs.Spelling.{Fits}
 use Rattle.log_ring.specs.Kept.{HoldsLog}
 use Rattle.bn_outside.specs.declared.turn_row.TurnRow.{TurnRow}
@@ -85,16 +85,16 @@ orderly_if : (disordered orderly : Bool) → disordered ≡ not orderly → diso
 orderly_if disordered true e d = refl
 orderly_if disordered false e d = cc
 
-pub of_rows : {B : Type 0} (s : Seen) (closed : Closed B) (rows : List TurnRow) → IsLogged s closed.ring rows → closed.finished ≡ (not s.halted && not s.disordered && is_over s.began.settings (run_after s.began s.halted rows)) → closed.finished ≡ true
+pub of_rows : {B : Type 0} (s : Seen) (closed : Closed B) (rows : List TurnRow) → IsLogged s closed.ring rows → closed.finished ≡ (not s.halted && not s.disordered && has_finished s.began.settings (run_after s.began s.halted rows)) → closed.finished ≡ true
     → closed.out.items ≡ (run_after s.began s.halted rows).machine.out → closed.err.items ≡ (run_after s.began s.halted rows).machine.err → closed.ends.items ≡ marks 0 s.began.settings.harts (run_after s.began s.halted rows).harts → closed.turns ≡ s.turns
     → AllByRecursion (Fits 2) closed.ring.records → AreLastMarks closed.ring.records closed.ends.items → IsOfRows s.began closed rows
 of_rows {B} s closed rows l finished whole out err ends turns fit last =
     let b = s.began in
-    let end = ended_of s.halted s.disordered (is_over b.settings (run_after b s.halted rows)) (sym finished ∙ whole) in
+    let end = ended_of s.halted s.disordered (has_finished b.settings (run_after b s.halted rows)) (sym finished ∙ whole) in
     let same = ap (λ (x : Bool). run_after b x rows) end.0 in record {
       lawful = l.told.lawful;
       orderly = orderly_if s.disordered (are_orderly b.settings b.image (first_run b) rows) l.told.orderly end.1;
-      over = subst (λ (r : Run). is_over b.settings r ≡ true) same end.2;
+      over = subst (λ (r : Run). has_finished b.settings r ≡ true) same end.2;
       out = out ∙ ap (λ (r : Run). r.machine.out) same;
       err = err ∙ ap (λ (r : Run). r.machine.err) same;
       ends = ends ∙ ap (λ (r : Run). marks 0 b.settings.harts r.harts) same;

@@ -6,7 +6,7 @@ use Rattle.bn_outside.specs.declared.turn_row.TurnRow.{TurnRow}
 use Rattle.log_record.specs.Spelling.{Fits}
 use Rattle.log_ring.specs.Kept.{HoldsLog}
 use Rattle.log_order.specs.Content.{IsContent}
-use Rattle.run_model.specs.Runs.{is_over}
+use Rattle.run_model.specs.Runs.{has_finished}
 use Rattle.run_laws.specs.History.{are_orderly, IsLawful}
 use Rattle.run_laws.specs.Ends.{AreLastMarks}
 use Rattle.file_laws.specs.Recorded.{ring_content}
@@ -33,7 +33,7 @@ pub record IsClosed {B : _} (tells : Bool) (b : Began) (list : List ℕ) (closed
 pub record IsOfRows {B : _} (b : Began) (closed : Closed B) (rows : List TurnRow) : Type 0 where
   pub lawful : IsLawful b.settings b.image (first_run b) rows
   pub orderly : are_orderly b.settings b.image (first_run b) rows ≡ true
-  pub over : is_over b.settings (run_after b false rows) ≡ true
+  pub over : has_finished b.settings (run_after b false rows) ≡ true
   pub out : closed.out.items ≡ (run_after b false rows).machine.out
   pub err : closed.err.items ≡ (run_after b false rows).machine.err
   pub ends : closed.ends.items ≡ marks 0 b.settings.harts (run_after b false rows).harts

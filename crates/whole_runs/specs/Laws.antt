@@ -5,7 +5,7 @@ use Rattle.bn_base.specs.Ranges.{IsSetting}
 use Rattle.bn_base.specs.declared.settings.RawSettings.{RawSettings}
 use Rattle.bn_outside.specs.declared.turn_row.TurnRow.{TurnRow}
 use Rattle.run_model.specs.Turn.{Run}
-use Rattle.run_model.specs.Runs.{start, run_of, legal_from, is_over, seeded}
+use Rattle.run_model.specs.Runs.{start, run_of, legal_from, has_finished, seeded}
 use Rattle.run_laws.specs.History.{rows_from}
 use Rattle.bus_core.specs.Bus.{Began}
 use Rattle.whole_runs.specs.Lists.{is_legal, is_finished, error_of}
@@ -13,7 +13,7 @@ use Rattle.whole_runs.specs.Lists.{is_legal, is_finished, error_of}
 -- the list that a number gives is legal and finished
 abbrev pub SeededListsEnd : Type 0
 SeededListsEnd = (c : RawSettings) (i : Program) (input : List ℕ) (seed : ℕ) → IsSetting c
-    → let b = seeded c i input seed in (legal_from c i (start c i input) b ≡ true) × (is_over c (run_of c i input b) ≡ true)
+    → let b = seeded c i input seed in (legal_from c i (start c i input) b ≡ true) × (has_finished c (run_of c i input b) ≡ true)
 
 -- the harts of the rows of a list are the list
 abbrev pub RowsNameTheirHarts : Type 0

@@ -68,13 +68,13 @@ fn debug_pair<I: Source<O>, O: Sink>(
 pub fn debug_files<S: Store, I: Source<O>, O: Sink>(
     alloc: Global,
     names: &Names,
-    store: &mut S,
+    files: &mut S,
     input: &mut I,
     out: &mut O,
 ) -> Result<(), Refusal>
-    ensures { DebugsTo names.now S.note (reading I.source I.note input.old input.new) (S.stored store.old) (S.stored store.new)
+    ensures { DebugsTo names.now S.note (reading I.source I.note input.old input.new) (S.stored files.old) (S.stored files.new)
         (O.stream out.old) (O.stream out.new) result }
 {
-    let pair = load_pair(alloc, names, store)?;
+    let pair = load_pair(alloc, names, files)?;
     debug_pair(alloc, &pair, input, out)
 }

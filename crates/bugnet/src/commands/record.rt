@@ -6,7 +6,7 @@ ghost use Rattle.command_words.specs.Words.{RecordLine, seen_recording};
 ghost use Rattle.elf_loader.specs.Loaded.{image_of};
 ghost use Rattle.le_numbers.specs.Numbers.{AreBytes};
 ghost use Rattle.bn_outside.specs.declared.schedule.Schedule.{Schedule};
-ghost use Rattle.bugnet.specs.Answers.{names_in, manner_by, manner_of, setting_refusal, IsGiven};
+ghost use Rattle.bugnet.specs.Answers.{names_in, scheduling_by, scheduling_of, setting_refusal, IsGiven};
 ghost use Rattle.bugnet.specs.ClosedRuns.{MakesRecordings};
 ghost use Rattle.bugnet.specs.Command.Record.{is_clash, IsByProgram, IsByNames};
 ghost use Rattle.bugnet.specs.LineAnswers.{AnswersLine};
@@ -33,16 +33,16 @@ fn load_input<S: Store>(
     names: &Names,
     mut start: Start,
     has_input: bool,
-    store: &mut S,
+    files: &mut S,
 ) -> Result<Start, Refusal>
     requires { start.input.items ≡ [] }
     ensures { LoadsStart names.now (λ how files. IsByInput has_input files names.now (IsRun start.settings start.image start.digest how))
-        (input_roles has_input) [] S.note (S.stored store.old) (S.stored store.new) result }
+        (input_roles has_input) [] S.note (S.stored files.old) (S.stored files.new) result }
 {
     if !has_input {
         return Ok(start);
     }
-    let input = fetch(alloc, names, Role::Input, store)?;
+    let input = fetch(alloc, names, Role::Input, files)?;
     start.input = input;
     Ok(start)
 }
@@ -54,11 +54,11 @@ fn load_start<S: Store>(
     elf: &[u8],
     settings: &Settings,
     has_input: bool,
-    store: &mut S,
+    files: &mut S,
 ) -> Result<Start, Refusal>
     ensures bytes { AreBytes elf.now }
     ensures loads { LoadsStart names.now (λ how files. IsByProgram (image_of elf.now settings.now) files names.now settings.now how has_input (sha256 elf.now))
-        (input_roles has_input) [] S.note (S.stored store.old) (S.stored store.new) result }
+        (input_roles has_input) [] S.note (S.stored files.old) (S.stored files.new) result }
 {
     let image = load_program(alloc, elf, settings)?;
     let start = Start {
@@ -67,7 +67,7 @@ fn load_start<S: Store>(
         input: Vec::new(alloc),
         digest: digest_of(elf),
     };
-    load_input(alloc, names, start, has_input, store)
+    load_input(alloc, names, start, has_input, files)
 }
 
 // Loads the program file, and then the input.
@@ -76,14 +76,14 @@ fn load_files<S: Store>(
     names: &Names,
     settings: &Settings,
     has_input: bool,
-    store: &mut S,
+    files: &mut S,
 ) -> Result<Start, Refusal>
-    ensures bytes { IfOk result (λ _. WithFiles (S.stored store.old).files (λ files. HoldsBytes (files names.now.elf))) }
+    ensures bytes { IfOk result (λ _. WithFiles (S.stored files.old).files (λ files. HoldsBytes (files names.now.elf))) }
     ensures loads { LoadsStart names.now (λ how files. IsByNames false files names.now settings.now how has_input)
-        (record_roles has_input) elf_roles S.note (S.stored store.old) (S.stored store.new) result }
+        (record_roles has_input) elf_roles S.note (S.stored files.old) (S.stored files.new) result }
 {
-    let elf = fetch(alloc, names, Role::Elf, store)?;
-    load_start(alloc, names, &elf, settings, has_input, store)
+    let elf = fetch(alloc, names, Role::Elf, files)?;
+    load_start(alloc, names, &elf, settings, has_input, files)
 }
 
 // Whether LOG and BOOK are one name, if both are saved.
@@ -115,19 +115,19 @@ pub fn evaluate<S: Store, F: FnOnce(&Start) -> Result<RunToTell, AllocError>>(
     alloc: Global,
     names: &Names,
     options: &RecordOptions,
-    store: &mut S,
+    files: &mut S,
     make: F,
 ) -> Result<Answer, Refusal>
     requires named { names.now ≡ names_in (RecordLine (seen_recording options.now)) }
     requires callable { F.IsAlwaysCallable make }
-    requires made { MakesRecordings F.FnOnce make (manner_of (seen_recording options.now)) }
-    ensures bytes { IfOk result (λ _. WithFiles (S.stored store.old).files (λ files. HoldsBytes (files names.now.elf))) }
-    ensures answers { AnswersLine (RecordLine (seen_recording options.now)) names.now S.note (S.stored store.old) (S.stored store.new) result }
-    ensures given { (schedule : Option Schedule) → MakesRecordings F.FnOnce make (manner_by (seen_recording options.now) schedule)
-        → WithFiles (S.stored store.old).files (λ files. IfOk result (λ answer. IsGiven (seen_recording options.now) schedule files (told_of names.now answer))) }
+    requires made { MakesRecordings F.FnOnce make (scheduling_of (seen_recording options.now)) }
+    ensures bytes { IfOk result (λ _. WithFiles (S.stored files.old).files (λ files. HoldsBytes (files names.now.elf))) }
+    ensures answers { AnswersLine (RecordLine (seen_recording options.now)) names.now S.note (S.stored files.old) (S.stored files.new) result }
+    ensures given { (schedule : Option Schedule) → MakesRecordings F.FnOnce make (scheduling_by (seen_recording options.now) schedule)
+        → WithFiles (S.stored files.old).files (λ files. IfOk result (λ answer. IsGiven (seen_recording options.now) schedule files (told_of names.now answer))) }
 {
     let settings = tested(names, &options.settings, options.lean)?;
-    let start = load_files(alloc, names, &settings, options.input.is_some(), store)?;
+    let start = load_files(alloc, names, &settings, options.input.is_some(), files)?;
     let run = make(&start)?;
     Ok(Answer::Recorded(run))
 }

@@ -85,7 +85,7 @@ pub record CanFinish (c : RawSettings) (call : Option Plan) (t : Trace) (k : ℕ
 -- hart k's cache were cleared if it begins an interval; no other cache had a step. The race log represents the same
 -- points. If an interval ended and a walk was due, it gave up what all harts know of that are live afterwards; else it
 -- stayed. At most 18 records were appended
-pub record IsFinished (old new : Trace) (k : ℕ) (next : TurnEnd) : Type 0 where
+pub record EndsTurn (old new : Trace) (k : ℕ) (next : TurnEnd) : Type 0 where
   pub len : length new.harts.items ≡ length old.harts.items
   pub count : length new.caches ≡ length old.caches
   pub steps : (j : ℕ) → steps_in new.caches j ≡ (if j == k then steps_in old.caches j + clears next else steps_in old.caches j)

@@ -8,8 +8,8 @@ pub returns-in_err-inputs : goal.returns-in_err-inputs
 returns-in_err-inputs g c =
     let line = seen c.args.command.now in
     let names = c.args.names.now in
-    let old = g.S.Store.stored c.args.store.now in
-    let new = g.S.Store.stored c.load_inputs.new.store in
+    let old = g.S.Store.stored c.args.files.now in
+    let new = g.S.Store.stored c.load_inputs.new.files in
     let x = c.in_err-inputs.field-0.0 in
     let h = c.in_err-inputs.ensures in
     let e : refusal_in line ≡ None = c.requires.passes in
@@ -33,8 +33,8 @@ pub returns : goal.returns
 returns g c =
     let line = seen c.args.command.now in
     let names = c.args.names.now in
-    let old = g.S.Store.stored c.args.store.now in
-    let new = g.S.Store.stored c.load_inputs.new.store in
+    let old = g.S.Store.stored c.args.files.now in
+    let new = g.S.Store.stored c.load_inputs.new.files in
     let h = c.in_ok-inputs.ensures in
     let made = c.evaluate.ensures.answers in
     let e : refusal_in line ≡ None = c.requires.passes in

@@ -8,7 +8,7 @@ pub returns-in-Some : goal.returns-in-Some
 returns-in-Some g c =
     let line = seen c.args.command.now in
     let names = c.args.names.now in
-    let old = g.S.Store.stored c.args.store.now in
+    let old = g.S.Store.stored c.args.files.now in
     let e : refusal_in line ≡ Some c.in-Some.refusal = sym c.in-Some.ensures in
     record {
       told = words-line line old.files names c.in-Some.refusal c.requires.named c.requires.no_recording e;

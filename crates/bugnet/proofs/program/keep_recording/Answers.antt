@@ -12,8 +12,8 @@ pub returns-in_err-answer-clause-does : goal.returns-in_err-answer-clause-does
 returns-in_err-answer-clause-does g c =
     let line = RecordLine (seen_recording c.args.options.now) in
     let names = c.args.names.now in
-    let old = g.S.Store.stored c.args.store.now in
-    let new = g.S.Store.stored c.evaluate.new.store in
+    let old = g.S.Store.stored c.args.files.now in
+    let new = g.S.Store.stored c.evaluate.new.files in
     let out = g.O.Sink.stream c.args.out.now in
     let err = g.X.Sink.stream c.args.err.now in
     passed-on (RepliesTo line names g.S.Store.note (between (world old out err) (world new out err))) _ c.from_residual.result c.from_residual.ensures.1
@@ -24,11 +24,11 @@ returns-clause-does g c =
     let r = c.args.options.now in
     let line = RecordLine (seen_recording r) in
     let names = c.args.names.now in
-    let old = g.S.Store.stored c.args.store.now in
-    let mid = g.S.Store.stored c.evaluate.new.store in
+    let old = g.S.Store.stored c.args.files.now in
+    let mid = g.S.Store.stored c.evaluate.new.files in
     let out = g.O.Sink.stream c.args.out.now in
     let err = g.X.Sink.stream c.args.err.now in
-    let new = world (g.S.Store.stored c.act.new.store) (g.O.Sink.stream c.act.new.out) (g.X.Sink.stream c.act.new.err) in
+    let new = world (g.S.Store.stored c.act.new.files) (g.O.Sink.stream c.act.new.out) (g.X.Sink.stream c.act.new.err) in
     line-acted line names g.S.Store.note old mid out err new c.in_ok-answer.answer c.act.result c.requires.named tt
     (λ status k same told.
     call-leaves c.seeds_are_whole.ensures c.files_keep_to_their_size.ensures c.logs_are_contents.ensures line status k
@@ -37,15 +37,15 @@ returns-clause-does g c =
 
 pub returns-in_err-answer-clause-given : goal.returns-in_err-answer-clause-given
 returns-in_err-answer-clause-given g c = λ o made.
-    passed-on (λ result. IfOk result (λ status. LeavesScheduled o (Some (RecordLine (seen_recording c.args.options.now))) (code status) (g.S.Store.stored c.args.store.now).files (g.S.Store.stored c.evaluate.new.store).files)) _
+    passed-on (λ result. IfOk result (λ status. LeavesScheduled o (Some (RecordLine (seen_recording c.args.options.now))) (code status) (g.S.Store.stored c.args.files.now).files (g.S.Store.stored c.evaluate.new.files).files)) _
     c.from_residual.result c.from_residual.ensures.1 tt
 
 pub returns-clause-given : goal.returns-clause-given
 returns-clause-given g c = λ o made.
     let r = c.args.options.now in
     let names = c.args.names.now in
-    let old = g.S.Store.stored c.args.store.now in
-    let mid = g.S.Store.stored c.evaluate.new.store in
-    let new = world (g.S.Store.stored c.act.new.store) (g.O.Sink.stream c.act.new.out) (g.X.Sink.stream c.act.new.err) in
+    let old = g.S.Store.stored c.args.files.now in
+    let mid = g.S.Store.stored c.evaluate.new.files in
+    let new = world (g.S.Store.stored c.act.new.files) (g.O.Sink.stream c.act.new.out) (g.X.Sink.stream c.act.new.err) in
     act-scheduled c.seeds_are_whole.ensures c.files_keep_to_their_size.ensures c.logs_are_contents.ensures (seen_recording r) o names g.S.Store.note old mid (g.O.Sink.stream c.args.out.now) (g.X.Sink.stream c.args.err.now) new
     c.in_ok-answer.answer c.act.result c.requires.named (record-bytes old.files names r c.requires.named c.in_ok-answer.ensures.bytes) c.in_ok-answer.ensures.answers (c.in_ok-answer.ensures.given o made) c.act.ensures

@@ -8,7 +8,7 @@ use Rattle.bugnet.proofs.program.obey.Goals as goal
 
 pub returns-in-Err-clause-does : goal.returns-in-Err-clause-does
 returns-in-Err-clause-does g c =
-    let w = world (g.S.Store.stored c.args.store.now) (g.O.Sink.stream c.args.out.now) (g.X.Sink.stream c.args.err.now) in
+    let w = world (g.S.Store.stored c.args.files.now) (g.O.Sink.stream c.args.out.now) (g.X.Sink.stream c.args.err.now) in
     let end = g.X.Sink.stream c.refuse.new.err in
     words-answered (command_in c.args.words.now) c.in-Err.error g.S.Store.note g.I.Source.source g.I.Source.note c.args.input.now w (code c.refuse.result) end
     (λ e. c.read_words.ensures.refused (c.in-Err.is ∙ ap (λ (x : WordsError). Err x) e))
@@ -17,23 +17,23 @@ returns-in-Err-clause-does g c =
 
 pub returns-in-Ok-clause-does : goal.returns-in-Ok-clause-does
 returns-in-Ok-clause-does g c =
-    let end = g.X.Sink.stream c.close.new.err in
-    let k = call g.S.Store.stored g.O.Sink.stream g.X.Sink.stream c.args.store.now c.args.out.now c.args.err.now c.attempt-ending.new.store c.attempt-ending.new.out c.close.new.err in
-    subst (λ (l : Option Line). Does l (code c.close.result) g.S.Store.note (reading g.I.Source.source g.I.Source.note c.args.input.now c.attempt-ending.new.input) k) (sym c.in-Ok.ensures.taken)
-    (c.attempt-ending.ensures.does (code c.close.result) end c.close.ensures)
+    let end = g.X.Sink.stream c.give_status.new.err in
+    let k = call g.S.Store.stored g.O.Sink.stream g.X.Sink.stream c.args.files.now c.args.out.now c.args.err.now c.attempt-ending.new.files c.attempt-ending.new.out c.give_status.new.err in
+    subst (λ (l : Option Line). Does l (code c.give_status.result) g.S.Store.note (reading g.I.Source.source g.I.Source.note c.args.input.now c.attempt-ending.new.input) k) (sym c.in-Ok.ensures.taken)
+    (c.attempt-ending.ensures.does (code c.give_status.result) end c.give_status.ensures)
 
 pub returns-in-Err-clause-given : goal.returns-in-Err-clause-given
 returns-in-Err-clause-given g c =
     let err = g.X.Sink.stream c.args.err.now in
     let end = g.X.Sink.stream c.refuse.new.err in
-    let known = (g.S.Store.stored c.args.store.now).files in
+    let known = (g.S.Store.stored c.args.files.now).files in
     scheduled-none c.args.schedule (command_in c.args.words.now) (code c.refuse.result) known known
     (told-apart c.none.result c.words_refusal.result (code c.refuse.result) err.text end.text err.faults end.faults c.refuse.ensures.0)
 
 pub returns-in-Ok-clause-given : goal.returns-in-Ok-clause-given
 returns-in-Ok-clause-given g c =
-    let old = (g.S.Store.stored c.args.store.now).files in
-    let new = (g.S.Store.stored c.attempt-ending.new.store).files in
-    subst (λ (l : Option Line). LeavesScheduled c.args.schedule l (code c.close.result) old new) (sym c.in-Ok.ensures.taken)
-    (scheduled-closed c.args.schedule (Some (seen c.in-Ok.command)) c.names_of-names.result c.attempt-ending.result (code c.close.result) (g.X.Sink.stream c.attempt-ending.new.err) (g.X.Sink.stream c.close.new.err) old new
-    c.close.ensures c.attempt-ending.ensures.given)
+    let old = (g.S.Store.stored c.args.files.now).files in
+    let new = (g.S.Store.stored c.attempt-ending.new.files).files in
+    subst (λ (l : Option Line). LeavesScheduled c.args.schedule l (code c.give_status.result) old new) (sym c.in-Ok.ensures.taken)
+    (scheduled-closed c.args.schedule (Some (seen c.in-Ok.command)) c.names_of-names.result c.attempt-ending.result (code c.give_status.result) (g.X.Sink.stream c.attempt-ending.new.err) (g.X.Sink.stream c.give_status.new.err) old new
+    c.give_status.ensures c.attempt-ending.ensures.given)

@@ -1,4 +1,4 @@
-use Rattle.bugnet.proofs.Common.{AreTaken, Manner}
+use Rattle.bugnet.proofs.Common.{AreTaken, Scheduling}
 use Rattle.std.specs.Prelude.{false, [], None}
 use Rattle.bugnet.proofs.Recorded.{recording-run}
 use Rattle.bugnet.proofs.recorder.record_unseeded.Goals as goal
@@ -6,7 +6,7 @@ use Rattle.bugnet.proofs.recorder.record_unseeded.Goals as goal
 pub returns : goal.returns
 returns g c =
     let s = c.args.start.now in
-    let how : Manner = record { seed = None; lean = c.args.lean; schedule = c.args.schedule } in
+    let how : Scheduling = record { seed = None; lean = c.args.lean; schedule = c.args.schedule } in
     let some = c.in_ok-run.ensures in
     let is = some.1.closed_is in
     let taken : AreTaken None s.settings s.image s.input.items some.0 = record { legal = is.legal; over = is.over } in

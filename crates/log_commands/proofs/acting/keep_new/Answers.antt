@@ -6,8 +6,8 @@ use Rattle.log_commands.proofs.acting.keep_new.Goals as goal
 pub returns-in_err-save_file : goal.returns-in_err-save_file
 returns-in_err-save_file g c = λ err.
     let names = c.args.names.now in
-    let old = g.S.Store.stored c.args.store.now in
-    let new = g.S.Store.stored c.save_file.new.store in
+    let old = g.S.Store.stored c.args.files.now in
+    let new = g.S.Store.stored c.save_file.new.files in
     let out = g.O.Sink.stream c.args.out.now in
     let x = c.in_err-save_file.field-0.0 in
     passed-on {B = Unit {0}} (λ r. ActsTo names (Renewed c.args.new.now) g.S.Store.note (world old out err) (world new out err) (done_of r)) x c.from_residual.result c.from_residual.ensures.1
@@ -17,8 +17,8 @@ returns-in_err-save_file g c = λ err.
 pub returns : goal.returns
 returns g c = λ err.
     let names = c.args.names.now in
-    let old = g.S.Store.stored c.args.store.now in
-    let new = g.S.Store.stored c.save_file.new.store in
+    let old = g.S.Store.stored c.args.files.now in
+    let new = g.S.Store.stored c.save_file.new.files in
     let out = g.O.Sink.stream c.args.out.now in
     let printed = g.O.Sink.stream c.send_check.new.out in
     new-kept names c.args.new.now g.S.Store.note old new out printed err c.send_check.result

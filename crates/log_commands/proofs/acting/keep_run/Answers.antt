@@ -7,8 +7,8 @@ pub returns-in_err-save_run : goal.returns-in_err-save_run
 returns-in_err-save_run g c =
     let names = c.args.names.now in
     let run = c.args.run.now in
-    let old = g.S.Store.stored c.args.store.now in
-    let new = g.S.Store.stored c.save_run.new.store in
+    let old = g.S.Store.stored c.args.files.now in
+    let new = g.S.Store.stored c.save_run.new.files in
     let out = g.O.Sink.stream c.args.out.now in
     let err = g.X.Sink.stream c.args.err.now in
     passed-on (ActsTo names (Recorded run) g.S.Store.note (world old out err) (world new out err)) _ c.from_residual.result c.from_residual.ensures.1
@@ -18,8 +18,8 @@ pub returns-in_err-send_bytes : goal.returns-in_err-send_bytes
 returns-in_err-send_bytes g c =
     let names = c.args.names.now in
     let run = c.args.run.now in
-    let old = g.S.Store.stored c.args.store.now in
-    let new = g.S.Store.stored c.save_run.new.store in
+    let old = g.S.Store.stored c.args.files.now in
+    let new = g.S.Store.stored c.save_run.new.files in
     let out = g.O.Sink.stream c.args.out.now in
     let printed = g.O.Sink.stream c.send_bytes.new.sink in
     let err = g.X.Sink.stream c.args.err.now in
@@ -32,8 +32,8 @@ pub returns-in_err-send_bytes-2 : goal.returns-in_err-send_bytes-2
 returns-in_err-send_bytes-2 g c =
     let names = c.args.names.now in
     let run = c.args.run.now in
-    let old = g.S.Store.stored c.args.store.now in
-    let new = g.S.Store.stored c.save_run.new.store in
+    let old = g.S.Store.stored c.args.files.now in
+    let new = g.S.Store.stored c.save_run.new.files in
     let out = g.O.Sink.stream c.args.out.now in
     let printed = g.O.Sink.stream c.send_bytes.new.sink in
     let err = g.X.Sink.stream c.args.err.now in
@@ -48,8 +48,8 @@ pub returns : goal.returns
 returns g c =
     let names = c.args.names.now in
     let run = c.args.run.now in
-    let old = g.S.Store.stored c.args.store.now in
-    let new = g.S.Store.stored c.save_run.new.store in
+    let old = g.S.Store.stored c.args.files.now in
+    let new = g.S.Store.stored c.save_run.new.files in
     let out = g.O.Sink.stream c.args.out.now in
     let printed = g.O.Sink.stream c.send_bytes.new.sink in
     let err = g.X.Sink.stream c.args.err.now in

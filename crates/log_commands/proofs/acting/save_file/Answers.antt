@@ -16,15 +16,15 @@ saves names r file note old new name result is saved others asked called later s
 
 pub returns-in-Ok : goal.returns-in-Ok
 returns-in-Ok g c =
-    saves c.args.names.now c.args.role c.args.file.now g.S.Store.note (g.S.Store.stored c.args.store.now) (g.S.Store.stored c.save.new.self) c.of.result.now _ c.of.ensures
+    saves c.args.names.now c.args.role c.args.file.now g.S.Store.note (g.S.Store.stored c.args.files.now) (g.S.Store.stored c.save.new.self) c.of.result.now _ c.of.ensures
     c.in-Ok.ensures.saved c.save.ensures.others c.save.ensures.asked c.save.ensures.called c.save.ensures.later tt
 
 pub returns-in-Err-Failed : goal.returns-in-Err-Failed
 returns-in-Err-Failed g c =
-    saves c.args.names.now c.args.role c.args.file.now g.S.Store.note (g.S.Store.stored c.args.store.now) (g.S.Store.stored c.save.new.self) c.of.result.now _ c.of.ensures
+    saves c.args.names.now c.args.role c.args.file.now g.S.Store.note (g.S.Store.stored c.args.files.now) (g.S.Store.stored c.save.new.self) c.of.result.now _ c.of.ensures
     tt c.save.ensures.others c.save.ensures.asked c.save.ensures.called c.save.ensures.later (inr (refl, rw c.in-Err-Failed.field-0-is at c.in-Err-Failed.ensures.cause))
 
 pub returns-in-Err-OutOfMemory : goal.returns-in-Err-OutOfMemory
 returns-in-Err-OutOfMemory g c =
-    saves c.args.names.now c.args.role c.args.file.now g.S.Store.note (g.S.Store.stored c.args.store.now) (g.S.Store.stored c.save.new.self) c.of.result.now _ c.of.ensures
+    saves c.args.names.now c.args.role c.args.file.now g.S.Store.note (g.S.Store.stored c.args.files.now) (g.S.Store.stored c.save.new.self) c.of.result.now _ c.of.ensures
     tt c.save.ensures.others c.save.ensures.asked c.save.ensures.called c.save.ensures.later (inl refl)

@@ -10,8 +10,8 @@ use Rattle.log_commands.proofs.pairs.load_pair.Goals as goal
 pub returns-in_err-inputs : goal.returns-in_err-inputs
 returns-in_err-inputs g c =
     let names = c.args.names.now in
-    let old = g.S.Store.stored c.args.store.now in
-    let new = g.S.Store.stored c.load_inputs.new.store in
+    let old = g.S.Store.stored c.args.files.now in
+    let new = g.S.Store.stored c.load_inputs.new.files in
     let x = c.in_err-inputs.field-0.0 in
     let h = c.in_err-inputs.ensures in
     passed-on (LoadsPair names g.S.Store.note old new) x c.from_residual.result c.from_residual.ensures.1
@@ -27,8 +27,8 @@ returns-in_err-inputs g c =
 pub returns : goal.returns
 returns g c =
     let names = c.args.names.now in
-    let old = g.S.Store.stored c.args.store.now in
-    let new = g.S.Store.stored c.load_inputs.new.store in
+    let old = g.S.Store.stored c.args.files.now in
+    let new = g.S.Store.stored c.load_inputs.new.files in
     let inputs = c.in_ok-inputs.inputs in
     let h = c.in_ok-inputs.ensures in
     let there = subst (λ (rs : List Role). WithFiles old.files (λ files. IsLoaded names rs files (Ok inputs))) c.pair_roles.ensures h.loads in

@@ -1,5 +1,5 @@
 use Rattle.std.proofs.Common.{◌∙◌}
-use Rattle.run_model.specs.Runs.{is_over}
+use Rattle.run_model.specs.Runs.{has_finished}
 use Rattle.bus_core.specs.Bus.{run_after}
 use Rattle.whole_runs.specs.Lists.{list_run}
 use Rattle.whole_runs.proofs.Taken.{turns_are}
@@ -14,7 +14,7 @@ returns-clause-closed g c = λ list h over.
     record {
       legal = h.legal;
       over = over;
-      finished = finished_is c.close.result.finished bus.halted bus.disordered (is_over bus.began.settings run) (e.finished run h.state) h.running h.orderly over;
+      finished = finished_is c.close.result.finished bus.halted bus.disordered (has_finished bus.began.settings run) (e.finished run h.state) h.running h.orderly over;
       out = e.out run h.state;
       err = e.err run h.state;
       ends = e.ends run h.state;
@@ -29,7 +29,7 @@ returns-clause-running g c = λ whole.
     let bus = c.args.bus in
     let e = c.close.ensures in
     let run = run_after bus.began bus.halted e.some.0 in
-    running_of c.close.result.finished bus.halted bus.disordered (is_over bus.began.settings run) (e.finished run e.some.1.state) whole
+    running_of c.close.result.finished bus.halted bus.disordered (has_finished bus.began.settings run) (e.finished run e.some.1.state) whole
 
 pub returns-clause-of_rows : goal.returns-clause-of_rows
 returns-clause-of_rows g c = λ whole.

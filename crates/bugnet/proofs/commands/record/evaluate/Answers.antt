@@ -1,4 +1,4 @@
-use Rattle.bugnet.proofs.Common.{refl, inl, None, Ok, Err, is_some, first_bad, RecordLine, seen_recording, record_roles, elf_roles, Answer, Recorded, OutOfMemory, none-fell, passed-on, with-any, told_of, setting_refusal, manner_by, manner_of, IsGiven, IsRecordingBy, is_clash, AnswersLine}
+use Rattle.bugnet.proofs.Common.{refl, inl, None, Ok, Err, is_some, first_bad, RecordLine, seen_recording, record_roles, elf_roles, Answer, Recorded, OutOfMemory, none-fell, passed-on, with-any, told_of, setting_refusal, scheduling_by, scheduling_of, IsGiven, IsRecordingBy, is_clash, AnswersLine}
 use Rattle.bugnet.proofs.LineAnswers.{cause-line}
 use Rattle.bugnet.proofs.Begins.{words-refused, words-cause, start-refused, run-recorded}
 use Rattle.bugnet.proofs.LineCalls.{words-first, words-pass, memory-loads, record-calls}
@@ -9,8 +9,8 @@ pub returns-in_err-settings-clause-answers : goal.returns-in_err-settings-clause
 returns-in_err-settings-clause-answers g c =
     let r = c.args.options.now in
     let names = c.args.names.now in
-    let how = manner_of (seen_recording r) in
-    let old = g.S.Store.stored c.args.store.now in
+    let how = scheduling_of (seen_recording r) in
+    let old = g.S.Store.stored c.args.files.now in
     let x = c.in_err-settings.field-0.0 in
     let h = c.in_err-settings.ensures.refused in
     let clash = is_clash how.lean names.log names.book in
@@ -33,10 +33,10 @@ pub returns-in_err-start-clause-answers : goal.returns-in_err-start-clause-answe
 returns-in_err-start-clause-answers g c =
     let r = c.args.options.now in
     let names = c.args.names.now in
-    let how = manner_of (seen_recording r) in
+    let how = scheduling_of (seen_recording r) in
     let has = c.is_some.result in
-    let old = g.S.Store.stored c.args.store.now in
-    let new = g.S.Store.stored c.load_files.new.store in
+    let old = g.S.Store.stored c.args.files.now in
+    let new = g.S.Store.stored c.load_files.new.files in
     let x = c.in_err-start.field-0.0 in
     let ok = c.in_ok-settings.ensures.ok in
     let h = c.in_err-start.ensures.loads in
@@ -59,10 +59,10 @@ pub returns-in_err-run-clause-answers : goal.returns-in_err-run-clause-answers
 returns-in_err-run-clause-answers g c =
     let r = c.args.options.now in
     let names = c.args.names.now in
-    let how = manner_of (seen_recording r) in
+    let how = scheduling_of (seen_recording r) in
     let has = c.is_some.result in
-    let old = g.S.Store.stored c.args.store.now in
-    let new = g.S.Store.stored c.load_files.new.store in
+    let old = g.S.Store.stored c.args.files.now in
+    let new = g.S.Store.stored c.load_files.new.files in
     let ok = c.in_ok-settings.ensures.ok in
     let h = c.in_ok-start.ensures.loads in
     let words = setting_refusal (first_bad r.settings) (is_clash how.lean names.log names.book) in
@@ -84,10 +84,10 @@ pub returns-clause-answers : goal.returns-clause-answers
 returns-clause-answers g c =
     let r = c.args.options.now in
     let names = c.args.names.now in
-    let how = manner_of (seen_recording r) in
+    let how = scheduling_of (seen_recording r) in
     let has = c.is_some.result in
-    let old = g.S.Store.stored c.args.store.now in
-    let new = g.S.Store.stored c.load_files.new.store in
+    let old = g.S.Store.stored c.args.files.now in
+    let new = g.S.Store.stored c.load_files.new.files in
     let ok = c.in_ok-settings.ensures.ok in
     let h = c.in_ok-start.ensures.loads in
     let run = c.in_ok-run.run' in
@@ -109,23 +109,23 @@ returns-clause-answers g c =
 
 pub returns-in_err-settings-clause-given : goal.returns-in_err-settings-clause-given
 returns-in_err-settings-clause-given g c = λ o made.
-    none-given (g.S.Store.stored c.args.store.now).files c.in_err-settings.field-0.0 c.from_residual.result (λ files answer. IsGiven (seen_recording c.args.options.now) o files (told_of c.args.names.now answer)) c.from_residual.ensures.1
+    none-given (g.S.Store.stored c.args.files.now).files c.in_err-settings.field-0.0 c.from_residual.result (λ files answer. IsGiven (seen_recording c.args.options.now) o files (told_of c.args.names.now answer)) c.from_residual.ensures.1
 
 pub returns-in_err-start-clause-given : goal.returns-in_err-start-clause-given
 returns-in_err-start-clause-given g c = λ o made.
-    none-given (g.S.Store.stored c.args.store.now).files c.in_err-start.field-0.0 c.from_residual-in_err-start.result (λ files answer. IsGiven (seen_recording c.args.options.now) o files (told_of c.args.names.now answer)) c.from_residual-in_err-start.ensures.1
+    none-given (g.S.Store.stored c.args.files.now).files c.in_err-start.field-0.0 c.from_residual-in_err-start.result (λ files answer. IsGiven (seen_recording c.args.options.now) o files (told_of c.args.names.now answer)) c.from_residual-in_err-start.ensures.1
 
 pub returns-in_err-run-clause-given : goal.returns-in_err-run-clause-given
 returns-in_err-run-clause-given g c = λ o made.
-    none-given (g.S.Store.stored c.args.store.now).files OutOfMemory c.from_residual-in_err-run.result (λ files answer. IsGiven (seen_recording c.args.options.now) o files (told_of c.args.names.now answer)) c.from_residual-in_err-run.ensures.1
+    none-given (g.S.Store.stored c.args.files.now).files OutOfMemory c.from_residual-in_err-run.result (λ files answer. IsGiven (seen_recording c.args.options.now) o files (told_of c.args.names.now answer)) c.from_residual-in_err-run.ensures.1
 
 pub returns-clause-given : goal.returns-clause-given
 returns-clause-given g c = λ o makes.
     let r = c.args.options.now in
     let names = c.args.names.now in
-    let how = manner_by (seen_recording r) o in
+    let how = scheduling_by (seen_recording r) o in
     let has = c.is_some.result in
-    let old = g.S.Store.stored c.args.store.now in
+    let old = g.S.Store.stored c.args.files.now in
     let ok = c.in_ok-settings.ensures.ok in
     let h = c.in_ok-start.ensures.loads in
     let run = c.in_ok-run.run' in

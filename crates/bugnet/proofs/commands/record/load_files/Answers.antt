@@ -6,8 +6,8 @@ pub returns-in_err-elf-clause-loads : goal.returns-in_err-elf-clause-loads
 returns-in_err-elf-clause-loads g c =
     let names = c.args.names.now in
     let s = c.args.settings.now in
-    let old = g.S.Store.stored c.args.store.now in
-    let new = g.S.Store.stored c.fetch.new.store in
+    let old = g.S.Store.stored c.args.files.now in
+    let new = g.S.Store.stored c.fetch.new.files in
     let x = c.in_err-elf.field-0.0 in
     let f = c.in_err-elf.ensures in
     passed-on (LoadsStart names (λ how files. IsByNames false files names s how c.args.has_input) (record_roles c.args.has_input) elf_roles g.S.Store.note old new) x c.from_residual.result c.from_residual.ensures.1
@@ -21,9 +21,9 @@ pub returns-clause-loads : goal.returns-clause-loads
 returns-clause-loads g c =
     let names = c.args.names.now in
     let s = c.args.settings.now in
-    let old = g.S.Store.stored c.args.store.now in
-    let mid = g.S.Store.stored c.fetch.new.store in
-    let new = g.S.Store.stored c.load_start.new.store in
+    let old = g.S.Store.stored c.args.files.now in
+    let mid = g.S.Store.stored c.fetch.new.files in
+    let new = g.S.Store.stored c.load_start.new.files in
     let elf = c.in_ok-elf.elf in
     let f = c.in_ok-elf.ensures in
     let loads = c.load_start.ensures.loads in
@@ -37,7 +37,7 @@ returns-clause-loads g c =
 
 pub returns-clause-bytes : goal.returns-clause-bytes
 returns-clause-bytes g c =
-    let old = g.S.Store.stored c.args.store.now in
+    let old = g.S.Store.stored c.args.files.now in
     by c.load_start.result (holds-bytes old.files c.args.names.now.elf Elf 67108864 c.in_ok-elf.elf (rw c.deref.ensures.value at c.load_start.ensures.bytes) c.in_ok-elf.ensures.told)
   where
     by : {A E P : Type 0} (r : Result A E) → P → IfOk r (λ x. P)

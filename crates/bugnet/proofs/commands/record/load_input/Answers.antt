@@ -6,7 +6,7 @@ use Rattle.bugnet.proofs.commands.record.load_input.Goals as goal
 
 pub returns-then-not-has_input : goal.returns-then-not-has_input
 returns-then-not-has_input g c =
-    let old = g.S.Store.stored c.args.store.now in
+    let old = g.S.Store.stored c.args.files.now in
     record {
       told = λ how. no-input c.args.has_input old.files c.args.names.now how c.args.start c.if-not-has_input.true c.requires;
       only = only-first old c.args.start;
@@ -17,8 +17,8 @@ pub returns-in_err-input : goal.returns-in_err-input
 returns-in_err-input g c =
     let s = c.args.start in
     let names = c.args.names.now in
-    let old = g.S.Store.stored c.args.store.now in
-    let new = g.S.Store.stored c.fetch.new.store in
+    let old = g.S.Store.stored c.args.files.now in
+    let new = g.S.Store.stored c.fetch.new.files in
     let x = c.in_err-input.field-0.0 in
     let f = c.in_err-input.ensures in
     passed-on (LoadsStart names (λ how files. IsByInput c.args.has_input files names (IsRun s.settings s.image s.digest how)) (input_roles c.args.has_input) [] g.S.Store.note old new) x c.from_residual.result c.from_residual.ensures.1
@@ -33,8 +33,8 @@ pub returns : goal.returns
 returns g c =
     let s = c.args.start in
     let names = c.args.names.now in
-    let old = g.S.Store.stored c.args.store.now in
-    let new = g.S.Store.stored c.fetch.new.store in
+    let old = g.S.Store.stored c.args.files.now in
+    let new = g.S.Store.stored c.fetch.new.files in
     let f = c.in_ok-input.ensures in
     record {
       told = λ how. input-taken c.args.has_input old.files names how (record s { input = c.in_ok-input.input }) c.in_ok-input.input (IsRun s.settings s.image s.digest how) c.if-not-has_input.false f.told (λ what run. run);

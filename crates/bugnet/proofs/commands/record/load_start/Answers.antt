@@ -8,7 +8,7 @@ returns-in_err-image-clause-loads g c =
     let names = c.args.names.now in
     let elf = c.args.elf.now in
     let settings = c.args.settings.now in
-    let old = g.S.Store.stored c.args.store.now in
+    let old = g.S.Store.stored c.args.files.now in
     let x = c.in_err-image.field-0.0 in
     passed-on (LoadsStart names (λ how files. IsByProgram (image_of elf settings) files names settings how c.args.has_input (sha256 elf)) (input_roles c.args.has_input) [] g.S.Store.note old old) x c.from_residual.result c.from_residual.ensures.1
     (record {
@@ -21,7 +21,7 @@ pub returns-clause-loads : goal.returns-clause-loads
 returns-clause-loads g c =
     let names = c.args.names.now in
     let elf = c.args.elf.now in
-    let old = g.S.Store.stored c.args.store.now in
+    let old = g.S.Store.stored c.args.files.now in
     let loads = c.load_input.ensures in
     record {
       told = λ how. begins-program old.files names elf c.args.settings.now how c.args.has_input (sha256 elf) c.in_ok-image.image c.load_input.result c.in_ok-image.ensures.loaded (rw c.digest_of.ensures at (loads.told how));

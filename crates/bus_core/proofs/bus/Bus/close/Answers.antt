@@ -4,7 +4,7 @@ use Rattle.std.specs.Global.{Global}
 use Rattle.bn_base.specs.Ranges.{IsSetting}
 use Rattle.run_model.specs.declared.hart.Hart.{Hart}
 use Rattle.run_model.specs.declared.start.Start.{Start}
-use Rattle.run_model.specs.Runs.{any_live, is_over}
+use Rattle.run_model.specs.Runs.{any_live, has_finished}
 use Rattle.run_model.specs.Represents.Harts.{hart_in}
 use Rattle.run_model.specs.Represents.Turning.{parts}
 use Rattle.log_ring.specs.Kept.{Held, HoldsLog}
@@ -32,7 +32,7 @@ returns-clause-finished g c run is =
     ∙ live_is p.trace.harts.items run.harts p.start.settings.harts at.harts b.plain.fits.harts in
     c.is_finished.ensures ∙ ap (λ (x : Bool). not b.halted && not b.disordered && not x) live
     ∙ ap (λ (x : Bool). not b.halted && not b.disordered && x) (over_is (any_live p.start.settings.harts run.harts))
-    ∙ ap (λ (x : Seen). not x.halted && not x.disordered && is_over x.began.settings run) c.self.view_is
+    ∙ ap (λ (x : Seen). not x.halted && not x.disordered && has_finished x.began.settings run) c.self.view_is
 
 pub returns-clause-told : goal.returns-clause-told
 returns-clause-told g c tells =

@@ -1,7 +1,7 @@
 use Rattle.std.proofs.Common.{Some, ap, sym, ◌∙◌, length}
 use Rattle.log_order.specs.declared.walk.OrderBreak.{OrderBreak}
 use Rattle.log_file.proofs.Walks.{ends_unfinished, ends_well, ends_late}
-use Rattle.log_file.proofs.counting.ended.Goals as goal
+use Rattle.log_file.proofs.counting.end_break.Goals as goal
 
 pub returns-then-any_unfinished : goal.returns-then-any_unfinished
 returns-then-any_unfinished c = λ rs fit parts. ap (λ (b : OrderBreak). Some b) c.of.ensures ∙ ends_unfinished c.args.all c.args.harts.now rs _ (sym c.any_unfinished.ensures ∙ c.if-any_unfinished.true) (ap length parts)

@@ -3,19 +3,19 @@ use Rattle.std.proofs.lemmas.Option.{slice_get_read}
 use Rattle.bn_base.specs.Programs.{code_at}
 use Rattle.rv_meaning.specs.Lookups.{destination, fetched}
 use Rattle.rv_meaning.specs.Rows.{instruction_in}
-use Rattle.hart_replay.specs.Codes.{CodeOf}
-use Rattle.hart_replay.specs.declared.code.Lookup.{Lookup}
-use Rattle.hart_replay.proofs.code.Code.fetch.Goals as goal
+use Rattle.hart_replay.specs.DecodeCaches.{CacheOf}
+use Rattle.hart_replay.specs.declared.decode_cache.Lookup.{Lookup}
+use Rattle.hart_replay.proofs.decode_cache.DecodeCache.fetch.Goals as goal
 
 pub returns-in-Some-clause-value : goal.returns-in-Some-clause-value
 returns-in-Some-clause-value c =
     let kept = c.in-Some.kept.now in
     let s = c.args.state.now in
     let i = c.self.inside.image.now in
-    let got : slice_get c.self.inside.kept.items c.place_of.result ≡ Some kept = ap (λ (xs : List Lookup). slice_get xs c.place_of.result) (sym c.deref.ensures.value) ∙ slice_get_read c.deref.result.now _ c.place_of.result kept refl c.in-Some.ensures.lookup.3.0 c.in-Some.ensures.lookup.1 in
+    let got : slice_get c.self.inside.kept.items c.slot_of.result ≡ Some kept = ap (λ (xs : List Lookup). slice_get xs c.slot_of.result) (sym c.deref.ensures.value) ∙ slice_get_read c.deref.result.now _ c.slot_of.result kept refl c.in-Some.ensures.lookup.3.0 c.in-Some.ensures.lookup.1 in
     let right = c.self.invariant _ kept got in
     let pc : kept.pc ≡ s.pc = c.if-kept-state.true in
     ap (λ n. record { hart = c.args.hart; ic = s.ic; pc = n; word = kept.word; rd = kept.rd }) pc
     ∙ ap (λ (w : Option ℕ). record { hart = c.args.hart; ic = s.ic; pc = s.pc; word = w; rd = kept.rd }) (right.0 ∙ ap (code_at i) pc)
     ∙ ap (λ (r : Option ℕ). record { hart = c.args.hart; ic = s.ic; pc = s.pc; word = code_at i s.pc; rd = r }) (right.1 ∙ ap (λ n. destination (instruction_in (code_at i n))) pc)
-    ∙ ap (λ (p : CodeOf). fetched c.args.hart p.now s) c.self.view_is
+    ∙ ap (λ (p : CacheOf). fetched c.args.hart p.now s) c.self.view_is

@@ -4,10 +4,10 @@ use Rattle.bn_base.specs.Programs.{Program, code_at}
 use Rattle.rv_decode.specs.Seen.{seen}
 use Rattle.rv_meaning.specs.Lookups.{destination}
 use Rattle.rv_meaning.specs.Rows.{instruction_in}
-use Rattle.hart_replay.specs.declared.code.Lookup.{Lookup}
+use Rattle.hart_replay.specs.declared.decode_cache.Lookup.{Lookup}
 
 -- the program
-pub record CodeOf : Type 0 where
+pub record CacheOf : Type 0 where
   pub now : Program
 
 -- what is kept of an address is its code word in the program, the register that its instruction writes, and the

@@ -5,7 +5,7 @@ ghost use Rattle.rv_decode.specs.Seen.{seen};
 ghost use Rattle.rv_meaning.specs.Execute.{ask_of};
 ghost use Rattle.rv_meaning.specs.Lookups.{fetched};
 ghost use Rattle.rv_meaning.specs.Rows.{instruction_in};
-ghost use Rattle.hart_replay.specs.Codes.{IsLookup, AreLookups};
+ghost use Rattle.hart_replay.specs.DecodeCaches.{IsLookup, AreLookups};
 
 use bn_base::{Addr, HartId, HartState, Image, Register};
 use rv_decode::{Instr, decode};
@@ -31,15 +31,15 @@ struct Lookup {
 ///
 /// The table takes 32 KiB, once there is a look-up to keep. When out of memory, nothing is kept.
 #[derive(Drop)]
-pub(crate) struct Code<'a> {
+pub(crate) struct DecodeCache<'a> {
     image: &'a Image,
     kept: Vec<Lookup>,
 }
 
-impl<'a> Model for Code<'a> {
-    ghost use Rattle.hart_replay.specs.Codes.{CodeOf, AreLookups};
+impl<'a> Model for DecodeCache<'a> {
+    ghost use Rattle.hart_replay.specs.DecodeCaches.{CacheOf, AreLookups};
 
-    ghost Value = { CodeOf };
+    ghost Value = { CacheOf };
 
     ghost view = { λ c. record { now = c.image.now } };
 
@@ -48,7 +48,7 @@ impl<'a> Model for Code<'a> {
 
 impl Lookup {
     // A slot in which nothing was looked up: no instruction has its pc, which is odd.
-    fn none() -> Lookup
+    fn empty() -> Lookup
         ensures { (i : Program) → IsLookup i result }
     {
         Lookup {
@@ -68,7 +68,7 @@ fn instruction(word: Option<u32>) -> Option<Instr>
 }
 
 // The slot of an address in the table.
-fn place_of(pc: Addr) -> usize
+fn slot_of(pc: Addr) -> usize
     ensures { result ≡ pc / 4 % 1024 }
 {
     (pc / 4) as usize % KEPT
@@ -80,7 +80,7 @@ fn make_table(kept: &mut Vec<Lookup>)
 {
     if kept.first().is_none() {
         let alloc = *kept.allocator();
-        if let Ok(made) = vec![in alloc; Lookup::none(); KEPT] {
+        if let Ok(made) = vec![in alloc; Lookup::empty(); KEPT] {
             *kept = made;
         }
     }
@@ -88,20 +88,20 @@ fn make_table(kept: &mut Vec<Lookup>)
 
 // Keeps a look-up in a slot of the table, if the table is there.
 #[tactic(auto, using(crate::proofs::Lookups::set_lookups))]
-fn keep(kept: &mut Vec<Lookup>, place: usize, lookup: Lookup)
+fn keep(kept: &mut Vec<Lookup>, slot: usize, lookup: Lookup)
     ensures { (i : Program) → IsLookup i lookup → AreLookups i kept.old.items → AreLookups i kept.new.items }
 {
-    if place < kept.len() {
-        kept[place] = lookup;
+    if slot < kept.len() {
+        kept[slot] = lookup;
     }
 }
 
-impl<'a> Code<'a> {
+impl<'a> DecodeCache<'a> {
     /// The program, without look-ups. It takes no memory.
-    pub(crate) fn new(alloc: Global, image: &'a Image) -> Code<'a>
+    pub(crate) fn new(alloc: Global, image: &'a Image) -> DecodeCache<'a>
         ensures { result.now ≡ image.now }
     {
-        Code {
+        DecodeCache {
             image,
             kept: Vec::new(alloc),
         }
@@ -120,7 +120,7 @@ impl<'a> Code<'a> {
         ensures value { result ≡ fetched hart self.old.now state.now }
         ensures same { self.new ≡ self.old }
     {
-        match self.kept.get(place_of(state.pc)) {
+        match self.kept.get(slot_of(state.pc)) {
             Some(kept) if kept.pc == state.pc => Fetched {
                 hart,
                 ic: state.ic,
@@ -138,7 +138,7 @@ impl<'a> Code<'a> {
     pub(crate) fn step(&self, state: &mut HartState) -> Want
         ensures { record { state = state.new; want = result } ≡ ask_of self.now.now 1 state.old }
     {
-        match self.kept.get(place_of(state.pc)) {
+        match self.kept.get(slot_of(state.pc)) {
             Some(kept) if kept.pc == state.pc => match &kept.instr {
                 Some(instr) => step_in_place(instr, self.image, state),
                 None => quiet_run_in_place(self.image, state, 1),
@@ -161,14 +161,14 @@ impl<'a> Code<'a> {
             instr: instruction(here.word),
         };
         make_table(&mut self.kept);
-        keep(&mut self.kept, place_of(here.pc), lookup);
+        keep(&mut self.kept, slot_of(here.pc), lookup);
         here
     }
 
     /// The same program, without look-ups.
-    pub(crate) fn copy(&self) -> Code<'a>
+    pub(crate) fn copy(&self) -> DecodeCache<'a>
         ensures { result ≡ self.now }
     {
-        Code::new(*self.kept.allocator(), self.image)
+        DecodeCache::new(*self.kept.allocator(), self.image)
     }
 }
