@@ -1,13 +1,7 @@
 -- At which positions there are copies.
-use Rattle.std.proofs.Common.{◌≡◌, ℕ, zero, suc, ◌+◌, ◌-◌, ◌*◌, ◌/◌, ◌%◌, ◌<◌, ◌≤◌, Bool, true, false, refl, sym, ap, ◌∙◌, subst, arith, inl, inr, ◌⊎◌, List, [], ◌∷◌, ◌++◌, length, take, drop, slice_get, Option, Some, None, add-mul, one-mul, mul-le-mul_right}
-use Rattle.std.specs.Prelude.{◌==◌, ◌&&◌, ◌≢◌}
-use Rattle.std.proofs.lemmas.Nat.{div-add-mod', div-mul-add, mod-mul-add, mod_below, div_below, le-div}
-use Rattle.std.proofs.lemmas.List.{length-append, length-take-le, take-append-drop, take-append-le, take-take, take_all, drop-take}
-use Rattle.std.proofs.lemmas.Bool.{eq-eqb, cases_lt, cases_eq}
+use Rattle.back_step.proofs.Common.{◌≡◌, ℕ, zero, suc, ◌+◌, ◌-◌, ◌*◌, ◌/◌, ◌%◌, ◌<◌, ◌≤◌, Bool, true, false, refl, sym, ap, ◌∙◌, subst, arith, inl, inr, ◌⊎◌, List, [], ◌∷◌, ◌++◌, length, take, drop, slice_get, Option, Some, None, add-mul, one-mul, mul-le-mul_right, ◌==◌, ◌&&◌, ◌≢◌, div-add-mod', length-append, length-take-le, take-append-drop, take-append-le, take-take, take_all, drop-take, eq-eqb, cases_lt, cases_eq, Joining, Entry, LeadsBy, CanTake, with_copy, HasCopies, IsTrail}
+use Rattle.std.proofs.lemmas.Nat.{div-mul-add, mod-mul-add, mod_below, div_below, le-div}
 use Rattle.std.proofs.lemmas.Bool.Decides.{eqb_tells}
-use Rattle.joint_replay.specs.Joining.{Joining}
-use Rattle.back_step.specs.declared.entry.Entry.{Entry}
-use Rattle.back_step.specs.Trails.{LeadsBy, CanTake, with_copy, HasCopies, IsTrail}
 use Rattle.back_step.proofs.Leading.{leads_append, leads_split, one_end, calm_after}
 
 -- ---- quotients

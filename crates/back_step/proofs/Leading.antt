@@ -1,16 +1,6 @@
 -- Steps that lead from one joint replay to another.
-use Rattle.std.proofs.Common.{◌≡◌, ℕ, zero, suc, ◌+◌, ◌<◌, refl, sym, ap, ◌∙◌, subst, arith, List, [], ◌∷◌, ◌++◌, length, take, drop, slice_get, slice_index_or, append_assoc, Option, Some, None}
-use Rattle.std.specs.Prelude.{Result, Ok, Err}
-use Rattle.std.proofs.lemmas.List.{append-nil, drop_more, take_more}
-use Rattle.hart_replay.specs.declared.error.ReplayError.{ReplayError}
-use Rattle.joint_replay.specs.declared.kinds.Readiness.{Readiness}
+use Rattle.back_step.proofs.Common.{◌≡◌, ℕ, zero, suc, ◌+◌, ◌<◌, refl, sym, ap, ◌∙◌, subst, arith, List, [], ◌∷◌, ◌++◌, length, take, drop, slice_get, slice_index_or, append_assoc, Option, Some, None, Result, Ok, Err, append-nil, drop_more, take_more, ReplayError, Readiness, Lane, Item, Passing, Doing, Ending, lane_step, Joining, Walk, begun, longer, readiness, readiness_of, next_step, move, ready_step, walk_on, Entry, entry_of, entries_of, harts_of, state_after, CanStep, Took, LeadsBy, CanTake}
 use Rattle.joint_replay.specs.declared.kinds.Readiness.TheVariants as is
-use Rattle.joint_replay.specs.Lanes.{Lane, Item, Passing, Doing, Ending, lane_step}
-use Rattle.joint_replay.specs.Joining.{Joining, Walk, begun, longer, readiness, readiness_of, next_step, move}
-use Rattle.joint_replay.specs.Orders.{ready_step, walk_on}
-use Rattle.back_step.specs.declared.entry.Entry.{Entry}
-use Rattle.back_step.specs.Traces.{entry_of, entries_of, harts_of, state_after}
-use Rattle.back_step.specs.Trails.{CanStep, Took, LeadsBy, CanTake}
 
 -- ---- a step of a ready hart
 

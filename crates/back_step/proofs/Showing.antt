@@ -1,17 +1,11 @@
 -- What a joint replay shows doesn't depend on what is left of its replays.
-use Rattle.std.proofs.Common.{◌≡◌, ℕ, zero, suc, Bool, true, false, refl, sym, ap, ◌∙◌, List, [], ◌∷◌, map, slice_get, Option, Some, None}
+use Rattle.back_step.proofs.Common.{◌≡◌, ℕ, zero, suc, Bool, true, false, refl, sym, ap, ◌∙◌, List, [], ◌∷◌, map, slice_get, Option, Some, None, Readiness, Cursor, Lane, coming_of, point_of, state_of, Joining, begun, is_passed, first_waited, waits_for, readiness, readiness_of, coming, bare, state_at, Trace, IsGoneBack, LeadsBy, IsBackAt}
 use Rattle.bn_base.specs.declared.state.HartState.{HartState}
 use Rattle.log_record.specs.declared.record.Record.{Record}
 use Rattle.joint_replay.specs.declared.kinds.Coming.{Coming}
-use Rattle.joint_replay.specs.declared.kinds.Readiness.{Readiness}
 use Rattle.joint_replay.specs.declared.kinds.Readiness.TheVariants as is
-use Rattle.joint_replay.specs.Lanes.{Cursor, Lane, coming_of, point_of, state_of}
-use Rattle.joint_replay.specs.Joining.{Joining, begun, is_passed, first_waited, waits_for, readiness, readiness_of, coming}
 use Rattle.joint_replay.specs.Points.{sources_into}
 use Rattle.joint_replay.specs.Memory.{word_in}
-use Rattle.joint_replay.specs.Calls.{bare, state_at}
-use Rattle.back_step.specs.Traces.{Trace, IsGoneBack}
-use Rattle.back_step.specs.Trails.{LeadsBy, IsBackAt}
 use Rattle.back_step.proofs.Leading.{leads_walk}
 
 -- ---- one hart

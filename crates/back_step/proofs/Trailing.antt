@@ -1,20 +1,10 @@
 -- What steps and ways back make of a trail.
-use Rattle.std.proofs.Common.{◌≡◌, ℕ, ◌+◌, ◌/◌, ◌%◌, ◌≤◌, Bool, true, false, refl, sym, ap, ◌∙◌, subst, arith, inl, inr, ◌⊎◌, List, [], ◌∷◌, ◌++◌, length, take, map, Option, Some, None}
-use Rattle.std.specs.Prelude.{Result, Ok, Err, is_err, OnOk}
-use Rattle.std.proofs.lemmas.List.{append-nil, length-append, take_all, take_at}
-use Rattle.hart_replay.specs.declared.error.ReplayError.{ReplayError}
+use Rattle.back_step.proofs.Common.{◌≡◌, ℕ, ◌+◌, ◌/◌, ◌%◌, ◌≤◌, Bool, true, false, refl, sym, ap, ◌∙◌, subst, arith, inl, inr, ◌⊎◌, List, [], ◌∷◌, ◌++◌, length, take, map, Option, Some, None, Result, Ok, Err, is_err, OnOk, append-nil, length-append, take_all, take_at, ReplayError, Item, Passing, Doing, Ending, Joining, Walk, readiness, next_step, bare, stepped_of, StepUnrefused, Steps, ready_step, Entry, entry_of, entry_told, harts_of, state_after, Trace, Trailed, with_entry, cut, IsGoneBack, LeadsBy, IsBackAt, with_copy, HasCopies, trailed, IsTrail, TrailSteps, GoesOnFrom}
 use Rattle.hart_replay.specs.declared.error.ReplayError.TheVariants as replay
 use Rattle.joint_replay.specs.declared.error.JointError.{JointError}
 use Rattle.joint_replay.specs.declared.error.JointError.TheVariants as why
 use Rattle.joint_replay.specs.declared.kinds.Readiness.TheVariants as is
 use Rattle.joint_replay.specs.declared.kinds.Stepped.{Stepped}
-use Rattle.joint_replay.specs.Lanes.{Item, Passing, Doing, Ending}
-use Rattle.joint_replay.specs.Joining.{Joining, Walk, readiness, next_step}
-use Rattle.joint_replay.specs.Calls.{bare, stepped_of, StepUnrefused, Steps}
-use Rattle.joint_replay.specs.Orders.{ready_step}
-use Rattle.back_step.specs.declared.entry.Entry.{Entry}
-use Rattle.back_step.specs.Traces.{entry_of, entry_told, harts_of, state_after, Trace, Trailed, with_entry, cut, IsGoneBack}
-use Rattle.back_step.specs.Trails.{LeadsBy, IsBackAt, with_copy, HasCopies, trailed, IsTrail, TrailSteps, GoesOnFrom}
 use Rattle.back_step.proofs.Leading.{step_there, step_calm, leads_append, one_longer, state_is}
 use Rattle.back_step.proofs.Copying.{AreCopies, is_due, next_many, many_after, copies_kept, copies_longer, due_tells}
 

@@ -1,7 +1,5 @@
 -- A replay that was begun never ends because its interval isn't there, nor does a joint replay.
-use Rattle.bugnet.proofs.Common.{◌≡◌, ℕ, zero, suc, ◌+◌, ◌-◌, List, [], ◌∷◌, Option, Some, None, subst, sym, refl, true, false, Bool, slice_get, slice_set, ◌||◌, slice_index, fault_number, Program, Row, Step, Quiet, Asks, step, absorbed, Ask, Want, Load, Store, LoadReserved, StoreConditional, Amo, System, Faulted, Record, Outcome, Done, Refused, Replayed, Interval, Position, On, slot, taken_from, word_for, after_ask, after_sc, missing, call_reason, found, system_step, ask_step, one_step, left_over, finish, fault_end, steps, first, interval_of, replayed_in, replayed, ReplayError, NoInterval, ScMissing, RecordsLeft, EndDiffers, JointError, Replay, Stuck, Next as Choice, Cursor, Lane, Item, with_cursor, cursors_of, cursor_step, lane_step, Joining, Walk, Ran, lanes_from, fresh, begun, longer, positions_from, choice, move, next_step, error_of, ran, run_for, run_all, steps_left}
-use Rattle.std.proofs.Common.{Result, Ok, Err}
-use Rattle.std.specs.Prelude.{◌==◌, ◌&&◌, not, nat_lt, length}
+use Rattle.bugnet.proofs.Common.{◌≡◌, ℕ, zero, suc, ◌+◌, ◌-◌, List, [], ◌∷◌, Option, Some, None, subst, sym, refl, true, false, Bool, slice_get, slice_set, ◌||◌, slice_index, fault_number, Program, Row, Step, Quiet, Asks, step, absorbed, Ask, Want, Load, Store, LoadReserved, StoreConditional, Amo, System, Faulted, Record, Outcome, Done, Refused, Replayed, Interval, Position, On, slot, taken_from, word_for, after_ask, after_sc, missing, call_reason, found, system_step, ask_step, one_step, left_over, finish, fault_end, steps, first, interval_of, replayed_in, replayed, ReplayError, NoInterval, ScMissing, RecordsLeft, EndDiffers, JointError, Replay, Stuck, Next as Choice, Cursor, Lane, Item, with_cursor, cursors_of, cursor_step, lane_step, Joining, Walk, Ran, lanes_from, fresh, begun, longer, positions_from, choice, move, next_step, error_of, ran, run_for, run_all, steps_left, Result, Ok, Err, ◌==◌, ◌&&◌, not, nat_lt, length}
 use Rattle.rv_meaning.specs.Access.{stored_word, amo_result}
 use Rattle.rv_meaning.specs.Rows.{row_of, call_row, fault_row}
 use Rattle.rv_meaning.specs.declared.asks.Reply.TheVariants.{Word, Stored, Answer, Over}

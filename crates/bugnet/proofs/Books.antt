@@ -1,6 +1,5 @@
 -- A recording that is given the BOOK of another.
-use Rattle.bugnet.proofs.Common.{◌≡◌, ℕ, Bool, List, Option, Some, sym, subst, ap, ◌∙◌, Result, Ok, sha256, Program, RawSettings, Files, RecordingLine, image_of, ElfError, file_of, began_by, Began, HasList, Leaves}
-use Rattle.std.specs.Prelude.{false}
+use Rattle.bugnet.proofs.Common.{◌≡◌, ℕ, Bool, List, Option, Some, sym, subst, ap, ◌∙◌, Result, Ok, sha256, Program, RawSettings, Files, RecordingLine, image_of, ElfError, file_of, began_by, Began, HasList, Leaves, false}
 use Rattle.whole_runs.specs.Followed.{followed, WholeListsAreFollowed}
 use Rattle.whole_runs.specs.Scheduled.{scheduled}
 use Rattle.bugnet.specs.Books.{AreOfOne, LeaveOne, BooksAreFollowed, SchedulesGiveOneRun}

@@ -1,11 +1,9 @@
--- What two or more files of proofs/ cite of other crates and of specs/. Each of them imports it from here, by one line.
-pub use Rattle.std.proofs.Common.{Bool, Global, List, None, Option, Some, Vec, [], ap, append_assoc, arith, codes, drop, false, inl, inr, length, map, nat_le, nat_lt, not, refl, rules, slice_get, slice_set, subst, suc, sym, take, true, zero, ℕ, ◌%◌, ◌&&◌, ◌*◌, ◌++◌, ◌+◌, ◌-◌, ◌<◌, ◌==◌, ◌^◌, ◌∙◌, ◌∷◌, ◌≡◌, ◌≢◌, ◌≤◌, ◌⊎◌}
+-- What several files of proofs/ cite of other crates and of specs/. They import it from here, by one line.
+pub use Rattle.std.proofs.Common.{Bool, Err, Global, IfOk, IfSome, IsErrAnd, IsSome, List, None, Ok, Option, Result, Some, Vec, [], ap, append-nil, append_assoc, arith, codes, drop, false, if◌then◌else◌, inl, inr, is_some, length, map, nat_le, nat_lt, not, option_map, refl, replicate, rules, slice_get, slice_index, slice_set, subst, suc, sym, take, take-append-drop, true, unwrap_or, zero, ℕ, ◌%◌, ◌&&◌, ◌*◌, ◌++◌, ◌+◌, ◌-◌, ◌<◌, ◌==◌, ◌^◌, ◌||◌, ◌∙◌, ◌∷◌, ◌≡◌, ◌≢◌, ◌≤◌, ◌⊎◌}
 pub use Rattle.std.proofs.lemmas.Bool.Decides.{nat_tests}
-pub use Rattle.std.proofs.lemmas.List.{append-nil, map-append, take-append-drop}
 pub use Rattle.std.proofs.lemmas.Slice.Eq.{bytes_eq-Decides}
 pub use Rattle.std.specs.Io.KnownBytes.{Appends, Consumes}
 pub use Rattle.std.specs.List.{filter, list_any}
-pub use Rattle.std.specs.Prelude.{Err, IfOk, IfSome, Ok, Result, if◌then◌else◌, is_some, option_map, replicate, slice_index, unwrap_or, ◌||◌}
 pub use Rattle.std.specs.Str.{bytes_eq}
 pub use Rattle.back_step.specs.Traces.{Trace, Trailed, at_start, cut, entry_of, harts_of, trace_step, with_entry}
 pub use Rattle.bn_base.specs.Faults.{fault_number}
@@ -32,9 +30,9 @@ pub use Rattle.hart_replay.specs.Replay.{Done, Interval, Logged, On, Outcome, Po
 pub use Rattle.hart_replay.specs.Scans.{mark_in}
 pub use Rattle.hart_replay.specs.declared.error.ReplayError.{ReplayError}
 pub use Rattle.hart_replay.specs.declared.error.ReplayError.TheVariants.{EndDiffers, NoInterval, RecordsLeft, ScMissing}
-pub use Rattle.joint_laws.specs.Laws.{GoesOn, IsNotRefused, JointReplaysSayTheRun, ReachedSayTheRun, SaysTheRun}
+pub use Rattle.joint_laws.specs.Laws.{IsNotRefused, JointReplaysSayTheRun, ReachedSayTheRun, SaysTheRun}
 pub use Rattle.joint_laws.specs.Recordings.{IsLogOf, OfBeginnings, Recording, begin}
-pub use Rattle.joint_replay.specs.Joining.{Joining, Ran, Walk, begun, choice, choice_from, error_of, fresh, lanes_from, longer, move, next_step, positions_from, ran, readiness, readiness_of, run_all, run_for, steps_left}
+pub use Rattle.joint_replay.specs.Joining.{Joining, Ran, Walk, begun, choice, error_of, fresh, lanes_from, longer, move, next_step, positions_from, ran, readiness, run_all, run_for, steps_left}
 pub use Rattle.joint_replay.specs.Lanes.{Cursor, Item, Lane, cursor_step, cursors_of, lane_step, with_cursor}
 pub use Rattle.joint_replay.specs.Orders.{IsBegun, ready_step, walk_on}
 pub use Rattle.joint_replay.specs.Texts.{joint_text}
@@ -48,6 +46,51 @@ pub use Rattle.log_blocks.specs.Laws.{AreFew, SavedHaveTheirLimit, pieces_of}
 pub use Rattle.log_blocks.specs.Readings.{AreReadOrRefused, AreSalvagedOrRefused, FilesAreRead, ReadingsAreUnique, Reads, Salvages, SalvagesAreUnique, WholeAreSalvaged}
 pub use Rattle.log_blocks.specs.declared.damage.Damage.{Damage}
 pub use Rattle.log_blocks.specs.declared.damage.SalvageError.{SalvageError}
+pub use Rattle.log_commands.proofs.Acts.{closed-done, none-fell}
+pub use Rattle.log_commands.proofs.Answered.{loads-give, loads-stop, with-also}
+pub use Rattle.log_commands.proofs.Answering.{passed-on}
+pub use Rattle.log_commands.proofs.Causes.{Causes, answer-words, by-words, caused, memory-words, refusal-causes, refusal-words}
+pub use Rattle.log_commands.proofs.Fetched.{fell-later, only-first, only-then}
+pub use Rattle.log_commands.proofs.FileCalls.{ends-behind, load-stops, loads-alone, noted-append, own-loads, then-loads}
+pub use Rattle.log_commands.proofs.Loads.{by-bytes, fits, loaded, made-stopped, of_false}
+pub use Rattle.log_commands.proofs.Prints.{appends-nothing, part-longer, part-none, part-whole, rose-later}
+pub use Rattle.log_commands.proofs.SaveCounts.{memory-saves, no-saves, none-saved}
+pub use Rattle.log_commands.proofs.StatusesApart.{apart, refused-apart, told-apart}
+pub use Rattle.log_commands.proofs.Tells.{from, memory, memory-names, memory-or-store, refused-told, same-files, stopped-free, stopped-told, tells-few, tells-from, tells-keeps, unsaved-free, untouched, with-any, with-files}
+pub use Rattle.log_commands.specs.Acting.{ActsTo, with_err}
+pub use Rattle.log_commands.specs.Answering.{Answers, IsByFiles}
+pub use Rattle.log_commands.specs.Audits.{Agrees, IsAuditOf, audited, by_turns, by_verdict, roles_of, shown}
+pub use Rattle.log_commands.specs.Commands.{Either, IsByFile, IsByInput, IsByLog, by_log, check_of, interval_told, list_of, replay_found, replay_with}
+unfoldable pub use Rattle.log_commands.specs.Commands.{WithFile, ended}
+pub use Rattle.log_commands.specs.Effects.{Acts, AreKept, Call, GivesStatus, IsByWords, IsFree, IsUnsaved, NoWriteFell, SomeTold, StoppedBy, Tells, World, between, call, printing_on, world}
+pub use Rattle.log_commands.specs.Evaluated.{told_by}
+pub use Rattle.log_commands.specs.FileCalls.{CallsBy, CallsTo, FileCall, IsOfContent, IsOfSave, LoadsTo, LoadsUpTo, Note, SaveRefused, Saves, SavesTold, StopsAt, elf_roles, has_save, input_roles, loads_of, noted_after, record_roles, saved_in, saves_in, saves_of}
+pub use Rattle.log_commands.specs.Inputs.{Bytes, IsLoaded, input_by, limit_of, no_bytes, put}
+pub use Rattle.log_commands.specs.Joined.{CanJoin, joined, joint_with}
+unfoldable pub use Rattle.log_commands.specs.Joined.{ran_told}
+pub use Rattle.log_commands.specs.Names.{FileNames, name_of, no_names}
+pub use Rattle.log_commands.specs.NewLogs.{IsBySalvage, by_salvage, renewed}
+pub use Rattle.log_commands.specs.Outside.{CauseBy, FetchTells, GivesBy, GivesOf, IsEarly, IsPrinted, KeptFiles, KeptSaved, MayChange, ProgramTells, RefusalCause, Refuses, ResultCause, SameFiles, SendStops, ToldRefusal, WithFiles, Wrote, book_in, told_of, told_of_recording}
+pub use Rattle.log_commands.specs.Pairs.{ArePair, ByPair, HasPair, HoldsLog, IsPair, IsPairOf, LoadedPair, pair_loaded, pair_of, pair_roles, pair_same}
+pub use Rattle.log_commands.specs.RaceAnswers.{CanRace, races_in, races_listed, races_unless, races_with}
+pub use Rattle.log_commands.specs.Refusals.{joint_refusal, name_refusal, replay_status, status_of}
+pub use Rattle.log_commands.specs.RunEnds.{IsRecorded, end_status, end_word}
+pub use Rattle.log_commands.specs.SaveCounts.{AnswerSaves, IsMade, IsRecordedRun, IsRenewed, SavedAll, SavesEach, is_lean}
+pub use Rattle.log_commands.specs.SliceAnswers.{CanSlice, slice_told, slice_with}
+pub use Rattle.log_commands.specs.Statuses.{code}
+pub use Rattle.log_commands.specs.Texts.{agree_text, interval_text, record_text, summary_text}
+unfoldable pub use Rattle.log_commands.specs.Texts.{list_text}
+pub use Rattle.log_commands.specs.Told.{Saved, Told, printed, printed_until}
+unfoldable pub use Rattle.log_commands.specs.Told.{refused}
+pub use Rattle.log_commands.specs.declared.answer.Answer.{Answer}
+pub use Rattle.log_commands.specs.declared.answer.Answer.TheVariants.{Agreed, Checked, Joined, Recorded, Renewed, Shown}
+pub use Rattle.log_commands.specs.declared.answer.RunEnd.{RunEnd}
+pub use Rattle.log_commands.specs.declared.answer.RunToTell.{RunToTell}
+pub use Rattle.log_commands.specs.declared.names.Role.{Role}
+pub use Rattle.log_commands.specs.declared.pairs.JointReading.{JointReading}
+pub use Rattle.log_commands.specs.declared.refusal.Refusal.{Refusal}
+pub use Rattle.log_commands.specs.declared.refusal.Refusal.TheVariants.{BookRefused, ElfRefused, FileDiffers, LogRefused, Missing, OutOfMemory, OutOfRange, ProgramDiffers, ReplayStopped, SameName, TooLong, WordsRefused}
+pub use Rattle.log_commands.specs.declared.status.Status.{Status}
 pub use Rattle.log_file.specs.Layout.{file_bytes, file_bytes2, saved_bytes}
 pub use Rattle.log_order.specs.Content.{Content, IsContent, content}
 pub use Rattle.log_record.specs.Spelling.{bytes_of, hart_of, total}
@@ -85,51 +128,7 @@ pub use Rattle.step_debugger.specs.declared.error.DebugError.{DebugError}
 pub use Rattle.step_debugger.specs.declared.session.Ending.{Ending}
 pub use Rattle.step_debugger.specs.declared.stop.Stop.{Stop}
 pub use Rattle.whole_runs.specs.Laws.{SeededListsEnd, WholeRunsHaveNoError}
-pub use Rattle.log_commands.proofs.Acts.{closed-done, none-fell}
-pub use Rattle.log_commands.proofs.Answered.{loads-give, loads-stop, with-also}
-pub use Rattle.log_commands.proofs.Answering.{passed-on}
-pub use Rattle.log_commands.proofs.Causes.{Causes, answer-words, by-words, caused, memory-words, refusal-causes, refusal-words}
-pub use Rattle.log_commands.proofs.Fetched.{fell-later, only-first, only-then}
-pub use Rattle.log_commands.proofs.FileCalls.{ends-behind, load-stops, loads-alone, noted-append, own-loads, then-loads}
-pub use Rattle.log_commands.proofs.Loads.{by-bytes, fits, loaded, made-stopped, of_false}
-pub use Rattle.log_commands.proofs.Prints.{appends-nothing, part-longer, part-none, part-whole, rose-later}
-pub use Rattle.log_commands.proofs.SaveCounts.{memory-saves, no-saves, none-saved}
-pub use Rattle.log_commands.proofs.StatusesApart.{apart, refused-apart, told-apart}
-pub use Rattle.log_commands.proofs.Tells.{from, memory, memory-names, memory-or-store, refused-told, same-files, stopped-free, stopped-told, tells-few, tells-from, tells-keeps, unsaved-free, untouched, with-any, with-files}
-pub use Rattle.log_commands.specs.Answering.{Answers, IsByFiles}
-pub use Rattle.log_commands.specs.Audits.{Agrees, IsAuditOf, audited, by_turns, by_verdict, roles_of, shown}
-pub use Rattle.log_commands.specs.Commands.{Either, IsByFile, IsByInput, IsByLog, by_log, check_of, interval_told, list_of, replay_found, replay_with}
-unfoldable pub use Rattle.log_commands.specs.Commands.{WithFile, ended}
-pub use Rattle.log_commands.specs.Effects.{Acts, AreKept, Call, IsByWords, GivesStatus, IsFree, IsUnsaved, SomeTold, StoppedBy, Tells, World, between, call, printing_on, world}
-pub use Rattle.log_commands.specs.Evaluated.{told_by}
-pub use Rattle.log_commands.specs.FileCalls.{CallsBy, CallsTo, FileCall, IsOfContent, IsOfSave, LoadsTo, LoadsUpTo, Note, SaveRefused, Saves, SavesTold, StopsAt, elf_roles, has_save, input_roles, loads_of, noted_after, record_roles, saved_in, saves_in, saves_of}
-pub use Rattle.log_commands.specs.Inputs.{Bytes, IsLoaded, input_by, limit_of, no_bytes, put}
-pub use Rattle.log_commands.specs.Joined.{CanJoin, joined, joint_with}
-unfoldable pub use Rattle.log_commands.specs.Joined.{ran_told}
-pub use Rattle.log_commands.specs.Names.{FileNames, name_of, no_names}
-pub use Rattle.log_commands.specs.NewLogs.{IsBySalvage, by_salvage, renewed}
-pub use Rattle.log_commands.specs.Outside.{CauseBy, FetchTells, GivesBy, GivesOf, IsEarly, IsPrinted, KeptFiles, KeptSaved, MayChange, ProgramTells, RefusalCause, Refuses, ResultCause, SameFiles, SendStops, ToldRefusal, WithFiles, Wrote, book_in, told_of, told_of_recording}
-pub use Rattle.log_commands.specs.Pairs.{ArePair, ByPair, HasPair, HoldsLog, IsPair, IsPairOf, LoadedPair, pair_loaded, pair_of, pair_roles, pair_same}
-pub use Rattle.log_commands.specs.RaceAnswers.{CanRace, races_in, races_listed, races_unless, races_with}
-pub use Rattle.log_commands.specs.Refusals.{joint_refusal, name_refusal, replay_status, status_of}
-pub use Rattle.log_commands.specs.RunEnds.{IsRecorded, end_status, end_word}
-pub use Rattle.log_commands.specs.SaveCounts.{AnswerSaves, IsMade, IsRecordedRun, IsRenewed, SavedAll, SavesEach, is_lean}
-pub use Rattle.log_commands.specs.SliceAnswers.{CanSlice, slice_told, slice_with}
-pub use Rattle.log_commands.specs.Texts.{agree_text, interval_text, record_text, summary_text}
-unfoldable pub use Rattle.log_commands.specs.Texts.{list_text}
-pub use Rattle.log_commands.specs.Told.{Saved, Told, printed, printed_until}
-unfoldable pub use Rattle.log_commands.specs.Told.{refused}
-pub use Rattle.log_commands.specs.declared.answer.Answer.{Answer}
-pub use Rattle.log_commands.specs.declared.answer.Answer.TheVariants.{Agreed, Checked, Joined, Listed, Recorded, Renewed, Shown}
-pub use Rattle.log_commands.specs.declared.answer.RunEnd.{RunEnd}
-pub use Rattle.log_commands.specs.declared.answer.RunToTell.{RunToTell}
-pub use Rattle.log_commands.specs.declared.names.Role.{Role}
-pub use Rattle.log_commands.specs.declared.names.Role.TheVariants.{Elf}
-pub use Rattle.log_commands.specs.declared.pairs.JointReading.{JointReading}
-pub use Rattle.log_commands.specs.declared.refusal.Refusal.{Refusal}
-pub use Rattle.log_commands.specs.declared.refusal.Refusal.TheVariants.{BookRefused, ElfRefused, FileDiffers, LogRefused, Missing, OutOfMemory, OutOfRange, ProgramDiffers, ReplayStopped, SameName, TooLong, WordsRefused}
-pub use Rattle.log_commands.specs.declared.status.Status.{Status}
-pub use Rattle.bugnet.specs.Answers.{IsAnswer, IsByLine, IsGiven, IsOn, KindOf, UnlessRefused, line_roles, scheduling_by, scheduling_of, names_by, names_in, refusal_by, refusal_in, setting_refusal, words_refusal}
+pub use Rattle.bugnet.specs.Answers.{IsAnswer, IsByLine, IsGiven, IsOn, KindOf, UnlessRefused, line_roles, names_by, names_in, refusal_by, refusal_in, scheduling_by, scheduling_of, setting_refusal, words_refusal}
 pub use Rattle.bugnet.specs.Asks.{FitsLine, LineSaves}
 pub use Rattle.bugnet.specs.ClosedRuns.{IsRecordingBy, IsRecordingOf}
 pub use Rattle.bugnet.specs.Command.Record.{IsByNames, IsByProgram, IsBySettings, IsRecord, is_clash}
@@ -138,7 +137,7 @@ pub use Rattle.bugnet.specs.Crashes.{CrashesAreShown, HasLine, IsCrash, ShowsCra
 pub use Rattle.bugnet.specs.DebugSessions.{ConvertedHaveTheirLimit, DebugsFiles, DoneSession, PrefixesCanBeDebugged, RecordingsCanBeDebugged, SessionIs, SessionsShowTheRun, ShowsRun, ShowsSession, session_after, session_of}
 pub use Rattle.bugnet.specs.Headline.{Headline, IsReplayed, Part, PrintsRun, RecordingsAreReplayed, RecordingsSayEnds, ReplaysRun, SaysEnd, interval_rows, part_of, run_text}
 pub use Rattle.bugnet.specs.Jointly.{DoneJointly, HasRun, IsJoined, JoinsRun, JointHeadline, PrintsJointly, RecordingsAreJoined, RecordingsCanBeJoined, TellsRun, joint_run, recording_of}
-pub use Rattle.bugnet.specs.Laws.{AreAlike, AreOfOneList, FilesKeepToTheirSize, IsNoRecording, IsNoSession, IsReadOnly, OneAnswer, OneSession, SeedsAreWhole, book_of}
+pub use Rattle.bugnet.specs.Laws.{AreAlike, AreOfOneList, FilesKeepToTheirSize, IsNoRecording, IsNoSession, IsReadOnly, NeedsNoThreads, OneAnswer, OneSession, SeedsAreWhole, book_of}
 pub use Rattle.bugnet.specs.LineAnswers.{AnswersLine}
 pub use Rattle.bugnet.specs.LineCalls.{AnswersDemo, CallsOnly, CallsSo, HasShape, IsSaved, MaySave, RefusedAfter, TellsDemo, TellsRefusal, calls_of, is_printed, is_recorded, is_replayed, line_past, needed_of, needed_roles, past_of}
 pub use Rattle.bugnet.specs.Recordings.{AreScheduled, AreTaken, IsRun, Scheduling, began_by, book_if, end_by, instructions_of, is_fault, is_limit, marks_of, recorded}

@@ -1,6 +1,5 @@
 -- The answer to the joint replay of a recording's log is the text of one that says the run.
-use Rattle.bugnet.proofs.Common.{◌≡◌, ◌≤◌, ℕ, Bool, true, false, List, length, nat_lt, Option, Some, None, ◌∙◌, ap, subst, sym, refl, inl, inr, ◌⊎◌, arith, Result, Ok, option_map, Appends, sha256, Program, Files, Line, JointLine, ElfError, bytes_eq, image_of, Head, Record, Content, IsContent, saved_bytes, file_bytes, file_bytes2, is_second, SavedHaveTheirLimit, AreFew, Reads, JointError, Ran, fresh, run_all, joint_text, file_of, Recording, IsLogOf, begin, SaysTheRun, JointReplaysSayTheRun, FileNames, Told, refused, printed, printed_until, Either, WithFile, IsByLog, ran_told, joint_with, joint_refusal, ByPair, pair_loaded, pair_same, pair_of, IsPairOf, IsPair, HoldsLog, ArePair, names_in, names_by, IsAnswer, HasRun, JoinsRun, TellsRun, IsJoined, JointHeadline, RecordingsCanBeJoined, recording_of, RecordingsAreJoined, DoneJointly, PrintsJointly, ConvertedHaveTheirLimit, WithFiles, Call, IsFree, SomeTold, Tells, StoppedEarly, TellsAnswer, TooLong, fits, of_false, KeptIsAnEnd, with-files, stopped-free}
-use Rattle.std.specs.Prelude.{◌==◌}
+use Rattle.bugnet.proofs.Common.{◌≡◌, ◌≤◌, ℕ, Bool, true, false, List, length, nat_lt, Option, Some, None, ◌∙◌, ap, subst, sym, refl, inl, inr, ◌⊎◌, arith, Result, Ok, option_map, Appends, sha256, Program, Files, Line, JointLine, ElfError, bytes_eq, image_of, Head, Record, Content, IsContent, saved_bytes, file_bytes, file_bytes2, is_second, SavedHaveTheirLimit, AreFew, Reads, JointError, Ran, fresh, run_all, joint_text, file_of, Recording, IsLogOf, begin, SaysTheRun, JointReplaysSayTheRun, FileNames, Told, refused, printed, printed_until, Either, WithFile, IsByLog, ran_told, joint_with, joint_refusal, ByPair, pair_loaded, pair_same, pair_of, IsPairOf, IsPair, HoldsLog, ArePair, names_in, names_by, IsAnswer, HasRun, JoinsRun, TellsRun, IsJoined, JointHeadline, RecordingsCanBeJoined, recording_of, RecordingsAreJoined, DoneJointly, PrintsJointly, ConvertedHaveTheirLimit, WithFiles, Call, IsFree, SomeTold, Tells, StoppedEarly, TellsAnswer, TooLong, fits, of_false, KeptIsAnEnd, with-files, stopped-free, ◌==◌}
 use Rattle.log_blocks.specs.Laws as of_second
 use Rattle.joint_laws.specs.Recordings.{IsRecorded}
 use Rattle.log_commands.specs.declared.names.Role.TheVariants as role

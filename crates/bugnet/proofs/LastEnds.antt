@@ -1,7 +1,5 @@
 -- A hart's last End is that of an interval whose Header is there: records that are in order name each interval once, and end it once.
-use Rattle.bugnet.proofs.Common.{◌≡◌, ℕ, zero, suc, ◌+◌, ◌^◌, ◌<◌, ◌≤◌, ◌==◌, Bool, true, false, not, ◌&&◌, List, [], ◌∷◌, ◌++◌, length, Option, Some, None, refl, ap, subst, sym, ◌∙◌, arith, inl, inr, ◌⊎◌, if◌then◌else◌, replicate, EndMark, RawSettings, Record, Header, FirstLoad, ScOk, ScFailed, Edge, End, bytes_of, hart_of, HasEnded, Interval, Logged, interval_of, interval_from, puts, nothing, mark_in}
-use Rattle.std.proofs.Common.{Result, Ok, Err}
-use Rattle.std.specs.Prelude.{nat_lt, nat_le, slice_get, slice_set}
+use Rattle.bugnet.proofs.Common.{◌≡◌, ℕ, zero, suc, ◌+◌, ◌^◌, ◌<◌, ◌≤◌, ◌==◌, Bool, true, false, not, ◌&&◌, List, [], ◌∷◌, ◌++◌, length, Option, Some, None, refl, ap, subst, sym, ◌∙◌, arith, inl, inr, ◌⊎◌, if◌then◌else◌, replicate, EndMark, RawSettings, Record, Header, FirstLoad, ScOk, ScFailed, Edge, End, bytes_of, hart_of, HasEnded, Interval, Logged, interval_of, interval_from, puts, nothing, mark_in, Result, Ok, Err, nat_lt, nat_le, slice_get, slice_set}
 use Rattle.std.specs.Option.{option_or}
 use Rattle.log_order.specs.declared.view.OrderLimits.{OrderLimits}
 use Rattle.log_order.specs.declared.view.HartView.{HartView}

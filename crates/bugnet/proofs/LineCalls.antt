@@ -1,6 +1,6 @@
 -- Which calls a line makes of its store.
-use Rattle.bugnet.proofs.Common.{◌≡◌, ◌≢◌, ℕ, List, [], ◌++◌, Option, Some, None, ◌∙◌, ap, subst, sym, refl, arith, true, false, Bool, inl, inr, ◌⊎◌, append_assoc, Result, Ok, Err, IfOk, is_some, option_map, Appends, append-nil, first_bad, Line, RecordLine, ReplayLine, JointLine, DebugLine, ConvertLine, SalvageLine, DemoLine, seen_recording, RecordOptions, demo_text, Outcome, Refused, interval_of, replayed, ReplayError, JointError, Replay, run_all, joint_text, Content, Program, EndMark, FileNames, no_names, names_in, names_by, scheduling_of, setting_refusal, refusal_in, refusal_by, IsAnswer, line_roles, replay_status, joint_refusal, IsRenewed, IsRecordedRun, IsMade, FitsLine, FileCall, Note, Saves, noted_after, loads_of, saves_of, has_save, input_roles, record_roles, elf_roles, saved_in, saves_in, IsOfContent, StopsAt, LoadsUpTo, CallsTo, LoadsTo, CallsBy, IsOfSave, SaveRefused, SavesTold, needed_roles, IsSaved, MaySave, calls_of, needed_of, is_printed, is_replayed, is_recorded, line_past, past_of, RefusedAfter, CallsSo, CallsOnly, TellsRefusal, HasShape, AnswersDemo, TellsDemo, is_clash, replay_found, ended, ran_told, joined, joint_with, IsReadOnly, IsNoSession, WithFiles, CauseBy, IsPrinted, ToldRefusal, told_of, pair_roles, end_status, Call, IsFree, SomeTold, Tells, is_begun, Told, Saved, refused, printed, printed_until, Answer, Recorded, Joined, Listed, Checked, Agreed, Renewed, Shown, RunEnd, Scheduling, Role, Refusal, OutOfMemory, ReplayStopped, WordsRefused, part-longer, part-whole, from, stopped-free, memory-names, memory, same-files, with-files, ends-behind, noted-append, loads-alone, Stored}
-use Rattle.std.specs.Prelude.{not}
+use Rattle.bugnet.proofs.Common.{◌≡◌, ◌≢◌, ℕ, List, [], ◌++◌, Option, Some, None, ◌∙◌, ap, subst, sym, refl, arith, true, false, Bool, inl, inr, ◌⊎◌, append_assoc, Result, Ok, Err, IfOk, is_some, option_map, Appends, append-nil, first_bad, Line, RecordLine, ReplayLine, JointLine, DebugLine, ConvertLine, SalvageLine, DemoLine, seen_recording, RecordOptions, demo_text, Outcome, Refused, interval_of, replayed, ReplayError, JointError, Replay, run_all, joint_text, Content, Program, EndMark, FileNames, no_names, names_in, names_by, scheduling_of, setting_refusal, refusal_in, refusal_by, IsAnswer, line_roles, replay_status, joint_refusal, IsRenewed, IsRecordedRun, IsMade, FitsLine, FileCall, Note, Saves, noted_after, loads_of, saves_of, has_save, input_roles, record_roles, elf_roles, saved_in, saves_in, IsOfContent, StopsAt, LoadsUpTo, CallsTo, LoadsTo, CallsBy, IsOfSave, SaveRefused, SavesTold, needed_roles, IsSaved, MaySave, calls_of, needed_of, is_printed, is_replayed, is_recorded, line_past, past_of, RefusedAfter, CallsSo, CallsOnly, TellsRefusal, HasShape, AnswersDemo, TellsDemo, is_clash, replay_found, ended, ran_told, joined, joint_with, IsReadOnly, IsNoSession, WithFiles, CauseBy, IsPrinted, ToldRefusal, told_of, pair_roles, end_status, Call, IsFree, SomeTold, Tells, is_begun, Told, Saved, refused, printed, printed_until, Answer, Recorded, Joined, Checked, Agreed, Renewed, Shown, RunEnd, Scheduling, Role, Refusal, OutOfMemory, ReplayStopped, WordsRefused, part-longer, part-whole, from, stopped-free, memory-names, memory, same-files, with-files, ends-behind, noted-append, loads-alone, Stored, not}
+use Rattle.log_commands.specs.declared.answer.Answer.TheVariants.{Listed}
 use Rattle.hart_replay.specs.Replay as rows
 use Rattle.hart_replay.specs.declared.error.ReplayError.TheVariants as replay
 use Rattle.log_commands.specs.Effects.{Done}

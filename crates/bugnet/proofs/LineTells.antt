@@ -1,6 +1,5 @@
 -- What a whole call of the program does, from what its parts do.
-use Rattle.bugnet.proofs.Common.{◌≡◌, ℕ, [], Option, subst, inl, inr, ◌⊎◌, Ok, Err, Appends, Files, WhereTold, Stored, Line, FileNames, Told, refused, names_by, IsAnswer, ToldRefusal, WithFiles, IsEarly, GivesBy, told_of, SameFiles, KeptFiles, MayChange, Call, IsFree, IsUnsaved, AreKept, Tells, SomeTold, Acts, StoppedEarly, TellsAnswer, Keeps, ChangesFew, ByWords, IsCounted, Obeys, Causes, Answer, Refusal, memory-or-store, refused-told, same-files, tells-few, tells-keeps, unsaved-free, with-files, from, NoneFell, rose-later, fell-later}
-use Rattle.log_commands.specs.Effects.{NoWriteFell}
+use Rattle.bugnet.proofs.Common.{◌≡◌, ℕ, [], Option, subst, inl, inr, ◌⊎◌, Ok, Err, Appends, Files, WhereTold, Stored, Line, FileNames, Told, refused, names_by, IsAnswer, ToldRefusal, WithFiles, IsEarly, GivesBy, told_of, SameFiles, KeptFiles, MayChange, Call, IsFree, IsUnsaved, AreKept, Tells, SomeTold, Acts, StoppedEarly, TellsAnswer, Keeps, ChangesFew, ByWords, IsCounted, Obeys, Causes, Answer, Refusal, memory-or-store, refused-told, same-files, tells-few, tells-keeps, unsaved-free, with-files, from, NoneFell, rose-later, fell-later, NoWriteFell}
 use Rattle.log_commands.specs.declared.names.Role.TheVariants as role
 
 -- ---- what a call that tells has done

@@ -1,6 +1,5 @@
 -- What a recording answers after its loads.
-use Rattle.bugnet.proofs.Common.{◌≡◌, ℕ, List, Option, Some, None, ◌∙◌, ap, subst, sym, refl, arith, Bool, inl, inr, Result, Ok, Err, IfOk, is_some, Counts, Files, Program, checked_by, first_bad, BadSetting, RawSettings, image_of, ElfError, RecordLine, seen_recording, RecordOptions, FileNames, refused, is_clash, IsByProgram, IsRecord, Scheduling, Schedule, names_in, scheduling_by, scheduling_of, IsGiven, setting_refusal, refusal_in, IsRecordedRun, FitsLine, HoldsBytes, HasElf, WithFiles, ProgramTells, GivesBy, CauseBy, Answer, Refusal}
-use Rattle.std.specs.Prelude.{IsErrAnd}
+use Rattle.bugnet.proofs.Common.{◌≡◌, ℕ, List, Option, Some, None, ◌∙◌, ap, subst, sym, refl, arith, Bool, inl, inr, Result, Ok, Err, IfOk, is_some, Counts, Files, Program, checked_by, first_bad, BadSetting, RawSettings, image_of, ElfError, RecordLine, seen_recording, RecordOptions, FileNames, refused, is_clash, IsByProgram, IsRecord, Scheduling, Schedule, names_in, scheduling_by, scheduling_of, IsGiven, setting_refusal, refusal_in, IsRecordedRun, FitsLine, HoldsBytes, HasElf, WithFiles, ProgramTells, GivesBy, CauseBy, Answer, Refusal, IsErrAnd}
 use Rattle.bugnet.proofs.LineCalls.{mapped}
 
 -- ---- what a recording loads

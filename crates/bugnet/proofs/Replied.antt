@@ -1,7 +1,6 @@
 -- What a command does by its answer, or by its refusal once that is told.
-use Rattle.bugnet.proofs.Common.{◌≡◌, ◌≤◌, ◌∙◌, ℕ, Option, Some, None, subst, sym, refl, arith, inl, inr, Result, Ok, Err, Files, Stored, ReadNote, Stream, Supply, Line, RecordLine, WordsError, Call, IsByWords, World, world, between, Note, FileNames, no_names, told_of, Refuses, Answer, Refusal, WordsRefused, OutOfMemory, Status, none-fell, by-words, caused, memory-words, refusal-causes, refusal-words, answer-words, Causes, appends-nothing, none-saved, memory-saves, told-apart, tells-from, memory-names, with-any, from, names_in, names_by, refusal_in, refusal_by, words_refusal, IsNoSession, IsNoRecording, AnswersLine, RepliesTo, Does, TellsAnswer, ByWords, LeavesRun, CallsOnly, TellsDemo, LineSaves, reading}
+use Rattle.bugnet.proofs.Common.{◌≡◌, ◌≤◌, ◌∙◌, ℕ, Option, Some, None, subst, sym, refl, arith, inl, inr, Result, Ok, Err, Files, Stored, ReadNote, Stream, Supply, Line, RecordLine, WordsError, Call, IsByWords, World, world, between, Note, FileNames, no_names, told_of, Refuses, Answer, Refusal, WordsRefused, OutOfMemory, Status, none-fell, by-words, caused, memory-words, refusal-causes, refusal-words, answer-words, Causes, appends-nothing, none-saved, memory-saves, told-apart, tells-from, memory-names, with-any, from, names_in, names_by, refusal_in, refusal_by, words_refusal, IsNoSession, IsNoRecording, AnswersLine, RepliesTo, Does, TellsAnswer, ByWords, LeavesRun, CallsOnly, TellsDemo, LineSaves, reading, with_err, ActsTo}
 use Rattle.command_words.specs.declared.error.WordsError.TheVariants as words_error
-use Rattle.log_commands.specs.Acting.{with_err, ActsTo}
 use Rattle.bugnet.proofs.Asks.{line-none, line-acts}
 use Rattle.bugnet.proofs.Leaves.{leaves-none}
 use Rattle.bugnet.proofs.Debugs.{debugs-early}

@@ -1,9 +1,5 @@
 -- What a recording leaves that is given a schedule.
-use Rattle.bugnet.proofs.Common.{◌≡◌, ℕ, Option, Some, None, sym, refl, subst, Result, Ok, Err, IfOk, Stored, Files, WhereTold, Stream, Schedule, Line, RecordingLine, RecordLine, World, between, world, Tells, FileNames, Told, told_of, Answer, Refusal, Status, GivesStatus, KeptFiles, WithFiles, with-files, from, tells-from, told-apart, IsRecorded, names_in, IsGiven, AnswersLine, HasElf, LeavesScheduled, LogsAreContents, SeedsAreWhole, FilesKeepToTheirSize, Note}
-use Rattle.std.specs.Prelude.{IsSome}
-use Rattle.log_commands.specs.Acting.{with_err, ActsTo}
-use Rattle.log_commands.specs.Statuses.{code}
-use Rattle.bugnet.specs.Laws.{NeedsNoThreads}
+use Rattle.bugnet.proofs.Common.{◌≡◌, ℕ, Option, Some, None, sym, refl, subst, Result, Ok, Err, IfOk, Stored, Files, WhereTold, Stream, Schedule, Line, RecordingLine, RecordLine, World, between, world, Tells, FileNames, Told, told_of, Answer, Refusal, Status, GivesStatus, KeptFiles, WithFiles, with-files, from, tells-from, told-apart, IsRecorded, names_in, IsGiven, AnswersLine, HasElf, LeavesScheduled, LogsAreContents, SeedsAreWhole, FilesKeepToTheirSize, Note, IsSome, with_err, ActsTo, code, NeedsNoThreads}
 use Rattle.bugnet.proofs.Leaves.{so-left, done-kept}
 
 -- a recording that has its answer is acted on

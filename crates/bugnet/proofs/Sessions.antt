@@ -1,5 +1,7 @@
 -- The places that sessions of the debugger reach, and which of their lines are `quit`.
-use Rattle.bugnet.proofs.Common.{◌≡◌, ◌≢◌, ℕ, zero, suc, ◌+◌, ◌-◌, ◌==◌, nat_lt, Bool, true, false, not, codes, refl, sym, ap, ◌∙◌, subst, List, [], ◌∷◌, ◌++◌, length, take, drop, slice_get, map, Option, Some, None, Result, Ok, Err, filter, map-append, take-append-drop, Program, Record, ReplayError, JointError, Readiness, Next, Joining, Walk, begun, longer, readiness, choice, next_step, move, steps_left, Lane, Item, lane_step, IsBegun, ready_step, walk_on, Recording, IsLogOf, OfBeginnings, begin, GoesOn, IsNotRefused, ReachedSayTheRun, entry_of, harts_of, Trace, at_start, with_entry, trace_step, cut, Stop, Moves, Session, hart_text, address_text, word_text, registers_text, places_from, break_limit, is_set, stop_unless, step_by, step_up_to, go_past, go_by, go_for, go_on, back_by, stop_below, back_to, back_to_stop, says, moved, unknown, answer, command_of, goes_on_by, answers, DebugCommand, Ending, session_after, SessionsShowTheRun, NoQuit}
+use Rattle.bugnet.proofs.Common.{◌≡◌, ◌≢◌, ℕ, zero, suc, ◌+◌, ◌-◌, ◌==◌, nat_lt, Bool, true, false, not, codes, refl, sym, ap, ◌∙◌, subst, List, [], ◌∷◌, ◌++◌, length, take, drop, slice_get, map, Option, Some, None, Result, Ok, Err, filter, take-append-drop, Program, Record, ReplayError, JointError, Readiness, Next, Joining, Walk, begun, longer, readiness, choice, next_step, move, steps_left, Lane, Item, lane_step, IsBegun, ready_step, walk_on, Recording, IsLogOf, OfBeginnings, begin, IsNotRefused, ReachedSayTheRun, entry_of, harts_of, Trace, at_start, with_entry, trace_step, cut, Stop, Moves, Session, hart_text, address_text, word_text, registers_text, places_from, break_limit, is_set, stop_unless, step_by, step_up_to, go_past, go_by, go_for, go_on, back_by, stop_below, back_to, back_to_stop, says, moved, unknown, answer, command_of, goes_on_by, answers, DebugCommand, Ending, session_after, SessionsShowTheRun, NoQuit}
+use Rattle.std.proofs.lemmas.List.{map-append}
+use Rattle.joint_laws.specs.Laws.{GoesOn}
 use Rattle.joint_replay.specs.declared.kinds.Readiness.TheVariants as is
 use Rattle.joint_replay.specs.declared.kinds.Next.TheVariants as next
 use Rattle.joint_replay.specs.Calls.{bare, state_at, IsReached}

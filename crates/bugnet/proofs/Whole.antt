@@ -1,6 +1,5 @@
 -- A session whose whole input isn't refused is refused at no prefix of it.
-use Rattle.bugnet.proofs.Common.{◌≡◌, ◌⊎◌, ℕ, ◌+◌, Bool, true, false, nat_lt, List, [], ◌∷◌, ◌++◌, length, Option, Some, None, ◌∙◌, ap, subst, sym, refl, inl, inr, append_assoc, Result, Ok, Err, Consumes, Program, Files, ConsumesAll, ReadNote, Stream, Supply, image_of, ElfError, Reads, Damage, Content, IsContent, saved_bytes, file_bytes2, JointError, Joining, Trace, at_start, Session, begin_at, answer, command_of, Input, input_limit, is_line_feed, is_too_long, ends_in, with_line, input_from, input_of, goes_on_by, answers, lines_in, result_by, transcript_from, EndsThere, EndsAll, Debugs, DebugError, Ending, joined, HoldsLog, ArePair, LoadedPair, IsFree, EndsBy, SessionOver, CanDebug, whole_input}
-use Rattle.std.proofs.Common.{append-nil}
+use Rattle.bugnet.proofs.Common.{◌≡◌, ◌⊎◌, ℕ, ◌+◌, Bool, true, false, nat_lt, List, [], ◌∷◌, ◌++◌, length, Option, Some, None, ◌∙◌, ap, subst, sym, refl, inl, inr, append_assoc, Result, Ok, Err, Consumes, Program, Files, ConsumesAll, ReadNote, Stream, Supply, image_of, ElfError, Reads, Damage, Content, IsContent, saved_bytes, file_bytes2, JointError, Joining, Trace, at_start, Session, begin_at, answer, command_of, Input, input_limit, is_line_feed, is_too_long, ends_in, with_line, input_from, input_of, goes_on_by, answers, lines_in, result_by, transcript_from, EndsThere, EndsAll, Debugs, DebugError, Ending, joined, HoldsLog, ArePair, LoadedPair, IsFree, EndsBy, SessionOver, CanDebug, whole_input, append-nil}
 use Rattle.step_debugger.specs.Answers.{Answer}
 use Rattle.step_debugger.specs.declared.error.DebugError.TheVariants as stop
 use Rattle.step_debugger.specs.declared.session.Ending.TheVariants as ending

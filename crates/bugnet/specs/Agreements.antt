@@ -1,11 +1,7 @@
 -- What it means that an audit is done.
 use Rattle.std.specs.Prelude.{◌≡◌, ℕ, List, Option, Some}
-use Rattle.bn_outside.specs.Files.{Files}
-use Rattle.command_words.specs.Words.{Line, AuditLine}
-use Rattle.log_commands.specs.Told.{Told}
+use Rattle.bugnet.specs.Common.{Files, Line, AuditLine, Told, Agrees, code}
 use Rattle.bugnet.specs.Answers.{IsAnswer}
-use Rattle.log_commands.specs.Audits.{Agrees}
-use Rattle.log_commands.specs.Statuses.{code}
 use Rattle.log_commands.specs.declared.status.Status.TheVariants as exit
 
 -- if what `audit` has to answer is done, the log is the file of the run of the book's turns, in its own version or in version 2

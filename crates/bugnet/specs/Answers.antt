@@ -1,36 +1,12 @@
 -- What the program answers to its words.
 use Rattle.std.specs.Prelude.{◌≡◌, List, [], Bool, Option, Some, None, is_some, unwrap_or}
-use Rattle.std.specs.Str.{bytes_eq}
-use Rattle.bn_base.specs.Ranges.{first_bad}
-use Rattle.bn_base.specs.declared.settings.BadSetting.{BadSetting}
-use Rattle.bn_outside.specs.Files.{Files}
-use Rattle.bn_outside.specs.declared.schedule.Schedule.{Schedule}
-use Rattle.command_words.specs.Words.{Line, RecordingLine, RecordLine, ReplayLine, JointLine, DebugLine, ListLine, CheckLine, AuditLine, RacesLine, SliceLine, ConvertLine, SalvageLine, DemoLine}
+use Rattle.bugnet.specs.Common.{bytes_eq, first_bad, BadSetting, Files, Schedule, Line, RecordingLine, RecordLine, ReplayLine, JointLine, DebugLine, ListLine, CheckLine, AuditLine, RacesLine, SliceLine, ConvertLine, SalvageLine, DemoLine, FileNames, no_names, demo_text, Told, refused, printed, IsByFiles, IsByLog, list_of, check_of, replay_with, log_roles, origin_roles, record_roles, joint_with, races_with, slice_with, IsAuditOf, roles_of, Bytes, no_bytes, IsPrinted, pair_of, pair_roles, IsMade, IsRenewed, Answer, Role, Refusal, WordsRefused, OutOfRange, OutOfMemory, name_refusal}
 use Rattle.command_words.specs.declared.error.WordsError.{WordsError}
 use Rattle.command_words.specs.declared.error.WordsError.TheVariants as words_error
-use Rattle.log_commands.specs.Names.{FileNames, no_names}
-use Rattle.demo_run.specs.Demonstration.{demo_text}
-use Rattle.log_commands.specs.Told.{Told, refused, printed}
 use Rattle.bugnet.specs.Command.Record.{is_clash, IsRecord}
-use Rattle.log_commands.specs.Answering.{IsByFiles}
-use Rattle.log_commands.specs.Commands.{IsByLog, list_of, check_of, replay_with}
-use Rattle.log_commands.specs.FileCalls.{log_roles, origin_roles, record_roles}
 use Rattle.bugnet.specs.Recordings.{Scheduling}
-use Rattle.log_commands.specs.Joined.{joint_with}
-use Rattle.log_commands.specs.RaceAnswers.{races_with}
-use Rattle.log_commands.specs.SliceAnswers.{slice_with}
 use Rattle.bugnet.specs.Sessions.{IsDebug}
-use Rattle.log_commands.specs.Audits.{IsAuditOf, roles_of}
-use Rattle.log_commands.specs.Inputs.{Bytes, no_bytes}
-use Rattle.log_commands.specs.Outside.{IsPrinted}
-use Rattle.log_commands.specs.Pairs.{pair_of, pair_roles}
-use Rattle.log_commands.specs.SaveCounts.{IsMade, IsRenewed}
-use Rattle.log_commands.specs.declared.answer.Answer.{Answer}
 use Rattle.log_commands.specs.NewLogs.{renewed, IsBySalvage}
-use Rattle.log_commands.specs.declared.names.Role.{Role}
-use Rattle.log_commands.specs.declared.refusal.Refusal.{Refusal}
-use Rattle.log_commands.specs.declared.refusal.Refusal.TheVariants.{WordsRefused, OutOfRange, OutOfMemory}
-use Rattle.log_commands.specs.Refusals.{name_refusal}
 
 -- the names of the files of a line
 abbrev pub names_in : Line → FileNames

@@ -1,8 +1,6 @@
 -- How often a line asks its store to save.
 use Rattle.std.specs.Prelude.{◌≡◌, ℕ, true, Option, Some}
-use Rattle.command_words.specs.Words.{Line, RecordLine, ReplayLine, JointLine, DebugLine, ConvertLine, SalvageLine}
-use Rattle.log_commands.specs.declared.answer.Answer.{Answer}
-use Rattle.log_commands.specs.SaveCounts.{IsMade, IsRecordedRun, IsRenewed, SavesEach}
+use Rattle.bugnet.specs.Common.{Line, RecordLine, ReplayLine, JointLine, DebugLine, ConvertLine, SalvageLine, Answer, IsMade, IsRecordedRun, IsRenewed, SavesEach}
 
 -- what a command saves
 abbrev pub LineSaves : Option Line → (status before after : ℕ) → Type 0

@@ -1,10 +1,7 @@
 -- What recordings leave that are given one schedule, or the BOOK of another.
-use denote.Ref.{Bor}
+use Rattle.bugnet.specs.Common.{Bor, Files, Schedule, RecordingLine}
 use Rattle.std.specs.Prelude.{◌≡◌, ℕ, false, List, Some}
-use Rattle.bn_outside.specs.Files.{Files}
-use Rattle.bn_outside.specs.declared.schedule.Schedule.{Schedule}
 use Rattle.bn_outside.specs.declared.schedule.Schedule.TheVariants.{Listed}
-use Rattle.command_words.specs.Words.{RecordingLine}
 use Rattle.bugnet.specs.Saves.{Leaves, KeepsSchedule}
 
 -- two recordings of one program file and one input, with the same settings

@@ -1,17 +1,9 @@
 -- What a recording has of a closed run, and of the list of its turns if that is saved.
-use denote.Ref.{Bor}
+use Rattle.bugnet.specs.Common.{Bor, saved_bytes, content, total, Start, summary_text, end_word, is_lean, book_in, told_of_recording}
 use Rattle.std.specs.Prelude.{◌≡◌, ◌++◌, ℕ, List, Option, Result, Ok}
 use Rattle.std.specs.Fn.{Once, FnOnceReturnsAt}
-use Rattle.log_file.specs.Layout.{saved_bytes}
-use Rattle.log_order.specs.Content.{content}
-use Rattle.log_record.specs.Spelling.{total}
-use Rattle.run_model.specs.declared.start.Start.{Start}
 use Rattle.bus_core.specs.declared.closed.Closed.{Closed}
-use Rattle.log_commands.specs.Texts.{summary_text}
 use Rattle.bugnet.specs.Recordings.{instructions_of, end_by, Scheduling, IsRun}
-use Rattle.log_commands.specs.RunEnds.{end_word}
-use Rattle.log_commands.specs.SaveCounts.{is_lean}
-use Rattle.log_commands.specs.Outside.{book_in, told_of_recording}
 use Rattle.log_commands.specs.declared.answer.RunToTell.{RunToTell}
 
 -- the log of the ring, the list, and the texts

@@ -1,27 +1,9 @@
 -- When a command has an answer, and when it is done.
 use Rattle.std.specs.Prelude.{◌≡◌, ◌≤◌, ◌⊎◌, ℕ, List, false, length, Option, Some, None, Ok}
-use Rattle.bn_base.specs.Programs.{Program}
-use Rattle.bn_base.specs.Ranges.{first_bad}
-use Rattle.bn_outside.specs.Files.{Files}
-use Rattle.command_words.specs.Words.{Line, RecordingLine, RecordLine, ReplayLine, JointLine, DebugLine, ListLine, CheckLine, AuditLine, RacesLine, SliceLine, ConvertLine, SalvageLine, DemoLine}
-use Rattle.std.specs.Str.{bytes_eq}
-use Rattle.log_order.specs.Content.{Content, IsContent}
-use Rattle.log_file.specs.Layout.{file_bytes2}
-use Rattle.elf_loader.specs.Loaded.{image_of}
-use Rattle.hart_replay.specs.Replay.{Interval}
-use Rattle.log_commands.specs.Told.{Told}
+use Rattle.bugnet.specs.Common.{Program, first_bad, Files, Line, RecordingLine, RecordLine, ReplayLine, JointLine, DebugLine, ListLine, CheckLine, AuditLine, RacesLine, SliceLine, ConvertLine, SalvageLine, DemoLine, bytes_eq, Content, IsContent, file_bytes2, image_of, Interval, Told, AreBytes, Agrees, HoldsLog, CanJoin, CanRace, CanSlice, IsFree, IsRecorded, input_by}
 use Rattle.bugnet.specs.Command.Record.{is_clash}
-use Rattle.le_numbers.specs.Numbers.{AreBytes}
-use Rattle.log_commands.specs.Audits.{Agrees}
-use Rattle.log_commands.specs.Pairs.{HoldsLog}
-use Rattle.log_commands.specs.Joined.{CanJoin}
-use Rattle.log_commands.specs.RaceAnswers.{CanRace}
-use Rattle.log_commands.specs.SliceAnswers.{CanSlice}
 use Rattle.bugnet.specs.Answers.{IsAnswer}
 use Rattle.bugnet.specs.Headline.{Part, ReplaysRun}
-use Rattle.log_commands.specs.Effects.{IsFree}
-use Rattle.log_commands.specs.RunEnds.{IsRecorded}
-use Rattle.log_commands.specs.Inputs.{input_by}
 use Rattle.bugnet.specs.Saves.{HoldsBytes}
 
 -- ---- answers

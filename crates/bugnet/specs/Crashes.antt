@@ -1,23 +1,12 @@
 -- A crash that was recorded with format 2: the log keeps its interval, which `list` shows and whose replay ends with the fault.
 use Rattle.std.specs.Prelude.{◌≡◌, ◌+◌, ℕ, List, [], ◌∷◌, ◌++◌, Some}
 use Rattle.bn_base.specs.Faults.{fault_number}
-use Rattle.bn_base.specs.Programs.{Program}
-use Rattle.bn_base.specs.declared.end_mark.EndMark.{EndMark}
+use Rattle.bugnet.specs.Common.{Program, EndMark, RawSettings, Files, RecordingLine, ListLine, ReplayLine, Interval, interval_of, kept_of, run_of, ask_at, mark, interval_text, Told, printed, code}
 use Rattle.bn_base.specs.declared.fault.Fault.{Fault}
-use Rattle.bn_base.specs.declared.settings.RawSettings.{RawSettings}
-use Rattle.bn_outside.specs.Files.{Files}
-use Rattle.command_words.specs.Words.{RecordingLine, ListLine, ReplayLine}
-use Rattle.hart_replay.specs.Replay.{Interval, interval_of}
-use Rattle.run_model.specs.KeptRecords.{kept_of}
-use Rattle.run_model.specs.Runs.{run_of}
-use Rattle.run_model.specs.Turn.{ask_at, mark}
 use Rattle.rv_meaning.specs.declared.asks.Want.TheVariants.{Faulted}
 use Rattle.bugnet.specs.Answers.{IsAnswer}
 use Rattle.bugnet.specs.Headline.{run_text, part_of}
 use Rattle.bugnet.specs.Saves.{Leaves, TellsEnd}
-use Rattle.log_commands.specs.Texts.{interval_text}
-use Rattle.log_commands.specs.Told.{Told, printed}
-use Rattle.log_commands.specs.Statuses.{code}
 use Rattle.log_commands.specs.declared.status.Status.TheVariants as exit
 
 -- the last turn of a run is a fault: of this hart, of this kind and with this value

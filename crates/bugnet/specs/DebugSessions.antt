@@ -1,32 +1,14 @@
 -- What a session of the debugger does, and what it shows of a recording.
 use Rattle.std.specs.Prelude.{◌≡◌, ◌≢◌, ◌⊎◌, ◌≤◌, ℕ, false, nat_lt, List, ◌++◌, length, Option, Some, None, Err}
-use Rattle.std.specs.Io.KnownBytes.{Appends}
-use Rattle.bn_base.specs.Programs.{Program}
-use Rattle.bn_outside.specs.Files.{Files}
-use Rattle.bn_outside.specs.Streams.{ReadNote, Supply}
-use Rattle.command_words.specs.Words.{Line, DebugLine}
-use Rattle.log_record.specs.declared.record.Record.{Record}
-use Rattle.log_order.specs.Content.{Content, IsContent}
-use Rattle.log_file.specs.Layout.{file_bytes2}
+use Rattle.bugnet.specs.Common.{Appends, Program, Files, ReadNote, Supply, Line, DebugLine, Record, Content, IsContent, file_bytes2, Walk, Recording, IsLogOf, begin, SaysSoFar, input_of, Joint, Either, WithFiles, Call, IsFree, SomeTold, Tells, joined, LoadedPair, HasPair, code}
 use Rattle.joint_replay.specs.declared.error.JointError.{JointError}
-use Rattle.joint_replay.specs.Joining.{Walk}
-use Rattle.joint_laws.specs.Recordings.{Recording, IsLogOf, begin}
-use Rattle.joint_laws.specs.Laws.{SaysSoFar}
 use Rattle.step_debugger.specs.Answers.{Answer, begin as session_begin}
-use Rattle.step_debugger.specs.Lines.{input_of}
 use Rattle.step_debugger.specs.Transcript.{answers, transcript, Told as Transcript}
-use Rattle.step_debugger.specs.declared.error.DebugError.TheVariants.{Joint}
 use Rattle.step_debugger.specs.declared.session.Ending.TheVariants.{Refused}
-use Rattle.log_commands.specs.Commands.{Either}
-use Rattle.log_commands.specs.Outside.{WithFiles}
 use Rattle.bugnet.specs.Answers.{names_in}
 use Rattle.bugnet.specs.Jointly.{HasRun}
-use Rattle.log_commands.specs.Effects.{Call, IsFree, SomeTold, Tells}
 use Rattle.bugnet.specs.Run.{StoppedEarly}
-use Rattle.log_commands.specs.Joined.{joined}
-use Rattle.log_commands.specs.Pairs.{LoadedPair, HasPair}
 use Rattle.bugnet.specs.Sessions.{Commands, Reading, AreRead, IsUnread, SessionOver, whole_input, input_in, session_status, IsSession, CanDebug}
-use Rattle.log_commands.specs.Statuses.{code}
 use Rattle.log_commands.specs.declared.status.Status.TheVariants as exit
 
 -- ---- a recording

@@ -1,32 +1,13 @@
 -- The headline: a log that says an end of what was recorded gives the recorded run's rows.
 use Rattle.std.specs.Prelude.{◌≡◌, ◌⊎◌, ℕ, ◌-◌, nat_lt, List, ◌++◌, length, take, drop, Option, Some, Ok}
-use Rattle.std.specs.Io.KnownBytes.{Appends}
-use Rattle.sha2.specs.Sha256.{sha256}
-use Rattle.bn_base.specs.Programs.{Program}
+use Rattle.bugnet.specs.Common.{Appends, sha256, Program, RawSettings, Files, Line, RecordingLine, ReplayLine, Content, file_bytes2, Interval, interval_of, file_of, kept_of, content_of, IsEndOf, end_of, start, run_of, IsRecording, begin_text, rows_text, Told, refused, printed, Either, IsFree, TooLong, code}
 use Rattle.bn_base.specs.declared.row.Row.{Row}
-use Rattle.bn_base.specs.declared.settings.RawSettings.{RawSettings}
-use Rattle.bn_outside.specs.Files.{Files}
-use Rattle.command_words.specs.Words.{Line, RecordingLine, ReplayLine}
-use Rattle.log_order.specs.Content.{Content}
-use Rattle.log_file.specs.Layout.{file_bytes2}
 use Rattle.log_blocks.specs.Readings.{Reads}
-use Rattle.hart_replay.specs.Replay.{Interval, interval_of}
-use Rattle.run_files.specs.Files.{file_of}
-use Rattle.run_model.specs.KeptRecords.{kept_of, content_of, IsEndOf}
 use Rattle.run_model.specs.Rows.{rows_of}
-use Rattle.replay_laws.specs.Law.{end_of}
-use Rattle.run_model.specs.Runs.{start, run_of}
-use Rattle.file_laws.specs.Given.{IsRecording}
 use Rattle.rv_text.specs.Marks.{end_text}
-use Rattle.log_commands.specs.Texts.{begin_text, rows_text}
-use Rattle.log_commands.specs.Told.{Told, refused, printed}
-use Rattle.log_commands.specs.Commands.{Either}
 use Rattle.bugnet.specs.Answers.{names_by, IsAnswer}
-use Rattle.log_commands.specs.Effects.{IsFree}
 use Rattle.bugnet.specs.Saves.{Leaves}
 use Rattle.log_commands.specs.declared.names.Role.TheVariants as role
-use Rattle.log_commands.specs.declared.refusal.Refusal.TheVariants.{TooLong}
-use Rattle.log_commands.specs.Statuses.{code}
 use Rattle.log_commands.specs.declared.status.Status.TheVariants as exit
 
 -- an interval of a run: the settings, the program file and its program, the input, the list of turns, the hart and number

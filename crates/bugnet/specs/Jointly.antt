@@ -1,23 +1,12 @@
 -- The headline's second half: the joint replay of a log that says an end of what was recorded says the recorded run.
 use Rattle.std.specs.Prelude.{◌≡◌, ◌⊎◌, ◌≤◌, ℕ, nat_lt, List, length, Option, Some}
-use Rattle.std.specs.Io.KnownBytes.{Appends}
-use Rattle.bn_outside.specs.Files.{Files}
-use Rattle.command_words.specs.Words.{Line, RecordingLine, JointLine}
-use Rattle.joint_replay.specs.Joining.{Ran, run_all}
+use Rattle.bugnet.specs.Common.{Appends, Files, Line, RecordingLine, JointLine, Ran, run_all, Record, Recording, kept, begin, SaysTheRun, Told, refused, printed, Either, CanJoin, IsFree, TooLong, code}
 use Rattle.joint_replay.specs.Texts.{joint_text}
-use Rattle.log_record.specs.declared.record.Record.{Record}
-use Rattle.joint_laws.specs.Recordings.{Recording, IsRecorded, kept, begin}
-use Rattle.joint_laws.specs.Laws.{SaysTheRun}
-use Rattle.log_commands.specs.Told.{Told, refused, printed}
-use Rattle.log_commands.specs.Commands.{Either}
-use Rattle.log_commands.specs.Joined.{CanJoin}
+use Rattle.joint_laws.specs.Recordings.{IsRecorded}
 use Rattle.bugnet.specs.Answers.{names_by, IsAnswer}
 use Rattle.bugnet.specs.Headline.{SaysEnd}
-use Rattle.log_commands.specs.Effects.{IsFree}
 use Rattle.bugnet.specs.Saves.{Leaves}
 use Rattle.log_commands.specs.declared.names.Role.TheVariants as role
-use Rattle.log_commands.specs.declared.refusal.Refusal.TheVariants.{TooLong}
-use Rattle.log_commands.specs.Statuses.{code}
 use Rattle.log_commands.specs.declared.status.Status.TheVariants as exit
 
 -- the joint replay of a recording's records, the lowest ready hart first

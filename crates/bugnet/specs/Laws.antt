@@ -1,18 +1,7 @@
 -- Laws of answers, by their names.
 use Rattle.std.specs.Prelude.{◌≡◌, ℕ, List, Bool, true, false, Option, Some, None, IsSome, option_and_then}
-use Rattle.sha2.specs.Sha256.{sha256}
-use Rattle.bn_base.specs.Programs.{Program}
-use Rattle.bn_base.specs.Ranges.{first_bad}
-use Rattle.bn_base.specs.declared.settings.RawSettings.{RawSettings}
-use Rattle.bn_outside.specs.Files.{Files}
-use Rattle.command_words.specs.Words.{Line, RecordLine, DebugLine, ConvertLine, SalvageLine}
-use Rattle.run_model.specs.KeptRecords.{content_of}
-use Rattle.run_model.specs.Runs.{run_of, seeded}
-use Rattle.replay_laws.specs.Law.{IsWhole}
-use Rattle.file_laws.specs.Given.{IsRecording}
-use Rattle.log_commands.specs.Names.{FileNames}
+use Rattle.bugnet.specs.Common.{sha256, Program, first_bad, RawSettings, Files, Line, RecordLine, DebugLine, ConvertLine, SalvageLine, content_of, run_of, seeded, IsWhole, IsRecording, FileNames, Told, Saved}
 use Rattle.bugnet.specs.Sessions.{Commands, IsSession}
-use Rattle.log_commands.specs.Told.{Told, Saved}
 use Rattle.bugnet.specs.Answers.{IsAnswer}
 use Rattle.bugnet.specs.Saves.{IsWithin}
 

@@ -1,3 +1,4 @@
+pub mod Common
 pub mod Recordings
 pub mod Sessions
 pub mod ClosedRuns

@@ -1,17 +1,10 @@
 -- What a line is answered by the files that are loaded for it.
 use Rattle.std.specs.Prelude.{◌≡◌, Some, Result, IfOk}
-use Rattle.bn_outside.specs.Counts.{NoneFell}
-use Rattle.command_words.specs.Words.{Line}
+use Rattle.bugnet.specs.Common.{NoneFell, Line, Note, CallsBy, Stored, FileNames, WithFiles, GivesBy, CauseBy, IsPrinted, Answer, Refusal}
 use Rattle.bugnet.specs.Answers.{refusal_in, IsAnswer, line_roles}
 use Rattle.bugnet.specs.Asks.{FitsLine}
 use Rattle.bugnet.specs.Laws.{IsReadOnly}
 use Rattle.bugnet.specs.LineCalls.{needed_roles, AnswersDemo}
-use Rattle.log_commands.specs.FileCalls.{Note, CallsBy}
-use Rattle.bn_outside.specs.Files.{Stored}
-use Rattle.log_commands.specs.Names.{FileNames}
-use Rattle.log_commands.specs.Outside.{WithFiles, GivesBy, CauseBy, IsPrinted}
-use Rattle.log_commands.specs.declared.answer.Answer.{Answer}
-use Rattle.log_commands.specs.declared.refusal.Refusal.{Refusal}
 
 -- a store was read only, and this is what the line has to answer, or why it was stopped
 pub record AnswersLine (line : Line) (names : FileNames) (note : Note) (old new : Stored) (result : Result Answer Refusal) : Type 0 where

@@ -1,21 +1,9 @@
 -- Which calls a line makes of its store, in which order, and what it tells if one of them or what it loaded ends it.
 use Rattle.std.specs.Prelude.{◌≡◌, ◌⊎◌, ℕ, ◌==◌, ◌||◌, Bool, true, false, List, [], ◌++◌, Option, Some, None, Result, Ok, Err, is_some, not, IsSomeAnd}
-use Rattle.std.specs.Io.KnownBytes.{Appends}
-use Rattle.demo_run.specs.Demonstration.{demo_text}
-use Rattle.command_words.specs.Words.{Line, RecordLine, ReplayLine, JointLine, DebugLine, ConvertLine, SalvageLine, DemoLine}
-use Rattle.log_commands.specs.Names.{FileNames, no_names}
+use Rattle.bugnet.specs.Common.{Appends, demo_text, Line, RecordLine, ReplayLine, JointLine, DebugLine, ConvertLine, SalvageLine, DemoLine, FileNames, no_names, WithFiles, Wrote, ToldRefusal, told_of, status_of, line_of, Call, SomeTold, Tells, Saved, printed, Answer, Role, Refusal, FileCall, Note, StopsAt, elf_roles, has_save, loads_of, noted_after, saves_of, code}
 use Rattle.bugnet.specs.Answers.{names_by, refusal_by, line_roles, IsAnswer}
-use Rattle.log_commands.specs.Outside.{WithFiles, Wrote, ToldRefusal, told_of}
-use Rattle.log_commands.specs.Refusals.{status_of, line_of}
-use Rattle.log_commands.specs.Effects.{Call, SomeTold, Tells}
 use Rattle.bugnet.specs.Sessions.{is_begun}
-use Rattle.log_commands.specs.Told.{Saved, printed}
-use Rattle.log_commands.specs.declared.answer.Answer.{Answer}
-use Rattle.log_commands.specs.declared.names.Role.{Role}
-use Rattle.log_commands.specs.declared.refusal.Refusal.{Refusal}
 use Rattle.log_commands.specs.declared.refusal.Refusal.TheVariants as why
-use Rattle.log_commands.specs.FileCalls.{FileCall, Note, StopsAt, elf_roles, has_save, loads_of, noted_after, saves_of}
-use Rattle.log_commands.specs.Statuses.{code}
 use Rattle.log_commands.specs.declared.status.Status.TheVariants as exit
 
 -- ---- the calls of a line

@@ -1,8 +1,6 @@
 -- What a command does, and what it does before its refusal is told.
 use Rattle.std.specs.Prelude.{◌≡◌, ◌≢◌, ◌≤◌, ◌⊎◌, ℕ, true, Option, Some, Result}
-use Rattle.bn_outside.specs.Counts.{Rose}
-use Rattle.bn_outside.specs.Streams.{Stream}
-use Rattle.command_words.specs.Words.{Line}
+use Rattle.bugnet.specs.Common.{Rose, Stream, Line, Call, GivesStatus, between, Note, FileNames, WithFiles, Refusal, code}
 use Rattle.bugnet.specs.Asks.{LineSaves}
 use Rattle.bugnet.specs.DebugSessions.{CanBegin, Debugs}
 use Rattle.bugnet.specs.Laws.{IsReadOnly, IsNoSession}
@@ -11,12 +9,6 @@ use Rattle.bugnet.specs.Run.{Obeys}
 use Rattle.bugnet.specs.Saves.{LeavesRun}
 use Rattle.bugnet.specs.Sessions.{Reading, is_begun}
 use Rattle.log_commands.specs.Acting.{with_err}
-use Rattle.log_commands.specs.Effects.{Call, GivesStatus, between}
-use Rattle.log_commands.specs.FileCalls.{Note}
-use Rattle.log_commands.specs.Names.{FileNames}
-use Rattle.log_commands.specs.Outside.{WithFiles}
-use Rattle.log_commands.specs.declared.refusal.Refusal.{Refusal}
-use Rattle.log_commands.specs.Statuses.{code}
 use Rattle.log_commands.specs.declared.status.Status.{Status}
 use Rattle.log_commands.specs.declared.status.Status.TheVariants as exit
 

@@ -1,12 +1,7 @@
 -- What a whole call of the program does, by its line.
 use Rattle.std.specs.Prelude.{◌≡◌, ◌⊎◌, ℕ, Option}
-use Rattle.bn_outside.specs.Files.{Files, WhereTold}
-use Rattle.command_words.specs.Words.{Line}
+use Rattle.bugnet.specs.Common.{Files, WhereTold, Line, WithFiles, SameFiles, KeptFiles, MayChange, Call, IsByWords, IsUnsaved, SomeTold, StoppedBy, Tells, WriteRose, NoWriteFell, Rose, NoneFell, code}
 use Rattle.bugnet.specs.Answers.{names_by, refusal_by, IsAnswer}
-use Rattle.log_commands.specs.Outside.{WithFiles, SameFiles, KeptFiles, MayChange}
-use Rattle.log_commands.specs.Effects.{Call, IsByWords, IsUnsaved, SomeTold, StoppedBy, Tells, WriteRose, NoWriteFell}
-use Rattle.bn_outside.specs.Counts.{Rose, NoneFell}
-use Rattle.log_commands.specs.Statuses.{code}
 use Rattle.log_commands.specs.declared.status.Status.TheVariants as exit
 
 -- ---- any command

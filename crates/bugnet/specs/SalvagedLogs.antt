@@ -1,21 +1,11 @@
 -- What is salvaged of a recording's damaged file is replayed as it was recorded.
 use Rattle.std.specs.Prelude.{◌≡◌, ◌≤◌, ℕ, List, ◌∷◌, ◌++◌, length, Some}
-use Rattle.sha2.specs.Sha256.{sha256}
-use Rattle.bn_outside.specs.Files.{Files}
-use Rattle.command_words.specs.Words.{ReplayLine}
-use Rattle.hart_replay.specs.Replay.{Interval, interval_of}
+use Rattle.bugnet.specs.Common.{sha256, Files, ReplayLine, Interval, interval_of, Block, blocks_of, file_bytes2, Content, kept_of, dropped_of, run_of, IsRecording, Told, printed}
 use Rattle.log_blocks.specs.Fields.{head_in}
 use Rattle.log_blocks.specs.File.{IsSalvaged}
 use Rattle.log_blocks.specs.Laws.{pieces_of}
-use Rattle.log_file.specs.Blocks.{Block, blocks_of}
-use Rattle.log_file.specs.Layout.{file_bytes2}
-use Rattle.log_order.specs.Content.{Content}
-use Rattle.run_model.specs.KeptRecords.{kept_of, dropped_of}
-use Rattle.run_model.specs.Runs.{run_of}
-use Rattle.file_laws.specs.Given.{IsRecording}
 use Rattle.bugnet.specs.Answers.{IsAnswer}
 use Rattle.bugnet.specs.Headline.{Part, run_text, SaysEnd}
-use Rattle.log_commands.specs.Told.{Told, printed}
 
 -- a log is salvaged of these bytes, and what is undamaged of them is a recording's: the head, and at the end some of its
 -- blocks, all from some one on

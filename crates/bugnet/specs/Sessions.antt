@@ -1,29 +1,12 @@
 -- What the command `debug` answers: a session over the joint replay of all intervals that a log keeps.
 use Rattle.std.specs.Prelude.{◌≡◌, ◌≢◌, ◌⊎◌, ℕ, ◌+◌, ◌==◌, ◌||◌, Bool, true, false, List, [], ◌∷◌, ◌++◌, length, Option, Some, None, Result, Ok, Err}
-use Rattle.std.specs.List.{AllByRecursion}
-use Rattle.std.specs.Io.KnownBytes.{Consumes}
-use Rattle.bn_base.specs.Programs.{Program}
-use Rattle.bn_outside.specs.Counts.{Rose}
-use Rattle.bn_outside.specs.Files.{Files}
-use Rattle.bn_outside.specs.Streams.{ConsumesAll, ReadNote, Stream, Supply, noted_after}
-use Rattle.log_order.specs.Content.{Content}
-use Rattle.back_step.specs.Traces.{at_start}
-use Rattle.joint_replay.specs.Joining.{Joining}
+use Rattle.bugnet.specs.Common.{AllByRecursion, Consumes, Program, Rose, Files, ConsumesAll, ReadNote, Stream, Supply, Content, at_start, Joining, Input, input_of, EndsTooMany, DebugError, ReadFault, WriteFault, TooMuch, FileNames, line_of, status_of, joint_refusal, Told, IsPair, ArePair, joined, Refusal, code}
+use Rattle.bn_outside.specs.Streams.{noted_after}
 use Rattle.step_debugger.specs.Commands.{command_of}
-use Rattle.step_debugger.specs.Lines.{Input, input_of, EndsTooMany}
 use Rattle.step_debugger.specs.Transcript.{transcript, Debugged, Told as Transcript}
 use Rattle.step_debugger.specs.declared.command.DebugCommand.TheVariants.{Quit}
-use Rattle.step_debugger.specs.declared.error.DebugError.{DebugError}
-use Rattle.step_debugger.specs.declared.error.DebugError.TheVariants.{ReadFault, WriteFault, TooMuch}
 use Rattle.step_debugger.specs.declared.error.DebugError.TheVariants as stop
-use Rattle.log_commands.specs.Names.{FileNames}
-use Rattle.log_commands.specs.Refusals.{line_of, status_of, joint_refusal}
-use Rattle.log_commands.specs.Told.{Told}
-use Rattle.log_commands.specs.Pairs.{IsPair, ArePair}
-use Rattle.log_commands.specs.Joined.{joined}
-use Rattle.log_commands.specs.declared.refusal.Refusal.{Refusal}
 use Rattle.log_commands.specs.declared.refusal.Refusal.TheVariants as why
-use Rattle.log_commands.specs.Statuses.{code}
 use Rattle.log_commands.specs.declared.status.Status.TheVariants as exit
 
 -- ---- the commands

@@ -1,15 +1,7 @@
 -- What a recording begins with, by the files that it loads.
 use Rattle.std.specs.Prelude.{◌⊎◌, List, Result, Ok, Err}
-use Rattle.bn_outside.specs.Files.{Files, Stored}
-use Rattle.run_model.specs.declared.start.Start.{Start}
-use Rattle.log_commands.specs.FileCalls.{Note, CallsTo}
-use Rattle.log_commands.specs.Inputs.{OnlyLoads}
-use Rattle.log_commands.specs.Names.{FileNames}
-use Rattle.log_commands.specs.Told.{Told, refused}
+use Rattle.bugnet.specs.Common.{Files, Stored, Start, Note, CallsTo, OnlyLoads, FileNames, Told, refused, IsEarly, WithFiles, Role, Refusal}
 use Rattle.bugnet.specs.Recordings.{Scheduling, IsRun}
-use Rattle.log_commands.specs.Outside.{IsEarly, WithFiles}
-use Rattle.log_commands.specs.declared.names.Role.{Role}
-use Rattle.log_commands.specs.declared.refusal.Refusal.{Refusal}
 
 -- whatever a recording that begins so may tell is what the command has to answer by the files that are there; or it was
 -- stopped before it had an answer, or is refused

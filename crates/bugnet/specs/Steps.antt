@@ -1,22 +1,11 @@
 -- How the command `debug` goes: the end of a session, one with a log and its program, and one by their names.
 use Rattle.std.specs.Prelude.{◌≡◌, ◌≢◌, ◌≤◌, ◌⊎◌, ℕ, true, List, Option, None, Result}
-use Rattle.bn_outside.specs.Counts.{Rose}
-use Rattle.joint_replay.specs.Joining.{Joining}
+use Rattle.bugnet.specs.Common.{Rose, Joining, DebugError, Call, printing_on, SomeTold, Tells, StoppedBy, GivesStatus, done_of, world, between, Note, loads_of, Stored, FileNames, ReadNote, Stream, Supply, WithFiles, ToldRefusal, HasPair, pair_roles, Refusal, code}
 use Rattle.step_debugger.specs.Transcript.{transcript}
-use Rattle.step_debugger.specs.declared.error.DebugError.{DebugError}
-use Rattle.log_commands.specs.Effects.{Call, printing_on, SomeTold, Tells, StoppedBy, GivesStatus, done_of, world, between}
-use Rattle.log_commands.specs.FileCalls.{Note, loads_of}
-use Rattle.bn_outside.specs.Files.{Stored}
-use Rattle.log_commands.specs.Names.{FileNames}
-use Rattle.bn_outside.specs.Streams.{ReadNote, Stream, Supply}
-use Rattle.log_commands.specs.Outside.{WithFiles, ToldRefusal}
-use Rattle.log_commands.specs.Pairs.{HasPair, pair_roles}
-use Rattle.log_commands.specs.declared.refusal.Refusal.{Refusal}
 use Rattle.bugnet.specs.DebugSessions.{SessionIs}
 use Rattle.bugnet.specs.LineCalls.{CallsSo}
 use Rattle.bugnet.specs.Run.{IsCounted}
 use Rattle.bugnet.specs.Sessions.{Commands, Reading, AreRead, IsUnread, SessionOver, input_in, stop_refusal, session_told, is_begun, IsSession, IsDebug}
-use Rattle.log_commands.specs.Statuses.{code}
 use Rattle.log_commands.specs.declared.status.Status.TheVariants as exit
 
 -- the end of a session was told

@@ -1,11 +1,7 @@
 -- What the commands `races` and `slice` answer of a log that says an end of a recording.
 use Rattle.std.specs.Prelude.{◌≡◌, ℕ, nat_lt, List, length, Option, Some, None}
-use Rattle.bn_outside.specs.Files.{Files}
-use Rattle.command_words.specs.Words.{RacesLine, SliceLine}
-use Rattle.log_record.specs.declared.record.Record.{Record}
-use Rattle.hart_replay.specs.Replay.{Interval, interval_of}
+use Rattle.bugnet.specs.Common.{Files, RacesLine, SliceLine, Record, Interval, interval_of, Recording, interval_rows, FileNames, Told, refused, printed, Either, races_listed, slice_told, TooLong, ReplayStopped, code}
 use Rattle.hart_replay.specs.declared.error.ReplayError.TheVariants.{NoInterval}
-use Rattle.joint_laws.specs.Recordings.{Recording, interval_rows}
 use Rattle.race_report.specs.Races.{race_count, races_of}
 use Rattle.race_report.specs.Reports.{points_in}
 use Rattle.race_report.specs.Texts.{races_text}
@@ -13,16 +9,9 @@ use Rattle.race_report.specs.declared.race.Race.{Race}
 use Rattle.report_laws.specs.Laws.{SayTheRun}
 use Rattle.slice_back.specs.Slices.{noted, up_to, slice_or}
 use Rattle.slice_back.specs.Texts.{text_of}
-use Rattle.log_commands.specs.Names.{FileNames}
-use Rattle.log_commands.specs.Told.{Told, refused, printed}
-use Rattle.log_commands.specs.Commands.{Either}
-use Rattle.log_commands.specs.RaceAnswers.{races_listed}
-use Rattle.log_commands.specs.SliceAnswers.{slice_told}
 use Rattle.bugnet.specs.Answers.{names_in, IsAnswer}
 use Rattle.bugnet.specs.Jointly.{joint_run, HasRun}
 use Rattle.log_commands.specs.declared.names.Role.TheVariants as role
-use Rattle.log_commands.specs.declared.refusal.Refusal.TheVariants.{TooLong, ReplayStopped}
-use Rattle.log_commands.specs.Statuses.{code}
 use Rattle.log_commands.specs.declared.status.Status.TheVariants as exit
 
 -- a program file of more than 2 ^ 26 bytes is too long for any command, also for the one that records

@@ -1,19 +1,11 @@
 //! The program: it reads its words, loads, answers, saves and prints.
 //! The contract of `run` says all that is proved of the whole; code below it may change as long as that stands.
 ghost use Rattle.std.specs.Prelude.{◌≡◌, ◌≤◌, ◌⊎◌, true, Option, Some, None, IfOk, MatchOption};
-ghost use Rattle.bn_outside.specs.Counts.{Rose, NoneFell};
-ghost use Rattle.bn_outside.specs.declared.schedule.Schedule.{Schedule};
-ghost use Rattle.command_words.specs.Words.{command_in, seen, seen_recording, RecordLine};
-ghost use Rattle.std.specs.Str.{bytes_eq};
+ghost use Rattle.bugnet.specs.Common.{Rose, NoneFell, Schedule, command_in, seen, seen_recording, RecordLine, bytes_eq, Answers, bytes_of, FileNames, name_refusal, code, WithFiles, call};
 ghost use Rattle.bugnet.specs.ClosedRuns.{IsRecordingBy, MakesRecordings};
 ghost use Rattle.bugnet.specs.Answers.{scheduling_by, scheduling_of, names_in, refusal_in, words_refusal, IsOn, KindOf, line_roles};
 ghost use Rattle.bugnet.specs.LineAnswers.{AnswersLine};
 ghost use Rattle.bugnet.specs.Replies.{RepliesTo, Does, DoesTo};
-ghost use Rattle.log_commands.specs.Answering.{Answers};
-ghost use Rattle.log_commands.specs.Inputs.{bytes_of};
-ghost use Rattle.log_commands.specs.Names.{FileNames};
-ghost use Rattle.log_commands.specs.Refusals.{name_refusal};
-ghost use Rattle.log_commands.specs.Statuses.{code};
 ghost use Rattle.bugnet.specs.Asks.{LineSaves};
 ghost use Rattle.bugnet.specs.LineCalls.{CallsOnly, HasShape, AnswersDemo, TellsDemo};
 ghost use Rattle.bugnet.specs.Laws.{NeedsNoThreads, IsReadOnly, IsNoSession, IsNoRecording};
@@ -23,9 +15,7 @@ ghost use Rattle.bugnet.specs.Agreements.{AuditsRun};
 ghost use Rattle.bugnet.specs.Complete.{IsDone};
 ghost use Rattle.bugnet.specs.Headline.{PrintsRun};
 ghost use Rattle.bugnet.specs.Jointly.{PrintsJointly};
-ghost use Rattle.log_commands.specs.Outside.{WithFiles};
 ghost use Rattle.bugnet.specs.Saves.{LeavesRun, LeavesScheduled};
-ghost use Rattle.log_commands.specs.Effects.{call};
 ghost use Rattle.bugnet.specs.Run.{TellsAnswer, ByWords, Keeps, ChangesFew};
 
 use crate::commands::debug::debug_files;

@@ -1,11 +1,8 @@
 //! The recording of a run: its log file, its list of turns, and what its outputs get.
 ghost use Rattle.std.specs.Prelude.{◌≡◌, ◌++◌, [], ℕ, List, IfOk, Some, None, false};
-ghost use Rattle.std.specs.List.{list_any};
-ghost use Rattle.bus_core.specs.Bus.{began_of};
+ghost use Rattle.bugnet.specs.Common.{list_any, began_of, end_word, summary_text};
 ghost use Rattle.whole_runs.specs.Chosen.{IsListed};
 ghost use Rattle.bugnet.specs.Recordings.{count_of, instructions_of, is_fault, is_limit, end_by, book_if, AreScheduled};
-ghost use Rattle.log_commands.specs.RunEnds.{end_word};
-ghost use Rattle.log_commands.specs.Texts.{summary_text};
 ghost use Rattle.bugnet.specs.ClosedRuns.{IsRecordingOf, IsRecordingBy};
 
 use bn_base::EndMark;

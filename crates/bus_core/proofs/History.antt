@@ -1,20 +1,7 @@
 -- The rows that led to what a bus keeps.
-use Rattle.std.proofs.Common.{◌≡◌, ℕ, Bool, true, false, not, ◌||◌, List, [], ◌∷◌, ◌++◌, length, refl, sym, ◌∙◌, ap, subst}
-use Rattle.rv_meaning.specs.declared.asks.Ask.{Ask}
-use Rattle.rv_meaning.specs.declared.asks.Reply.{Reply}
-use Rattle.bn_outside.specs.declared.turn_row.TurnRow.{TurnRow}
-use Rattle.run_model.specs.declared.start.Start.{Start}
-use Rattle.run_model.specs.Represents.Plain.{PlainParts, IsRun, everyone}
-use Rattle.run_model.specs.Turn.{Run, serve, turn, ask_at, is_orderly, halted}
+use Rattle.bus_core.proofs.Common.{◌≡◌, ℕ, Bool, true, false, not, ◌||◌, List, [], ◌∷◌, ◌++◌, length, refl, sym, ◌∙◌, ap, subst, Ask, Reply, TurnRow, Start, PlainParts, IsRun, everyone, Run, serve, turn, ask_at, is_orderly, halted, hart_in, Held, HoldsLog, NotesDecide, after_rows, are_orderly, seen, IsState, IsHistory, IsLogged, AreTold, began_of, first_run, run_after, halted_if, row, IsSetting, RingsKeepTheRules}
 use Rattle.run_model.specs.Represents.Turning.{is_live}
-use Rattle.run_model.specs.Represents.Harts.{hart_in}
 use Rattle.bus_core.proofs.OwnTurn.{ask_is, own_orderly, or_not_true}
-use Rattle.log_ring.specs.Kept.{Held, HoldsLog}
-use Rattle.race_log.specs.Noted.{NotesDecide}
-use Rattle.run_laws.specs.History.{after_rows, are_orderly}
-use Rattle.bus_core.specs.Bus.{seen, IsState, IsHistory, IsLogged, AreTold, began_of, first_run, run_after, halted_if, row}
-use Rattle.bn_base.specs.Ranges.{IsSetting}
-use Rattle.file_laws.specs.Laws.{RingsKeepTheRules}
 use Rattle.bus_core.proofs.Order.{rules_are}
 use Rattle.bus_core.proofs.Rows.{after_snoc, lawful_snoc, orderly_snoc, not_both, live_as, none_is_live}
 

@@ -1,16 +1,7 @@
 -- The last Ends that a ring keeps have the last marks of their harts.
-use Rattle.std.proofs.Common.{◌≡◌, ℕ, zero, suc, ◌+◌, ◌<◌, Bool, true, false, List, ◌++◌, length, refl, sym, ◌∙◌, ap, arith}
-use Rattle.std.specs.Prelude.{Option, Some, slice_get}
-use Rattle.bn_base.specs.declared.end_mark.EndMark.{EndMark}
-use Rattle.log_record.specs.declared.record.Record.{Record}
-use Rattle.log_ring.specs.Kept.{Held, HoldsLog, kept}
-use Rattle.bn_outside.specs.declared.turn_row.TurnRow.{TurnRow}
-use Rattle.run_model.specs.declared.hart.Hart.{Hart}
-use Rattle.run_model.specs.Turn.{Run}
-use Rattle.run_laws.specs.History.{after_rows}
+use Rattle.bus_core.proofs.Common.{◌≡◌, ℕ, zero, suc, ◌+◌, ◌<◌, Bool, true, false, List, ◌++◌, length, refl, sym, ◌∙◌, ap, arith, Option, Some, slice_get, EndMark, Record, Held, HoldsLog, kept, TurnRow, Hart, Run, after_rows, Began, first_run, halted_if, run_after, marks}
 use Rattle.run_laws.specs.Ends.{last_end, AreLastMarks}
 use Rattle.run_laws.specs.Laws.{KeptEndsAreMarks}
-use Rattle.bus_core.specs.Bus.{Began, first_run, halted_if, run_after, marks}
 
 abbrev pub SuffixIsKept : Type 0
 SuffixIsKept = (size : ℕ) (rs : List Record) → (front : List Record) × (rs ≡ front ++ kept size rs)

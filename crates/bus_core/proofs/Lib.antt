@@ -1,3 +1,4 @@
+mod Common
 pub mod Serves
 pub mod Marks
 pub mod Rows

@@ -1,20 +1,8 @@
 -- Turns of a hart that is alone, as a bus has them.
-use Rattle.std.proofs.Common.{◌≡◌, ℕ, zero, suc, ◌<◌, ◌≤◌, ◌+◌, Bool, true, false, not, ◌&&◌, nat_lt, List, [], ◌∷◌, ◌++◌, refl, sym, ◌∙◌, ap, subst, arith}
-use Rattle.std.specs.Prelude.{replicate}
-use Rattle.bn_base.specs.Programs.{Program}
-use Rattle.bn_base.specs.declared.settings.RawSettings.{RawSettings}
-use Rattle.bn_outside.specs.declared.turn_row.TurnRow.{TurnRow}
-use Rattle.race_log.specs.Noted.{NotesDecide}
-use Rattle.run_model.specs.Represents.Harts.{is_live_hart}
-use Rattle.run_model.specs.Represents.Plain.{PlainParts, IsRun}
+use Rattle.bus_core.proofs.Common.{◌≡◌, ℕ, zero, suc, ◌<◌, ◌≤◌, ◌+◌, Bool, true, false, not, ◌&&◌, nat_lt, List, [], ◌∷◌, ◌++◌, refl, sym, ◌∙◌, ap, subst, arith, replicate, Program, RawSettings, TurnRow, NotesDecide, is_live_hart, PlainParts, IsRun, run_from, legal_from, Run, serve, turn, is_orderly, Start, after_rows, are_orderly, rows_from, IsLawful, Seen, seen, began_of, first_run, run_after, turned_run, turn_row, AreTold, IsHistory, IsState, HasTurnedAlone}
 use Rattle.run_model.specs.Represents.Alone.{CanTurn, HasTurned, HaveTurned, run_alone}
 use Rattle.run_model.specs.Represents.Turning.{is_live}
-use Rattle.run_model.specs.Runs.{run_from, legal_from}
 use Rattle.run_model.specs.Runs as runs
-use Rattle.run_model.specs.Turn.{Run, serve, turn, is_orderly}
-use Rattle.run_model.specs.declared.start.Start.{Start}
-use Rattle.run_laws.specs.History.{after_rows, are_orderly, rows_from, IsLawful}
-use Rattle.bus_core.specs.Bus.{Seen, seen, began_of, first_run, run_after, turned_run, turn_row, AreTold, IsHistory, IsState, HasTurnedAlone}
 use Rattle.bus_core.specs.Bus as bus
 use Rattle.bus_core.proofs.History.{run_is, state_is, live_runs}
 use Rattle.bus_core.proofs.Rows.{live_within}

@@ -1,15 +1,6 @@
 -- The last marks of harts.
-use Rattle.std.proofs.Common.{◌≡◌, ◌<◌, ◌≤◌, ℕ, zero, suc, ◌+◌, Bool, true, false, not, ◌||◌, List, [], ◌∷◌, ◌++◌, length, map, take, refl, sym, ◌∙◌, ap, arith}
-use Rattle.std.specs.Prelude.{Vec, Option, Some, None, get_or, slice_get, vec_len, vec_capacity}
-use Rattle.std.proofs.lemmas.Option.{get_or_from_slice_get}
-use Rattle.std.specs.Global.{Global}
+use Rattle.bus_core.proofs.Common.{◌≡◌, ◌<◌, ◌≤◌, ℕ, zero, suc, ◌+◌, Bool, true, false, not, ◌||◌, List, [], ◌∷◌, ◌++◌, length, map, take, refl, sym, ◌∙◌, ap, arith, Vec, Option, Some, None, get_or, slice_get, vec_len, vec_capacity, get_or_from_slice_get, Global, EndMark, HARTS, Hart, AreHarts, hart_in, no_hart, any_live, marks}
 use Rattle.std.proofs.lemmas.List.{take_more, map-append}
-use Rattle.bn_base.specs.declared.end_mark.EndMark.{EndMark}
-use Rattle.bn_base.specs.declared.settings.TheConstants.{HARTS}
-use Rattle.run_model.specs.declared.hart.Hart.{Hart}
-use Rattle.run_model.specs.Represents.Harts.{AreHarts, hart_in, no_hart}
-use Rattle.run_model.specs.Runs.{any_live}
-use Rattle.bus_core.specs.Bus.{marks}
 
 -- the marks of the first n harts were pushed
 pub record AreMarked (n : ℕ) (hs : List Hart) (marks : Vec (Option EndMark) Global) : Type 0 where

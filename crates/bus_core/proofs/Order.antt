@@ -1,19 +1,8 @@
 -- What is kept of a bus is in order.
-use Rattle.std.proofs.Common.{◌≡◌, ℕ, Bool, true, false, not, ◌&&◌, List, length, replicate, None, refl, ap, subst}
+use Rattle.bus_core.proofs.Common.{◌≡◌, ℕ, Bool, true, false, not, ◌&&◌, List, length, replicate, None, refl, ap, subst, IsSetting, RawSettings, Record, broken_by, Held, HoldsLog, TurnRow, Run, has_finished, after_rows, are_orderly, RingsKeepTheRules, LogsOfRowsAreContents, Began, Seen, AreTold, IsLogged, first_run, halted_if, run_after}
 use Rattle.std.specs.List.{AllByRecursion}
-use Rattle.bn_base.specs.Ranges.{IsSetting}
-use Rattle.bn_base.specs.declared.settings.RawSettings.{RawSettings}
-use Rattle.log_record.specs.declared.record.Record.{Record}
 use Rattle.log_record.specs.Spelling.{Fits}
-use Rattle.log_order.specs.Order.{broken_by}
-use Rattle.log_ring.specs.Kept.{Held, HoldsLog}
-use Rattle.bn_outside.specs.declared.turn_row.TurnRow.{TurnRow}
-use Rattle.run_model.specs.Turn.{Run}
-use Rattle.run_model.specs.Runs.{has_finished}
-use Rattle.run_laws.specs.History.{after_rows, are_orderly}
 use Rattle.file_laws.specs.Recorded.{counts_of, KeepsRules, HoldsLogOfRows}
-use Rattle.file_laws.specs.Laws.{RingsKeepTheRules, LogsOfRowsAreContents}
-use Rattle.bus_core.specs.Bus.{Began, Seen, AreTold, IsLogged, first_run, halted_if, run_after}
 use Rattle.bus_core.proofs.LastMarks.{halted_stream}
 
 halted_counts : (b : Bool) (c : RawSettings) (run : Run) (dropped : ℕ) (rs : List Record) → KeepsRules c (counts_of run) dropped rs → KeepsRules c (counts_of (halted_if b run)) dropped rs

@@ -1,14 +1,6 @@
 -- A hart that asks what it asks next.
-use Rattle.std.proofs.Common.{◌≡◌, ℕ, ◌<◌, List, length, Bool, true, false, not, ◌||◌, refl, sym, ◌∙◌, ap}
-use Rattle.std.proofs.lemmas.Option.{get_or_from_slice_get}
-use Rattle.rv_meaning.specs.declared.asks.Ask.{Ask}
-use Rattle.rv_meaning.specs.declared.asks.Reply.{Reply}
-use Rattle.run_model.specs.declared.hart.Hart.{Hart}
-use Rattle.run_model.specs.Represents.Harts.{AreHarts, hart_in, no_hart}
-use Rattle.run_model.specs.Represents.Plain.{PlainParts, IsRun}
+use Rattle.bus_core.proofs.Common.{◌≡◌, ℕ, ◌<◌, List, length, Bool, true, false, not, ◌||◌, refl, sym, ◌∙◌, ap, get_or_from_slice_get, Ask, Reply, Hart, AreHarts, hart_in, no_hart, PlainParts, IsRun, Run, ask_at, is_orderly, Began, row, turn_row, served_reply, served_guarded}
 use Rattle.run_model.specs.Represents.Turning.{is_live}
-use Rattle.run_model.specs.Turn.{Run, ask_at, is_orderly}
-use Rattle.bus_core.specs.Bus.{Began, row, turn_row, served_reply, served_guarded}
 use Rattle.bus_core.proofs.Rows.{live_within}
 
 -- a hart of the list is that of each run

@@ -1,14 +1,6 @@
 -- Rows that are one more.
-use Rattle.std.proofs.Common.{◌≡◌, ℕ, zero, suc, ◌<◌, Bool, true, false, not, ◌&&◌, ◌||◌, List, [], ◌∷◌, ◌++◌, length, refl, sym, ◌∙◌, ap, arith}
-use Rattle.std.specs.Prelude.{nat_lt, slice_get}
-use Rattle.bn_base.specs.Programs.{Program}
-use Rattle.bn_base.specs.declared.settings.RawSettings.{RawSettings}
-use Rattle.bn_outside.specs.declared.turn_row.TurnRow.{TurnRow}
-use Rattle.run_model.specs.declared.hart.Hart.{Hart}
-use Rattle.run_model.specs.Represents.Harts.{AreHarts, hart_in, is_live_hart}
+use Rattle.bus_core.proofs.Common.{◌≡◌, ℕ, zero, suc, ◌<◌, Bool, true, false, not, ◌&&◌, ◌||◌, List, [], ◌∷◌, ◌++◌, length, refl, sym, ◌∙◌, ap, arith, nat_lt, slice_get, Program, RawSettings, TurnRow, Hart, AreHarts, hart_in, is_live_hart, Run, serve, is_orderly, dead, after_rows, are_orderly, IsLawful}
 use Rattle.run_model.specs.Runs.{is_live}
-use Rattle.run_model.specs.Turn.{Run, serve, is_orderly, dead}
-use Rattle.run_laws.specs.History.{after_rows, are_orderly, IsLawful}
 
 pub after_snoc : (c : RawSettings) (i : Program) (run : Run) (rows : List TurnRow) (r : TurnRow) → after_rows c i run (rows ++ r ∷ []) ≡ (serve c i (after_rows c i run rows) r.hart r.ask).run
 after_snoc c i run [] r = refl

@@ -1,15 +1,7 @@
 -- What serving an ask comes to.
-use Rattle.std.proofs.Common.{◌≡◌, ℕ, ◌+◌, refl, Bool, true, false, ◌||◌, sym, ◌∙◌, ap}
-use Rattle.std.specs.Prelude.{Option, Result, Ok, Err, OnErr, IsErrAnd}
-use Rattle.bn_base.specs.Programs.{Program}
-use Rattle.bn_base.specs.declared.settings.RawSettings.{RawSettings}
-use Rattle.rv_meaning.specs.declared.asks.Ask.{Ask}
-use Rattle.rv_meaning.specs.declared.asks.Reply.{Reply}
+use Rattle.bus_core.proofs.Common.{◌≡◌, ℕ, ◌+◌, refl, Bool, true, false, ◌||◌, sym, ◌∙◌, ap, Option, Result, Ok, Err, OnErr, IsErrAnd, Program, RawSettings, Ask, Reply, PlainParts, IsRun, Run, serve, serve_call, serve_disorderly, served_if, is_orderly, is_guarded, AnswersAsk}
 use Rattle.system_calls.specs.declared.effect.Plan.{Plan}
 use Rattle.run_model.specs.Machine.{call_of}
-use Rattle.run_model.specs.Represents.Plain.{PlainParts, IsRun}
-use Rattle.run_model.specs.Turn.{Run, serve, serve_call, serve_disorderly, served_if, is_orderly, is_guarded}
-use Rattle.bus_core.specs.Bus.{AnswersAsk}
 
 pub served_orderly : (c : RawSettings) (i : Program) (run : Run) (k : ℕ) (ask : Ask) (call : Option Plan) → call ≡ call_of i run.machine ask.want → is_orderly c i (run.harts k) ask ≡ true → serve_call c run k ask (is_guarded c run k ask.want) call ≡ serve c i run k ask
 unfolding serve

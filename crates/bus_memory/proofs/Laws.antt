@@ -1,11 +1,7 @@
 -- What pages hold, word by word.
-use Rattle.std.proofs.Common.{arith, ◌≡◌, ◌≤◌, ◌<◌, ◌*◌, ◌/◌, ◌%◌, ℕ, Bool, true, false, List, length, get_or, set, refl, sym, ap, ◌∙◌, ◌⊎◌, inl, inr, nat_lt, cond}
+use Rattle.bus_memory.proofs.Common.{arith, ◌≡◌, ◌≤◌, ◌<◌, ◌*◌, ◌/◌, ◌%◌, ℕ, Bool, true, false, List, length, get_or, set, refl, sym, ap, ◌∙◌, ◌⊎◌, inl, inr, nat_lt, cond, ext_get_or, get_or_default, get_or_past, get_or-set_same, get_or-set_other, length-set, length-map, cases_eq, cases_lt, false≢true, eq-eqb, ne_eqb, Contents, HoldsMap, updated, has_page, Frame, no_frame, word_of, contents_of}
 use Rattle.std.proofs.Math.ListN.{get_or-map}
-use Rattle.std.proofs.lemmas.List.{ext_get_or, get_or_default, get_or_past, get_or-set_same, get_or-set_other, length-set, length-map}
 use Rattle.std.proofs.lemmas.List.FromFn.{length-map-range_with_len, get_or-map-range_with_len}
-use Rattle.std.proofs.lemmas.Bool.{cases_eq, cases_lt, false≢true, eq-eqb, ne_eqb}
-use Rattle.bus_memory.specs.Contents.{Contents, HoldsMap, updated, has_page}
-use Rattle.bus_memory.specs.Frames.{Frame, no_frame, word_of, contents_of}
 
 pub length_words : (fs : List Frame) → length (contents_of fs).words ≡ 1024 * length fs
 unfolding contents_of

@@ -1,3 +1,4 @@
+mod Common
 mod Zeros
 mod Laws
 mod Ranges

@@ -1,9 +1,5 @@
 -- Pages in a row.
-use Rattle.std.proofs.Common.{arith, ◌≡◌, ◌≤◌, ◌<◌, ◌+◌, ◌-◌, ◌*◌, ◌/◌, ◌%◌, ◌||◌, ◌&&◌, ℕ, Bool, true, false, List, length, get_or, set, sym, ap, ◌∙◌, ◌⊎◌, inl, inr, nat_le, nat_lt}
-use Rattle.std.proofs.lemmas.List.{get_or-set_same, get_or-set_other}
-use Rattle.std.proofs.lemmas.Bool.{cases_eq}
-use Rattle.bus_memory.specs.Contents.{HasPages}
-use Rattle.bus_memory.specs.Frames.{Frame, no_frame, contents_of, HaveWords, AreMade}
+use Rattle.bus_memory.proofs.Common.{arith, ◌≡◌, ◌≤◌, ◌<◌, ◌+◌, ◌-◌, ◌*◌, ◌/◌, ◌%◌, ◌||◌, ◌&&◌, ℕ, Bool, true, false, List, length, get_or, set, sym, ap, ◌∙◌, ◌⊎◌, inl, inr, nat_le, nat_lt, get_or-set_same, get_or-set_other, cases_eq, HasPages, Frame, no_frame, contents_of, HaveWords, AreMade}
 use Rattle.bus_memory.proofs.Laws.{made_at}
 
 -- one page more that has its words

@@ -1,11 +1,6 @@
 -- Which pages a program's parts touch.
-use Rattle.std.proofs.Common.{arith, ◌≡◌, ◌≤◌, ◌<◌, ◌+◌, ◌*◌, ◌/◌, ◌%◌, ◌||◌, ℕ, Bool, true, false, List, [], ◌∷◌, length, get_or, refl, sym, ap, ◌∙◌, ◌⊎◌, inl, inr}
+use Rattle.bus_memory.proofs.Common.{arith, ◌≡◌, ◌≤◌, ◌<◌, ◌+◌, ◌*◌, ◌/◌, ◌%◌, ◌||◌, ℕ, Bool, true, false, List, [], ◌∷◌, length, get_or, refl, sym, ap, ◌∙◌, ◌⊎◌, inl, inr, Option, None, cases_lt, Program, Part, AreApart, end_of, is_in, part_or, part_at, first_in, first_at, HoldsMap, has_page, shares_page, is_touched, Frame, no_frame, contents_of, IsFirstFrame}
 use Rattle.std.specs.List.{list_any}
-use Rattle.std.specs.Prelude.{Option, None}
-use Rattle.std.proofs.lemmas.Bool.{cases_lt}
-use Rattle.bn_base.specs.Programs.{Program, Part, AreApart, end_of, is_in, part_or, part_at, first_in, first_at}
-use Rattle.bus_memory.specs.Contents.{HoldsMap, has_page, shares_page, is_touched}
-use Rattle.bus_memory.specs.Frames.{Frame, no_frame, contents_of, IsFirstFrame}
 use Rattle.bus_memory.proofs.Laws.{length_words, word_at, made_at, no_page_at}
 
 neither : (x y : Bool) → (x || y) ≡ false → (x ≡ false) × (y ≡ false)

@@ -1,8 +1,7 @@
 -- The lines worked out, by computation.
-use Rattle.std.proofs.Common.{◌≡◌, [], ◌∷◌, codes, Some, None, true, refl}
+use Rattle.command_words.proofs.Common.{◌≡◌, [], ◌∷◌, codes, Some, None, true, refl, RecordLine, ReplayLine, JointLine, DebugLine, ListLine, CheckLine, AuditLine, RacesLine, SliceLine, ConvertLine, SalvageLine, DemoLine, line_of}
 use Rattle.clap.proofs.OnLiterals.{clap_on_literals}
 use Rattle.bn_base.specs.Ranges.{default_settings}
-use Rattle.command_words.specs.Words.{RecordLine, ReplayLine, JointLine, DebugLine, ListLine, CheckLine, AuditLine, RacesLine, SliceLine, ConvertLine, SalvageLine, DemoLine, line_of}
 use Rattle.command_words.specs.Examples.{said, plain, two_level_words, two_levels}
 
 pub before : said (codes "record" ∷ codes "--seed" ∷ codes "5" ∷ codes "E" ∷ codes "L" ∷ codes "B" ∷ []) ≡ Some (RecordLine plain)

@@ -1,10 +1,8 @@
-use Rattle.std.proofs.Common.{◌≡◌, ◌∙◌, ◌||◌, Option, Some, ap, ap₂}
-use Rattle.clap.specs.Words.{App, Rule, rule_of, with_rule, with_subcommand}
+use Rattle.command_words.proofs.Common.{◌≡◌, ◌∙◌, ◌||◌, Option, Some, ap, ap₂, App, Rule, rule_of, with_rule, with_subcommand, IsRule, IsSeenAs}
 use Rattle.clap.specs.Built.{AddsArg, AddsSubcommand}
 use Rattle.clap.specs.declared.builder.arg.Arg.{Arg}
 use Rattle.clap.specs.declared.builder.value_parser.ValueParser.{ValueParser}
 use Rattle.clap.specs.declared.builder.command.Command.{Command}
-use Rattle.command_words.specs.App.{IsRule, IsSeenAs}
 
 -- one more argument
 pub more : {old new : Command} {a : Arg} (x : App) (r : Rule) → AddsArg old a new → IsRule r a → IsSeenAs x old → IsSeenAs (with_rule x r) new

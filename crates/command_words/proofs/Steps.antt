@@ -1,6 +1,5 @@
 -- What is found for several arguments, one after the other.
-use Rattle.std.proofs.Common.{◌≡◌, ap, Option, Some}
-use Rattle.command_words.specs.Words.{and_then}
+use Rattle.command_words.proofs.Common.{◌≡◌, ap, Option, Some, and_then}
 
 -- the next of them
 pub found : {X Y : Type 0} (o : Option X) (x : X) (f : X → Option Y) → Some x ≡ o → f x ≡ and_then o f

@@ -1,14 +1,11 @@
 -- What a parse of the whole command says of the line.
-use Rattle.std.proofs.Common.{◌≡◌, ◌⊎◌, ◌∙◌, true, List, [], ◌∷◌, Option, None, Result, Ok, Err, IfErr, inl, inr, refl, sym, ap, ap₂, subst, map}
-use Rattle.clap.specs.Words.{App, Row, Text, fault_of, is_simple, is_simple_and_free, subcommand_of}
+use Rattle.command_words.proofs.Common.{◌≡◌, ◌⊎◌, ◌∙◌, true, List, [], ◌∷◌, Option, None, Result, Ok, Err, IfErr, inl, inr, refl, sym, ap, ap₂, subst, map, App, Row, Text, fault_of, is_simple, is_simple_and_free, subcommand_of, bugnet_app, Line, command_in, line_in, line_of, without_fault}
 use Rattle.clap.specs.Kinds.{IsAmong, Kinds}
 use Rattle.clap.specs.declared.error.kind.ErrorKind.{ErrorKind}
 use Rattle.clap.specs.declared.error.kind.ErrorKind.TheVariants as kind
-use Rattle.command_words.specs.App.{bugnet_app}
 use Rattle.std.specs.String.{string_bytes}
 use Rattle.std.specs.declared.string.String.{String}
 use Rattle.std.specs.declared.alloc.Global.{Global}
-use Rattle.command_words.specs.Words.{Line, command_in, line_in, line_of, without_fault}
 
 abbrev line_by : Kinds → Option (Text × List Row) → Option Line
 line_by kinds sub = without_fault kinds (line_in sub)

@@ -1,14 +1,7 @@
 -- The rows of replays, counted one after another.
-use Rattle.std.proofs.Common.{◌≡◌, ℕ, zero, suc, ◌+◌, ◌*◌, ◌^◌, ◌<◌, ◌≤◌, Bool, true, false, List, [], ◌∷◌, length, drop, Option, Some, None, slice_index_or, ◌==◌, ◌&&◌, sym, ap, subst, arith}
-use Rattle.bn_base.specs.Programs.{Program}
-use Rattle.log_record.specs.declared.record.Record.{Record}
+use Rattle.demo_run.proofs.Common.{◌≡◌, ℕ, zero, suc, ◌+◌, ◌*◌, ◌^◌, ◌<◌, ◌≤◌, Bool, true, false, List, [], ◌∷◌, length, drop, Option, Some, None, slice_index_or, ◌==◌, ◌&&◌, sym, ap, subst, arith, Program, Record, Done, Replayed, Interval, interval_of, EndMark, Content, rows_in, ComesToEnd, AllComeToEnd}
 use Rattle.log_record.specs.declared.record.Record.TheVariants.{Header, FirstLoad, ScOk, ScFailed, Edge, End}
-use Rattle.hart_replay.specs.Replay.{Done, Replayed, Interval, interval_of}
 use Rattle.hart_replay.specs.Coming.{Replaying, Begins}
-use Rattle.bn_base.specs.declared.end_mark.EndMark.{EndMark}
-use Rattle.log_order.specs.Content.{Content}
-use Rattle.demo_run.specs.Demonstration.{rows_in}
-use Rattle.demo_run.specs.Starts.{ComesToEnd, AllComeToEnd}
 
 -- of the rows of a replay that goes to its End so many were given, and these are left
 pub record Counting (whole rest : Replayed) (count : ℕ) : Type 0 where

@@ -1,16 +1,8 @@
 -- The steps of a joint replay that goes through, and the bytes of known words.
-use Rattle.std.proofs.Common.{◌≡◌, ℕ, ◌*◌, nat_lt, Bool, true, false, List, [], ◌∷◌, ◌++◌, length, length-append, Some, None, ◌∙◌, ap, sym, refl, arith, inl, inr, append_assoc}
-use Rattle.std.specs.Prelude.{Ok, Err}
-use Rattle.std.specs.List.{flat_map}
-use Rattle.std.proofs.lemmas.List.Concat.{flat_map-cons}
-use Rattle.le_numbers.specs.Numbers.{number_bytes}
+use Rattle.demo_run.proofs.Common.{◌≡◌, ℕ, ◌*◌, nat_lt, Bool, true, false, List, [], ◌∷◌, ◌++◌, length, length-append, Some, None, ◌∙◌, ap, sym, refl, arith, inl, inr, append_assoc, Ok, Err, flat_map, flat_map-cons, number_bytes, known_from, Joining, Ran, begun, ran, run_all, Advances, IsFirstTaken, RunsGoOn, RunsEnd, word_bytes}
 use Rattle.joint_replay.specs.declared.error.JointError.{JointError}
 use Rattle.joint_replay.specs.declared.error.JointError.TheVariants.{Replay, Stuck}
 use Rattle.joint_replay.specs.declared.error.JointError.TheVariants as joint
-use Rattle.joint_replay.specs.Memory.{known_from}
-use Rattle.joint_replay.specs.Joining.{Joining, Ran, begun, ran, run_all}
-use Rattle.joint_replay.specs.Runs.{Advances, IsFirstTaken, RunsGoOn, RunsEnd}
-use Rattle.demo_run.specs.Demonstration.{word_bytes}
 
 -- ---- steps
 

@@ -1,3 +1,4 @@
+mod Common
 mod Loads
 mod Counts
 mod Joins

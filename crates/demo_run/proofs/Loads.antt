@@ -1,18 +1,12 @@
 -- Generated programs are loaded: their headers name a segment of code in the file and a page of data, both within memory.
-use Rattle.std.proofs.Common.{◌≡◌, ℕ, ◌==◌, nat_lt, false, not, List, [], ◌∷◌, ◌++◌, length, Option, None, Ok, refl, ap, ◌∙◌}
-use Rattle.std.specs.List.{list_any}
-use Rattle.le_numbers.specs.Numbers.{number_at, number_bytes}
+use Rattle.demo_run.proofs.Common.{◌≡◌, ℕ, ◌==◌, nat_lt, false, not, List, [], ◌∷◌, ◌++◌, length, Option, None, Ok, refl, ap, ◌∙◌, list_any, number_at, number_bytes, Kind, code, demo_settings, GuestsAreLoaded}
 use Rattle.elf_loader.specs.declared.error.ElfError.{ElfError}
 use Rattle.elf_loader.specs.declared.error.ElfError.TheVariants.{NotElf, Truncated, NotRv32, NotStatic, NeedsCompressed, NeedsE, TooMany, EntryOutside}
 use Rattle.elf_loader.specs.Headers as headers_of
 use Rattle.elf_loader.specs.Headers.{table_end, table}
 use Rattle.elf_loader.specs.Segments.{has_flag, segments, file_words}
 use Rattle.elf_loader.specs.Loaded.{when, first_of_all, is_elf, is_rv32, is_interpreter, starts_outside, header_refusal, segment_refusal, program_of, refusal, unless, image_of}
-use Rattle.guest_gen.specs.declared.kind.Kind.{Kind}
-use Rattle.guest_gen.specs.Code.{code}
 use Rattle.guest_gen.specs.File.{identification, file_header, headers, code_bytes, guest_bytes}
-use Rattle.demo_run.specs.Demonstration.{demo_settings}
-use Rattle.demo_run.specs.Laws.{GuestsAreLoaded}
 
 -- what is refused of the ELF header of a file of this length
 abbrev header_refusal_by : ℕ → List ℕ → Option ElfError

@@ -1,28 +1,16 @@
 -- What is counted of a demonstration.
-use Rattle.std.proofs.Common.{◌≡◌, ℕ, ◌-◌, ◌/◌, ◌≤◌, nat_lt, Bool, true, false, List, [], length, take, drop, length-take, ◌∙◌, ap, subst, sym, arith}
-use Rattle.std.specs.Prelude.{Result, Ok, Err, if◌then◌else◌}
+use Rattle.demo_run.proofs.Common.{◌≡◌, ℕ, ◌-◌, ◌/◌, ◌≤◌, nat_lt, Bool, true, false, List, [], length, take, drop, length-take, ◌∙◌, ap, subst, sym, arith, Result, Ok, Err, if◌then◌else◌, flat_map, Program, Content, counts_of, IsVersion1, Done, Replayed, replayed, fresh, run_all, start, demo, demo_settings, demo_program, demo_elf, demo_turns, demo_log, word_bytes, rows_in, known_words, instructions_of, figures_of, DemonstrationsAreRecordings, AllComeToEnd, GoesThrough}
 use Rattle.log_file.specs.declared.error.FileError.{FileError}
-use Rattle.std.specs.List.{flat_map}
 use Rattle.sha2.specs.Sha256.{sha256}
-use Rattle.bn_base.specs.Programs.{Program}
 use Rattle.bn_base.specs.declared.row.Row.{Row}
-use Rattle.log_order.specs.Content.{Content}
-use Rattle.log_file.specs.Counts.{counts_of}
-use Rattle.log_file.specs.Layout.{IsVersion1}
 use Rattle.log_file.specs.declared.counting.LogCounts.{LogCounts}
-use Rattle.hart_replay.specs.Replay.{Done, Replayed, replayed}
-use Rattle.joint_replay.specs.Joining.{fresh, run_all}
 use Rattle.run_model.specs.Rows as run
 use Rattle.run_model.specs.Rows.{rows_of}
-use Rattle.run_model.specs.Runs.{start}
 use Rattle.replay_laws.specs.Law.{LogSuffices, RowsStandTogether, IsWhole, end_of}
 use Rattle.file_laws.specs.Laws.{LogsAreContents}
 use Rattle.joint_laws.specs.Recordings.{IsRecorded, kept}
 use Rattle.joint_laws.specs.Laws.{OwnLogsAreLogs, RunsToTheEnd}
 use Rattle.demo_run.specs.declared.figures.Figures.{Figures}
-use Rattle.demo_run.specs.Demonstration.{demo, demo_settings, demo_program, demo_elf, demo_turns, demo_log, word_bytes, rows_in, known_words, instructions_of, figures_of}
-use Rattle.demo_run.specs.Laws.{DemonstrationsAreRecordings}
-use Rattle.demo_run.specs.Starts.{AllComeToEnd, GoesThrough}
 use Rattle.demo_run.proofs.Joins.{eight-each}
 use Rattle.demo_run.proofs.Whole.{low_limit, first_format}
 

@@ -1,7 +1,5 @@
 -- Sums over the last marks of harts.
-use Rattle.std.proofs.Common.{◌≡◌, ℕ, ◌+◌, ◌*◌, ◌^◌, ◌≤◌, List, drop, Option}
-use Rattle.bn_base.specs.declared.end_mark.EndMark.{EndMark}
-use Rattle.demo_run.specs.Demonstration.{counts_in}
+use Rattle.demo_run.proofs.Common.{◌≡◌, ℕ, ◌+◌, ◌*◌, ◌^◌, ◌≤◌, List, drop, Option, EndMark, counts_in}
 
 -- the counts of the first k marks sum to this, and each is below 2 ^ 64
 pub record Summing (marks : List (Option EndMark)) (k sum : ℕ) : Type 0 where

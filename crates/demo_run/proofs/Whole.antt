@@ -1,22 +1,13 @@
 -- What a demonstration records is a recording.
-use Rattle.std.proofs.Common.{◌≡◌, ℕ, zero, suc, ◌<◌, ◌^◌, ◌&&◌, ◌∙◌, nat_lt, Bool, true, false, List, [], ◌∷◌, ◌++◌, slice_index, refl, subst, sym, arith}
-use Rattle.std.specs.Prelude.{Result, Ok, Err}
+use Rattle.demo_run.proofs.Common.{◌≡◌, ℕ, zero, suc, ◌<◌, ◌^◌, ◌&&◌, ◌∙◌, nat_lt, Bool, true, false, List, [], ◌∷◌, ◌++◌, slice_index, refl, subst, sym, arith, Result, Ok, Err, list_all, flat_map-cons, RawSettings, number_bytes, AreBytes, Kind, code, demo_settings, demo_program, demo_turns, GuestsAreLoaded, DemonstrationsAreRecordings}
 use Rattle.std.specs.Int.{byte_at, bytes_low_first}
-use Rattle.std.specs.List.{list_all}
-use Rattle.std.proofs.lemmas.List.Concat.{flat_map-cons}
 use Rattle.bn_base.specs.Ranges.{IsSetting, checked}
 use Rattle.bn_base.specs.declared.settings.BadSetting.{BadSetting}
-use Rattle.bn_base.specs.declared.settings.RawSettings.{RawSettings}
-use Rattle.le_numbers.specs.Numbers.{number_bytes, AreBytes}
 use Rattle.rv_decode.specs.Encode.{encoded}
 use Rattle.rv_decode.specs.Table.{Instruction}
-use Rattle.guest_gen.specs.declared.kind.Kind.{Kind}
 use Rattle.guest_gen.specs.declared.kind.Kind.TheVariants.{Loop}
-use Rattle.guest_gen.specs.Code.{code}
 use Rattle.guest_gen.specs.File.{identification, file_header, headers, code_bytes, guest_bytes}
 use Rattle.whole_runs.specs.Laws.{SeededListsEnd}
-use Rattle.demo_run.specs.Demonstration.{demo_settings, demo_program, demo_turns}
-use Rattle.demo_run.specs.Laws.{GuestsAreLoaded, DemonstrationsAreRecordings}
 
 -- ---- the settings
 

@@ -1,25 +1,15 @@
 -- The run of a demonstration, as its closed bus has it.
-use Rattle.std.proofs.Common.{◌≡◌, ◌==◌, ℕ, Bool, true, false, List, length, ◌∙◌, ap, arith}
-use Rattle.std.specs.Prelude.{Option}
-use Rattle.bn_base.specs.Programs.{Program}
-use Rattle.bn_base.specs.declared.end_mark.EndMark.{EndMark}
-use Rattle.bn_base.specs.declared.settings.RawSettings.{RawSettings}
+use Rattle.demo_run.proofs.Common.{◌≡◌, ◌==◌, ℕ, Bool, true, false, List, length, ◌∙◌, ap, arith, Option, Program, EndMark, RawSettings, file_bytes, file_bytes2, saved_bytes, content, Record, run_of, seeded, counts_in, demo, demo_settings, demo_program, demo_turns, demo_log, instructions_of, IsStart}
 use Rattle.bn_outside.specs.declared.turn_row.TurnRow.{TurnRow}
-use Rattle.log_file.specs.Layout.{file_bytes, file_bytes2, saved_bytes}
-use Rattle.log_order.specs.Content.{content}
-use Rattle.log_record.specs.declared.record.Record.{Record}
 use Rattle.log_ring.specs.Kept.{kept}
 use Rattle.run_model.specs.KeptRecords.{kept_of, dropped_of}
 use Rattle.run_model.specs.Turn.{Run}
-use Rattle.run_model.specs.Runs.{run_of, seeded}
 use Rattle.run_model.specs.declared.start.Start.{Start}
 use Rattle.bus_core.specs.Bus.{began_of, marks}
 use Rattle.bus_core.specs.declared.closed.Closed.{Closed}
 use Rattle.whole_runs.specs.Closed.{IsClosed}
 use Rattle.whole_runs.specs.Lists.{list_run}
 use Rattle.joint_laws.specs.Recordings.{recorded}
-use Rattle.demo_run.specs.Demonstration.{counts_in, demo, demo_settings, demo_program, demo_turns, demo_log, instructions_of}
-use Rattle.demo_run.specs.Starts.{IsStart}
 use Rattle.demo_run.proofs.Whole.{first_format}
 
 -- the turns that the number chooses

@@ -1,12 +1,5 @@
 -- The entry of a file, as its segments tell it.
-use Rattle.std.proofs.Common.{◌≡◌, ◌≤◌, ℕ, ◌%◌, Bool, List, length, None, sym, ap, ap₂, subst, ◌∙◌}
-use Rattle.std.specs.Prelude.{not}
-use Rattle.bn_base.specs.declared.settings.RawSettings.{RawSettings}
-use Rattle.elf_loader.specs.declared.file_header.FileHeader.{FileHeader}
-use Rattle.elf_loader.specs.declared.program_header.ProgramHeader.{ProgramHeader}
-use Rattle.elf_loader.specs.Headers.{file_header}
-use Rattle.elf_loader.specs.Segments.{segments, is_code}
-use Rattle.elf_loader.specs.Loaded.{program_of, segment_refusal, starts_outside}
+use Rattle.elf_loader.proofs.Common.{◌≡◌, ◌≤◌, ℕ, ◌%◌, Bool, List, length, None, sym, ap, ap₂, subst, ◌∙◌, not, RawSettings, FileHeader, ProgramHeader, file_header, segments, is_code, program_of, segment_refusal, starts_outside}
 use Rattle.elf_loader.proofs.Memory.{entry_there}
 use Rattle.elf_loader.proofs.Refused.{Reads}
 

@@ -1,9 +1,5 @@
 -- Parts that stand apart, by address.
-use Rattle.std.proofs.Common.{◌≡◌, ◌≤◌, ℕ, true, false, List, [], ◌∷◌, map, Some, None, refl, ap, subst, ◌∙◌, ◌⊎◌, inl, inr, arith}
-use Rattle.std.specs.Prelude.{All, Contains}
-use Rattle.std.proofs.lemmas.List.{get_or-map, length-map}
-use Rattle.std.proofs.lemmas.List.Elements.{All-head, All-tail}
-use Rattle.bn_base.specs.Programs.{Part, AreApart, end_of, is_in, part_or, part_at}
+use Rattle.elf_loader.proofs.Common.{◌≡◌, ◌≤◌, ℕ, true, false, List, [], ◌∷◌, map, Some, None, refl, ap, subst, ◌∙◌, ◌⊎◌, inl, inr, arith, All, Contains, get_or-map, length-map, All-head, All-tail, Part, AreApart, end_of, is_in, part_or, part_at}
 use Rattle.elf_loader.proofs.Order.{Contains-cons_cases}
 
 pub apart_le : (low high : ℕ) (ps : List Part) → AreApart low high ps → low ≤ high

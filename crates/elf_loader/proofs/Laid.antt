@@ -1,13 +1,5 @@
 -- Segments that are taken, in memory.
-use Rattle.std.proofs.Common.{◌≡◌, ◌≤◌, ◌<◌, ℕ, ◌+◌, ◌*◌, ◌%◌, ◌^◌, ◌||◌, Bool, true, false, List, [], ◌∷◌, map, refl, ltb-false, arith}
-use Rattle.std.specs.Prelude.{All, nat_lt}
-use Rattle.std.proofs.lemmas.List.Elements.{All-head, All-tail, All-weaker, filter_passes}
-use Rattle.std.proofs.lemmas.List.Sorted.{All-permutation}
-use Rattle.bn_base.specs.Programs.{AreApart, end_of}
-use Rattle.elf_loader.specs.declared.program_header.ProgramHeader.{ProgramHeader}
-use Rattle.elf_loader.specs.Headers.{table}
-use Rattle.elf_loader.specs.Segments.{is_segment, IsLoadable, segments, file_end, memory_end, words_touched, first_word, word_after, part_of, by_address}
-use Rattle.elf_loader.specs.Loaded.{is_cut_off, is_outside}
+use Rattle.elf_loader.proofs.Common.{◌≡◌, ◌≤◌, ◌<◌, ℕ, ◌+◌, ◌*◌, ◌%◌, ◌^◌, ◌||◌, Bool, true, false, List, [], ◌∷◌, map, refl, ltb-false, arith, All, nat_lt, All-head, All-tail, All-weaker, filter_passes, All-permutation, AreApart, end_of, ProgramHeader, table, is_segment, IsLoadable, segments, file_end, memory_end, words_touched, first_word, word_after, part_of, by_address, is_cut_off, is_outside}
 use Rattle.elf_loader.proofs.Words.{words_touched-some}
 use Rattle.elf_loader.proofs.Order.{AreSegments, AreInOrder, IsPermutation-by_address, by_address-in_order}
 use Rattle.elf_loader.proofs.Refused.{AreTaken}

@@ -1,3 +1,4 @@
+mod Common
 pub mod Entered
 pub mod Found
 pub mod Grown

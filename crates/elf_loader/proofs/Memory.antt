@@ -1,16 +1,6 @@
 -- What memory holds of a program that was loaded.
-use Rattle.std.proofs.Common.{◌≡◌, ◌≤◌, ◌<◌, ℕ, ◌+◌, ◌-◌, ◌*◌, ◌/◌, ◌%◌, ◌==◌, Bool, true, false, cond, ◌&&◌, List, [], ◌∷◌, length, map, Option, Some, None, Ok, refl, sym, ap, ap₂, subst, ◌∙◌, ◌↔◌, leb, ltb, arith}
-use Rattle.std.specs.Prelude.{All, Contains, find, is_none, is_some, not, if◌then◌else◌, max}
-use Rattle.bn_base.specs.declared.settings.RawSettings.{RawSettings}
-use Rattle.bn_base.specs.Ranges.{IsSetting}
-use Rattle.bn_base.specs.Programs.{Part, Program, AreApart, code_at, is_in, part_at, word_in, code_in, first_in, may_load, is_writable, highest_end, heap_start}
-use Rattle.elf_loader.specs.declared.program_header.ProgramHeader.{ProgramHeader}
-use Rattle.elf_loader.specs.Segments.{is_segment, segments, memory_end, touches, share, has_code, is_code, words_touched, first_word, word_after, word_of, part_of, before_higher, by_address, has_flag}
-use Rattle.elf_loader.specs.Headers.{file_header}
-use Rattle.elf_loader.specs.Loaded.{program_of, image_of, segment_refusal, starts_outside}
+use Rattle.elf_loader.proofs.Common.{◌≡◌, ◌≤◌, ◌<◌, ℕ, ◌+◌, ◌-◌, ◌*◌, ◌/◌, ◌%◌, ◌==◌, Bool, true, false, cond, ◌&&◌, List, [], ◌∷◌, length, map, Option, Some, None, Ok, refl, sym, ap, ap₂, subst, ◌∙◌, ◌↔◌, leb, ltb, arith, All, Contains, find, is_none, is_some, not, if◌then◌else◌, max, RawSettings, IsSetting, Part, Program, AreApart, code_at, is_in, part_at, word_in, code_in, first_in, may_load, is_writable, highest_end, heap_start, ProgramHeader, is_segment, segments, memory_end, touches, share, has_code, is_code, words_touched, first_word, word_after, word_of, part_of, before_higher, by_address, has_flag, file_header, program_of, image_of, segment_refusal, starts_outside, All-head, All-tail, All-map, All-contains, All-permutation, Contains-permutation}
 use Rattle.elf_loader.specs.Held.{HoldsSegment, HoldsNothing, highest}
-use Rattle.std.proofs.lemmas.List.Elements.{All-head, All-tail, All-map, All-contains}
-use Rattle.std.proofs.lemmas.List.Sorted.{All-permutation, Contains-permutation}
 use Rattle.elf_loader.proofs.Found.{low_first, high_end, found, missing, Contains-map}
 use Rattle.elf_loader.proofs.Laid.{AreSegments-segments, parts_apart}
 use Rattle.elf_loader.proofs.Order.{AreSegments, IsPermutation-by_address, Contains-later}

@@ -1,14 +1,7 @@
 -- Segments by ascending address.
-use Rattle.std.proofs.Common.{◌≡◌, ◌≤◌, ◌<◌, ℕ, zero, suc, ◌+◌, Bool, true, false, cond, ◌&&◌, List, [], ◌∷◌, length, get_or, None, find, refl, sym, ap, ap₂, ◌∙◌, inl, inr, ◌⊎◌, leb, ltb, leb-true, leb-false, arith}
-use Rattle.std.specs.Prelude.{IsPermutation, count_by, All, Contains, nat_le, nat_lt}
+use Rattle.elf_loader.proofs.Common.{◌≡◌, ◌≤◌, ◌<◌, ℕ, zero, suc, ◌+◌, Bool, true, false, cond, ◌&&◌, List, [], ◌∷◌, length, get_or, None, find, refl, sym, ap, ap₂, ◌∙◌, inl, inr, ◌⊎◌, leb, ltb, leb-true, leb-false, arith, IsPermutation, count_by, All, Contains, nat_le, nat_lt, cases_lt, All-nil, All-cons, All-head, All-tail, All-weaker, All-contains, All-permutation, IsPermutation-refl, IsPermutation-sym, IsPermutation-cons, IsPermutation-middle, IsPermutation-trans, Contains-permutation, sum_by-IsPermutation, ProgramHeader, is_segment, first_word, word_after, share, before_higher, by_address, touching}
 use Rattle.std.specs.List.Sorted.{IsNonDecreasingBy}
-use Rattle.std.proofs.lemmas.Bool.{cases_lt}
-use Rattle.std.proofs.lemmas.List.Elements.{All-nil, All-cons, All-head, All-tail, All-weaker, All-contains}
 use Rattle.std.proofs.lemmas.List.Sums.{sum_by-cons, get_or-le-sum_by}
-use Rattle.std.proofs.lemmas.List.Sorted.{All-permutation, IsPermutation-refl, IsPermutation-sym, IsPermutation-cons, IsPermutation-middle, IsPermutation-trans, Contains-permutation, sum_by-IsPermutation}
-use Rattle.elf_loader.specs.declared.program_header.ProgramHeader.{ProgramHeader}
-use Rattle.elf_loader.specs.Segments.{is_segment, first_word, word_after, share, before_higher, by_address}
-use Rattle.elf_loader.specs.Loaded.{touching}
 use Rattle.elf_loader.proofs.Refused.{cond_none, or_none}
 use Rattle.elf_loader.proofs.Words.{words_touched-some}
 

@@ -1,17 +1,6 @@
 -- The refusals of the segments, one by one.
-use Rattle.std.proofs.Common.{◌≡◌, ℕ, ◌==◌, Bool, true, false, cond, List, [], ◌∷◌, length, Option, Some, None, Ok, Err, find, refl, ap, sym, ◌∙◌}
-use Rattle.std.specs.Prelude.{All, option_map}
+use Rattle.elf_loader.proofs.Common.{◌≡◌, ℕ, ◌==◌, Bool, true, false, cond, List, [], ◌∷◌, length, Option, Some, None, Ok, Err, find, refl, ap, sym, ◌∙◌, All, option_map, All-nil, All-cons, RawSettings, Program, ElfError, NotStatic, EntryOutside, Truncated, Outside, SegmentsTouch, NoSegment, ProgramHeader, list_any, table, file_end, segments, is_cut_off, is_outside, touching, when, unless, starts_outside, is_interpreter, header_refusal, segment_refusal, program_of, refusal, image_of}
 use Rattle.std.specs.Option.{option_or}
-use Rattle.std.proofs.lemmas.List.Elements.{All-nil, All-cons}
-use Rattle.bn_base.specs.declared.settings.RawSettings.{RawSettings}
-use Rattle.bn_base.specs.Programs.{Program}
-use Rattle.elf_loader.specs.declared.error.ElfError.{ElfError}
-use Rattle.elf_loader.specs.declared.error.ElfError.TheVariants.{NotStatic, EntryOutside, Truncated, Outside, SegmentsTouch, NoSegment}
-use Rattle.elf_loader.specs.declared.program_header.ProgramHeader.{ProgramHeader}
-use Rattle.std.specs.List.{list_any}
-use Rattle.elf_loader.specs.Headers.{table}
-use Rattle.elf_loader.specs.Segments.{file_end, segments}
-use Rattle.elf_loader.specs.Loaded.{is_cut_off, is_outside, touching, when, unless, starts_outside, is_interpreter, header_refusal, segment_refusal, program_of, refusal, image_of}
 
 -- a choice of two is none if both are
 pub cond_none : {X : Type 0} (b : Bool) (x : X) (r : Option X) → cond b (Some x) r ≡ None → (b ≡ false) × (r ≡ None)

@@ -1,16 +1,6 @@
 -- The program of a file is one as its type has it.
-use Rattle.std.proofs.Common.{◌≡◌, ◌≤◌, ℕ, zero, suc, ◌+◌, ◌-◌, ◌*◌, ◌/◌, ◌%◌, ◌<◌, ◌^◌, ◌&&◌, nat_le, nat_lt, Bool, true, false, List, [], ◌∷◌, map, length, slice_index, sym, subst, arith}
-use Rattle.std.specs.Prelude.{All, if◌then◌else◌}
-use Rattle.std.specs.List.{AllByRecursion, range_with_len}
-use Rattle.std.proofs.lemmas.List.Elements.{All-head, All-tail}
-use Rattle.std.proofs.lemmas.List.Sorted.{All-permutation}
-use Rattle.std.proofs.lemmas.List.FromFn.{length-map-range_with_len}
-use Rattle.bn_base.specs.Programs.{IsPart}
+use Rattle.elf_loader.proofs.Common.{◌≡◌, ◌≤◌, ℕ, zero, suc, ◌+◌, ◌-◌, ◌*◌, ◌/◌, ◌%◌, ◌<◌, ◌^◌, ◌&&◌, nat_le, nat_lt, Bool, true, false, List, [], ◌∷◌, map, length, slice_index, sym, subst, arith, All, if◌then◌else◌, AllByRecursion, range_with_len, All-head, All-tail, All-permutation, length-map-range_with_len, IsPart, AreBytes, ProgramHeader, program_of, is_segment, byte_in, word_of, file_words, first_word, words_touched, part_of, by_address, segments}
 use Rattle.le_numbers.specs.Laws.{Fit}
-use Rattle.le_numbers.specs.Numbers.{AreBytes}
-use Rattle.elf_loader.specs.declared.program_header.ProgramHeader.{ProgramHeader}
-use Rattle.elf_loader.specs.Loaded.{program_of}
-use Rattle.elf_loader.specs.Segments.{is_segment, byte_in, word_of, file_words, first_word, words_touched, part_of, by_address, segments}
 use Rattle.elf_loader.specs.Laws.{HasWords, IsImage, LoadedProgramsAreImages}
 use Rattle.elf_loader.proofs.Laid.{AreSegments-segments, IsTaken, all_taken, parts_apart}
 use Rattle.elf_loader.proofs.Order.{AreSegments, IsPermutation-by_address}

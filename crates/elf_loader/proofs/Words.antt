@@ -1,12 +1,5 @@
 -- Words out of a file's bytes.
-use Rattle.std.proofs.Common.{◌≡◌, ℕ, ◌+◌, ◌-◌, ◌*◌, ◌/◌, ◌%◌, ◌<◌, ◌≤◌, zero, suc, List, [], ◌∷◌, drop, map, get_or, slice_index, refl, ap, sym, ◌∙◌, ◌⊎◌, inl, inr, arith}
-use Rattle.std.proofs.lemmas.Bool.{cases_lt}
-use Rattle.std.proofs.lemmas.List.{get_or-drop, get_or_past}
-use Rattle.std.proofs.lemmas.List.FromFn.{length-map-range_with_len, get_or-map-range_with_len}
-use Rattle.std.specs.List.{range_with_len}
-use Rattle.le_numbers.specs.Numbers.{number_at}
-use Rattle.elf_loader.specs.declared.program_header.ProgramHeader.{ProgramHeader}
-use Rattle.elf_loader.specs.Segments.{byte_in, word_of, words_touched, first_word, file_words}
+use Rattle.elf_loader.proofs.Common.{◌≡◌, ℕ, ◌+◌, ◌-◌, ◌*◌, ◌/◌, ◌%◌, ◌<◌, ◌≤◌, zero, suc, List, [], ◌∷◌, drop, map, get_or, slice_index, refl, ap, sym, ◌∙◌, ◌⊎◌, inl, inr, arith, cases_lt, get_or-drop, get_or_past, length-map-range_with_len, get_or-map-range_with_len, range_with_len, number_at, ProgramHeader, byte_in, word_of, words_touched, first_word, file_words}
 
 -- a byte that the file has
 pub byte_in-inside : (bytes : List ℕ) (h : ProgramHeader) (addr at : ℕ) → h.vaddr ≤ addr → addr < h.vaddr + h.filesz → h.offset + (addr - h.vaddr) ≡ at → byte_in bytes h addr ≡ slice_index bytes at

@@ -1,11 +1,5 @@
 -- Heads of files that are refused, worked out.
-use Rattle.std.proofs.Common.{◌≡◌, ◌∷◌, ◌++◌, [], Some, refl}
-use Rattle.bn_base.specs.Ranges.{default_settings}
-use Rattle.le_numbers.specs.Numbers.{number_at, number_bytes}
-use Rattle.elf_loader.specs.declared.error.ElfError.TheVariants.{NotElf, Truncated, NotRv32, NotStatic, NeedsCompressed, NeedsE, TooMany, Outside, SegmentsTouch, NoSegment, EntryOutside}
-use Rattle.elf_loader.specs.Headers.{table}
-use Rattle.elf_loader.specs.Segments.{segments, file_words}
-use Rattle.elf_loader.specs.Loaded.{header_refusal, segment_refusal, program_of, refusal}
+use Rattle.elf_loader.proofs.Common.{◌≡◌, ◌∷◌, ◌++◌, [], Some, refl, default_settings, number_at, number_bytes, NotElf, Truncated, NotRv32, NotStatic, NeedsCompressed, NeedsE, TooMany, Outside, SegmentsTouch, NoSegment, EntryOutside, table, segments, file_words, header_refusal, segment_refusal, program_of, refusal}
 use Rattle.elf_loader.specs.Examples.{head, segment}
 
 pub empty_is : refusal [] default_settings ≡ Some NotElf

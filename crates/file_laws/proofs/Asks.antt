@@ -1,22 +1,11 @@
 -- A hart's states and asks hold words, if the registers and the program do.
-use Rattle.std.proofs.Common.{◌≡◌, ℕ, zero, suc, ◌+◌, ◌*◌, ◌/◌, ◌%◌, ◌<◌, ◌^◌, Bool, true, false, List, [], ◌∷◌, set, slice_index, length, refl, ◌∙◌, arith, mod-lt, pow_pos}
-use Rattle.std.specs.Prelude.{◌==◌, not, nat_lt, if◌then◌else◌, Option, Some, None}
-use Rattle.std.proofs.lemmas.List.{length-set}
-use Rattle.bn_base.specs.Programs.{Program, code_at, may_load, may_store}
+use Rattle.file_laws.proofs.Common.{◌≡◌, ℕ, zero, suc, ◌+◌, ◌*◌, ◌/◌, ◌%◌, ◌<◌, ◌^◌, Bool, true, false, List, [], ◌∷◌, set, slice_index, length, refl, ◌∙◌, arith, mod-lt, pow_pos, ◌==◌, not, nat_lt, if◌then◌else◌, Option, Some, None, length-set, Program, code_at, may_load, may_store, HartState, TargetMisaligned, LoadOutside, LoadMisaligned, StoreOutside, StoreMisaligned, StoreReadOnly, wrap, add, less, AreWords, Step, Quiet, Asks, ask_of, fetched, executed, meaning, branch, reg, src1, src2, near, there, next_with, next_at, load_or, store_or, AmoOp, Ask, Want, Load, Store, LoadReserved, StoreConditional, Amo, System, Cut, Faulted}
 use Rattle.bn_base.specs.Registers.{put_reg}
-use Rattle.bn_base.specs.declared.state.HartState.{HartState}
-use Rattle.bn_base.specs.declared.fault.Fault.TheVariants.{TargetMisaligned, LoadOutside, LoadMisaligned, StoreOutside, StoreMisaligned, StoreReadOnly}
 use Rattle.rv_decode.specs.Table.{Instruction, decoded}
 use Rattle.rv_decode.specs.declared.name.Name.{Name}
 use Rattle.rv_decode.specs.declared.name.Name.TheVariants.{Jal, Jalr, Beq, Bne, Blt, Bge, Bltu, Bgeu, Lb, Lh, Lw, Lbu, Lhu, Sb, Sh, Sw, Fence, Ecall, Ebreak, LrW, ScW, AmoswapW, AmoaddW, AmoxorW, AmoandW, AmoorW, AmominW, AmomaxW, AmominuW, AmomaxuW}
-use Rattle.rv_meaning.specs.Words.{wrap, add, less}
-use Rattle.rv_meaning.specs.WordStates.{AreWords}
-use Rattle.rv_meaning.specs.Execute.{Step, Quiet, Asks, ask_of, step, fetched, executed, meaning, branch, reg, src1, src2, near, there, next_with, next_at, load_or, store_or}
-use Rattle.rv_meaning.specs.declared.amo.AmoOp.{AmoOp}
+use Rattle.rv_meaning.specs.Execute.{step}
 use Rattle.rv_meaning.specs.declared.amo.AmoOp.TheVariants as ops
-use Rattle.rv_meaning.specs.declared.asks.Ask.{Ask}
-use Rattle.rv_meaning.specs.declared.asks.Want.{Want}
-use Rattle.rv_meaning.specs.declared.asks.Want.TheVariants.{Load, Store, LoadReserved, StoreConditional, Amo, System, Cut, Faulted}
 
 -- the law of registers that is used here
 abbrev pub StepsKeepWords : Type 0

@@ -1,38 +1,8 @@
 -- What is kept of a recording is what a log says.
-use Rattle.std.proofs.Common.{◌≡◌, ℕ, zero, suc, ◌+◌, ◌-◌, ◌*◌, ◌%◌, ◌<◌, ◌≤◌, ◌^◌, Bool, true, false, nat_lt, Option, Some, None, List, [], ◌∷◌, ◌++◌, length, replicate, set, refl, sym, ◌∙◌, ap, subst, arith, inl, inr, mod-lt, pow_pos, mul-le-mul}
-use Rattle.std.specs.Prelude.{◌==◌, if◌then◌else◌, slice_set, IsTrue}
-use Rattle.std.specs.List.{AllByRecursion}
-use Rattle.std.proofs.lemmas.Bool.Decides.{eqb_tells}
-use Rattle.std.proofs.lemmas.List.{length-append}
-use Rattle.bn_base.specs.Programs.{Program}
-use Rattle.bn_base.specs.Ranges.{IsSetting}
-use Rattle.bn_base.specs.declared.settings.RawSettings.{RawSettings}
-use Rattle.bn_base.specs.declared.state.HartState.{HartState}
-use Rattle.rv_meaning.specs.Execute.{ask_of, absorbed}
-use Rattle.rv_meaning.specs.Orderly.{orderly, passes, is_counted}
-use Rattle.rv_meaning.specs.WordStates.{AreWords}
-use Rattle.rv_meaning.specs.declared.asks.Ask.{Ask}
-use Rattle.system_calls.specs.declared.effect.Plan.{Plan}
-use Rattle.race_log.specs.Points.{Point}
-use Rattle.elf_loader.specs.Laws.{IsImage}
-use Rattle.log_record.specs.declared.record.Record.{Record}
-use Rattle.log_record.specs.Spelling.{Fits, total}
-use Rattle.log_order.specs.Content.{IsContent}
-use Rattle.log_order.specs.Order.{broken_by}
-use Rattle.log_ring.specs.Kept.{kept}
-use Rattle.run_model.specs.declared.hart.Hart.{Hart}
-use Rattle.run_model.specs.declared.turn_end.TurnEnd.{TurnEnd}
-use Rattle.run_model.specs.declared.span.Span.{Span}
-use Rattle.run_model.specs.Machine.{Answered, answer, call_of}
-use Rattle.run_model.specs.Turn.{Run, Served, turn, ask_at, is_guarded, begun_anew, guarded_run, guard_records, after_ask, span_of, next_of, loading, warmth, word_before, budget, point_of, edge_records, load_record, sc_record, next_records, run_over_records, harts_after, is_orderly}
-use Rattle.run_model.specs.Runs.{start, start_state, first_headers, run_from, legal_from, is_live, most_turns}
-use Rattle.run_model.specs.Counts.{IsFit, MovesOn}
-use Rattle.run_model.specs.KeptRecords.{kept_of, dropped_of, content_of}
-use Rattle.file_laws.specs.Recorded.{counts_of}
+use Rattle.file_laws.proofs.Common.{◌≡◌, ℕ, zero, suc, ◌+◌, ◌-◌, ◌*◌, ◌%◌, ◌<◌, ◌≤◌, ◌^◌, Bool, true, false, nat_lt, Option, Some, None, List, [], ◌∷◌, ◌++◌, length, replicate, set, refl, sym, ◌∙◌, ap, subst, arith, inl, inr, mod-lt, pow_pos, mul-le-mul, ◌==◌, if◌then◌else◌, slice_set, IsTrue, AllByRecursion, eqb_tells, length-append, Program, IsSetting, RawSettings, HartState, ask_of, absorbed, orderly, passes, is_counted, AreWords, Ask, Plan, Point, IsImage, Record, Fits, total, IsContent, broken_by, kept, Hart, TurnEnd, Span, Answered, answer, call_of, Run, Served, turn, ask_at, is_guarded, begun_anew, guarded_run, guard_records, after_ask, span_of, next_of, loading, warmth, word_before, budget, point_of, edge_records, load_record, sc_record, next_records, run_over_records, harts_after, is_orderly, start, start_state, first_headers, run_from, legal_from, is_live, most_turns, IsFit, MovesOn, kept_of, dropped_of, content_of, counts_of, EdgesAreFew}
 use Rattle.file_laws.proofs.Asks.{StepsKeepWords, asks_well}
 use Rattle.file_laws.proofs.Machines.{HoldsMachine, IsWordState, EndIsWord, answer_well, state_after, end_word, code_words, first_words, heap_word}
 use Rattle.file_laws.proofs.Nexts.{EndsAs, next_ends}
-use Rattle.run_laws.specs.Laws.{EdgesAreFew}
 use Rattle.file_laws.proofs.Few.{few_edges}
 use Rattle.file_laws.proofs.Fields.{header_fits, edge_records_fit, load_fits, conditional_fits, next_fits, over_fits, fits_any, guard_fits, load_few, conditional_few, next_few, over_few}
 use Rattle.file_laws.proofs.Turns.{Laws, Recording, Underway, all_both, own_hart, own_is, other_is, own_state, other_state, turn_within, asking, guard_is, uncut, anew_is, anew_other, asking_kept, asks, served, turn_kept}

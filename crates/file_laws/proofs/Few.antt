@@ -1,10 +1,5 @@
 -- An instruction has at most one Edge from each hart.
-use Rattle.std.proofs.Common.{◌≡◌, ℕ, suc, ◌≤◌, Option, Some, None, List, [], ◌∷◌, length, refl, ap, arith}
-use Rattle.race_log.specs.Points.{Point}
-use Rattle.race_log.specs.Kept.{after}
-use Rattle.race_log.specs.Tests.{sources_into}
-use Rattle.run_laws.specs.Laws.{EdgesAreFew}
-use Rattle.run_model.specs.Turn.{edges_from, edge_records}
+use Rattle.file_laws.proofs.Common.{◌≡◌, ℕ, suc, ◌≤◌, Option, Some, None, List, [], ◌∷◌, length, refl, ap, arith, Point, after, sources_into, EdgesAreFew, edges_from, edge_records}
 use Rattle.file_laws.proofs.Sources.{ArePoints}
 
 edges_count : (k ic : ℕ) (ss : List (ℕ × ℕ)) → length (edges_from k ic ss) ≡ length ss

@@ -1,24 +1,7 @@
 -- The records of a turn fit their fields, and are few.
-use Rattle.std.proofs.Common.{◌≡◌, ℕ, zero, suc, ◌+◌, ◌<◌, ◌≤◌, ◌^◌, Bool, true, false, not, ◌&&◌, ◌||◌, Option, Some, None, List, [], ◌∷◌, length, slice_index, refl, sym, ◌∙◌, ap, arith}
-use Rattle.std.specs.Prelude.{◌==◌}
-use Rattle.std.specs.List.{AllByRecursion}
-use Rattle.bn_base.specs.declared.settings.RawSettings.{RawSettings}
-use Rattle.bn_base.specs.declared.state.HartState.{HartState}
-use Rattle.rv_meaning.specs.WordStates.{AreWords}
-use Rattle.rv_meaning.specs.declared.asks.Reply.{Reply}
+use Rattle.file_laws.proofs.Common.{◌≡◌, ℕ, zero, suc, ◌+◌, ◌<◌, ◌≤◌, ◌^◌, Bool, true, false, not, ◌&&◌, ◌||◌, Option, Some, None, List, [], ◌∷◌, length, slice_index, refl, sym, ◌∙◌, ap, arith, ◌==◌, AllByRecursion, RawSettings, HartState, AreWords, Reply, Warm, Point, Record, EndMark, Header, FirstLoad, ScOk, ScFailed, Edge, End, Fits, AreRegisters, has_value, is_mark, is_marked, Hart, TurnEnd, GoesOn, NewInterval, HartOver, RunOver, is_marked_next, edges_from, edge_records, load_record, sc_record, next_records, stopped_records, run_over_records, by_guard, header, mark}
 use Rattle.rv_meaning.specs.declared.asks.Reply.TheVariants as replies
-use Rattle.first_load_bits.specs.declared.warm.Warm.{Warm}
 use Rattle.first_load_bits.specs.declared.warm.Warm.TheVariants as answers
-use Rattle.race_log.specs.Points.{Point}
-use Rattle.log_record.specs.declared.record.Record.{Record}
-use Rattle.bn_base.specs.declared.end_mark.EndMark.{EndMark}
-use Rattle.log_record.specs.declared.record.Record.TheVariants.{Header, FirstLoad, ScOk, ScFailed, Edge, End}
-use Rattle.log_record.specs.Spelling.{Fits, AreRegisters, has_value, is_mark, is_marked}
-use Rattle.run_model.specs.declared.hart.Hart.{Hart}
-use Rattle.run_model.specs.declared.turn_end.TurnEnd.{TurnEnd}
-use Rattle.run_model.specs.declared.turn_end.TurnEnd.TheVariants.{GoesOn, NewInterval, HartOver, RunOver}
-use Rattle.run_model.specs.Represents.Logs.{is_marked_next}
-use Rattle.run_model.specs.Turn.{edges_from, edge_records, load_record, sc_record, next_records, stopped_records, run_over_records, by_guard, header, mark}
 use Rattle.file_laws.proofs.Views.{AreSources}
 use Rattle.file_laws.proofs.Sources.{ListedEdges, ArePoints, sources_are}
 use Rattle.file_laws.proofs.Nexts.{EndsAs}

@@ -1,31 +1,11 @@
 -- Answers to asks that hold words are words, and memory keeps to them.
-use Rattle.std.proofs.Common.{◌≡◌, ℕ, zero, suc, ◌+◌, ◌-◌, ◌/◌, ◌%◌, ◌<◌, ◌≤◌, ◌^◌, Bool, true, false, ◌&&◌, ◌||◌, min, cond, nat_le, Option, Some, None, List, [], ◌∷◌, take, slice_index, get_or, refl, arith, if◌then◌else◌}
-use Rattle.std.specs.Prelude.{◌==◌}
-use Rattle.std.specs.List.{AllByRecursion}
-use Rattle.bn_base.specs.Programs.{Program, Part, AreApart, IsProgram, code_at, first_at, part_at, part_or, is_in, word_in, code_in, first_in, may_load, may_store, end_of, highest_end, heap_start, heap_limit}
-use Rattle.bn_base.specs.declared.settings.RawSettings.{RawSettings}
-use Rattle.bn_base.specs.declared.state.HartState.{HartState}
-use Rattle.rv_meaning.specs.Words.{aligned, with_bytes, add}
-use Rattle.rv_meaning.specs.WordStates.{AreWords}
-use Rattle.rv_meaning.specs.Access.{stored_word, amo_result, loaded_value}
-use Rattle.rv_meaning.specs.Orderly.{passes, is_aligned}
-use Rattle.rv_meaning.specs.Execute.{after, absorbed, next_with}
-use Rattle.rv_meaning.specs.declared.asks.Ask.{Ask}
-use Rattle.rv_meaning.specs.declared.asks.Want.{Want}
-use Rattle.rv_meaning.specs.declared.asks.Want.TheVariants.{Load, Store, LoadReserved, StoreConditional, Amo, System, Cut, Faulted}
-use Rattle.rv_meaning.specs.declared.asks.Reply.{Reply}
+use Rattle.file_laws.proofs.Common.{◌≡◌, ℕ, zero, suc, ◌+◌, ◌-◌, ◌/◌, ◌%◌, ◌<◌, ◌≤◌, ◌^◌, Bool, true, false, ◌&&◌, ◌||◌, min, cond, nat_le, Option, Some, None, List, [], ◌∷◌, take, slice_index, get_or, refl, arith, if◌then◌else◌, ◌==◌, AllByRecursion, Program, Part, AreApart, IsProgram, code_at, first_at, part_at, part_or, is_in, word_in, code_in, first_in, may_load, may_store, end_of, highest_end, heap_start, heap_limit, RawSettings, HartState, aligned, with_bytes, add, AreWords, stored_word, amo_result, loaded_value, passes, is_aligned, absorbed, next_with, Ask, Want, Load, Store, LoadReserved, StoreConditional, Amo, System, Cut, Faulted, Reply, Plan, HasWords, Hart, TurnEnd, GoesOn, NewInterval, HartOver, RunOver, Machine, Answered, answer, answer_access, answer_call, answer_sc, call_of, planned, kernel_of, put_byte, filled, is_reserved, bytes_in, sent, next_of, after_call}
+use Rattle.rv_meaning.specs.Execute.{after}
 use Rattle.rv_meaning.specs.declared.asks.Reply.TheVariants as replies
 use Rattle.system_calls.specs.declared.kernel.Kernel.{Kernel}
-use Rattle.system_calls.specs.declared.effect.Plan.{Plan}
 use Rattle.system_calls.specs.declared.effect.Plan.TheVariants as plans
 use Rattle.system_calls.specs.Calls.{plan_of, read_plan, write_plan, break_plan, fill_plan, send_plan, error_answer, all_bytes, stream_size, stream_len}
 use Rattle.bus_memory.specs.Contents.{updated}
-use Rattle.elf_loader.specs.Laws.{HasWords}
-use Rattle.run_model.specs.declared.hart.Hart.{Hart}
-use Rattle.run_model.specs.declared.turn_end.TurnEnd.{TurnEnd}
-use Rattle.run_model.specs.declared.turn_end.TurnEnd.TheVariants.{GoesOn, NewInterval, HartOver, RunOver}
-use Rattle.run_model.specs.Machine.{Machine, Answered, answer, answer_access, answer_call, answer_sc, call_of, planned, kernel_of, put_byte, filled, is_reserved, bytes_in, sent}
-use Rattle.run_model.specs.Turn.{next_of, after_call}
 use Rattle.file_laws.proofs.Asks.{IsFormed, HoldsWords, AsksWell, HasCode, put_words, formed_with, formed_at, next_pc}
 use Rattle.file_laws.proofs.Words.{with_byte, stored, amo_word, loaded_word}
 

@@ -1,32 +1,10 @@
 -- How an interval ends, and the records of that.
-use Rattle.std.proofs.Common.{◌≡◌, ℕ, ◌+◌, ◌-◌, ◌<◌, ◌≤◌, ◌^◌, Bool, true, false, nat_le, Option, Some, None, List, [], ◌∷◌, ◌++◌, Ok, refl, sym, ◌∙◌, subst, arith}
-use Rattle.std.specs.Prelude.{◌==◌, slice_get, slice_set, if◌then◌else◌}
-use Rattle.std.proofs.lemmas.Bool.{false≢true}
+use Rattle.file_laws.proofs.Common.{◌≡◌, ℕ, ◌+◌, ◌-◌, ◌<◌, ◌≤◌, ◌^◌, Bool, true, false, nat_le, Option, Some, None, List, [], ◌∷◌, ◌++◌, Ok, refl, sym, ◌∙◌, subst, arith, ◌==◌, slice_get, slice_set, if◌then◌else◌, false≢true, RawSettings, HartState, Illegal, Breakpoint, FetchOutside, TargetMisaligned, LoadOutside, LoadMisaligned, StoreOutside, StoreMisaligned, StoreReadOnly, Want, Faulted, Reply, Plan, Record, End, OrderLimits, HartView, Awaiting, Open, Done, step, order_limits_of, goes_on, Keeps, Hart, TurnEnd, GoesOn, NewInterval, HartOver, RunOver, next_of, after_call, mark, header, next_records, hart_after, is_on}
 use Rattle.bn_base.specs.Faults.{fault_number}
-use Rattle.bn_base.specs.declared.settings.RawSettings.{RawSettings}
-use Rattle.bn_base.specs.declared.state.HartState.{HartState}
 use Rattle.bn_base.specs.declared.fault.Fault.{Fault}
-use Rattle.bn_base.specs.declared.fault.Fault.TheVariants.{Illegal, Breakpoint, FetchOutside, TargetMisaligned, LoadOutside, LoadMisaligned, StoreOutside, StoreMisaligned, StoreReadOnly}
-use Rattle.rv_meaning.specs.declared.asks.Want.{Want}
-use Rattle.rv_meaning.specs.declared.asks.Want.TheVariants.{Faulted}
-use Rattle.rv_meaning.specs.declared.asks.Reply.{Reply}
 use Rattle.rv_meaning.specs.declared.asks.Reply.TheVariants as replies
-use Rattle.system_calls.specs.declared.effect.Plan.{Plan}
 use Rattle.system_calls.specs.declared.effect.Plan.TheVariants as plans
-use Rattle.log_record.specs.declared.record.Record.{Record}
-use Rattle.log_record.specs.declared.record.Record.TheVariants.{End}
-use Rattle.log_order.specs.declared.view.OrderLimits.{OrderLimits}
-use Rattle.log_order.specs.declared.view.HartView.{HartView}
 use Rattle.log_order.specs.declared.view.Phase.{Phase}
-use Rattle.log_order.specs.declared.view.Phase.TheVariants.{Awaiting, Open, Done}
-use Rattle.log_order.specs.Order.{step, order_limits_of}
-use Rattle.log_order.specs.Rules.{goes_on}
-use Rattle.log_order.specs.Suffix.{Keeps}
-use Rattle.run_model.specs.declared.hart.Hart.{Hart}
-use Rattle.run_model.specs.declared.turn_end.TurnEnd.{TurnEnd}
-use Rattle.run_model.specs.declared.turn_end.TurnEnd.TheVariants.{GoesOn, NewInterval, HartOver, RunOver}
-use Rattle.run_model.specs.Turn.{next_of, after_call, mark, header, next_records, hart_after}
-use Rattle.run_model.specs.Counts.{is_on}
 use Rattle.file_laws.proofs.Views.{OrderLaws, Views, IsOpen, IsDone, IsView, Took, took_none, took_one, took_both}
 
 -- hart h's interval can end so at count ic; on tells whether the hart continues with its next one

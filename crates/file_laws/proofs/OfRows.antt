@@ -1,45 +1,9 @@
 -- What a ring holds after lawful rows is what a log says.
-use Rattle.std.proofs.Common.{◌≡◌, ℕ, zero, suc, ◌+◌, ◌*◌, ◌<◌, ◌≤◌, ◌^◌, Bool, true, false, not, ◌&&◌, nat_lt, Option, Some, None, List, [], ◌∷◌, ◌++◌, length, refl, sym, ◌∙◌, ap, subst, arith, inl, inr}
-use Rattle.std.specs.Prelude.{◌≢◌, ◌==◌}
-use Rattle.std.specs.List.{AllByRecursion}
-use Rattle.std.proofs.lemmas.Bool.Decides.{eqb_tells}
-use Rattle.std.proofs.lemmas.List.{length-append}
-use Rattle.bn_base.specs.Programs.{Program}
-use Rattle.bn_base.specs.Ranges.{IsSetting}
-use Rattle.bn_base.specs.declared.settings.RawSettings.{RawSettings}
-use Rattle.bn_base.specs.declared.state.HartState.{HartState}
-use Rattle.rv_meaning.specs.Execute.{absorbed}
-use Rattle.rv_meaning.specs.declared.asks.Ask.{Ask}
-use Rattle.rv_meaning.specs.declared.asks.Reply.{Reply}
+use Rattle.file_laws.proofs.Common.{◌≡◌, ℕ, zero, suc, ◌+◌, ◌*◌, ◌<◌, ◌≤◌, ◌^◌, Bool, true, false, not, ◌&&◌, nat_lt, Option, Some, None, List, [], ◌∷◌, ◌++◌, length, refl, sym, ◌∙◌, ap, subst, arith, inl, inr, ◌≢◌, ◌==◌, AllByRecursion, eqb_tells, length-append, Program, IsSetting, RawSettings, HartState, absorbed, Ask, Reply, Plan, Warm, Point, after, sources_into, TurnRow, Record, End, Fits, is_mark, is_marked, total, IsContent, broken_by, Held, kept, Hart, TurnEnd, GoesOn, NewInterval, HartOver, RunOver, Span, Answered, answer, call_of, is_marked_next, Run, Served, serve, after_ask, span_of, next_of, loading, warmth, word_before, point_of, edges_from, edge_records, load_record, sc_record, next_records, stopped_records, run_over_records, harts_after, is_orderly, mark, is_guarded, by_guard, begun_anew, guarded_run, guard_records, start, start_hart, start_state, first_headers, most_turns, MovesOn, turns_left, IsRested, kept_of, dropped_of, after_rows, are_orderly, IsLawful, counts_of, HoldsLogOfRows, ring_content, EdgesAreFew}
 use Rattle.rv_meaning.specs.declared.asks.Reply.TheVariants as replies
-use Rattle.system_calls.specs.declared.effect.Plan.{Plan}
-use Rattle.first_load_bits.specs.declared.warm.Warm.{Warm}
 use Rattle.first_load_bits.specs.declared.warm.Warm.TheVariants as answers
-use Rattle.race_log.specs.Points.{Point}
-use Rattle.race_log.specs.Kept.{after}
-use Rattle.race_log.specs.Tests.{sources_into}
-use Rattle.bn_outside.specs.declared.turn_row.TurnRow.{TurnRow}
-use Rattle.log_record.specs.declared.record.Record.{Record}
-use Rattle.log_record.specs.declared.record.Record.TheVariants.{End}
-use Rattle.log_record.specs.Spelling.{Fits, is_mark, is_marked, total}
-use Rattle.log_order.specs.Content.{IsContent}
-use Rattle.log_order.specs.Order.{broken_by}
-use Rattle.log_ring.specs.Kept.{Held, kept}
-use Rattle.run_model.specs.declared.hart.Hart.{Hart}
-use Rattle.run_model.specs.declared.turn_end.TurnEnd.{TurnEnd}
-use Rattle.run_model.specs.declared.turn_end.TurnEnd.TheVariants.{GoesOn, NewInterval, HartOver, RunOver}
-use Rattle.run_model.specs.declared.span.Span.{Span}
-use Rattle.run_model.specs.Machine.{Answered, answer, call_of}
 use Rattle.run_model.specs.Represents.Harts.{all_left}
-use Rattle.run_model.specs.Represents.Logs.{is_marked_next}
-use Rattle.run_model.specs.Turn.{Run, Served, serve, after_ask, span_of, next_of, loading, warmth, word_before, point_of, edges_from, edge_records, load_record, sc_record, next_records, stopped_records, run_over_records, harts_after, is_orderly, mark, is_guarded, by_guard, begun_anew, guarded_run, guard_records}
-use Rattle.run_model.specs.Runs.{start, start_hart, start_state, first_headers, most_turns}
-use Rattle.run_model.specs.Counts.{MovesOn, turns_left, IsRested}
-use Rattle.run_model.specs.KeptRecords.{kept_of, dropped_of}
-use Rattle.run_laws.specs.History.{after_rows, are_orderly, IsLawful}
-use Rattle.file_laws.specs.Recorded.{counts_of, HoldsLogOfRows, ring_content}
 use Rattle.file_laws.proofs.Nexts.{EndsAs, next_ends}
-use Rattle.run_laws.specs.Laws.{EdgesAreFew}
 use Rattle.file_laws.proofs.Few.{few_edges}
 use Rattle.file_laws.proofs.Fields.{plain_mark, load_few, conditional_few, next_few, over_few, marked_any}
 use Rattle.file_laws.proofs.Turns.{Laws, Recording, Underway, IsAsking, all_both, own_hart, own_is, other_is, asking, guard_is, uncut, asking_kept, asks, served, turn_kept}

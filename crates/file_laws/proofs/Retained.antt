@@ -1,12 +1,6 @@
 -- An interval whose Header is kept is one that is replayed.
-use Rattle.std.proofs.Common.{◌≡◌, ℕ, ◌==◌, Bool, true, false, ◌&&◌, Option, Some, List, [], ◌∷◌, ◌++◌, refl, sym, ap, subst, arith}
-use Rattle.log_record.specs.declared.record.Record.{Record}
-use Rattle.log_record.specs.declared.record.Record.TheVariants.{Header, FirstLoad, ScOk, ScFailed, Edge, End}
-use Rattle.hart_replay.specs.Replay.{Interval, interval_of, interval_from, puts, nothing}
-use Rattle.run_model.specs.KeptRecords.{kept_of}
-use Rattle.run_model.specs.Runs.{run_of}
+use Rattle.file_laws.proofs.Common.{◌≡◌, ℕ, ◌==◌, Bool, true, false, ◌&&◌, Option, Some, List, [], ◌∷◌, ◌++◌, refl, sym, ap, subst, arith, Record, Header, FirstLoad, ScOk, ScFailed, Edge, End, Interval, interval_of, interval_from, puts, nothing, kept_of, run_of, LogSuffices}
 use Rattle.run_laws.specs.Retained.{HasHeader, FaultsAreKept}
-use Rattle.replay_laws.specs.Law.{LogSuffices}
 use Rattle.file_laws.specs.Retained.{FaultsAreReplayed}
 
 -- the records have the interval

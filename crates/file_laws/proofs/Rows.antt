@@ -1,30 +1,7 @@
 -- A recording after lawful rows.
-use Rattle.std.proofs.Common.{◌≡◌, ℕ, zero, suc, ◌+◌, ◌-◌, ◌<◌, Bool, true, false, ◌&&◌, ◌||◌, nat_lt, Option, Some, None, List, [], ◌∷◌, ◌++◌, length, replicate, Ok, refl, sym, ◌∙◌, ap, subst, arith, inl, inr}
-use Rattle.std.specs.Prelude.{◌⊎◌, ◌==◌, slice_get}
-use Rattle.std.specs.List.{AllByRecursion}
-use Rattle.std.proofs.lemmas.Bool.{false≢true}
-use Rattle.std.proofs.lemmas.Bool.Decides.{eqb_tells}
-use Rattle.std.proofs.lemmas.List.{length-append}
-use Rattle.bn_base.specs.Programs.{Program}
-use Rattle.bn_base.specs.Ranges.{IsSetting}
-use Rattle.bn_base.specs.declared.settings.RawSettings.{RawSettings}
-use Rattle.rv_meaning.specs.declared.asks.Ask.{Ask}
-use Rattle.bn_outside.specs.declared.turn_row.TurnRow.{TurnRow}
-use Rattle.log_record.specs.declared.record.Record.{Record}
-use Rattle.log_order.specs.declared.view.OrderLimits.{OrderLimits}
-use Rattle.log_order.specs.declared.view.HartView.{HartView}
-use Rattle.log_order.specs.Rules.{fresh, is_done}
-use Rattle.log_order.specs.Order.{after_all, order_limits_of, late_edge, broken, broken_by}
-use Rattle.log_order.specs.Suffix.{Keeps, IsEarly, EndsLast}
+use Rattle.file_laws.proofs.Common.{◌≡◌, ℕ, zero, suc, ◌+◌, ◌-◌, ◌<◌, Bool, true, false, ◌&&◌, ◌||◌, nat_lt, Option, Some, None, List, [], ◌∷◌, ◌++◌, length, replicate, Ok, refl, sym, ◌∙◌, ap, subst, arith, inl, inr, ◌⊎◌, ◌==◌, slice_get, AllByRecursion, false≢true, eqb_tells, length-append, Program, IsSetting, RawSettings, Ask, TurnRow, Record, OrderLimits, HartView, fresh, is_done, after_all, order_limits_of, late_edge, broken, broken_by, Keeps, IsEarly, EndsLast, Held, HoldsLog, kept, Hart, Run, Served, serve, serve_disorderly, served_if, is_orderly, is_live, any_live, kept_of, dropped_of, after_rows, are_orderly, IsLawful, counts_of, KeepsRules}
 use Rattle.log_order.specs.Weak.{AreWeak}
-use Rattle.log_ring.specs.Kept.{Held, HoldsLog, kept}
-use Rattle.run_model.specs.declared.hart.Hart.{Hart}
-use Rattle.run_model.specs.Turn.{Run, Served, serve, serve_disorderly, served_if, is_orderly}
-use Rattle.run_model.specs.Runs.{is_live, any_live}
 use Rattle.run_model.specs.Runs as runs
-use Rattle.run_model.specs.KeptRecords.{kept_of, dropped_of}
-use Rattle.run_laws.specs.History.{after_rows, are_orderly, IsLawful}
-use Rattle.file_laws.specs.Recorded.{counts_of, KeepsRules}
 use Rattle.file_laws.proofs.Views.{Views}
 use Rattle.file_laws.proofs.Turns.{Laws, Recording, turn_kept}
 

@@ -1,16 +1,8 @@
 -- What is read of a file, and what is salvaged of a damaged one.
-use Rattle.std.proofs.Common.{◌≡◌, List, ◌++◌, append_assoc, Result, Ok, sym, ap, ◌∙◌, arith}
-use Rattle.sha2.specs.Sha256.{sha256}
-use Rattle.log_record.specs.declared.record.Record.{Record}
-use Rattle.log_order.specs.Content.{Content}
+use Rattle.file_laws.proofs.Common.{◌≡◌, List, ◌++◌, append_assoc, Result, Ok, sym, ap, ◌∙◌, arith, sha256, Record, Content, Run, run_of, kept_of, content_of, IsEndOf, KeptIsAnEnd, EndsSuffice}
 use Rattle.log_blocks.specs.declared.damage.Damage.{Damage}
 use Rattle.log_blocks.specs.Cuts.{records_in}
 use Rattle.log_blocks.specs.Laws.{SalvagedAreAnEnd}
-use Rattle.run_model.specs.Turn.{Run}
-use Rattle.run_model.specs.Runs.{run_of}
-use Rattle.run_model.specs.KeptRecords.{kept_of, content_of, IsEndOf}
-use Rattle.run_laws.specs.Laws.{KeptIsAnEnd}
-use Rattle.replay_laws.specs.Law.{EndsSuffice}
 use Rattle.file_laws.specs.Laws.{LogsAreContents, SalvagedFilesSuffice}
 
 abbrev pub says : Content → Result Content Damage

@@ -1,15 +1,7 @@
 -- The sources of the Edges into a point are earlier points of other harts.
-use Rattle.std.proofs.Common.{◌≡◌, ℕ, zero, suc, ◌+◌, ◌<◌, ◌≤◌, Option, Some, None, List, [], ◌∷◌, ◌++◌, length, map, refl, sym, ◌∙◌, ap, subst, arith, inl, inr}
-use Rattle.std.specs.Prelude.{◌≢◌, ◌⊎◌, ◌↔◌, slice_get, Contains}
+use Rattle.file_laws.proofs.Common.{◌≡◌, ℕ, zero, suc, ◌+◌, ◌<◌, ◌≤◌, Option, Some, None, List, [], ◌∷◌, ◌++◌, length, map, refl, sym, ◌∙◌, ap, subst, arith, inl, inr, ◌≢◌, ◌⊎◌, ◌↔◌, slice_get, Contains, eqb_tells, AllByRecursion, IsEarly, Point, after, edges_into, name_of, sources_into, edges_from, edge_records}
 use Rattle.std.proofs.lemmas.Option.{slice_get_within}
-use Rattle.std.proofs.lemmas.Bool.Decides.{eqb_tells}
-use Rattle.std.specs.List.{AllByRecursion}
-use Rattle.log_order.specs.Suffix.{IsEarly}
-use Rattle.race_log.specs.Points.{Point}
 use Rattle.race_log.specs.Netzer.{IsEdge}
-use Rattle.race_log.specs.Kept.{after}
-use Rattle.race_log.specs.Tests.{edges_into, name_of, sources_into}
-use Rattle.run_model.specs.Turn.{edges_from, edge_records}
 use Rattle.file_laws.proofs.Views.{IsSource, AreSources}
 
 -- the law of listed edges that is used here

@@ -1,23 +1,5 @@
 -- A recording at its start: the Header of each hart's first interval.
-use Rattle.std.proofs.Common.{◌≡◌, ℕ, zero, suc, ◌+◌, ◌<◌, ◌≤◌, true, false, Some, None, List, [], ◌∷◌, ◌++◌, length, replicate, refl, sym, ◌∙◌, ap, subst, arith, append_assoc, inl, inr}
-use Rattle.std.specs.Prelude.{◌≢◌, ◌⊎◌, ◌==◌, slice_get}
-use Rattle.std.specs.List.{AllByRecursion}
-use Rattle.std.proofs.lemmas.Bool.Decides.{eqb_tells}
-use Rattle.std.proofs.lemmas.List.{append-nil}
-use Rattle.bn_base.specs.Programs.{Program}
-use Rattle.bn_base.specs.Ranges.{IsSetting}
-use Rattle.bn_base.specs.declared.settings.RawSettings.{RawSettings}
-use Rattle.bn_base.specs.declared.state.HartState.{HartState}
-use Rattle.log_record.specs.declared.record.Record.{Record}
-use Rattle.log_order.specs.declared.view.OrderLimits.{OrderLimits}
-use Rattle.log_order.specs.declared.view.HartView.{HartView}
-use Rattle.log_order.specs.declared.view.Phase.TheVariants.{Open}
-use Rattle.log_order.specs.Rules.{fresh}
-use Rattle.log_order.specs.Order.{order_limits_of}
-use Rattle.log_order.specs.Suffix.{Keeps, IsEarly}
-use Rattle.run_model.specs.Turn.{header}
-use Rattle.run_model.specs.Runs.{start, start_hart, start_state, first_headers}
-use Rattle.run_model.specs.Counts.{IsRested}
+use Rattle.file_laws.proofs.Common.{◌≡◌, ℕ, zero, suc, ◌+◌, ◌<◌, ◌≤◌, true, false, Some, None, List, [], ◌∷◌, ◌++◌, length, replicate, refl, sym, ◌∙◌, ap, subst, arith, append_assoc, inl, inr, ◌≢◌, ◌⊎◌, ◌==◌, slice_get, AllByRecursion, eqb_tells, append-nil, Program, IsSetting, RawSettings, HartState, Record, OrderLimits, HartView, Open, fresh, order_limits_of, Keeps, IsEarly, header, start, start_hart, start_state, first_headers, IsRested}
 use Rattle.file_laws.proofs.Views.{OrderLaws, Views, IsOpen, Took, took_one}
 use Rattle.file_laws.proofs.Nexts.{open_view}
 use Rattle.file_laws.proofs.Turns.{Recording}

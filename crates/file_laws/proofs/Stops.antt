@@ -1,18 +1,5 @@
 -- The end of the run stops the harts that are still live.
-use Rattle.std.proofs.Common.{◌≡◌, ℕ, zero, suc, ◌+◌, ◌<◌, ◌≤◌, Bool, true, false, not, ◌&&◌, Option, Some, List, [], ◌∷◌, ◌++◌, length, refl, sym, ◌∙◌, ap, subst, arith, append_assoc, inl, inr}
-use Rattle.std.specs.Prelude.{◌≢◌, ◌⊎◌, ◌==◌, slice_get}
-use Rattle.std.proofs.lemmas.Bool.{false≢true}
-use Rattle.std.proofs.lemmas.Bool.Decides.{eqb_tells}
-use Rattle.std.proofs.lemmas.List.{append-nil}
-use Rattle.bn_base.specs.declared.settings.RawSettings.{RawSettings}
-use Rattle.log_record.specs.declared.record.Record.{Record}
-use Rattle.log_record.specs.declared.record.Record.TheVariants.{End}
-use Rattle.log_order.specs.declared.view.HartView.{HartView}
-use Rattle.log_order.specs.Order.{order_limits_of}
-use Rattle.log_order.specs.Suffix.{Keeps}
-use Rattle.run_model.specs.declared.hart.Hart.{Hart}
-use Rattle.run_model.specs.Counts.{IsFit}
-use Rattle.run_model.specs.Turn.{mark, stopped, stopped_records}
+use Rattle.file_laws.proofs.Common.{◌≡◌, ℕ, zero, suc, ◌+◌, ◌<◌, ◌≤◌, Bool, true, false, not, ◌&&◌, Option, Some, List, [], ◌∷◌, ◌++◌, length, refl, sym, ◌∙◌, ap, subst, arith, append_assoc, inl, inr, ◌≢◌, ◌⊎◌, ◌==◌, slice_get, false≢true, eqb_tells, append-nil, RawSettings, Record, End, HartView, order_limits_of, Keeps, Hart, IsFit, mark, stopped, stopped_records}
 use Rattle.file_laws.proofs.Views.{OrderLaws, Views, IsDone, IsView, Took}
 use Rattle.file_laws.proofs.Nexts.{IsWithin, EndsSo, took_last, done_view}
 

@@ -1,37 +1,8 @@
 -- One turn of a recording: its records keep the rules, and leave the harts' views as the harts are.
-use Rattle.std.proofs.Common.{◌≡◌, ℕ, zero, suc, ◌+◌, ◌-◌, ◌<◌, ◌≤◌, ◌^◌, Bool, true, false, not, ◌&&◌, Option, Some, None, List, [], ◌∷◌, ◌++◌, length, refl, sym, ◌∙◌, ap, subst, arith, append_assoc, inl, inr}
-use Rattle.std.specs.Prelude.{◌==◌, slice_get, nat_le, nat_lt, if◌then◌else◌}
-use Rattle.std.specs.List.{AllByRecursion}
-use Rattle.std.proofs.lemmas.Bool.Decides.{eqb_tells}
+use Rattle.file_laws.proofs.Common.{◌≡◌, ℕ, zero, suc, ◌+◌, ◌-◌, ◌<◌, ◌≤◌, ◌^◌, Bool, true, false, not, ◌&&◌, Option, Some, None, List, [], ◌∷◌, ◌++◌, length, refl, sym, ◌∙◌, ap, subst, arith, append_assoc, inl, inr, ◌==◌, slice_get, nat_le, nat_lt, if◌then◌else◌, AllByRecursion, eqb_tells, append-nil, Program, IsSetting, RawSettings, HartState, absorbed, is_cut, is_counted, passes, Ask, Want, Reply, Warm, Plan, Point, Record, Header, FirstLoad, ScOk, ScFailed, Edge, End, total, order_limits_of, Keeps, IsEarly, Hart, TurnEnd, GoesOn, NewInterval, HartOver, RunOver, Span, Answered, answer, call_of, Run, Served, serve, serve_orderly, served_if, is_guarded, by_guard, begun_anew, guarded_run, guard_records, after_ask, span_of, next_of, loading, warmth, skipped_after, word_before, budget, point_of, points_after, edge_records, load_record, sc_record, next_records, stopped_records, run_over_records, hart_after, other_after, harts_after, is_orderly, mark, IsFit, IsRested, is_there, is_on, MovesOn, anew, EachTurnMovesOn, EachTurnFits, OthersStayFit, GuardedAsksFit, turns_left, counts_of}
 use Rattle.std.proofs.lemmas.Grind.{common_steps}
-use Rattle.std.proofs.lemmas.List.{append-nil}
-use Rattle.bn_base.specs.Programs.{Program}
-use Rattle.bn_base.specs.Ranges.{IsSetting}
-use Rattle.bn_base.specs.declared.settings.RawSettings.{RawSettings}
-use Rattle.bn_base.specs.declared.state.HartState.{HartState}
-use Rattle.rv_meaning.specs.Execute.{absorbed}
-use Rattle.rv_meaning.specs.Orderly.{is_cut, is_counted, passes}
-use Rattle.rv_meaning.specs.declared.asks.Ask.{Ask}
-use Rattle.rv_meaning.specs.declared.asks.Want.{Want}
-use Rattle.rv_meaning.specs.declared.asks.Reply.{Reply}
 use Rattle.rv_meaning.specs.declared.asks.Reply.TheVariants as replies
-use Rattle.first_load_bits.specs.declared.warm.Warm.{Warm}
 use Rattle.first_load_bits.specs.declared.warm.Warm.TheVariants as answers
-use Rattle.system_calls.specs.declared.effect.Plan.{Plan}
-use Rattle.race_log.specs.Points.{Point}
-use Rattle.log_record.specs.declared.record.Record.{Record}
-use Rattle.log_record.specs.declared.record.Record.TheVariants.{Header, FirstLoad, ScOk, ScFailed, Edge, End}
-use Rattle.log_record.specs.Spelling.{total}
-use Rattle.log_order.specs.Order.{order_limits_of}
-use Rattle.log_order.specs.Suffix.{Keeps, IsEarly}
-use Rattle.run_model.specs.declared.hart.Hart.{Hart}
-use Rattle.run_model.specs.declared.turn_end.TurnEnd.{TurnEnd}
-use Rattle.run_model.specs.declared.turn_end.TurnEnd.TheVariants.{GoesOn, NewInterval, HartOver, RunOver}
-use Rattle.run_model.specs.declared.span.Span.{Span}
-use Rattle.run_model.specs.Machine.{Answered, answer, call_of}
-use Rattle.run_model.specs.Turn.{Run, Served, serve, serve_orderly, served_if, is_guarded, by_guard, begun_anew, guarded_run, guard_records, after_ask, span_of, next_of, loading, warmth, skipped_after, word_before, budget, point_of, points_after, edge_records, load_record, sc_record, next_records, stopped_records, run_over_records, hart_after, other_after, harts_after, is_orderly, mark}
-use Rattle.run_model.specs.Counts.{IsFit, IsRested, is_there, is_on, MovesOn, anew, EachTurnMovesOn, EachTurnFits, OthersStayFit, GuardedAsksFit, turns_left}
-use Rattle.file_laws.specs.Recorded.{counts_of}
 use Rattle.file_laws.proofs.Views.{OrderLaws, Views, IsOpen, IsView, Took, took_none, took_both, took_edges, took_load, took_conditional, open_later, AreSources}
 use Rattle.file_laws.proofs.Nexts.{EndsAs, IsWithin, next_ends, ends_on, guard_ends, took_next}
 use Rattle.file_laws.proofs.Sources.{ListedEdges, ArePoints, sources_are, edges_early, points_go_on}

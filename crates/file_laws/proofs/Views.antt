@@ -1,22 +1,7 @@
 -- What is known of a hart from the records so far, and the records of a turn that are its hart's own.
-use Rattle.std.proofs.Common.{◌≡◌, ℕ, zero, suc, ◌+◌, ◌<◌, ◌≤◌, ◌^◌, max, Bool, true, false, Option, Some, None, List, [], ◌∷◌, ◌++◌, length, Ok, refl, sym, ◌∙◌, subst, arith, append_assoc}
-use Rattle.std.specs.Prelude.{◌≢◌, ◌==◌, slice_get, slice_set}
-use Rattle.std.proofs.lemmas.List.{length-set, append-nil}
-use Rattle.bn_base.specs.declared.end_mark.EndMark.{EndMark}
-use Rattle.rv_meaning.specs.declared.asks.Reply.{Reply}
+use Rattle.file_laws.proofs.Common.{◌≡◌, ℕ, zero, suc, ◌+◌, ◌<◌, ◌≤◌, ◌^◌, max, Bool, true, false, Option, Some, None, List, [], ◌∷◌, ◌++◌, length, Ok, refl, sym, ◌∙◌, subst, arith, append_assoc, ◌≢◌, ◌==◌, slice_get, slice_set, length-set, append-nil, EndMark, Reply, Warm, Record, Header, FirstLoad, ScOk, ScFailed, Edge, End, OrderLimits, HartView, Awaiting, Open, Done, phase_after, step, Keeps, Hart, edges_from, load_record, sc_record}
 use Rattle.rv_meaning.specs.declared.asks.Reply.TheVariants as replies
-use Rattle.first_load_bits.specs.declared.warm.Warm.{Warm}
 use Rattle.first_load_bits.specs.declared.warm.Warm.TheVariants as answers
-use Rattle.log_record.specs.declared.record.Record.{Record}
-use Rattle.log_record.specs.declared.record.Record.TheVariants.{Header, FirstLoad, ScOk, ScFailed, Edge, End}
-use Rattle.log_order.specs.declared.view.OrderLimits.{OrderLimits}
-use Rattle.log_order.specs.declared.view.HartView.{HartView}
-use Rattle.log_order.specs.declared.view.Phase.TheVariants.{Awaiting, Open, Done}
-use Rattle.log_order.specs.Rules.{phase_after}
-use Rattle.log_order.specs.Order.{step}
-use Rattle.log_order.specs.Suffix.{Keeps}
-use Rattle.run_model.specs.declared.hart.Hart.{Hart}
-use Rattle.run_model.specs.Turn.{edges_from, load_record, sc_record}
 
 -- ---- the laws of the order of records that are used here
 

@@ -1,13 +1,7 @@
 -- What loads, stores and atomic operations make of words are words.
-use Rattle.std.proofs.Common.{◌≡◌, ℕ, ◌+◌, ◌-◌, ◌*◌, ◌/◌, ◌%◌, ◌<◌, ◌^◌, Bool, true, false, ◌&&◌, refl, sym, subst, arith, mod-lt, pow_pos, div-le_self, inl, inr}
-use Rattle.std.specs.Prelude.{◌==◌, ◌⊎◌, nat_lt, if◌then◌else◌}
+use Rattle.file_laws.proofs.Common.{◌≡◌, ℕ, ◌+◌, ◌-◌, ◌*◌, ◌/◌, ◌%◌, ◌<◌, ◌^◌, Bool, true, false, ◌&&◌, refl, sym, subst, arith, mod-lt, pow_pos, div-le_self, inl, inr, ◌==◌, ◌⊎◌, nat_lt, if◌then◌else◌, eqb_tells, less, with_bytes, extended, loaded_value, stored_word, amo_result, is_aligned, AmoOp}
 use Rattle.std.specs.Int.Bits.{and_lt}
-use Rattle.std.proofs.lemmas.Bool.Decides.{eqb_tells}
 use Rattle.std.proofs.lemmas.Nat.{or_of_32, xor_of_32}
-use Rattle.rv_meaning.specs.Words.{less, with_bytes}
-use Rattle.rv_meaning.specs.Access.{extended, loaded_value, stored_word, amo_result}
-use Rattle.rv_meaning.specs.Orderly.{is_aligned}
-use Rattle.rv_meaning.specs.declared.amo.AmoOp.{AmoOp}
 use Rattle.rv_meaning.specs.declared.amo.AmoOp.TheVariants as ops
 
 if_word : (t : Bool) (m n : ℕ) → m < 2 ^ 32 → n < 2 ^ 32 → (if t then m else n) < 2 ^ 32

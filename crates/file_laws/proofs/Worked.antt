@@ -1,20 +1,11 @@
 -- A small recording, and a row that no hart could make.
-use Rattle.std.proofs.Common.{◌≡◌, ℕ, zero, suc, ◌&&◌, nat_lt, Bool, true, false, List, [], ◌∷◌, Some, Ok, refl, arith}
-use Rattle.std.specs.List.{list_all}
+use Rattle.file_laws.proofs.Common.{◌≡◌, ℕ, zero, suc, ◌&&◌, nat_lt, Bool, true, false, List, [], ◌∷◌, Some, Ok, refl, arith, list_all, IsSetting, default_settings, step, after_all, late_edge, end_break, broken, order_break, broken_by, after_header, kept, are_orderly, IsLawful, kept_of, dropped_of, has_finished, serve}
 use Rattle.le_numbers.specs.Numbers.{number_at, number_bytes, AreBytes}
 use Rattle.elf_loader.specs.Headers.{table}
 use Rattle.elf_loader.specs.Loaded as loaded
 use Rattle.elf_loader.specs.Loaded.{header_refusal, segment_refusal, refusal, image_of}
 use Rattle.elf_loader.specs.Segments.{segments, file_words}
-use Rattle.bn_base.specs.Ranges.{IsSetting, default_settings}
-use Rattle.log_order.specs.Order.{step, after_all, late_edge, end_break, broken, order_break, broken_by}
-use Rattle.log_order.specs.Rules.{after_header}
-use Rattle.log_ring.specs.Kept.{kept}
-use Rattle.run_laws.specs.History.{are_orderly, IsLawful}
 use Rattle.run_model.specs.Examples.{an_exit, program_of}
-use Rattle.run_model.specs.KeptRecords.{kept_of, dropped_of}
-use Rattle.run_model.specs.Runs.{has_finished}
-use Rattle.run_model.specs.Turn.{serve}
 use Rattle.file_laws.specs.Given.{IsRecording}
 use Rattle.file_laws.specs.Examples.{file_of_words, an_exit_begun, a_stray_store, after_a_stray_store}
 

@@ -1,14 +1,7 @@
 -- A small recording, and a row that no hart could make.
 use Rattle.std.specs.Prelude.{ℕ, ◌*◌, false, List, [], ◌∷◌, ◌++◌, replicate, length}
-use Rattle.std.specs.List.{flat_map}
-use Rattle.le_numbers.specs.Numbers.{number_bytes}
-use Rattle.rv_meaning.specs.declared.asks.Want.TheVariants.{Store}
+use Rattle.file_laws.specs.Common.{flat_map, number_bytes, Store, TurnRow, Recording, an_exit, program_of, start, start_state, Run, after_rows}
 use Rattle.rv_meaning.specs.declared.asks.Reply.TheVariants.{Over}
-use Rattle.bn_outside.specs.declared.turn_row.TurnRow.{TurnRow}
-use Rattle.run_model.specs.Examples.{Recording, an_exit, program_of}
-use Rattle.run_model.specs.Runs.{start, start_state}
-use Rattle.run_model.specs.Turn.{Run}
-use Rattle.run_laws.specs.History.{after_rows}
 
 -- the ELF header of a RISC-V executable that begins at 0x10054, with one program header after it
 abbrev pub elf_header : List ℕ

@@ -1,11 +1,7 @@
 -- What is recorded.
 use Rattle.std.specs.Prelude.{◌≡◌, ℕ, true, List, Ok}
-use Rattle.bn_base.specs.Programs.{Program}
-use Rattle.bn_base.specs.Ranges.{IsSetting}
-use Rattle.bn_base.specs.declared.settings.RawSettings.{RawSettings}
-use Rattle.le_numbers.specs.Numbers.{AreBytes}
+use Rattle.file_laws.specs.Common.{Program, IsSetting, RawSettings, AreBytes, start, run_of, legal_from, has_finished}
 use Rattle.elf_loader.specs.Loaded.{image_of}
-use Rattle.run_model.specs.Runs.{start, run_of, legal_from, has_finished}
 
 -- A recording: settings in range, the bytes of a program file, the program that is loaded from them, and a list of turns
 -- that is legal and finished. (Definitions have no type of bytes, so that items are below 256 is said here.)

@@ -1,26 +1,14 @@
 -- What a recording keeps, as a log has it.
 use Rattle.std.specs.Prelude.{◌≡◌, ℕ, true, List, ◌∷◌, ◌++◌, length, Some, None, Ok}
 use Rattle.sha2.specs.Sha256.{sha256}
-use Rattle.bn_base.specs.Programs.{Program}
-use Rattle.bn_base.specs.Ranges.{IsSetting}
-use Rattle.bn_base.specs.declared.settings.RawSettings.{RawSettings}
-use Rattle.bn_outside.specs.declared.turn_row.TurnRow.{TurnRow}
+use Rattle.file_laws.specs.Common.{Program, IsSetting, RawSettings, TurnRow, Held, HoldsLog, broken_by, Content, IsContent, Interval, interval_of, replayed, Done, rows_in, start, run_of, has_finished, kept_of, dropped_of, content_of, IsEndOf, after_rows, are_orderly, IsLawful}
 use Rattle.log_record.specs.declared.head.Head.{Head}
-use Rattle.log_ring.specs.Kept.{Held, HoldsLog}
-use Rattle.log_order.specs.Order.{broken_by}
-use Rattle.log_order.specs.Content.{Content, IsContent}
 use Rattle.log_file.specs.Blocks.{Block, blocks_of}
 use Rattle.log_file.specs.Layout.{saved_bytes}
 use Rattle.log_blocks.specs.File.{IsSpelled, HasBlocks, dropped_before}
 use Rattle.log_blocks.specs.Laws.{pieces_of}
 use Rattle.log_blocks.specs.Readings.{Reads}
-use Rattle.hart_replay.specs.Replay.{Interval, interval_of, replayed}
-use Rattle.hart_replay.specs.Replay.{Done}
-use Rattle.run_model.specs.Rows.{rows_in}
-use Rattle.run_model.specs.Runs.{start, run_of, has_finished}
 use Rattle.run_files.specs.Files.{file_of}
-use Rattle.run_model.specs.KeptRecords.{kept_of, dropped_of, content_of, IsEndOf}
-use Rattle.run_laws.specs.History.{after_rows, are_orderly, IsLawful}
 use Rattle.file_laws.specs.Given.{IsRecording}
 use Rattle.file_laws.specs.Recorded.{counts_of, KeepsRules, HoldsLogOfRows, ring_content}
 

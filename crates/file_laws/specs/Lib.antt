@@ -1,3 +1,4 @@
+pub mod Common
 pub mod Given
 pub mod Recorded
 pub mod Laws

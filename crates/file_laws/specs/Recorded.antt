@@ -1,21 +1,11 @@
 -- What holds of the records that are kept of a run.
 use Rattle.std.specs.Prelude.{◌≡◌, ℕ, ◌==◌, true, List, replicate, Ok}
-use Rattle.std.specs.List.{AllByRecursion}
-use Rattle.bn_base.specs.Programs.{Program}
-use Rattle.bn_base.specs.Ranges.{IsSetting}
-use Rattle.bn_base.specs.declared.settings.RawSettings.{RawSettings}
-use Rattle.bn_outside.specs.declared.turn_row.TurnRow.{TurnRow}
+use Rattle.file_laws.specs.Common.{AllByRecursion, Program, IsSetting, RawSettings, TurnRow, Held, HoldsLog, after_all, order_limits_of, Content, content, Run, start, has_finished, after_rows, are_orderly, IsLawful}
 use Rattle.log_record.specs.declared.record.Record.{Record}
 use Rattle.log_record.specs.Spelling.{Fits}
-use Rattle.log_ring.specs.Kept.{Held, HoldsLog}
 use Rattle.log_order.specs.declared.view.HartView.{HartView}
-use Rattle.log_order.specs.Order.{after_all, order_limits_of}
 use Rattle.log_order.specs.Rules.{fresh}
 use Rattle.log_order.specs.Suffix.{IsEarly}
-use Rattle.log_order.specs.Content.{Content, content}
-use Rattle.run_model.specs.Turn.{Run}
-use Rattle.run_model.specs.Runs.{start, has_finished}
-use Rattle.run_laws.specs.History.{after_rows, are_orderly, IsLawful}
 
 -- how many instructions each hart has done
 abbrev pub counts_of : Run → ℕ → ℕ

@@ -1,15 +1,7 @@
 -- What a log retains of a fault suffices.
 use Rattle.std.specs.Prelude.{◌≡◌, ℕ, List, [], ◌∷◌, ◌++◌}
-use Rattle.bn_base.specs.Programs.{Program}
+use Rattle.file_laws.specs.Common.{Program, RawSettings, Faulted, replayed, Done, kept_of, rows_in, start, run_of, ask_at}
 use Rattle.bn_base.specs.declared.fault.Fault.{Fault}
-use Rattle.bn_base.specs.declared.settings.RawSettings.{RawSettings}
-use Rattle.rv_meaning.specs.declared.asks.Want.TheVariants.{Faulted}
-use Rattle.hart_replay.specs.Replay.{replayed}
-use Rattle.hart_replay.specs.Replay.{Done}
-use Rattle.run_model.specs.KeptRecords.{kept_of}
-use Rattle.run_model.specs.Rows.{rows_in}
-use Rattle.run_model.specs.Runs.{start, run_of}
-use Rattle.run_model.specs.Turn.{ask_at}
 use Rattle.run_laws.specs.Retained.{IsGuarding}
 use Rattle.replay_laws.specs.Law.{IsWhole}
 

@@ -1,10 +1,6 @@
 //! A small recording, and what a row that no hart could make does to a log.
 ghost use Rattle.std.specs.Prelude.{◌≡◌, ◌∷◌, [], true, false, Some};
-ghost use Rattle.log_order.specs.Order.{order_break, broken_by};
-ghost use Rattle.run_laws.specs.History.{are_orderly, IsLawful};
-ghost use Rattle.run_model.specs.Examples.{an_exit, program_of};
-ghost use Rattle.run_model.specs.KeptRecords.{kept_of, dropped_of};
-ghost use Rattle.run_model.specs.Runs.{has_finished};
+ghost use Rattle.file_laws.specs.Common.{order_break, broken_by, are_orderly, IsLawful, an_exit, program_of, kept_of, dropped_of, has_finished};
 ghost use Rattle.file_laws.specs.Given.{IsRecording};
 ghost use Rattle.file_laws.specs.Examples.{file_of_words, an_exit_begun, a_stray_store, after_a_stray_store};
 

@@ -1,13 +1,5 @@
 -- The ways of a set when one of them changes: they stay apart, and list the lines that the rules of a cache give.
-use Rattle.std.proofs.Common.{◌≡◌, ◌≢◌, ℕ, zero, suc, ◌+◌, ◌<◌, ◌≤◌, true, false, List, [], ◌∷◌, ◌++◌, length, get_or, set, take, take_all, take_at, drop_at, drop, drop_of_length-le, is_some, add-one, All, AllPairs, sym, ◌∙◌, ap, arith, inl, inr}
-use Rattle.std.proofs.lemmas.Bool.{cases_Bool, cases_lt, true≢false}
-use Rattle.std.proofs.lemmas.Bool.Decides.{nat_tests}
-use Rattle.std.proofs.lemmas.List.{set-get_or}
-use Rattle.std.proofs.lemmas.List.Elements.{All-nil, All-cons, All-head, All-tail, All-set, All-weaker, All-get_or}
-use Rattle.std.proofs.lemmas.List.Kept.{AllPairs-cons}
-use Rattle.first_load_bits.specs.declared.way.Way.{Way}
-use Rattle.first_load_bits.specs.Lines.{Line, bits_of, all_but, put, lost, in_front}
-use Rattle.first_load_bits.specs.Ways.{has_line, has_other, given_up, known_bits, line_in, latest_first, AreApart, HasLine, IsPlaceFor}
+use Rattle.first_load_bits.proofs.Common.{◌≡◌, ◌≢◌, ℕ, zero, suc, ◌+◌, ◌<◌, ◌≤◌, true, false, List, [], ◌∷◌, ◌++◌, length, get_or, set, take, take_all, take_at, drop_at, drop, drop_of_length-le, is_some, add-one, All, AllPairs, sym, ◌∙◌, ap, arith, inl, inr, cases_Bool, cases_lt, true≢false, nat_tests, set-get_or, All-nil, All-cons, All-head, All-tail, All-set, All-weaker, All-get_or, AllPairs-cons, Way, Line, bits_of, all_but, put, lost, in_front, has_line, has_other, given_up, known_bits, line_in, latest_first, AreApart, HasLine, IsPlaceFor}
 use Rattle.first_load_bits.proofs.Latest.{others_of, length-others, All-others, latest_other, latest_newest, latest_oldest, length-latest, length-latest_full, but_none, but_only, bits_only, front_only}
 use Rattle.first_load_bits.proofs.Order.{in_front_gone}
 

@@ -1,13 +1,5 @@
 -- The lists of the second level list the lines that are below, in the order of their falls.
-use Rattle.std.proofs.Common.{◌≡◌, ◌≢◌, ℕ, zero, suc, ◌*◌, ◌/◌, ◌<◌, ◌≤◌, ◌⊎◌, true, false, not, ◌&&◌, ◌||◌, ◌==◌, List, [], ◌∷◌, ◌++◌, append-nil, take-append-drop, eq-zero-or-pos, add-zero, length, take, drop, map, Option, Some, None, is_some, refl, sym, ◌∙◌, ap, arith, subst, inl, inr}
-use Rattle.std.proofs.Math.Nat.{div-zero}
-use Rattle.std.proofs.lemmas.Nat.{div-mul-add}
-use Rattle.std.proofs.lemmas.Bool.{false≢true, true≢false, eq-eqb, ne_eqb}
-use Rattle.std.proofs.lemmas.Bool.Decides.{eqb_tells}
-use Rattle.first_load_bits.specs.Events.{Geometry, Event, line_of, set_of, second_of, line_start}
-use Rattle.first_load_bits.specs.Events.{Touch, Drop, Clear}
-use Rattle.first_load_bits.specs.Lines.{Line, all_but, put, lost, put_in, put_lost, taken_out, touched_line, cleared, levels, in_front, behind}
-use Rattle.first_load_bits.specs.Warm.{except, listed, falls, fallen_among, with_fall, second_history}
+use Rattle.first_load_bits.proofs.Common.{◌≡◌, ◌≢◌, ℕ, zero, suc, ◌*◌, ◌/◌, ◌<◌, ◌≤◌, ◌⊎◌, true, false, not, ◌&&◌, ◌||◌, ◌==◌, List, [], ◌∷◌, ◌++◌, append-nil, take-append-drop, eq-zero-or-pos, add-zero, length, take, drop, map, Option, Some, None, is_some, refl, sym, ◌∙◌, ap, arith, subst, inl, inr, div-zero, div-mul-add, false≢true, true≢false, eq-eqb, ne_eqb, eqb_tells, Geometry, Event, line_of, set_of, second_of, line_start, Touch, Drop, Clear, Line, all_but, put, lost, put_in, put_lost, taken_out, touched_line, cleared, levels, in_front, behind, except, listed, falls, fallen_among, with_fall, second_history}
 use Rattle.first_load_bits.proofs.Numbers.{among, among_except, among_take, except_here, except_there, IsDistinct, IsDistinct-except, IsDistinct-take}
 use Rattle.first_load_bits.proofs.Second.{falls_parts, falls_from, is_last, fallen_touched, fallen_falls, fallen_is}
 use Rattle.first_load_bits.proofs.Order.{Agrees, agrees_put, agrees_out, agrees_clear, first_agrees, put_here, put_there, out_here, out_there, front_here, front_there, but_here, but_there, length-all_but, length-lines}

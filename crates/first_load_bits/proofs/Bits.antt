@@ -1,14 +1,6 @@
 -- The bits that the lists of a cache have set are those of the warm words.
-use Rattle.std.proofs.Common.{◌≡◌, ◌≢◌, ℕ, zero, suc, ◌+◌, ◌*◌, ◌/◌, ◌%◌, ◌^◌, ◌<◌, ◌≤◌, true, false, ◌||◌, ◌==◌, List, [], ◌∷◌, length, take, drop, map, bit_or, Option, Some, None, is_some, refl, sym, ◌∙◌, ap, arith, inl, inr}
-use Rattle.std.proofs.Math.Nat.{div-div-eq-div-mul, div-add-mod'}
-use Rattle.std.specs.Int.{bit_at}
+use Rattle.first_load_bits.proofs.Common.{◌≡◌, ◌≢◌, ℕ, zero, suc, ◌+◌, ◌*◌, ◌/◌, ◌%◌, ◌^◌, ◌<◌, ◌≤◌, true, false, ◌||◌, ◌==◌, List, [], ◌∷◌, length, take, drop, map, bit_or, Option, Some, None, is_some, refl, sym, ◌∙◌, ap, arith, inl, inr, div-div-eq-div-mul, div-add-mod', bit_at, false≢true, true≢false, eq-eqb, ne_eqb, cases_Bool, eqb_tells, Geometry, Event, word_of, line_of, set_of, second_of, Touch, Drop, Clear, fewer, with_first, later_lines, second_history, listed, falls, below, held, warm, Line, Levels, place_of, bits_of, all_but, put, lost, put_in, put_lost, taken_out, bits_known, touched_line, cleared, levels, is_set, in_front}
 use Rattle.std.proofs.lemmas.Nat.Bits.{bit_at_or, bit_at-pow_same, bit_at-pow_other, bit_at-lt, bit_at-zero}
-use Rattle.std.proofs.lemmas.Bool.{false≢true, true≢false, eq-eqb, ne_eqb, cases_Bool}
-use Rattle.std.proofs.lemmas.Bool.Decides.{eqb_tells}
-use Rattle.first_load_bits.specs.Events.{Geometry, Event, word_of, line_of, set_of, second_of}
-use Rattle.first_load_bits.specs.Events.{Touch, Drop, Clear}
-use Rattle.first_load_bits.specs.Warm.{fewer, with_first, later_lines, second_history, listed, falls, below, held, warm}
-use Rattle.first_load_bits.specs.Lines.{Line, Levels, place_of, bits_of, all_but, put, lost, put_in, put_lost, taken_out, bits_known, touched_line, cleared, levels, is_set, in_front}
 use Rattle.first_load_bits.proofs.Numbers.{among}
 use Rattle.first_load_bits.proofs.Others.{tells, own, near, far}
 use Rattle.first_load_bits.proofs.Listed.{later_touch_own, later_touch_near, later_touch_far}

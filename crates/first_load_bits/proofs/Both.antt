@@ -1,19 +1,6 @@
 -- Which history a cache of two levels represents after an event.
-use Rattle.std.proofs.Common.{◌≡◌, ◌≢◌, ℕ, ◌%◌, ◌+◌, ◌*◌, ◌^◌, ◌<◌, ◌≤◌, Bool, true, false, List, [], ◌∷◌, length, length-take, All, ◌-◌, get_or, set, take, drop, map, bit_or, is_some, ◌==◌, ◌↔◌, if◌then◌else◌, refl, sym, ◌∙◌, ap, ap₂, arith, subst, inl, inr}
-use Rattle.std.proofs.lemmas.Bool.{eq-eqb}
-use Rattle.std.proofs.lemmas.Bool.Decides.{eqb_tells}
-use Rattle.std.proofs.lemmas.Nat.{mod_below, one_shl}
-use Rattle.std.specs.Int.{bit_at}
-use Rattle.first_load_bits.specs.declared.way.Way.{Way}
+use Rattle.first_load_bits.proofs.Common.{◌≡◌, ◌≢◌, ℕ, ◌%◌, ◌+◌, ◌*◌, ◌^◌, ◌<◌, ◌≤◌, Bool, true, false, List, [], ◌∷◌, length, length-take, All, ◌-◌, get_or, set, take, drop, map, bit_or, is_some, ◌==◌, ◌↔◌, if◌then◌else◌, refl, sym, ◌∙◌, ap, ap₂, arith, subst, inl, inr, eq-eqb, eqb_tells, mod_below, one_shl, bit_at, Way, Geometry, Event, line_of, set_of, second_of, Touch, Drop, Clear, warm, Line, put, lost, put_in, put_lost, taken_out, all_but, cleared, bits_of, bits_known, touched_line, levels, lines_below, in_front, place_of, line_in, known_bits, given_up, has_line, latest_first, HasLine, IsPlaceFor, Level, Contents, RepresentsEvents, lines_of, first_level, second_level, AreKept, IsListed, IsTouch, IsBitsBelow, IsTakenBelow, IsTakenListed, IsFallen, with_ways, with_ways_below}
 use Rattle.first_load_bits.specs.declared.warm.Warm.{Warm}
-use Rattle.first_load_bits.specs.Events.{Geometry, Event, line_of, set_of, second_of}
-use Rattle.first_load_bits.specs.Events.{Touch, Drop, Clear}
-use Rattle.first_load_bits.specs.Warm.{warm}
-use Rattle.first_load_bits.specs.Lines.{Line, put, lost, put_in, put_lost, taken_out, all_but, cleared, bits_of, bits_known, touched_line, levels, lines_below, in_front, place_of}
-use Rattle.first_load_bits.specs.Ways.{line_in, known_bits, given_up, has_line, latest_first, HasLine, IsPlaceFor}
-use Rattle.first_load_bits.specs.Represents.{Level, Contents, RepresentsEvents, lines_of, first_level, second_level}
-use Rattle.first_load_bits.specs.Cached.{AreKept}
-use Rattle.first_load_bits.specs.Steps.{IsListed, IsTouch, IsBitsBelow, IsTakenBelow, IsTakenListed, IsFallen, with_ways, with_ways_below}
 use Rattle.first_load_bits.proofs.Warmth.{warm_is}
 use Rattle.first_load_bits.proofs.Order.{length-lines_below}
 use Rattle.first_load_bits.proofs.Latest.{latest_nil}

@@ -1,9 +1,5 @@
 -- A second drop of a line right after the first changes nothing.
-use Rattle.std.proofs.Common.{◌≡◌, ℕ, Bool, true, false, ◌==◌, List, [], ◌∷◌, refl, sym, ◌∙◌, ap, inl, inr}
-use Rattle.std.proofs.lemmas.Bool.Decides.{eqb_tells}
-use Rattle.first_load_bits.specs.Events.{Geometry, Event, Drop, line_of, set_of, second_of}
-use Rattle.first_load_bits.specs.Lines.{Line, all_but, taken_out, levels}
-use Rattle.first_load_bits.specs.Represents.{Contents, RepresentsEvents}
+use Rattle.first_load_bits.proofs.Common.{◌≡◌, ℕ, Bool, true, false, ◌==◌, List, [], ◌∷◌, refl, sym, ◌∙◌, ap, inl, inr, eqb_tells, Geometry, Event, Drop, line_of, set_of, second_of, Line, all_but, taken_out, levels, Contents, RepresentsEvents}
 use Rattle.first_load_bits.proofs.Order.{but_here, but_there}
 
 all_but_twice : (l : ℕ) (xs : List Line) → all_but l (all_but l xs) ≡ all_but l xs

@@ -1,8 +1,6 @@
 -- What the fields of a cache say of its second level.
-use Rattle.std.proofs.Common.{◌≡◌, ◌≢◌, ◌<◌, ◌==◌, ℕ, false, arith, pow_pos, refl}
-use Rattle.std.proofs.lemmas.Bool.{eq-eqb, ne_eqb}
+use Rattle.first_load_bits.proofs.Common.{◌≡◌, ◌≢◌, ◌<◌, ◌==◌, ℕ, false, arith, pow_pos, refl, eq-eqb, ne_eqb, contents, sets_below}
 use Rattle.first_load_bits.specs.declared.cache.Cache.TheInside.{Inside}
-use Rattle.first_load_bits.specs.Cached.{contents, sets_below}
 use Rattle.first_load_bits.proofs.Both.{HasSets}
 
 pub has_sets : (c : Inside) → HasSets (contents c)

@@ -1,12 +1,5 @@
 -- The lines that the ways of a set list, the one touched latest first, and what a change of one way does to them.
-use Rattle.std.proofs.Common.{is_some, ◌||◌, ◌≡◌, ◌≢◌, ℕ, zero, suc, ◌+◌, ◌<◌, ◌≤◌, true, false, ◌==◌, List, [], ◌∷◌, ◌++◌, length, set, length-append, append_assoc, add-one, map, All, refl, sym, ◌∙◌, ap, ap₂, arith, inl, inr}
-use Rattle.std.proofs.lemmas.Bool.{eq-eqb, ne_eqb, cases_lt, or_left, or_right}
-use Rattle.std.proofs.lemmas.Bool.Decides.{eqb_tells, nat_tests}
-use Rattle.std.proofs.lemmas.List.{map-append}
-use Rattle.std.proofs.lemmas.List.Elements.{All-cons, All-head, All-tail, All-weaker}
-use Rattle.first_load_bits.specs.declared.way.Way.{Way}
-use Rattle.first_load_bits.specs.Lines.{Line, bits_of, all_but, cleared, in_front}
-use Rattle.first_load_bits.specs.Ways.{has_line, line_in, of_age, latest_first}
+use Rattle.first_load_bits.proofs.Common.{is_some, ◌||◌, ◌≡◌, ◌≢◌, ℕ, zero, suc, ◌+◌, ◌<◌, ◌≤◌, true, false, ◌==◌, List, [], ◌∷◌, ◌++◌, length, set, length-append, append_assoc, add-one, map, All, refl, sym, ◌∙◌, ap, ap₂, arith, inl, inr, eq-eqb, ne_eqb, cases_lt, or_left, or_right, eqb_tells, nat_tests, map-append, All-cons, All-head, All-tail, All-weaker, Way, Line, bits_of, all_but, cleared, in_front, has_line, line_in, of_age, latest_first}
 use Rattle.first_load_bits.proofs.Order.{front_here, front_there, but_here, but_there}
 use Rattle.first_load_bits.proofs.Below.{is_some-behind}
 use Rattle.first_load_bits.proofs.Bits.{bits_here, bits_there}

@@ -1,11 +1,6 @@
 -- The test for listed lines says what the history says.
-use Rattle.std.proofs.Common.{◌≡◌, ◌↔◌, ℕ, zero, suc, ◌<◌, ◌≤◌, true, false, IsTrue, ◌==◌, nat_lt, List, [], ◌∷◌, ◌++◌, length, drop, All, Option, Some, None, is_some, refl, sym, ◌∙◌, ap, arith, subst, inl, inr}
-use Rattle.std.proofs.lemmas.Bool.{false≢true, eq-eqb, ltb-true, lt-ltb, cases_Bool, cases_lt}
-use Rattle.std.proofs.lemmas.List.Elements.{All-nil, All-cons, All-head, All-tail}
-use Rattle.first_load_bits.specs.Events.{Geometry, Event, line_of, set_of, IsTouchOf, IsDropOf}
-use Rattle.first_load_bits.specs.Events.{Touch, Drop, Clear}
-use Rattle.first_load_bits.specs.Warm.{except, fewer, with_first, without, later_lines, listed}
-use Rattle.first_load_bits.specs.History.{IsSinceTouch, IsListed}
+use Rattle.first_load_bits.proofs.Common.{◌≡◌, ◌↔◌, ℕ, zero, suc, ◌<◌, ◌≤◌, true, false, IsTrue, ◌==◌, nat_lt, List, [], ◌∷◌, ◌++◌, length, drop, All, Option, Some, None, is_some, refl, sym, ◌∙◌, ap, arith, subst, inl, inr, false≢true, eq-eqb, ltb-true, lt-ltb, cases_Bool, cases_lt, All-nil, All-cons, All-head, All-tail, Geometry, Event, line_of, set_of, IsTouchOf, IsDropOf, Touch, Drop, Clear, except, fewer, with_first, without, later_lines, listed, IsSinceTouch}
+use Rattle.first_load_bits.specs.History.{IsListed}
 use Rattle.first_load_bits.proofs.Numbers.{length-except}
 use Rattle.first_load_bits.proofs.Others.{tells, own, near, far, others, touch_near, touch_far, drop_near, drop_far, touch_more, HasOthers-from_length, length_from_HasOthers}
 

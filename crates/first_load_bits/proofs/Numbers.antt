@@ -1,10 +1,5 @@
 -- Lists of numbers without one of them, and lists without repeats.
-use Rattle.std.proofs.Common.{◌≡◌, ◌≢◌, ℕ, zero, suc, ◌<◌, ◌≤◌, Bool, true, false, not, ◌&&◌, ◌||◌, ◌==◌, List, [], ◌∷◌, length, take, All, AllPairs, refl, arith, subst, inl, inr}
-use Rattle.std.proofs.lemmas.Bool.{false≢true}
-use Rattle.std.proofs.lemmas.Bool.Decides.{eqb_tells, nat_tests}
-use Rattle.std.proofs.lemmas.List.Elements.{All-nil, All-cons, All-head, All-tail}
-use Rattle.std.proofs.lemmas.List.Kept.{AllPairs-cons}
-use Rattle.first_load_bits.specs.Warm.{except}
+use Rattle.first_load_bits.proofs.Common.{◌≡◌, ◌≢◌, ℕ, zero, suc, ◌<◌, ◌≤◌, Bool, true, false, not, ◌&&◌, ◌||◌, ◌==◌, List, [], ◌∷◌, length, take, All, AllPairs, refl, arith, subst, inl, inr, false≢true, eqb_tells, nat_tests, All-nil, All-cons, All-head, All-tail, AllPairs-cons, except}
 
 -- k is among the numbers
 abbrev pub among : ℕ → List ℕ → Bool

@@ -1,13 +1,5 @@
 -- The lists of a cache list the listed lines, in the order of their last touches.
-use Rattle.std.proofs.Common.{◌≡◌, ◌≢◌, ℕ, zero, suc, ◌<◌, ◌≤◌, true, false, ◌==◌, nat_lt, List, [], ◌∷◌, length, length-take, take, map, Option, Some, None, refl, sym, ◌∙◌, ap, arith, inl, inr}
-use Rattle.std.proofs.lemmas.List.{length-map}
-use Rattle.std.proofs.lemmas.Bool.{eq-eqb, ne_eqb, cases_Bool}
-use Rattle.std.proofs.lemmas.Bool.Decides.{eqb_tells, nat_tests}
-use Rattle.first_load_bits.specs.Lines.{Line}
-use Rattle.first_load_bits.specs.Events.{Geometry, Event, line_of, set_of, second_of}
-use Rattle.first_load_bits.specs.Events.{Touch, Drop, Clear}
-use Rattle.first_load_bits.specs.Warm.{fewer, with_first, without, later_lines}
-use Rattle.first_load_bits.specs.Lines.{all_but, put, lost, put_in, put_lost, taken_out, touched_line, cleared, levels, lines, lines_below, behind, in_front}
+use Rattle.first_load_bits.proofs.Common.{◌≡◌, ◌≢◌, ℕ, zero, suc, ◌<◌, ◌≤◌, true, false, ◌==◌, nat_lt, List, [], ◌∷◌, length, length-take, take, map, Option, Some, None, refl, sym, ◌∙◌, ap, arith, inl, inr, length-map, eq-eqb, ne_eqb, cases_Bool, eqb_tells, nat_tests, Line, Geometry, Event, line_of, set_of, second_of, Touch, Drop, Clear, fewer, with_first, without, later_lines, all_but, put, lost, put_in, put_lost, taken_out, touched_line, cleared, levels, lines, lines_below, behind, in_front}
 use Rattle.first_load_bits.proofs.Others.{tells, own, near, far}
 use Rattle.first_load_bits.proofs.Numbers.{except_here, except_there}
 use Rattle.first_load_bits.proofs.Listed.{later_touch_own, later_touch_near, later_touch_far, later_drop_own, later_drop_near, later_drop_far}

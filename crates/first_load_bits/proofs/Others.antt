@@ -1,12 +1,5 @@
 -- The other lines of a set that some events touched and didn't drop, as a list and as they are said to be.
-use Rattle.std.proofs.Common.{◌≡◌, ◌≢◌, ℕ, ◌≤◌, Bool, true, false, not, ◌&&◌, ◌||◌, ◌==◌, List, [], ◌∷◌, ◌++◌, length, length-take-le, take, All, refl, sym, ◌∙◌, ap, arith, subst, inl, inr}
-use Rattle.std.proofs.lemmas.Bool.{false≢true, eq-eqb, ne_eqb, eqb-true, and_parts, and_from}
-use Rattle.std.proofs.lemmas.Bool.Decides.{eqb_tells, nat_tests}
-use Rattle.std.proofs.lemmas.List.Elements.{All-nil, All-cons, All-head, All-tail}
-use Rattle.first_load_bits.specs.Events.{Geometry, Event, line_of, set_of, IsTouchOf, IsDropOf}
-use Rattle.first_load_bits.specs.Events.{Touch, Drop, Clear}
-use Rattle.first_load_bits.specs.Warm.{except}
-use Rattle.first_load_bits.specs.History.{IsSinceTouch, IsUndropped, HasOthers}
+use Rattle.first_load_bits.proofs.Common.{◌≡◌, ◌≢◌, ℕ, ◌≤◌, Bool, true, false, not, ◌&&◌, ◌||◌, ◌==◌, List, [], ◌∷◌, ◌++◌, length, length-take-le, take, All, refl, sym, ◌∙◌, ap, arith, subst, inl, inr, false≢true, eq-eqb, ne_eqb, eqb-true, and_parts, and_from, eqb_tells, nat_tests, All-nil, All-cons, All-head, All-tail, Geometry, Event, line_of, set_of, IsTouchOf, IsDropOf, Touch, Drop, Clear, except, IsSinceTouch, IsUndropped, HasOthers}
 use Rattle.first_load_bits.proofs.Numbers.{among, among_except, IsDistinct, IsDistinct-except, IsDistinct-take, IsDistinct-from_pairs, pairs_from_IsDistinct, All-from_among, among_has, among_take, length-below}
 
 -- line k was touched, and not dropped since its last touch

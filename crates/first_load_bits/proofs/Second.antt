@@ -1,12 +1,6 @@
 -- What happened to the second level: the test finds the line that falls, and gives the history of that level.
-use Rattle.std.proofs.Common.{◌≡◌, ◌≢◌, ◌↔◌, ℕ, suc, ◌<◌, ◌≤◌, true, false, not, IsTrue, nat_lt, List, [], ◌∷◌, ◌++◌, length, Option, Some, None, is_some, refl, sym, ◌∙◌, ap, arith, subst, inl, inr}
-use Rattle.std.proofs.lemmas.Bool.{false≢true, true≢false, eq-eqb, ltb-false, cases_Bool, and_parts}
-use Rattle.std.proofs.lemmas.Bool.Decides.{eqb_tells}
-use Rattle.first_load_bits.specs.Events.{Geometry, Event, line_of, set_of, second_of, line_start}
-use Rattle.first_load_bits.specs.Events.{Touch, Drop, Clear}
-use Rattle.first_load_bits.specs.Lines.{Line, in_front, behind, lines}
-use Rattle.first_load_bits.specs.Warm.{except, fewer, with_first, later_lines, listed, falls, fallen_among, with_fall, second_history, below, held}
-use Rattle.first_load_bits.specs.History.{IsListed, Falls, IsSecond, IsBelow, IsHeld}
+use Rattle.first_load_bits.proofs.Common.{◌≡◌, ◌≢◌, ◌↔◌, ℕ, suc, ◌<◌, ◌≤◌, true, false, not, IsTrue, nat_lt, List, [], ◌∷◌, ◌++◌, length, Option, Some, None, is_some, refl, sym, ◌∙◌, ap, arith, subst, inl, inr, false≢true, true≢false, eq-eqb, ltb-false, cases_Bool, and_parts, eqb_tells, Geometry, Event, line_of, set_of, second_of, line_start, Touch, Drop, Clear, Line, in_front, behind, lines, except, fewer, with_first, later_lines, listed, falls, fallen_among, with_fall, second_history, below, held, Falls, IsSecond, IsBelow, IsHeld}
+use Rattle.first_load_bits.specs.History.{IsListed}
 use Rattle.first_load_bits.specs.History.IsSecond.{Nothing, Comes, Stays, Leaves, Cleared}
 use Rattle.first_load_bits.proofs.Numbers.{length-except}
 use Rattle.first_load_bits.proofs.Others.{tells, own, near, far}

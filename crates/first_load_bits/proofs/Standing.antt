@@ -1,18 +1,7 @@
 -- What a level of a cache keeps and lists when one of its ways is written, or all are cleared.
-use Rattle.std.proofs.Common.{◌≡◌, ◌≢◌, ℕ, zero, suc, ◌+◌, ◌-◌, ◌*◌, ◌^◌, ◌<◌, ◌≤◌, true, false, List, [], ◌∷◌, length, length-take-le, length-drop, get_or-take, get_or-drop, get_or, set, take, drop, map, All, AllPairs, IsTrue, is_some, refl, sym, ◌∙◌, ap, arith, subst, pow-add, pow_mono, pow_pos, drop-set-lt, inl, inr}
-use Rattle.std.proofs.lemmas.Bool.{eq-eqb, ne_eqb, cases_eq, cases_lt, cases_order, eqb-true}
-use Rattle.std.proofs.lemmas.Nat.{row_fits, ones_cat, zero_from_ones}
-use Rattle.std.specs.Int.{is_power_of_two}
+use Rattle.first_load_bits.proofs.Common.{◌≡◌, ◌≢◌, ℕ, zero, suc, ◌+◌, ◌-◌, ◌*◌, ◌^◌, ◌<◌, ◌≤◌, true, false, List, [], ◌∷◌, length, length-take-le, length-drop, get_or-take, get_or-drop, get_or, set, take, drop, map, All, AllPairs, IsTrue, is_some, refl, sym, ◌∙◌, ap, arith, subst, pow-add, pow_mono, pow_pos, drop-set-lt, inl, inr, eq-eqb, ne_eqb, cases_eq, cases_lt, cases_order, eqb-true, row_fits, ones_cat, zero_from_ones, is_power_of_two, drop-set-add, take-set-le, get_or_default, All-set, All-take, All-drop, All-weaker, All-get_or, Way, set_of, Line, put, lost, put_in, taken_out, cleared, bits_of, in_front, line_in, known_bits, given_up, latest_first, has_line, AreApart, HasLine, IsPlaceFor, Level, ways_of, lines_of, AreKept}
 use Rattle.std.specs.Int.RustNames.{count_ones}
 use lib.Count.{ones}
-use Rattle.std.proofs.lemmas.List.{drop-set-add, take-set-le, get_or_default}
-use Rattle.std.proofs.lemmas.List.Elements.{All-set, All-take, All-drop, All-weaker, All-get_or}
-use Rattle.first_load_bits.specs.declared.way.Way.{Way}
-use Rattle.first_load_bits.specs.Events.{set_of}
-use Rattle.first_load_bits.specs.Lines.{Line, put, lost, put_in, taken_out, cleared, bits_of, in_front}
-use Rattle.first_load_bits.specs.Ways.{line_in, known_bits, given_up, latest_first, has_line, AreApart, HasLine, IsPlaceFor}
-use Rattle.first_load_bits.specs.Represents.{Level, ways_of, lines_of}
-use Rattle.first_load_bits.specs.Cached.{AreKept}
 use Rattle.first_load_bits.proofs.Latest.{others_of, All-others, latest_next, but_none, cleared_latest}
 use Rattle.first_load_bits.proofs.Apart.{set_apart, newest_apart, none_beside, place_within, bits_there_are, known_there, put_lines, lost_lines, dropped_lines}
 use Rattle.first_load_bits.proofs.Order.{put_here, put_there, out_here, out_there}

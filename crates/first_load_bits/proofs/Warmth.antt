@@ -1,13 +1,5 @@
 -- The test for warm words says what the history says.
-use Rattle.std.proofs.Common.{◌≡◌, ◌≢◌, ◌↔◌, ℕ, zero, suc, ◌/◌, ◌<◌, ◌≤◌, Bool, true, false, IsTrue, ◌==◌, List, [], ◌∷◌, ◌++◌, length, drop, All, Option, Some, None, is_some, refl, sym, ◌∙◌, ap, arith, subst, inl, inr}
-use Rattle.std.proofs.Math.Nat.{div-div-eq-div-mul}
-use Rattle.std.proofs.lemmas.Bool.{cases_Bool, false≢true, eq-eqb, ne_eqb}
-use Rattle.std.proofs.lemmas.Bool.Decides.{eqb_tells}
-use Rattle.std.proofs.lemmas.List.Elements.{All-nil, All-cons, All-head, All-tail}
-use Rattle.first_load_bits.specs.Events.{Geometry, Event, word_of, line_of, set_of, second_of}
-use Rattle.first_load_bits.specs.Events.{Touch, Drop, Clear}
-use Rattle.first_load_bits.specs.Warm.{listed, below, held, warm, later_lines, without, second_history}
-use Rattle.first_load_bits.specs.History.{IsHeld, IsWarm}
+use Rattle.first_load_bits.proofs.Common.{◌≡◌, ◌≢◌, ◌↔◌, ℕ, zero, suc, ◌/◌, ◌<◌, ◌≤◌, Bool, true, false, IsTrue, ◌==◌, List, [], ◌∷◌, ◌++◌, length, drop, All, Option, Some, None, is_some, refl, sym, ◌∙◌, ap, arith, subst, inl, inr, div-div-eq-div-mul, cases_Bool, false≢true, eq-eqb, ne_eqb, eqb_tells, All-nil, All-cons, All-head, All-tail, Geometry, Event, word_of, line_of, set_of, second_of, Touch, Drop, Clear, listed, below, held, warm, later_lines, without, second_history, IsHeld, IsWarm}
 use Rattle.first_load_bits.proofs.Second.{held_is}
 use Rattle.first_load_bits.proofs.Listed.{later_touch_own, later_drop_own, later_drop_near, later_drop_far}
 

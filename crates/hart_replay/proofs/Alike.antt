@@ -1,24 +1,6 @@
 -- Sides that tell the same have the same to come.
-use Rattle.std.proofs.Common.{◌≡◌, ℕ, zero, suc, ◌+◌, ◌-◌, Bool, true, false, cond, not, Option, Some, None, List, [], ◌∷◌, take, length, slice_index, refl, sym, subst, ◌∙◌, ap, add_assoc, add-zero}
-use Rattle.std.specs.Prelude.{◌==◌, ◌&&◌, ◌||◌, nat_lt}
-use Rattle.bn_base.specs.Faults.{fault_number}
-use Rattle.bn_base.specs.Programs.{Program}
-use Rattle.bn_base.specs.declared.end_mark.EndMark.{EndMark}
-use Rattle.bn_base.specs.declared.row.Row.{Row}
-use Rattle.bn_base.specs.declared.state.HartState.{HartState}
-use Rattle.rv_meaning.specs.Access.{stored_word, amo_result}
-use Rattle.rv_meaning.specs.Execute.{Step, Quiet, Asks, step, absorbed}
-use Rattle.rv_meaning.specs.Words.{aligned}
-use Rattle.rv_meaning.specs.declared.asks.Want.{Want}
-use Rattle.rv_meaning.specs.declared.asks.Want.TheVariants.{Load, Store, LoadReserved, StoreConditional, Amo, System, Cut, Faulted}
-use Rattle.rv_meaning.specs.declared.asks.Reply.{Reply}
-use Rattle.rv_meaning.specs.declared.asks.Reply.TheVariants.{Word, Stored, Answer, Over}
+use Rattle.hart_replay.proofs.Common.{◌≡◌, ℕ, zero, suc, ◌+◌, ◌-◌, Bool, true, false, cond, not, Option, Some, None, List, [], ◌∷◌, take, length, slice_index, refl, sym, subst, ◌∙◌, ap, add_assoc, add-zero, ◌==◌, ◌&&◌, ◌||◌, nat_lt, fault_number, Program, EndMark, Row, HartState, stored_word, amo_result, Step, Quiet, Asks, step, absorbed, aligned, Want, Load, Store, LoadReserved, StoreConditional, Amo, System, Cut, Faulted, Reply, Word, Stored, Answer, Over, row_of, call_row, fault_row, at_address, known, RecordsLeft, EndDiffers, ScMissing, Outcome, Done, Refused, Replayed, Next, On, Stop, logged, taken_from, slot, or_else, word_for, missing, after_ask, after_sc, ask_step, one_step, left_over, found, finish, fault_end, ended, call_reason, with_rows, without_rows, to_come, Side, Alike, interval_at, position_at, later}
 use Rattle.rv_meaning.specs.declared.asks.Reply.TheVariants as replies
-use Rattle.rv_meaning.specs.Rows.{row_of, call_row, fault_row, at_address, known}
-use Rattle.hart_replay.specs.declared.error.ReplayError.TheVariants.{RecordsLeft, EndDiffers, ScMissing}
-use Rattle.hart_replay.specs.Replay.{Outcome, Done, Refused, Replayed, Next, On, Stop, logged, taken_from, slot, or_else, word_for, missing, after_ask, after_sc, ask_step, one_step, left_over, found, finish, fault_end, ended, call_reason}
-use Rattle.hart_replay.specs.Coming.{with_rows, without_rows, to_come}
-use Rattle.hart_replay.specs.Sides.{Side, Alike, interval_at, position_at, later}
 
 -- ---- a side after an instruction
 

@@ -1,26 +1,7 @@
 -- One instruction, done or asked.
-use Rattle.std.proofs.Common.{◌≡◌, ℕ, ◌+◌, ◌<◌, Bool, true, false, Option, Some, None, [], ◌∷◌, refl, sym, ◌∙◌, ap, inl, inr, subst}
-use Rattle.std.specs.Prelude.{◌==◌, ◌&&◌, ◌||◌, ◌⊎◌, not, IsTrue}
-use Rattle.std.proofs.lemmas.Bool.{lt-ltb, false≢true}
-use Rattle.bn_base.specs.Faults.{fault_number}
-use Rattle.bn_base.specs.Programs.{Program}
-use Rattle.bn_base.specs.declared.fault.Fault.{Fault}
-use Rattle.bn_base.specs.declared.row.Row.{Row}
-use Rattle.bn_base.specs.declared.state.HartState.{HartState}
-use Rattle.rv_meaning.specs.Execute.{Step, Quiet, Asks, step, ask_of, count_up}
+use Rattle.hart_replay.proofs.Common.{◌≡◌, ℕ, ◌+◌, ◌<◌, Bool, true, false, Option, Some, None, [], ◌∷◌, refl, sym, ◌∙◌, ap, inl, inr, subst, ◌==◌, ◌&&◌, ◌||◌, ◌⊎◌, not, IsTrue, lt-ltb, false≢true, fault_number, Program, Fault, Row, HartState, Step, Quiet, Asks, step, ask_of, count_up, Ask, Want, Load, Store, LoadReserved, StoreConditional, Amo, System, Cut, Faulted, fault_row, row_of, fetched, ReplayError, EndDiffers, Refused, Replayed, Interval, Position, Next, On, Outcome, ended, fault_end, finish, found, left_over, one_step, ask_step, Side, interval_at, position_at, later, Alike, Does, fault_in, Result, Ok, EndMark}
 use Rattle.rv_meaning.specs.Orderly.{is_cut, passes}
-use Rattle.rv_meaning.specs.declared.asks.Ask.{Ask}
-use Rattle.rv_meaning.specs.declared.asks.Want.{Want}
-use Rattle.rv_meaning.specs.declared.asks.Want.TheVariants.{Load, Store, LoadReserved, StoreConditional, Amo, System, Cut, Faulted}
-use Rattle.rv_meaning.specs.Rows.{fault_row, row_of}
-use Rattle.rv_meaning.specs.Lookups.{fetched}
 use Rattle.rv_meaning.specs.declared.fetched.Fetched.{Fetched}
-use Rattle.hart_replay.specs.declared.error.ReplayError.{ReplayError}
-use Rattle.hart_replay.specs.declared.error.ReplayError.TheVariants.{EndDiffers}
-use Rattle.hart_replay.specs.Replay.{Refused, Replayed, Interval, Position, Next, On, Outcome, ended, fault_end, finish, found, left_over, one_step, ask_step}
-use Rattle.hart_replay.specs.Sides.{Side, interval_at, position_at, later, Alike, Does, fault_in}
-use Rattle.std.specs.Prelude.{Result, Ok}
-use Rattle.bn_base.specs.declared.end_mark.EndMark.{EndMark}
 
 -- a run of at most one instruction did it, or asks
 pub one_ask : (i : Program) (s t : HartState) (k : Want) → ◌≡◌ {A = Ask} (record { state = t; want = k }) (ask_of i 1 s) → ((step i s ≡ Quiet t) × (k ≡ Cut)) ⊎ ((step i s ≡ Asks k) × (t ≡ s))

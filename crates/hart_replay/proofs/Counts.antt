@@ -1,9 +1,5 @@
 -- An interval has no more first loads and store-conditionals than there are records.
-use Rattle.std.proofs.Common.{ℕ, suc, ◌≤◌, ◌==◌, Bool, true, false, List, [], ◌∷◌, length, drop, arith, length-drop}
-use Rattle.log_record.specs.declared.record.Record.{Record}
-use Rattle.log_record.specs.declared.record.Record.TheVariants.{Header, FirstLoad, ScOk, ScFailed, Edge, End}
-use Rattle.hart_replay.specs.Replay.{Logged, put, puts, nothing}
-use Rattle.hart_replay.specs.Scans.{loads_in, conditionals_in}
+use Rattle.hart_replay.proofs.Common.{ℕ, suc, ◌≤◌, ◌==◌, Bool, true, false, List, [], ◌∷◌, length, drop, arith, length-drop, Record, Header, FirstLoad, ScOk, ScFailed, Edge, End, Logged, put, puts, nothing, loads_in, conditionals_in}
 
 -- of one record
 abbrev pub Few : Logged → ℕ → Type 0

@@ -1,12 +1,5 @@
 -- The ECALL that ends an interval is counted.
-use Rattle.std.proofs.Common.{◌≡◌, ℕ, ◌==◌, Bool, true, false, ◌||◌, List, refl, ◌∙◌}
-use Rattle.bn_base.specs.declared.state.HartState.{HartState}
-use Rattle.rv_meaning.specs.Execute.{after, count_up, count_up_if}
-use Rattle.rv_meaning.specs.declared.asks.Reply.{Reply}
-use Rattle.rv_meaning.specs.declared.asks.Reply.TheVariants.{Answer, Over}
-use Rattle.rv_meaning.specs.declared.asks.Want.TheVariants.{System}
-use Rattle.hart_replay.specs.Replay.{call_reason}
-use Rattle.hart_replay.specs.Sides.{call_answer}
+use Rattle.hart_replay.proofs.Common.{◌≡◌, ℕ, ◌==◌, Bool, true, false, ◌||◌, List, refl, ◌∙◌, HartState, after, count_up, count_up_if, Reply, Answer, Over, System, call_reason, call_answer}
 
 -- by whether the hart continues after the call, and by its number's two tests
 answer_counts : (b : Bool) (n v : ℕ) (args : List ℕ) (s : HartState)

@@ -1,27 +1,6 @@
 -- An instruction that a replay did is the one that the definition gives.
-use Rattle.std.proofs.Common.{◌≡◌, ℕ, suc, ◌+◌, ◌-◌, ◌/◌, ◌^◌, ◌<◌, Bool, true, false, Option, Some, None, List, [], ◌∷◌, length, if◌then◌else◌, refl, sym, subst, ◌∙◌, ap, arith, inl, inr, add-zero}
-use Rattle.std.specs.Prelude.{◌==◌, ◌||◌, is_some, Result, Ok, Err, OnOk, IfErr}
-use Rattle.bn_base.specs.Programs.{Program}
-use Rattle.bn_base.specs.declared.end_mark.EndMark.{EndMark}
-use Rattle.bn_base.specs.declared.row.Row.{Row}
-use Rattle.bn_base.specs.declared.state.HartState.{HartState}
-use Rattle.rv_meaning.specs.Access.{stored_word}
-use Rattle.rv_meaning.specs.Execute.{absorbed, after, count_up}
-use Rattle.rv_meaning.specs.Words.{aligned}
-use Rattle.rv_meaning.specs.declared.asks.Want.{Want}
-use Rattle.rv_meaning.specs.declared.asks.Want.TheVariants.{Store, StoreConditional}
-use Rattle.rv_meaning.specs.declared.asks.Reply.{Reply}
-use Rattle.rv_meaning.specs.declared.asks.Reply.TheVariants.{Word, Stored}
+use Rattle.hart_replay.proofs.Common.{◌≡◌, ℕ, suc, ◌+◌, ◌-◌, ◌/◌, ◌^◌, ◌<◌, Bool, true, false, Option, Some, None, List, [], ◌∷◌, length, if◌then◌else◌, refl, sym, subst, ◌∙◌, ap, arith, inl, inr, add-zero, ◌==◌, ◌||◌, is_some, Result, Ok, Err, OnOk, IfErr, Program, EndMark, Row, HartState, stored_word, absorbed, after, count_up, aligned, Want, Store, StoreConditional, Reply, Word, Stored, row_of, at_address, known, IntervalCursor, ReplayError, LoadMissing, ScMissing, OutOfMemory, Refused, Next, Stop, logged, taken_from, slot, or_else, word_for, missing, after_ask, after_sc, ask_step, Pending, due, met, IsWaiting, first_of, rest_of, Frame, word_at, Side, Alike, Goes, word_count, rows_below, side, interval_at, position_at, word_due, Keeps, KeepsWord, Does, side_of, DoneAndKept}
 use Rattle.rv_meaning.specs.declared.asks.Reply.TheVariants as replies
-use Rattle.rv_meaning.specs.Rows.{row_of, at_address, known}
-use Rattle.hart_replay.specs.declared.interval_cursor.IntervalCursor.{IntervalCursor}
-use Rattle.hart_replay.specs.declared.error.ReplayError.{ReplayError}
-use Rattle.hart_replay.specs.declared.error.ReplayError.TheVariants.{LoadMissing, ScMissing, OutOfMemory}
-use Rattle.hart_replay.specs.Replay.{Refused, Next, Stop, logged, taken_from, slot, or_else, word_for, missing, after_ask, after_sc, ask_step}
-use Rattle.hart_replay.specs.Scans.{Pending, due, met, IsWaiting, first_of, rest_of}
-use Rattle.hart_replay.specs.Pages.{Frame, word_at}
-use Rattle.hart_replay.specs.Sides.{Side, Alike, Goes, word_count, rows_below, side, interval_at, position_at, word_due, Keeps, KeepsWord, Does}
-use Rattle.hart_replay.specs.Cursors.{side_of, DoneAndKept}
 use Rattle.hart_replay.proofs.Places.{logged-due, logged-met, left-met, slot-first, slot-rest, length-rest}
 use Rattle.hart_replay.proofs.KnownRows.{known_word, known_put}
 use Rattle.hart_replay.proofs.Alike.{moved, tried_once}

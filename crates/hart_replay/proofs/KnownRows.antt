@@ -1,14 +1,5 @@
 -- The words of pages, as rows tell them.
-use Rattle.std.proofs.Common.{◌≡◌, ℕ, zero, suc, ◌*◌, ◌/◌, ◌^◌, ◌<◌, ◌≤◌, Bool, true, false, Option, Some, None, List, ◌∷◌, if◌then◌else◌, refl, sym, ◌∙◌, ap, arith, inl, inr}
-use Rattle.std.specs.Prelude.{◌==◌, ◌≢◌, ◌⊎◌}
-use Rattle.std.proofs.lemmas.Bool.{eq-eqb, cases_lt}
-use Rattle.std.proofs.lemmas.Bool.Decides.{eqb_tells}
-use Rattle.bn_base.specs.declared.row.Row.{Row}
-use Rattle.rv_meaning.specs.Words.{aligned}
-use Rattle.rv_meaning.specs.Rows.{at_address, known}
-use Rattle.hart_replay.specs.Replay.{or_else}
-use Rattle.hart_replay.specs.Pages.{Frame, word_at}
-use Rattle.hart_replay.specs.Sides.{word_count, word_row, rows_below}
+use Rattle.hart_replay.proofs.Common.{◌≡◌, ℕ, zero, suc, ◌*◌, ◌/◌, ◌^◌, ◌<◌, ◌≤◌, Bool, true, false, Option, Some, None, List, ◌∷◌, if◌then◌else◌, refl, sym, ◌∙◌, ap, arith, inl, inr, ◌==◌, ◌≢◌, ◌⊎◌, eq-eqb, cases_lt, eqb_tells, Row, aligned, at_address, known, or_else, Frame, word_at, word_count, word_row, rows_below}
 
 unequal : (a b : ℕ) → a ≢ b → (a == b) ≡ false
 unequal a b h = elim (eqb_tells a b) [ inl p ↦ absurd (h p.1) | inr p ↦ p.0 ]

@@ -1,6 +1,5 @@
 -- The nodes of a level.
-use Rattle.std.proofs.Common.{◌≡◌, ℕ, zero, suc, Bool, true, false, ◌==◌, Option, Some, None, get_or, replicate, refl, ap}
-use Rattle.hart_replay.specs.Directories.{Branch, place_in, has_part}
+use Rattle.hart_replay.proofs.Common.{◌≡◌, ℕ, zero, suc, Bool, true, false, ◌==◌, Option, Some, None, get_or, replicate, refl, ap, Branch, place_in, has_part}
 
 zero_at : (n k : ℕ) → get_or {A = ℕ} (replicate n 0) k 0 ≡ 0
 zero_at zero k = refl

@@ -1,3 +1,4 @@
+mod Common
 mod Exits
 pub mod Levels
 pub mod Listed

@@ -1,12 +1,6 @@
 -- Pages that are found by places, as a list by their numbers.
-use Rattle.std.proofs.Common.{◌≡◌, ◌≢◌, ℕ, zero, suc, ◌/◌, ◌%◌, ◌^◌, ◌<◌, ◌≤◌, ◌==◌, ◌⊎◌, cond, if◌then◌else◌, Bool, true, false, List, [], ◌∷◌, ◌++◌, length, Option, Some, None, slice_get, slice_set, refl, sym, ap, ◌∙◌, inl, inr, arith}
-use Rattle.std.specs.Prelude.{nat_eq}
+use Rattle.hart_replay.proofs.Common.{◌≡◌, ◌≢◌, ℕ, zero, suc, ◌/◌, ◌%◌, ◌^◌, ◌<◌, ◌≤◌, ◌==◌, ◌⊎◌, cond, if◌then◌else◌, Bool, true, false, List, [], ◌∷◌, ◌++◌, length, Option, Some, None, slice_get, slice_set, refl, sym, ap, ◌∙◌, inl, inr, arith, nat_eq, cases_eq, cases_lt, eq-eqb, eqb_tells, Frame, word_of, word_in, word_at, and_page, listed, page_count, pages_of, page_in, page_at, is_of, stands_at, TaggedPage}
 use Rattle.std.specs.Map.{lookup}
-use Rattle.std.proofs.lemmas.Bool.{cases_eq, cases_lt, eq-eqb}
-use Rattle.std.proofs.lemmas.Bool.Decides.{eqb_tells}
-use Rattle.hart_replay.specs.Pages.{Frame, word_of, word_in, word_at}
-use Rattle.hart_replay.specs.Directories.{and_page, listed, page_count, pages_of, page_in, page_at, is_of, stands_at}
-use Rattle.hart_replay.specs.declared.words.TaggedPage.{TaggedPage}
 
 unequal : (a b : ℕ) → a ≢ b → (a == b) ≡ false
 unequal a b h = elim (eqb_tells a b) [ inl p ↦ absurd (h p.1) | inr p ↦ p.0 ]

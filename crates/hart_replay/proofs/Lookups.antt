@@ -1,8 +1,5 @@
 -- Look-ups that are kept.
-use Rattle.std.proofs.Common.{arith, ◌≡◌, ℕ, zero, suc, ◌⊎◌, List, [], ◌∷◌, replicate, Option, Some, None, slice_get, slice_set, sym, subst, ap, inl, inr}
-use Rattle.bn_base.specs.Programs.{Program}
-use Rattle.hart_replay.specs.declared.decode_cache.Lookup.{Lookup}
-use Rattle.hart_replay.specs.DecodeCaches.{IsLookup, AreLookups}
+use Rattle.hart_replay.proofs.Common.{arith, ◌≡◌, ℕ, zero, suc, ◌⊎◌, List, [], ◌∷◌, replicate, Option, Some, None, slice_get, slice_set, sym, subst, ap, inl, inr, Program, Lookup, IsLookup, AreLookups}
 
 same_item : (a b : Lookup) → ◌≡◌ {A = Option Lookup} (Some a) (Some b) → b ≡ a
 same_item a b e = sym (ap (λ (o : Option Lookup). elim o as (λ y. Lookup) [ None ↦ a | Some v ↦ v ]) e)

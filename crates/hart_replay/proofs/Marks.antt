@@ -1,12 +1,8 @@
 -- A page with one word more.
-use Rattle.std.proofs.Common.{◌≡◌, ℕ, ◌<◌, ◌^◌, ◌==◌, Bool, true, false, length, get_or, set, bit_and, bit_or, Option, Some, None, if◌then◌else◌, sym, ◌∙◌, ap, arith, inl, inr}
+use Rattle.hart_replay.proofs.Common.{◌≡◌, ℕ, ◌<◌, ◌^◌, ◌==◌, Bool, true, false, length, get_or, set, bit_and, bit_or, Option, Some, None, if◌then◌else◌, sym, ◌∙◌, ap, arith, inl, inr, eq-eqb, ne_eqb, eqb_tells, get_or-set_same, get_or-set_other, Frame, word_in, marked, cleared}
 use Rattle.std.specs.Int.{bit_at, bit_not, w64}
 use Rattle.std.proofs.lemmas.Nat.Bits.{bit_at_or, bit_at_and, bit_at_not, bit_at-pow_same, bit_at-pow_other, bit_at-lt}
-use Rattle.std.proofs.lemmas.Bool.{eq-eqb, ne_eqb}
 use Rattle.std.proofs.Math.Pow.{pow-lt}
-use Rattle.std.proofs.lemmas.Bool.Decides.{eqb_tells}
-use Rattle.std.proofs.lemmas.List.{get_or-set_same, get_or-set_other}
-use Rattle.hart_replay.specs.Pages.{Frame, word_in, marked, cleared}
 
 set_same : (m p : ℕ) → (bit_at (bit_or m (2 ^ p)) p == 1) ≡ true
 set_same m p = eq-eqb (bit_at (bit_or m (2 ^ p)) p) 1 (omega (arith, bit_at_or m (2 ^ p) p, bit_at-pow_same p, bit_at-lt m p))

@@ -1,10 +1,5 @@
 -- First loads from one that is met on.
-use Rattle.std.proofs.Common.{◌≡◌, ℕ, suc, ◌+◌, ◌-◌, ◌<◌, Bool, true, false, List, [], ◌∷◌, length, Option, Some, None, refl, sym, ◌∙◌, ap, arith, inl, inr}
-use Rattle.std.specs.Prelude.{◌==◌, ◌≢◌, nat_lt}
-use Rattle.std.proofs.lemmas.Bool.{eq-eqb}
-use Rattle.std.proofs.lemmas.Bool.Decides.{eqb_tells, nat_tests}
-use Rattle.hart_replay.specs.Replay.{logged, logged_from, taken_from, slot}
-use Rattle.hart_replay.specs.Scans.{Pending, due, met, IsWaiting, first_of, rest_of}
+use Rattle.hart_replay.proofs.Common.{◌≡◌, ℕ, suc, ◌+◌, ◌-◌, ◌<◌, Bool, true, false, List, [], ◌∷◌, length, Option, Some, None, refl, sym, ◌∙◌, ap, arith, inl, inr, ◌==◌, ◌≢◌, nat_lt, eq-eqb, eqb_tells, nat_tests, logged, logged_from, taken_from, slot, Pending, due, met, IsWaiting, first_of, rest_of}
 
 unequal : (a b : ℕ) → a ≢ b → (a == b) ≡ false
 unequal a b h = elim (eqb_tells a b) [ inl p ↦ absurd (h p.1) | inr p ↦ p.0 ]

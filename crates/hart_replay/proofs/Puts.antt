@@ -1,7 +1,5 @@
 -- Records that say nothing of some part of an interval.
-use Rattle.std.proofs.Common.{◌≡◌, ℕ, ◌==◌, Bool, true, false, ◌∷◌, refl}
-use Rattle.log_record.specs.declared.record.Record.TheVariants.{FirstLoad, ScOk, ScFailed}
-use Rattle.hart_replay.specs.Replay.{Logged, put}
+use Rattle.hart_replay.proofs.Common.{◌≡◌, ℕ, ◌==◌, Bool, true, false, ◌∷◌, refl, FirstLoad, ScOk, ScFailed, Logged, put}
 
 same_loads : (b : Bool) (m l : Logged) → m.loads ≡ l.loads → (elim b as (λ x. Logged) [ true ↦ m | false ↦ l ]).loads ≡ l.loads
 same_loads true m l e = e

@@ -1,9 +1,5 @@
 -- A Header that doesn't stand before a place.
-use Rattle.std.proofs.Common.{◌≡◌, ℕ, zero, suc, ◌&&◌, ◌==◌, Bool, true, false, Option, Some, None, List, [], ◌∷◌, take, drop, refl}
-use Rattle.bn_base.specs.declared.state.HartState.{HartState}
-use Rattle.log_record.specs.declared.record.Record.{Record}
-use Rattle.log_record.specs.declared.record.Record.TheVariants.{Header, FirstLoad, ScOk, ScFailed, Edge, End}
-use Rattle.hart_replay.specs.Replay.{Interval, interval_from, puts, nothing, interval_of}
+use Rattle.hart_replay.proofs.Common.{◌≡◌, ℕ, zero, suc, ◌&&◌, ◌==◌, Bool, true, false, Option, Some, None, List, [], ◌∷◌, take, drop, refl, HartState, Record, Header, FirstLoad, ScOk, ScFailed, Edge, End, Interval, interval_from, puts, nothing, interval_of}
 
 pub skipped : (h c n : ℕ) (rs : List Record) → interval_of h c (take n rs) ≡ None → interval_of h c (drop n rs) ≡ interval_of h c rs
 skipped h c zero rs e = refl

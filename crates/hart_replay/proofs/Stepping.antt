@@ -1,35 +1,7 @@
 -- What is to come before and after a step, and the state by the rows.
-use Rattle.std.proofs.Common.{◌≡◌, ℕ, zero, suc, ◌+◌, ◌-◌, ◌^◌, ◌<◌, ◌≤◌, Bool, true, false, cond, Option, Some, None, List, [], ◌∷◌, ◌++◌, take, slice_index, refl, sym, subst, ◌∙◌, ap, arith}
-use Rattle.std.specs.Prelude.{◌==◌, ◌&&◌, ◌||◌, not, nat_lt}
-use Rattle.bn_base.specs.Faults.{fault_number}
-use Rattle.bn_base.specs.declared.fault.Fault.{Fault}
-use Rattle.bn_base.specs.Programs.{Program}
-use Rattle.bn_base.specs.declared.end_mark.EndMark.{EndMark}
-use Rattle.bn_base.specs.declared.row.Row.{Row}
-use Rattle.bn_base.specs.declared.state.HartState.{HartState}
-use Rattle.rv_meaning.specs.Access.{stored_word, amo_result}
-use Rattle.rv_meaning.specs.Execute.{Step, Quiet, Asks, step, absorbed, count_up}
-use Rattle.rv_meaning.specs.declared.asks.Want.{Want}
-use Rattle.rv_meaning.specs.declared.asks.Want.TheVariants.{Load, Store, LoadReserved, StoreConditional, Amo, System, Cut, Faulted}
-use Rattle.rv_meaning.specs.declared.asks.Reply.{Reply}
-use Rattle.rv_meaning.specs.declared.asks.Reply.TheVariants.{Word, Stored, Answer, Over}
+use Rattle.hart_replay.proofs.Common.{◌≡◌, ℕ, zero, suc, ◌+◌, ◌-◌, ◌^◌, ◌<◌, ◌≤◌, Bool, true, false, cond, Option, Some, None, List, [], ◌∷◌, ◌++◌, take, slice_index, refl, sym, subst, ◌∙◌, ap, arith, ◌==◌, ◌&&◌, ◌||◌, not, nat_lt, fault_number, Fault, Program, EndMark, Row, HartState, stored_word, amo_result, Step, Quiet, Asks, step, absorbed, count_up, Want, Load, Store, LoadReserved, StoreConditional, Amo, System, Cut, Faulted, Reply, Word, Stored, Answer, Over, row_of, call_row, fault_row, EndDiffers, ScMissing, Outcome, Refused, Replayed, Interval, Position, Next, On, Stop, missing, after_ask, after_sc, ask_step, one_step, found, call_reason, steps, finish, onto, left_over, fault_end, ended, first, interval_from, Logged, puts, nothing, interval_of, replayed_in, CacheOf, after_row, reply_in, with_rows, without_rows, to_come, outcome_only, Replaying, Begins, a_word_comes, Side, Goes, interval_at, position_at, later, side, side_to_come, left_by, KeepsWord, Does, Result, Ok, Err, drop, ◌⊎◌, inl, inr, Record, IntervalCursor, ReplayError, OutOfMemory, Pending, loads_in, conditionals_in, mark_in, Frame, word_at, side_of}
 use Rattle.rv_meaning.specs.declared.asks.Reply.TheVariants as replies
-use Rattle.rv_meaning.specs.Rows.{row_of, call_row, fault_row}
-use Rattle.hart_replay.specs.declared.error.ReplayError.TheVariants.{EndDiffers, ScMissing}
-use Rattle.hart_replay.specs.Replay.{Outcome, Refused, Replayed, Interval, Position, Next, On, Stop, missing, after_ask, after_sc, ask_step, one_step, found, call_reason, steps, finish, onto, left_over, fault_end, ended, first, interval_from, Logged, puts, nothing, interval_of, replayed_in}
-use Rattle.hart_replay.specs.DecodeCaches.{CacheOf}
-use Rattle.hart_replay.specs.Coming.{after_row, reply_in, with_rows, without_rows, to_come, outcome_only, Replaying, Begins, a_word_comes}
-use Rattle.hart_replay.specs.Sides.{Side, Goes, interval_at, position_at, later, side, side_to_come, left_by, KeepsWord, Does}
-use Rattle.std.specs.Prelude.{Result, Ok, Err, drop, ◌⊎◌}
-use Rattle.std.proofs.Common.{inl, inr}
-use Rattle.log_record.specs.declared.record.Record.{Record}
-use Rattle.hart_replay.specs.declared.interval_cursor.IntervalCursor.{IntervalCursor}
-use Rattle.hart_replay.specs.declared.error.ReplayError.{ReplayError}
-use Rattle.hart_replay.specs.declared.error.ReplayError.TheVariants.{OutOfMemory}
 use Rattle.hart_replay.specs.declared.header.IntervalStart.{IntervalStart}
-use Rattle.hart_replay.specs.Scans.{Pending, loads_in, conditionals_in, mark_in}
-use Rattle.hart_replay.specs.Pages.{Frame, word_at}
-use Rattle.hart_replay.specs.Cursors.{side_of}
 use Rattle.hart_replay.proofs.Alike.{coming_alike}
 use Rattle.hart_replay.proofs.KnownRows.{known_none}
 

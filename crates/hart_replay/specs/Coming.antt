@@ -1,15 +1,6 @@
 -- What is still to come of a replay, and what of it a caller sees.
 use Rattle.std.specs.Prelude.{◌≡◌, ℕ, zero, suc, ◌⊎◌, ◌||◌, Bool, true, false, List, [], ◌∷◌, ◌++◌, take, Option, Some, None, is_some, Result, Ok, Err}
-use Rattle.bn_base.specs.Programs.{Program}
-use Rattle.bn_base.specs.declared.end_mark.EndMark.{EndMark}
-use Rattle.bn_base.specs.declared.row.Row.{Row}
-use Rattle.bn_base.specs.declared.state.HartState.{HartState}
-use Rattle.rv_meaning.specs.Execute.{Quiet, Asks, step, absorbed}
-use Rattle.rv_meaning.specs.declared.asks.Want.{Want}
-use Rattle.rv_meaning.specs.declared.asks.Want.TheVariants.{Load, Store, LoadReserved, StoreConditional, Amo, System, Cut, Faulted}
-use Rattle.rv_meaning.specs.declared.asks.Reply.{Reply}
-use Rattle.rv_meaning.specs.declared.asks.Reply.TheVariants.{Word, Stored, ScOk, ScFailed, Answer, Over}
-use Rattle.log_record.specs.declared.record.Record.{Record}
+use Rattle.hart_replay.specs.Common.{Program, EndMark, Row, HartState, Quiet, Asks, step, absorbed, Want, Load, Store, LoadReserved, StoreConditional, Amo, System, Cut, Faulted, Reply, Word, Stored, ScOk, ScFailed, Answer, Over, Record}
 use Rattle.hart_replay.specs.declared.error.ReplayError.{ReplayError}
 use Rattle.hart_replay.specs.declared.error.ReplayError.TheVariants.{OutOfMemory}
 use Rattle.hart_replay.specs.Replay.{Outcome, Done, Refused, Replayed, Interval, Position, On, Stop, one_step, ended, interval_of, replayed}

@@ -1,10 +1,6 @@
 -- What the definition says of a replay at its cursor: what its next instruction does, and what is to come.
 use Rattle.std.specs.Prelude.{◌≡◌, ℕ, Bool, true, false, Option, Some, Result, Ok, Err}
-use Rattle.bn_base.specs.declared.row.Row.{Row}
-use Rattle.rv_meaning.specs.Execute.{after}
-use Rattle.rv_meaning.specs.declared.asks.Reply.{Reply}
-use Rattle.rv_meaning.specs.declared.asks.Want.{Want}
-use Rattle.rv_meaning.specs.Rows.{row_of}
+use Rattle.hart_replay.specs.Common.{Row, after, Reply, Want, row_of}
 use Rattle.hart_replay.specs.declared.interval_cursor.IntervalCursor.{IntervalCursor}
 use Rattle.hart_replay.specs.declared.error.ReplayError.{ReplayError}
 use Rattle.hart_replay.specs.Replay.{Outcome, Replayed, Interval, Position, Next, ask_step, one_step, left_over, ended}

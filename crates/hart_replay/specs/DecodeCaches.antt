@@ -1,9 +1,6 @@
 -- A program with look-ups that are kept.
 use Rattle.std.specs.Prelude.{◌≡◌, ℕ, List, slice_get, Some, option_map}
-use Rattle.bn_base.specs.Programs.{Program, code_at}
-use Rattle.rv_decode.specs.Seen.{seen}
-use Rattle.rv_meaning.specs.Lookups.{destination}
-use Rattle.rv_meaning.specs.Rows.{instruction_in}
+use Rattle.hart_replay.specs.Common.{Program, code_at, seen, destination, instruction_in}
 use Rattle.hart_replay.specs.declared.decode_cache.Lookup.{Lookup}
 
 -- the program

@@ -1,3 +1,4 @@
+pub mod Common
 pub mod Replay
 pub mod Pages
 pub mod Directories

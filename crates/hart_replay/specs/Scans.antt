@@ -1,7 +1,6 @@
 -- How the records of an interval are gone through, those of first loads and those of store-conditionals by themselves.
 use Rattle.std.specs.Prelude.{ℕ, ◌+◌, ◌≤◌, ◌==◌, Bool, true, false, List, [], ◌∷◌, Option, Some, None}
-use Rattle.bn_base.specs.declared.end_mark.EndMark.{EndMark}
-use Rattle.log_record.specs.declared.record.Record.{Record}
+use Rattle.hart_replay.specs.Common.{EndMark, Record}
 use Rattle.hart_replay.specs.Replay.{puts, nothing}
 
 -- the first loads, the store-conditionals and the mark of hart h in records up to its next End

@@ -1,7 +1,6 @@
 -- The Header that an interval begins with.
 use Rattle.std.specs.Prelude.{ℕ, List, drop, Option, Some, None}
-use Rattle.bn_base.specs.declared.state.HartState.{HartState}
-use Rattle.log_record.specs.declared.record.Record.{Record}
+use Rattle.hart_replay.specs.Common.{HartState, Record}
 use Rattle.hart_replay.specs.declared.header.IntervalStart.{IntervalStart}
 use Rattle.hart_replay.specs.Replay.{Interval, interval_from, puts, nothing}
 

@@ -1,10 +1,6 @@
 //! The program of a replay, with what its code words decode to: a loop is not decoded again at each turn.
 ghost use Rattle.std.specs.Prelude.{◌≡◌, ◌/◌, ◌%◌, option_map};
-ghost use Rattle.bn_base.specs.Programs.{Program};
-ghost use Rattle.rv_decode.specs.Seen.{seen};
-ghost use Rattle.rv_meaning.specs.Execute.{ask_of};
-ghost use Rattle.rv_meaning.specs.Lookups.{fetched};
-ghost use Rattle.rv_meaning.specs.Rows.{instruction_in};
+ghost use Rattle.hart_replay.specs.Common.{Program, seen, ask_of, fetched, instruction_in};
 ghost use Rattle.hart_replay.specs.DecodeCaches.{IsLookup, AreLookups};
 
 use bn_base::{Addr, HartId, HartState, Image, Register};

@@ -1,10 +1,7 @@
 //! The instructions of an interval, one by one: here the log's records are met. `Replayer` adds the end.
 ghost use Rattle.std.specs.Prelude.{◌≡◌, ◌<◌, ◌/◌, ◌==◌, ◌&&◌, ◌||◌, ℕ, true, false, Some, None, Err, if◌then◌else◌, IsTrue, IfOk, IfErr, OnOk};
-ghost use Rattle.rv_meaning.specs.Execute.{after};
+ghost use Rattle.hart_replay.specs.Common.{after, Load, LoadReserved, Amo, Store, StoreConditional, System, call_row, fetched};
 ghost use Rattle.rv_meaning.specs.Orderly.{is_reply_to, is_aligned, is_cut, passes};
-ghost use Rattle.rv_meaning.specs.declared.asks.Want.TheVariants.{Load, LoadReserved, Amo, Store, StoreConditional, System};
-ghost use Rattle.rv_meaning.specs.Rows.{call_row};
-ghost use Rattle.rv_meaning.specs.Lookups.{fetched};
 ghost use Rattle.hart_replay.specs.declared.error.ReplayError.{ReplayError};
 ghost use Rattle.hart_replay.specs.declared.error.ReplayError.TheVariants.{LoadMissing, EndDiffers, OutOfMemory};
 ghost use Rattle.hart_replay.specs.Replay.{call_reason, found};

@@ -1,9 +1,6 @@
 //! Rows, which are written in the caller's place: each level that passed one up would copy it.
 ghost use Rattle.std.specs.Prelude.{◌≡◌, ℕ};
-ghost use Rattle.bn_base.specs.Programs.{Program};
-ghost use Rattle.bn_base.specs.declared.state.HartState.{HartState};
-ghost use Rattle.rv_meaning.specs.Lookups.{done_row, fetched};
-ghost use Rattle.rv_meaning.specs.Rows.{row_of};
+ghost use Rattle.hart_replay.specs.Common.{Program, HartState, done_row, fetched, row_of};
 
 use bn_base::{Addr, Registers, Row};
 use rv_meaning::Fetched;

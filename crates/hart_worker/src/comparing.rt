@@ -1,11 +1,7 @@
 //! Whether a book agrees with what each hart did by itself.
 ghost use Rattle.std.specs.Prelude.{◌≡◌, ◌<◌, ℕ, true, false, List, length, slice_index_or, IfOk, IfSome, IfNone, MatchResult};
 ghost use Rattle.std.specs.Bool.{Decides};
-ghost use Rattle.bn_outside.specs.declared.turn_row.TurnRow.{TurnRow};
-ghost use Rattle.run_laws.specs.History.{rows_by};
-ghost use Rattle.run_laws.specs.Laws.{harts_of};
-ghost use Rattle.bus_core.specs.Bus.{began_of};
-ghost use Rattle.whole_runs.specs.Lists.{HasTaken};
+ghost use Rattle.hart_worker.specs.Common.{TurnRow, rows_by, harts_of, began_of, HasTaken};
 ghost use Rattle.hart_worker.specs.Threads.{IsHartsOwn, AreAllOwn, AreWorked, DoAgree, rows_with};
 
 use crate::worker::Worked;

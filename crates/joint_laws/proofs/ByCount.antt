@@ -1,17 +1,7 @@
 -- Chains of program order and kept Edges, by hart and count.
-use Rattle.std.proofs.Common.{◌≡◌, ℕ, zero, suc, ◌<◌, inl, inr, refl, ap, ◌∙◌, subst, subst₂, arith, List, [], ◌∷◌, length, slice_get, slice_index_or, Some, Contains, AllPairs}
-use Rattle.std.proofs.lemmas.Option.{slice_get_within}
-use Rattle.log_record.specs.declared.record.Record.{Record}
-use Rattle.log_record.specs.declared.record.Record.TheVariants.{Header, FirstLoad, ScOk, ScFailed, Edge, End}
-use Rattle.race_log.specs.Points.{Point, IsSameHart}
+use Rattle.joint_laws.proofs.Common.{◌≡◌, ℕ, zero, suc, ◌<◌, inl, inr, refl, ap, ◌∙◌, subst, subst₂, arith, List, [], ◌∷◌, length, slice_get, slice_index_or, Some, Contains, AllPairs, slice_get_within, Record, Header, FirstLoad, ScOk, ScFailed, Edge, End, Point, IsSameHart, IsInOrder, name_of, edge_record, edge_between, KeptEdge, HasEdge, StepTo, Leads, one as lead_one, ChainsLead}
 use Rattle.race_log.specs.Netzer.{ProgramOrder, Either, Chain, one, more}
-use Rattle.race_log.specs.ByCount.{IsInOrder}
-use Rattle.race_log.specs.Tests.{name_of}
-use Rattle.race_laws.specs.Edges.{edge_record, edge_between}
-use Rattle.race_laws.specs.Since.{KeptEdge}
-use Rattle.joint_replay.specs.Sound.{HasEdge}
-use Rattle.joint_replay.specs.Chains.{StepTo, Leads, one as lead_one, more as lead_more}
-use Rattle.joint_laws.specs.Chains.{ChainsLead}
+use Rattle.joint_replay.specs.Chains.{more as lead_more}
 use Rattle.joint_laws.proofs.Lists.{some_is}
 
 get_index : {X : Type 0} (xs : List X) (k : ℕ) (x d : X) → slice_get xs k ≡ Some x → slice_index_or xs k d ≡ x

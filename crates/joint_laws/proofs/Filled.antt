@@ -1,12 +1,6 @@
 -- The bytes that the joint memory takes for filled are those of read calls.
-use Rattle.std.proofs.Common.{◌≡◌, ℕ, ◌+◌, ◌<◌, ◌≤◌, Bool, true, false, ◌&&◌, Option, Some, None, refl, ◌∙◌, ap, arith}
-use Rattle.std.specs.Prelude.{◌==◌, nat_lt, nat_le, slice_index}
-use Rattle.std.proofs.lemmas.Bool.{false≢true, eq-eqb, eqb-true}
-use Rattle.rv_meaning.specs.Words.{aligned}
-use Rattle.joint_replay.specs.Memory.{Bytes, call_result, filled, has_byte}
-use Rattle.row_laws.specs.Fills.{HasByte, Fills, result_of}
+use Rattle.joint_laws.proofs.Common.{◌≡◌, ℕ, ◌+◌, ◌<◌, ◌≤◌, Bool, true, false, ◌&&◌, Option, Some, None, refl, ◌∙◌, ap, arith, ◌==◌, nat_lt, nat_le, slice_index, false≢true, eq-eqb, eqb-true, aligned, Bytes, call_result, filled, has_byte, HasByte, Fills, result_of, FillsAreFilled}
 use Rattle.joint_laws.proofs.Lists.{not_some}
-use Rattle.joint_laws.specs.Filled.{FillsAreFilled}
 
 both : (a b : Bool) → a ≡ true → b ≡ true → (a && b) ≡ true
 both true b e f = f

@@ -1,27 +1,7 @@
 -- In each beginning of an allowed order the harts' rows follow the run's.
-use Rattle.std.proofs.Common.{◌≡◌, ℕ, zero, suc, ◌+◌, ◌<◌, Bool, true, false, ◌&&◌, ◌==◌, inl, inr, refl, sym, ap, ◌∙◌, subst, arith, List, [], ◌∷◌, ◌++◌, slice_get, slice_set, is_some, Option, Some, None}
-use Rattle.std.specs.List.{AllByRecursion, flat_map}
-use Rattle.std.proofs.lemmas.Bool.{eq-eqb, ne_eqb}
-use Rattle.std.proofs.lemmas.Bool.Decides.{eqb_tells}
-use Rattle.std.proofs.lemmas.List.{append_assoc}
-use Rattle.bn_base.specs.Programs.{Program}
-use Rattle.bn_base.specs.declared.row.Row.{Row}
-use Rattle.bn_base.specs.declared.state.HartState.{HartState}
-use Rattle.log_record.specs.declared.record.Record.{Record}
-use Rattle.log_record.specs.declared.record.Record.TheVariants.{Header, FirstLoad, ScOk, ScFailed, Edge, End}
-use Rattle.hart_replay.specs.Replay.{Interval, Replayed, Done, interval_of, replayed}
-use Rattle.hart_replay.specs.Coming.{after_row}
-use Rattle.joint_replay.specs.Points.{intervals_in}
-use Rattle.joint_replay.specs.Lanes.{Cursor, Lane, Item, Passing, Doing, Ending, with_cursor, cursors_of, lane_of, row_given, lane_step}
-use Rattle.joint_replay.specs.Joining.{Joining, Taken, Walk, begun, longer, lanes_from}
-use Rattle.joint_replay.specs.Orders.{IsBegun}
-use Rattle.replay_laws.specs.Law.{EndsSuffice, IsWhole}
-use Rattle.row_laws.specs.Laws.{IntervalRowsAreOfTurns}
-use Rattle.row_laws.specs.States.{state_after, IsRowOfTurn}
+use Rattle.joint_laws.proofs.Common.{◌≡◌, ℕ, zero, suc, ◌+◌, ◌<◌, Bool, true, false, ◌&&◌, ◌==◌, inl, inr, refl, sym, ap, ◌∙◌, subst, arith, List, [], ◌∷◌, ◌++◌, slice_get, slice_set, is_some, Option, Some, None, AllByRecursion, flat_map, eq-eqb, ne_eqb, eqb_tells, append_assoc, Program, Row, HartState, Record, Header, FirstLoad, ScOk, ScFailed, Edge, End, Interval, Replayed, Done, interval_of, replayed, after_row, intervals_in, Cursor, Lane, Item, Passing, Doing, Ending, with_cursor, cursors_of, lane_of, row_given, lane_step, Joining, Taken, Walk, begun, longer, lanes_from, IsBegun, EndsSuffice, IsWhole, IntervalRowsAreOfTurns, state_after, IsRowOfTurn, Recording, IsLogOf, begin, interval_rows, row_in, rows_done}
 use Rattle.joint_laws.proofs.Lists.{after_append}
 use Rattle.joint_laws.proofs.Lists.{get_same, get_other}
-use Rattle.joint_laws.specs.Recordings.{Recording, IsLogOf, begin, interval_rows}
-use Rattle.joint_laws.specs.Steps.{row_in, rows_done}
 use Rattle.joint_laws.proofs.Lists.{some_is}
 use Rattle.joint_laws.proofs.Moves.{IsMove, StepOf, along, by_kind}
 

@@ -1,10 +1,5 @@
 -- Lists, tests and states along rows.
-use Rattle.std.proofs.Common.{arith, ◌≡◌, ℕ, zero, suc, ◌<◌, true, nat_lt, refl, sym, ap, ◌∙◌, List, [], ◌∷◌, ◌++◌, slice_get, slice_set, Option, Some, None}
-use Rattle.bn_base.specs.Programs.{Program}
-use Rattle.bn_base.specs.declared.row.Row.{Row}
-use Rattle.bn_base.specs.declared.state.HartState.{HartState}
-use Rattle.hart_replay.specs.Coming.{after_row}
-use Rattle.row_laws.specs.States.{state_after}
+use Rattle.joint_laws.proofs.Common.{arith, ◌≡◌, ℕ, zero, suc, ◌<◌, true, nat_lt, refl, sym, ap, ◌∙◌, List, [], ◌∷◌, ◌++◌, slice_get, slice_set, Option, Some, None, Program, Row, HartState, after_row, state_after}
 
 pub lt_true : (m n : ℕ) → m < n → nat_lt m n ≡ true
 lt_true m n h = grind arith

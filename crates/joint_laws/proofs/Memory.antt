@@ -1,31 +1,7 @@
 -- The joint memory, by the rows and points of the run.
-use Rattle.std.proofs.Common.{◌≡◌, ℕ, zero, suc, ◌+◌, ◌<◌, ◌≤◌, Bool, true, false, ◌⊎◌, inl, inr, refl, sym, ap, ◌∙◌, subst, arith, List, [], ◌∷◌, ◌++◌, length, map, slice_get, is_some, Option, Some, None, ◌==◌}
-use Rattle.std.specs.List.{range_with_len}
-use Rattle.std.proofs.lemmas.Bool.{false≢true}
-use Rattle.bn_base.specs.Programs.{Program}
-use Rattle.bn_base.specs.declared.row.Row.{Row}
-use Rattle.bn_base.specs.declared.state.HartState.{HartState}
-use Rattle.rv_meaning.specs.Words.{aligned}
-use Rattle.rv_meaning.specs.Rows.{at_address}
-use Rattle.log_record.specs.declared.record.Record.{Record}
-use Rattle.race_log.specs.Points.{Point, Touches, Writes}
+use Rattle.joint_laws.proofs.Common.{◌≡◌, ℕ, zero, suc, ◌+◌, ◌<◌, ◌≤◌, Bool, true, false, ◌⊎◌, inl, inr, refl, sym, ap, ◌∙◌, subst, arith, List, [], ◌∷◌, ◌++◌, length, map, slice_get, is_some, Option, Some, None, ◌==◌, range_with_len, false≢true, Program, Row, HartState, aligned, at_address, Record, Point, Touches, Writes, run_of, RowsAreCounted, HasCodeWords, Fills, RowsThatTellHaveNoFault, RunRowsTellWords, RunWritersHaveRows, TurnRowsAreRows, PartsHaveCodeWords, state_after, HasRow, RunHasRow, IsRowOfTurn, Item, Passing, Doing, Ending, Taken, Walk, IsRowAt, IsSound, Did, StepsPass, SoundnessStays, FillsAreFilled, BeginsSound, KeepsOrder, HasMemory, IsRecordedWord, Recording, IsLogOf, OfBeginnings, begin, points_of, told_by}
 use Rattle.elf_loader.specs.Laws.{LoadedProgramsAreImages}
-use Rattle.run_model.specs.Runs.{run_of}
-use Rattle.replay_laws.specs.Law.{RowsAreCounted}
-use Rattle.row_laws.specs.Fills.{HasCodeWords, Fills}
-use Rattle.row_laws.specs.Laws.{RowsThatTellHaveNoFault, RunRowsTellWords, RunWritersHaveRows, TurnRowsAreRows, PartsHaveCodeWords}
-use Rattle.row_laws.specs.States.{state_after, HasRow, RunHasRow, IsRowOfTurn}
 use Rattle.row_laws.specs.Words.{word_told, HasWord}
-use Rattle.joint_replay.specs.Lanes.{Item, Passing, Doing, Ending}
-use Rattle.joint_replay.specs.Joining.{Taken, Walk}
-use Rattle.joint_replay.specs.Ways.{IsRowAt}
-use Rattle.joint_replay.specs.Sound.{IsSound}
-use Rattle.joint_replay.specs.Chains.{Did}
-use Rattle.joint_replay.specs.Laws.{StepsPass, SoundnessStays}
-use Rattle.joint_laws.specs.Filled.{FillsAreFilled}
-use Rattle.joint_laws.specs.Laws.{BeginsSound, KeepsOrder, HasMemory, IsRecordedWord}
-use Rattle.joint_laws.specs.Recordings.{Recording, IsLogOf, OfBeginnings, begin, points_of}
-use Rattle.joint_laws.specs.Steps.{told_by}
 use Rattle.joint_laws.proofs.Lists.{some_is, not_some, heads, rests}
 use Rattle.joint_laws.proofs.Follows.{IsFollowed, IsItemOf, AreTaken}
 use Rattle.joint_laws.proofs.Once.{IsDoneOnce, done_once}

@@ -1,15 +1,6 @@
 -- What a step of a ready hart does, and what each beginning of an allowed order keeps.
-use Rattle.std.proofs.Common.{◌≡◌, ℕ, refl, subst, List, [], ◌∷◌, slice_get, slice_set, Option, Some, None, Result, Ok, Err}
-use Rattle.bn_base.specs.Programs.{Program}
-use Rattle.bn_base.specs.declared.row.Row.{Row}
-use Rattle.hart_replay.specs.declared.error.ReplayError.{ReplayError}
-use Rattle.hart_replay.specs.Replay.{Outcome, Done, Refused}
-use Rattle.joint_replay.specs.declared.kinds.Readiness.{Readiness}
+use Rattle.joint_laws.proofs.Common.{◌≡◌, ℕ, refl, subst, List, [], ◌∷◌, slice_get, slice_set, Option, Some, None, Result, Ok, Err, Program, Row, ReplayError, Outcome, Done, Refused, Readiness, Cursor, Lane, Item, Passing, Doing, Ending, row_given, cursor_step, lane_step, memory_after, Joining, Walk, longer, readiness_of, move, ready_step, walk_on}
 use Rattle.joint_replay.specs.declared.kinds.Readiness.TheVariants as is
-use Rattle.joint_replay.specs.Lanes.{Cursor, Lane, Item, Passing, Doing, Ending, row_given, cursor_step, lane_step}
-use Rattle.joint_replay.specs.Memory.{memory_after}
-use Rattle.joint_replay.specs.Joining.{Joining, Walk, longer, readiness_of, move}
-use Rattle.joint_replay.specs.Orders.{ready_step, walk_on}
 use Rattle.joint_laws.proofs.Lists.{some_is, not_some}
 
 -- a hart of those that there are takes its next step, and isn't refused

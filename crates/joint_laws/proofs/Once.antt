@@ -1,23 +1,7 @@
 -- In each beginning of an allowed order an instruction is done once at most, and it is one of a retained interval.
-use Rattle.std.proofs.Common.{nat_lt, Bool, false, not, ◌&&◌, ◌||◌, ◌≡◌, ℕ, zero, suc, ◌<◌, ◌≤◌, true, ◌⊎◌, inl, inr, refl, sym, ap, ◌∙◌, subst, arith, List, [], ◌∷◌, slice_get, slice_set, is_some, Option, Some, None}
-use Rattle.std.proofs.lemmas.Bool.{false≢true}
-use Rattle.std.proofs.lemmas.Bool.Decides.{eqb_tells}
-use Rattle.bn_base.specs.Programs.{Program}
-use Rattle.bn_base.specs.declared.row.Row.{Row}
-use Rattle.bn_base.specs.declared.state.HartState.{HartState}
-use Rattle.log_record.specs.declared.record.Record.{Record}
-use Rattle.hart_replay.specs.Coming.{after_row}
-use Rattle.joint_replay.specs.declared.kinds.Coming.{Coming}
-use Rattle.joint_replay.specs.declared.kinds.Coming.TheVariants.{RowAt, EndAt}
-use Rattle.joint_replay.specs.Lanes.{count_of, has_row, is_within, Cursor, Lane, Item, Doing, row_given}
-use Rattle.joint_replay.specs.Joining.{Joining, Taken, Walk, begun, longer, is_passed}
-use Rattle.joint_replay.specs.Orders.{IsBegun}
+use Rattle.joint_laws.proofs.Common.{nat_lt, Bool, false, not, ◌&&◌, ◌||◌, ◌≡◌, ℕ, zero, suc, ◌<◌, ◌≤◌, true, ◌⊎◌, inl, inr, refl, sym, ap, ◌∙◌, subst, arith, List, [], ◌∷◌, slice_get, slice_set, is_some, Option, Some, None, false≢true, eqb_tells, Program, Row, HartState, Record, after_row, Coming, RowAt, EndAt, count_of, has_row, is_within, Cursor, Lane, Item, Doing, row_given, Joining, Taken, Walk, begun, longer, is_passed, IsBegun, AreFrom, AreCursors, IsLane, last_count, InCursors, IsRowAt, Passes, PassesIf, IsSound, SoundIf, Did, IsLeft, IsToDo, StepsPass, SoundnessStays, Recording, begin}
 use Rattle.joint_replay.specs.Counts.{RowsFrom}
-use Rattle.joint_replay.specs.Ways.{GoesOn, AreFrom, AreCursors, IsLane, last_count, InCursors, IsRowAt, Passes, PassesIf}
-use Rattle.joint_replay.specs.Sound.{IsSound, SoundIf}
-use Rattle.joint_replay.specs.Chains.{Did, IsLeft, IsToDo}
-use Rattle.joint_replay.specs.Laws.{StepsPass, SoundnessStays}
-use Rattle.joint_laws.specs.Recordings.{Recording, begin}
+use Rattle.joint_replay.specs.Ways.{GoesOn}
 use Rattle.joint_laws.proofs.Lists.{some_is, lt_true, true_lt, get_same, get_other}
 use Rattle.joint_laws.proofs.Moves.{IsMove, StepOf, along, by_kind}
 

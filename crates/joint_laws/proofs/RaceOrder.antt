@@ -1,23 +1,5 @@
 -- Race order: chains of the run, in allowed orders.
-use Rattle.std.proofs.Common.{◌≡◌, ℕ, zero, suc, ◌+◌, ◌<◌, ◌≤◌, inl, inr, refl, subst, arith, List, [], ◌∷◌, slice_get, Option, Some, None}
-use Rattle.std.proofs.lemmas.Bool.Decides.{eqb_tells}
-use Rattle.bn_base.specs.Programs.{Program}
-use Rattle.log_record.specs.declared.record.Record.{Record}
-use Rattle.hart_replay.specs.Replay.{Interval, interval_of, replayed}
-use Rattle.race_log.specs.ByCount.{IsInOrder}
-use Rattle.race_log.specs.Points.{Point}
-use Rattle.race_laws.specs.Runs.{OfLists}
-use Rattle.race_laws.specs.Since.{IsSinceHeader}
-use Rattle.race_laws.specs.Laws.{HasOrder, OrdersConflicts, ReplayedAreSinceHeaders}
-use Rattle.joint_replay.specs.Points.{intervals_in}
-use Rattle.joint_replay.specs.Lanes.{with_cursor, cursors_of, lane_of}
-use Rattle.joint_replay.specs.Joining.{lanes_from}
-use Rattle.joint_replay.specs.Ways.{InCursors}
-use Rattle.joint_replay.specs.Laws.{ChainsAreKept}
-use Rattle.joint_replay.specs.Chains.{Leads, IsLeft, one as lead_one}
-use Rattle.joint_laws.specs.Chains.{ChainsLead}
-use Rattle.joint_laws.specs.Recordings.{points_of, OfBeginnings}
-use Rattle.joint_laws.specs.Laws.{BeginsSound, KeepsOrder}
+use Rattle.joint_laws.proofs.Common.{◌≡◌, ℕ, zero, suc, ◌+◌, ◌<◌, ◌≤◌, inl, inr, refl, subst, arith, List, [], ◌∷◌, slice_get, Option, Some, None, eqb_tells, Program, Record, Interval, interval_of, replayed, IsInOrder, Point, OfLists, IsSinceHeader, HasOrder, OrdersConflicts, ReplayedAreSinceHeaders, intervals_in, with_cursor, cursors_of, lane_of, lanes_from, InCursors, ChainsAreKept, Leads, IsLeft, one as lead_one, ChainsLead, points_of, OfBeginnings, BeginsSound, KeepsOrder}
 use Rattle.joint_laws.proofs.ByCount.{pair_at}
 
 -- an instruction that is to do is of an interval that can be replayed

@@ -1,14 +1,6 @@
 -- Joint replays that an allowed order led to.
-use Rattle.std.proofs.Common.{◌≡◌, ℕ, zero, suc, refl, sym, ap, ◌∙◌, subst, List, [], ◌∷◌, map, slice_get, Option, Some, None}
-use Rattle.bn_base.specs.Programs.{Program}
-use Rattle.bn_base.specs.declared.state.HartState.{HartState}
+use Rattle.joint_laws.proofs.Common.{◌≡◌, ℕ, zero, suc, refl, sym, ap, ◌∙◌, subst, List, [], ◌∷◌, map, slice_get, Option, Some, None, Program, HartState, Walk, Cursor, Lane, state_of, word_in, IsBegun, Begun, OfBeginnings, KeepsOrder, HasFirstRows, HasShownStates, HasMemory, ReachedSayTheRun}
 use Rattle.joint_replay.specs.Calls.{bare}
-use Rattle.joint_replay.specs.Joining.{Walk}
-use Rattle.joint_replay.specs.Lanes.{Cursor, Lane, state_of}
-use Rattle.joint_replay.specs.Memory.{word_in}
-use Rattle.joint_replay.specs.Orders.{IsBegun}
-use Rattle.joint_laws.specs.Recordings.{Begun, OfBeginnings}
-use Rattle.joint_laws.specs.Laws.{KeepsOrder, HasFirstRows, HasShownStates, HasMemory, ReachedSayTheRun}
 
 -- the state that is shown doesn't depend on what is left of replays
 state_bare : (points : List ℕ) (cursors : List Cursor) → state_of (bare (record { points = points; cursors = cursors })) ≡ state_of (record { points = points; cursors = cursors })

@@ -1,19 +1,6 @@
 -- The rows of whole allowed orders.
-use Rattle.std.proofs.Common.{◌≡◌, ℕ, zero, suc, ◌+◌, Bool, true, false, ◌⊎◌, inl, inr, refl, sym, ap, ◌∙◌, subst, List, [], ◌∷◌, ◌++◌, slice_get, Option, Some, None}
-use Rattle.std.proofs.lemmas.List.{append-nil}
-use Rattle.log_record.specs.declared.record.Record.{Record}
-use Rattle.joint_replay.specs.declared.kinds.Coming.{Coming}
-use Rattle.joint_replay.specs.declared.kinds.Coming.TheVariants.{RowAt, EndAt}
-use Rattle.joint_replay.specs.declared.kinds.Readiness.{Readiness}
+use Rattle.joint_laws.proofs.Common.{◌≡◌, ℕ, zero, suc, ◌+◌, Bool, true, false, ◌⊎◌, inl, inr, refl, sym, ap, ◌∙◌, subst, List, [], ◌∷◌, ◌++◌, slice_get, Option, Some, None, append-nil, Record, Coming, RowAt, EndAt, Readiness, Next, Hart, AllDone, NoneReady, sources_into, Cursor, Lane, has_row, coming_of, point_of, readiness_of, waits_for, first_waited, choice_from, OfWholeOrders, OfBeginnings, HasFirstRows, HasRows, rows_done}
 use Rattle.joint_replay.specs.declared.kinds.Readiness.TheVariants as is
-use Rattle.joint_replay.specs.declared.kinds.Next.{Next}
-use Rattle.joint_replay.specs.declared.kinds.Next.TheVariants.{Hart, AllDone, NoneReady}
-use Rattle.joint_replay.specs.Points.{sources_into}
-use Rattle.joint_replay.specs.Lanes.{Cursor, Lane, has_row, coming_of, point_of}
-use Rattle.joint_replay.specs.Joining.{readiness_of, waits_for, first_waited, choice_from}
-use Rattle.joint_laws.specs.Recordings.{OfWholeOrders, OfBeginnings}
-use Rattle.joint_laws.specs.Laws.{HasFirstRows, HasRows}
-use Rattle.joint_laws.specs.Steps.{rows_done}
 use Rattle.joint_laws.proofs.Lists.{some_is}
 use Rattle.joint_laws.proofs.Follows.{IsFollowed, rows_left}
 

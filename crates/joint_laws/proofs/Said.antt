@@ -1,12 +1,7 @@
 -- All laws, of the run with the lowest ready hart first.
-use Rattle.std.proofs.Common.{◌≡◌, sym, subst}
+use Rattle.joint_laws.proofs.Common.{◌≡◌, sym, subst, content_of, FilesSayTheRun, run_all, fresh, OfWholeOrders, OfBeginnings, begin, kept, recorded, OwnLogsAreLogs, StandsInOrder, HasStates, HasMemory, HasWordsOnce, HasRows, RunsToTheEnd, SaysTheRun, JointReplaysSayTheRun, JointFilesSayTheRun}
 use Rattle.sha2.specs.Sha256.{sha256}
 use Rattle.log_order.specs.Content.{Content}
-use Rattle.run_model.specs.KeptRecords.{content_of}
-use Rattle.file_laws.specs.Laws.{FilesSayTheRun}
-use Rattle.joint_replay.specs.Joining.{run_all, fresh}
-use Rattle.joint_laws.specs.Recordings.{OfWholeOrders, OfBeginnings, begin, kept, recorded}
-use Rattle.joint_laws.specs.Laws.{OwnLogsAreLogs, StandsInOrder, HasStates, HasMemory, HasWordsOnce, HasRows, RunsToTheEnd, SaysTheRun, JointReplaysSayTheRun, JointFilesSayTheRun}
 
 pub say_the_run : RunsToTheEnd → OfWholeOrders StandsInOrder → OfBeginnings HasStates → OfBeginnings HasMemory → OfBeginnings HasWordsOnce → OfWholeOrders HasRows → JointReplaysSayTheRun
 say_the_run runs keeps states memory once rows r records log =

@@ -1,21 +1,6 @@
 -- The states that are shown of harts.
-use Rattle.std.proofs.Common.{◌≡◌, ℕ, Bool, true, false, ◌==◌, refl, sym, ap, ◌∙◌, subst, arith, List, [], ◌∷◌, ◌++◌, slice_get, Option, Some, None}
-use Rattle.std.proofs.lemmas.Bool.{false≢true}
-use Rattle.std.proofs.lemmas.List.{append_assoc}
-use Rattle.bn_base.specs.Programs.{Program}
-use Rattle.bn_base.specs.declared.row.Row.{Row}
-use Rattle.bn_base.specs.declared.settings.RawSettings.{RawSettings}
-use Rattle.bn_base.specs.declared.state.HartState.{HartState}
-use Rattle.log_record.specs.declared.record.Record.{Record}
+use Rattle.joint_laws.proofs.Common.{◌≡◌, ℕ, Bool, true, false, ◌==◌, refl, sym, ap, ◌∙◌, subst, arith, List, [], ◌∷◌, ◌++◌, slice_get, Option, Some, None, false≢true, append_assoc, Program, Row, RawSettings, HartState, Record, start, run_of, run_from, legal_from, is_live, Run, turn, BeginsIn, IntervalsBegin, BeginningsTellStates, RowsTellRuns, state_after, Cursor, Lane, state_of, Recording, IsLogOf, OfBeginnings, first_state, IsStateOfRun, HasShownStates}
 use Rattle.run_model.specs.Rows.{rows_of, turn_rows}
-use Rattle.run_model.specs.Runs.{start, run_of, run_from, legal_from, is_live}
-use Rattle.run_model.specs.Turn.{Run, turn}
-use Rattle.replay_laws.specs.Law.{BeginsIn, IntervalsBegin}
-use Rattle.row_laws.specs.Laws.{BeginningsTellStates, RowsTellRuns}
-use Rattle.row_laws.specs.States.{state_after}
-use Rattle.joint_replay.specs.Lanes.{Cursor, Lane, state_of}
-use Rattle.joint_laws.specs.Recordings.{Recording, IsLogOf, OfBeginnings, first_state}
-use Rattle.joint_laws.specs.Laws.{IsStateOfRun, HasShownStates}
 use Rattle.joint_laws.proofs.Lists.{some_is, not_some, after_append}
 use Rattle.joint_laws.proofs.Follows.{IsOf, AreOf, IsFollowed}
 

@@ -1,13 +1,5 @@
 -- Race order in whole allowed orders.
-use Rattle.std.proofs.Common.{◌≡◌, ℕ, inl, inr, refl, subst, List, [], slice_get, Option, Some, None}
-use Rattle.log_record.specs.declared.record.Record.{Record}
-use Rattle.joint_replay.specs.Chains.{Did, IsLeft, IsToDo}
-use Rattle.joint_replay.specs.Joining.{Walk}
-use Rattle.joint_replay.specs.Lanes.{Lane}
-use Rattle.joint_replay.specs.Laws.{StepsPass, SoundnessStays}
-use Rattle.joint_replay.specs.Ways.{InCursors}
-use Rattle.joint_laws.specs.Laws.{BeginsSound, KeepsOrder, StandsInOrder}
-use Rattle.joint_laws.specs.Recordings.{Recording, Allowed, OfWholeOrders, OfBeginnings, begin}
+use Rattle.joint_laws.proofs.Common.{◌≡◌, ℕ, inl, inr, refl, subst, List, [], slice_get, Option, Some, None, Record, Did, IsLeft, IsToDo, Walk, Lane, StepsPass, SoundnessStays, InCursors, BeginsSound, KeepsOrder, StandsInOrder, Recording, Allowed, OfWholeOrders, OfBeginnings, begin}
 use Rattle.joint_laws.proofs.Once.{IsDoneOnce, done_once}
 use Rattle.joint_laws.proofs.Rows.{all_done, nothing_comes}
 

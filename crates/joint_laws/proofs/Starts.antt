@@ -1,12 +1,6 @@
 -- The joint replay of a log of a recording begins sound.
-use Rattle.std.proofs.Common.{◌≡◌, ℕ, ◌+◌, ap, sym, ◌∙◌, arith, List, ◌++◌, length, None}
-use Rattle.bn_base.specs.declared.settings.RawSettings.{RawSettings}
-use Rattle.log_record.specs.declared.record.Record.{Record}
+use Rattle.joint_laws.proofs.Common.{◌≡◌, ℕ, ◌+◌, ap, sym, ◌∙◌, arith, List, ◌++◌, length, None, RawSettings, Record, StreamsAreInOrder, StartsAreSound, BeginsSound, recorded}
 use Rattle.log_order.specs.Order.{broken_by}
-use Rattle.file_laws.specs.Laws.{StreamsAreInOrder}
-use Rattle.joint_replay.specs.Laws.{StartsAreSound}
-use Rattle.joint_laws.specs.Laws.{BeginsSound}
-use Rattle.joint_laws.specs.Recordings.{recorded}
 
 abbrev pub OrderStays : Type 0
 OrderStays = (s : RawSettings) (dropped : ℕ) (front back : List Record) → broken_by s dropped (front ++ back) ≡ None → broken_by s (dropped + length front) back ≡ None

@@ -1,7 +1,5 @@
 -- The rows of a joint replay are done from the run's states.
-use Rattle.std.proofs.Common.{subst}
-use Rattle.joint_laws.specs.Recordings.{OfBeginnings}
-use Rattle.joint_laws.specs.Laws.{HasStates}
+use Rattle.joint_laws.proofs.Common.{subst, OfBeginnings, HasStates}
 use Rattle.joint_laws.proofs.Follows.{IsFollowed, IsItemOf}
 use Rattle.joint_laws.proofs.Memory.{item_of}
 

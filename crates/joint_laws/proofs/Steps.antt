@@ -1,23 +1,7 @@
 -- Ready harts step, and a run with the lowest ready hart first goes to the end.
-use Rattle.std.proofs.Common.{◌≡◌, ℕ, zero, suc, ◌+◌, ◌<◌, Bool, true, false, ◌⊎◌, inl, inr, refl, sym, ap, ◌∙◌, subst, arith, List, [], ◌∷◌, ◌++◌, length, slice_get, slice_set, Option, Some, None, Result, Ok, Err}
-use Rattle.bn_base.specs.Programs.{Program}
-use Rattle.bn_base.specs.declared.row.Row.{Row}
-use Rattle.log_record.specs.declared.record.Record.{Record}
-use Rattle.hart_replay.specs.declared.error.ReplayError.{ReplayError}
-use Rattle.hart_replay.specs.Replay.{Outcome, Done, Refused}
+use Rattle.joint_laws.proofs.Common.{◌≡◌, ℕ, zero, suc, ◌+◌, ◌<◌, Bool, true, false, ◌⊎◌, inl, inr, refl, sym, ap, ◌∙◌, subst, arith, List, [], ◌∷◌, ◌++◌, length, slice_get, slice_set, Option, Some, None, Result, Ok, Err, Program, Row, Record, ReplayError, Outcome, Done, Refused, Coming, Readiness, Next, Hart, AllDone, NoneReady, sources_into, Cursor, Lane, Item, Passing, Doing, Ending, row_given, coming_of, point_of, lane_step, cursors_steps, lane_steps, memory_after, Joining, Walk, Ran, begun, longer, readiness, readiness_of, waits_for, first_waited, choice, choice_from, next_step, move, error_of, ran, run_for, steps_left, positions_from, ready_step, walk_on, IsBegun, Recording, IsLogOf, Allowed, OfBeginnings, begin, GoesOn, RanToTheEnd}
 use Rattle.joint_replay.specs.declared.error.JointError.TheVariants.{Stuck}
-use Rattle.joint_replay.specs.declared.kinds.Coming.{Coming}
-use Rattle.joint_replay.specs.declared.kinds.Readiness.{Readiness}
 use Rattle.joint_replay.specs.declared.kinds.Readiness.TheVariants as is
-use Rattle.joint_replay.specs.declared.kinds.Next.{Next}
-use Rattle.joint_replay.specs.declared.kinds.Next.TheVariants.{Hart, AllDone, NoneReady}
-use Rattle.joint_replay.specs.Points.{sources_into}
-use Rattle.joint_replay.specs.Lanes.{Cursor, Lane, Item, Passing, Doing, Ending, row_given, coming_of, point_of, lane_step, cursors_steps, lane_steps}
-use Rattle.joint_replay.specs.Memory.{memory_after}
-use Rattle.joint_replay.specs.Joining.{Joining, Walk, Ran, begun, longer, readiness, readiness_of, waits_for, first_waited, choice, choice_from, next_step, move, error_of, ran, run_for, steps_left, positions_from}
-use Rattle.joint_replay.specs.Orders.{ready_step, walk_on, IsBegun}
-use Rattle.joint_laws.specs.Recordings.{Recording, IsLogOf, Allowed, OfBeginnings, begin}
-use Rattle.joint_laws.specs.Laws.{GoesOn, RanToTheEnd}
 use Rattle.joint_laws.proofs.Lists.{some_is}
 use Rattle.joint_laws.proofs.Moves.{IsMove, StepOf, by_kind, is_move}
 use Rattle.joint_laws.proofs.Follows.{AreOf, IsFollowed}

@@ -1,17 +1,14 @@
 -- The joint replays of small recordings, by computation.
-use Rattle.std.proofs.Common.{◌≡◌, refl}
+use Rattle.joint_laws.proofs.Common.{◌≡◌, refl, at_places, leads, any_below, before, edge, greatest_first, edges_into, serve, an_exit, two_loads_of_a_word, a_skipped_load, a_byte_store, a_line_put_out, a_conditional_store, one_a_time, a_call_at_full_length, a_fault, a_limit, a_line_lost, a_reservation_lost, a_filled_word, a_relay}
 use Rattle.std.specs.Fmt.{digits}
 use Rattle.hex.specs.Hex.{encode_with}
 use Rattle.bn_base.specs.EndMarks.{reason_word}
 use Rattle.bn_base.specs.Faults.{fault_name}
 use Rattle.le_numbers.specs.Numbers.{number_bytes}
-use Rattle.race_log.specs.Tests.{at_places, leads, any_below, before, edge, greatest_first, edges_into}
 use Rattle.rv_text.specs.Names.{register_name, mnemonic, ordering}
 use Rattle.rv_text.specs.Instructions.{hex8, first_operand, register_operand, number_operand, offset_operand, memory_operand, target_operand, upper_operand, instruction_text}
 use Rattle.rv_text.specs.Rows.{point_text, word_text, register_text, labelled, changes_text, fault_text, row_text}
 use Rattle.rv_text.specs.Marks.{mark_text, end_text}
-use Rattle.run_model.specs.Turn.{serve}
-use Rattle.run_model.specs.Examples.{an_exit, two_loads_of_a_word, a_skipped_load, a_byte_store, a_line_put_out, a_conditional_store, one_a_time, a_call_at_full_length, a_fault, a_limit, a_line_lost, a_reservation_lost, a_filled_word, a_relay}
 use Rattle.joint_replay.specs.Texts.{pass_text, known_text}
 use Rattle.joint_laws.specs.Corpus.{joined, text_of_an_exit, text_of_two_loads_of_a_word, text_of_a_skipped_load, text_of_a_byte_store, text_of_a_line_put_out, text_of_a_conditional_store, text_of_one_a_time, text_of_a_call_at_full_length, text_of_a_fault, text_of_a_limit, text_of_a_line_lost, text_of_a_reservation_lost, text_of_a_filled_word, text_of_a_relay}
 

@@ -1,27 +1,6 @@
 -- The Edges of a recording follow its times.
-use Rattle.std.proofs.Common.{◌≡◌, ℕ, zero, suc, ◌<◌, ◌≤◌, Bool, true, false, ◌&&◌, ◌==◌, inl, inr, refl, sym, ap, ◌∙◌, subst, arith, List, [], ◌∷◌, length, slice_get, Option, Some, None, Contains, Result, Ok, Err}
-use Rattle.std.specs.Prelude.{nat_le}
-use Rattle.std.proofs.lemmas.Option.{slice_get_within}
-use Rattle.log_record.specs.declared.record.Record.{Record}
-use Rattle.log_record.specs.declared.record.Record.TheVariants.{Header, FirstLoad, ScOk, ScFailed, Edge, End}
-use Rattle.hart_replay.specs.declared.error.ReplayError.{ReplayError}
-use Rattle.race_log.specs.Points.{Point}
-use Rattle.race_log.specs.ByCount.{IsInOrder}
-use Rattle.race_log.specs.Tests.{name_of}
-use Rattle.run_model.specs.KeptRecords.{IsEndOf}
-use Rattle.race_laws.specs.Runs.{OfLists}
-use Rattle.race_laws.specs.Laws.{HasOrder, KeepsEdgesAlone}
-use Rattle.race_laws.specs.Edges.{edge_record}
-use Rattle.joint_replay.specs.declared.kinds.Readiness.{Readiness}
+use Rattle.joint_laws.proofs.Common.{◌≡◌, ℕ, zero, suc, ◌<◌, ◌≤◌, Bool, true, false, ◌&&◌, ◌==◌, inl, inr, refl, sym, ap, ◌∙◌, subst, arith, List, [], ◌∷◌, length, slice_get, Option, Some, None, Contains, Result, Ok, Err, nat_le, slice_get_within, Record, Header, FirstLoad, ScOk, ScFailed, Edge, End, ReplayError, Point, IsInOrder, name_of, IsEndOf, OfLists, HasOrder, KeepsEdgesAlone, edge_record, Readiness, Lane, Item, lane_step, Joining, Walk, begun, longer, fresh, readiness, next_step, move, ready_step, walk_on, HasEdge, HaveTimes, NeverStuck, Recording, points_of, recorded, OfBeginnings, GoesOn}
 use Rattle.joint_replay.specs.declared.kinds.Readiness.TheVariants as is
-use Rattle.joint_replay.specs.Lanes.{Lane, Item, lane_step}
-use Rattle.joint_replay.specs.Joining.{Joining, Walk, begun, longer, fresh, readiness, next_step, move}
-use Rattle.joint_replay.specs.Orders.{ready_step, walk_on}
-use Rattle.joint_replay.specs.Sound.{HasEdge}
-use Rattle.joint_replay.specs.Chains.{HaveTimes}
-use Rattle.joint_replay.specs.Laws.{NeverStuck}
-use Rattle.joint_laws.specs.Recordings.{Recording, points_of, recorded, OfBeginnings}
-use Rattle.joint_laws.specs.Laws.{GoesOn}
 use Rattle.joint_laws.proofs.Lists.{some_is}
 use Rattle.joint_laws.proofs.ByCount.{pair_at, of_edge}
 

@@ -1,17 +1,5 @@
 -- The known words, by the steps.
-use Rattle.std.proofs.Common.{◌≡◌, ℕ, zero, suc, ◌+◌, ◌<◌, ◌≤◌, Bool, true, false, cond, not, ◌==◌, nat_lt, inl, inr, refl, sym, ap, ◌∙◌, subst, arith, List, [], ◌∷◌, filter, length, map, slice_get, slice_index_or, Option, Some, None}
-use Rattle.std.proofs.lemmas.Bool.{eq-eqb, ne_eqb}
-use Rattle.std.proofs.lemmas.Bool.Decides.{eqb_tells}
-use Rattle.rv_meaning.specs.Words.{aligned}
-use Rattle.rv_meaning.specs.Rows.{at_address}
-use Rattle.log_record.specs.declared.record.Record.{Record}
-use Rattle.joint_replay.specs.Lanes.{Item, Passing, Doing, Ending}
-use Rattle.joint_replay.specs.Memory.{Bytes, filled, has_byte, known_after, word_after, put_word, put_access, forget, memory_after, word_in}
-use Rattle.joint_replay.specs.Joining.{Joining, Taken, Walk, begun}
-use Rattle.joint_replay.specs.Orders.{IsBegun}
-use Rattle.joint_laws.specs.Recordings.{Recording, OfBeginnings, begin}
-use Rattle.joint_laws.specs.Laws.{WordsAscend, HasWordsOnce}
-use Rattle.joint_laws.specs.Steps.{told_by}
+use Rattle.joint_laws.proofs.Common.{◌≡◌, ℕ, zero, suc, ◌+◌, ◌<◌, ◌≤◌, Bool, true, false, cond, not, ◌==◌, nat_lt, inl, inr, refl, sym, ap, ◌∙◌, subst, arith, List, [], ◌∷◌, filter, length, map, slice_get, slice_index_or, Option, Some, None, eq-eqb, ne_eqb, eqb_tells, aligned, at_address, Record, Item, Passing, Doing, Ending, Bytes, filled, has_byte, known_after, word_after, put_word, put_access, forget, memory_after, word_in, Joining, Taken, Walk, begun, IsBegun, Recording, OfBeginnings, begin, WordsAscend, HasWordsOnce, told_by}
 use Rattle.joint_laws.proofs.Lists.{some_is}
 use Rattle.joint_laws.proofs.Moves.{along}
 

@@ -1,9 +1,6 @@
 -- The examples, by computation.
-use Rattle.std.proofs.Common.{length, ◌≡◌, [], ◌∷◌, Some, replicate, refl}
+use Rattle.joint_laws.proofs.Common.{length, ◌≡◌, [], ◌∷◌, Some, replicate, refl, at_places, leads, any_below, before, edge, greatest_first, edges_into, is_whole, serve}
 use Rattle.le_numbers.specs.Numbers.{number_bytes}
-use Rattle.race_log.specs.Tests.{at_places, leads, any_below, before, edge, greatest_first, edges_into}
-use Rattle.run_model.specs.Examples.{is_whole}
-use Rattle.run_model.specs.Turn.{serve}
 use Rattle.joint_laws.specs.Examples.{orders_from, merges, allowed_of, words_after, a_short_relay, late_relay, relay_orders, a_spoiled_store, late_store, store_orders}
 
 pub relay_whole : is_whole a_short_relay

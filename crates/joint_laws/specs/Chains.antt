@@ -1,11 +1,8 @@
 -- Chains over places of a run are chains over instructions by hart and count.
 use Rattle.std.specs.Prelude.{◌≡◌, ℕ, List, slice_get, Some}
-use Rattle.log_record.specs.declared.record.Record.{Record}
-use Rattle.race_log.specs.Points.{Point}
-use Rattle.race_log.specs.Netzer.{ProgramOrder, Either, Chain}
+use Rattle.joint_laws.specs.Common.{Record, Point, ProgramOrder, Either, Chain, Leads}
 use Rattle.race_log.specs.ByCount.{IsInOrder}
 use Rattle.race_laws.specs.Since.{KeptEdge}
-use Rattle.joint_replay.specs.Chains.{Leads}
 
 -- a chain of program order and kept Edges over places
 abbrev pub KeptChain : List Record → List Point → ℕ → ℕ → Type 0

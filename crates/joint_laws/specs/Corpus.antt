@@ -1,7 +1,6 @@
 -- What a joint replay of each of `run_model`'s small recordings prints.
 use Rattle.std.specs.Prelude.{ℕ, List, [], ◌∷◌, ◌++◌, codes}
-use Rattle.run_model.specs.Examples.{Recording, an_exit, two_loads_of_a_word, a_skipped_load, a_byte_store, a_line_put_out, a_conditional_store, one_a_time, a_call_at_full_length, a_fault, a_limit, a_line_lost, a_reservation_lost, a_filled_word, a_relay}
-use Rattle.joint_replay.specs.Joining.{run_all}
+use Rattle.joint_laws.specs.Common.{Recording, an_exit, two_loads_of_a_word, a_skipped_load, a_byte_store, a_line_put_out, a_conditional_store, one_a_time, a_call_at_full_length, a_fault, a_limit, a_line_lost, a_reservation_lost, a_filled_word, a_relay, run_all}
 use Rattle.joint_replay.specs.Texts.{joint_text}
 use Rattle.joint_laws.specs.Examples.{joint_from}
 

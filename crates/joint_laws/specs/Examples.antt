@@ -1,11 +1,7 @@
 -- The orders of small recordings.
 use Rattle.std.specs.Prelude.{ℕ, true, false, zero, suc, ◌-◌, ◌==◌, slice_index, slice_set, List, [], ◌∷◌, drop, filter, is_some, length, map, Option, Some, None}
-use Rattle.std.specs.List.{flat_map, range_with_len}
+use Rattle.joint_laws.specs.Common.{flat_map, range_with_len, Recording, a_relay, program_of, recorded, Hart, AllDone, NoneReady, Joining, begun, fresh, choice, ready_step, walk_on}
 use Rattle.bn_base.specs.Ranges.{default_settings}
-use Rattle.run_model.specs.Examples.{Recording, a_relay, program_of, recorded}
-use Rattle.joint_replay.specs.declared.kinds.Next.TheVariants.{Hart, AllDone, NoneReady}
-use Rattle.joint_replay.specs.Joining.{Joining, begun, fresh, choice}
-use Rattle.joint_replay.specs.Orders.{ready_step, walk_on}
 
 -- the whole allowed orders of so many steps from here on, by ascending harts
 abbrev pub orders_from : ℕ → Joining → List (List ℕ)

@@ -1,25 +1,14 @@
 -- What the joint replay of a recording's log says of the run. "The latest" is of the steps that were taken; "later in the run"
 -- is by the places of the run's points.
 use Rattle.std.specs.Prelude.{◌≡◌, ℕ, ◌+◌, ◌<◌, ◌≤◌, List, [], ◌∷◌, ◌++◌, map, slice_get, Some, None, Ok}
-use Rattle.std.specs.List.{Contains}
+use Rattle.joint_laws.specs.Common.{Contains, Row, HartState, Record, AtPlaces, Point, MeetAt, Touches, Writes, NoneReady, Did, IsToDo, Joining, Taken, Walk, Ran, fresh, readiness, choice, next_step, run_all, Item, Doing, word_in, word_after, IsBegun}
 use Rattle.sha2.specs.Sha256.{sha256}
-use Rattle.bn_base.specs.declared.row.Row.{Row}
-use Rattle.bn_base.specs.declared.state.HartState.{HartState}
-use Rattle.log_record.specs.declared.record.Record.{Record}
 use Rattle.log_order.specs.Content.{Content, IsContent}
 use Rattle.log_blocks.specs.File.{IsSpelled}
-use Rattle.race_log.specs.Netzer.{AtPlaces}
-use Rattle.race_log.specs.Points.{Point, MeetAt, Touches, Writes}
 use Rattle.run_files.specs.Files.{file_of}
 use Rattle.row_laws.specs.States.{IsRowOfTurn, state_after}
 use Rattle.joint_replay.specs.declared.kinds.Readiness.TheVariants.{Ready}
-use Rattle.joint_replay.specs.declared.kinds.Next.TheVariants.{NoneReady}
 use Rattle.joint_replay.specs.Calls.{state_at, IsReached}
-use Rattle.joint_replay.specs.Chains.{Did, IsToDo}
-use Rattle.joint_replay.specs.Joining.{Joining, Taken, Walk, Ran, fresh, readiness, choice, next_step, run_all}
-use Rattle.joint_replay.specs.Lanes.{Item, Doing}
-use Rattle.joint_replay.specs.Memory.{word_in, word_after}
-use Rattle.joint_replay.specs.Orders.{IsBegun}
 use Rattle.joint_replay.specs.Sound.{IsSound}
 use Rattle.joint_laws.specs.Recordings.{Recording, IsRecorded, IsLogOf, IsRetained, Allowed, begin, kept, points_of, rows_of_hart, first_state, retained_rows, memory_right_after}
 use Rattle.joint_laws.specs.Steps.{DidPoint, DidBefore, IsLastTold, rows_done}

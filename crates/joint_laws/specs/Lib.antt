@@ -1,3 +1,4 @@
+pub mod Common
 pub mod Recordings
 pub mod Steps
 pub mod Chains

@@ -1,20 +1,13 @@
 -- Recordings, the records that logs have of them, and the orders that these allow.
 use Rattle.std.specs.Prelude.{ℕ, ◌+◌, List, take}
-use Rattle.std.specs.List.{flat_map}
+use Rattle.joint_laws.specs.Common.{flat_map, Row, HartState, Record, Point, IsToDo, Joining, Walk, fresh, IsBegun, IsAllowed}
 use Rattle.bn_base.specs.Programs.{Program}
-use Rattle.bn_base.specs.declared.row.Row.{Row}
 use Rattle.bn_base.specs.declared.settings.RawSettings.{RawSettings}
-use Rattle.bn_base.specs.declared.state.HartState.{HartState}
-use Rattle.log_record.specs.declared.record.Record.{Record}
-use Rattle.race_log.specs.Points.{Point}
 use Rattle.run_model.specs.KeptRecords.{IsEndOf, kept_of}
 use Rattle.run_model.specs.Rows.{rows_of, rows_in}
 use Rattle.run_model.specs.Runs.{start, run_of}
 use Rattle.run_model.specs.Turn.{Run}
 use Rattle.file_laws.specs.Given.{IsRecording}
-use Rattle.joint_replay.specs.Chains.{IsToDo}
-use Rattle.joint_replay.specs.Joining.{Joining, Walk, fresh}
-use Rattle.joint_replay.specs.Orders.{IsBegun, IsAllowed}
 use Rattle.joint_replay.specs.Points.{intervals_in}
 
 -- what is recorded: settings, program, the bytes of its file, input, list of turns

@@ -1,10 +1,6 @@
 -- What the steps of a joint replay tell.
 use Rattle.std.specs.Prelude.{◌≡◌, ◌≢◌, ℕ, ◌<◌, ◌==◌, true, false, List, [], ◌∷◌, ◌++◌, slice_get, Option, Some, None}
-use Rattle.bn_base.specs.declared.row.Row.{Row}
-use Rattle.joint_replay.specs.Lanes.{Item, Passing, Doing, Ending}
-use Rattle.joint_replay.specs.Joining.{Taken}
-use Rattle.joint_replay.specs.Chains.{Did}
-use Rattle.race_log.specs.Points.{Point}
+use Rattle.joint_laws.specs.Common.{Row, Item, Passing, Doing, Ending, Taken, Did, Point}
 use Rattle.row_laws.specs.Words.{word_told}
 
 -- step number x from the latest did the instruction of a point

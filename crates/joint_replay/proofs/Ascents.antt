@@ -1,19 +1,6 @@
 -- The Edges into a hart of a log in order ascend.
-use Rattle.std.proofs.Common.{◌≡◌, ℕ, zero, suc, ◌+◌, ◌<◌, ◌≤◌, Bool, true, false, ◌==◌, ◌&&◌, refl, sym, ap, ◌∙◌, subst, arith, List, [], ◌∷◌, ◌++◌, length, drop, replicate, Option, Some, None, Result, Ok}
-use Rattle.std.proofs.Math.Seq.{drop-nil}
-use Rattle.std.proofs.lemmas.Bool.{ne_eqb}
-use Rattle.bn_base.specs.declared.settings.RawSettings.{RawSettings}
-use Rattle.log_record.specs.declared.record.Record.{Record}
-use Rattle.log_record.specs.declared.record.Record.TheVariants.{Header, FirstLoad, ScOk, ScFailed, Edge, End}
-use Rattle.log_record.specs.Spelling.{hart_of}
-use Rattle.log_order.specs.declared.view.OrderLimits.{OrderLimits}
-use Rattle.log_order.specs.declared.view.HartView.{HartView}
-use Rattle.log_order.specs.Rules.{after_one, fresh as fresh_view}
-use Rattle.log_order.specs.Order.{broken_by, order_limits_of}
-use Rattle.joint_replay.specs.declared.incoming_edges.IncomingEdge.{IncomingEdge}
-use Rattle.joint_replay.specs.Points.{sources_into}
-use Rattle.joint_replay.specs.Sources.{source_before, edges_into, AscendFrom}
-use Rattle.joint_replay.specs.Laws.{EdgesAscend}
+use Rattle.joint_replay.proofs.Common.{◌≡◌, ℕ, zero, suc, ◌+◌, ◌<◌, ◌≤◌, Bool, true, false, ◌==◌, ◌&&◌, refl, sym, ap, ◌∙◌, subst, arith, List, [], ◌∷◌, ◌++◌, length, drop, replicate, Option, Some, None, Result, Ok, drop-nil, ne_eqb, RawSettings, Record, Header, FirstLoad, ScOk, ScFailed, Edge, End, hart_of, OrderLimits, HartView, after_one, broken_by, order_limits_of, IncomingEdge, sources_into, source_before, edges_into, AscendFrom, EdgesAscend}
+use Rattle.log_order.specs.Rules.{fresh as fresh_view}
 use Rattle.joint_replay.proofs.Shapes.{◌>>◌, own_walk, goes_through, headed, other, edged, ended, project}
 use Rattle.joint_replay.proofs.Begins.{walk_of}
 use Rattle.joint_replay.proofs.Headers.{repeated}

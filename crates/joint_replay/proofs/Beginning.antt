@@ -1,13 +1,5 @@
 -- The harts of a joint replay, begun one after another.
-use Rattle.std.proofs.Common.{◌≡◌, ℕ, zero, suc, ◌+◌, refl, sym, ap, ◌∙◌, subst, arith, List, [], ◌∷◌, ◌++◌, length, None}
-use Rattle.bn_base.specs.Programs.{Program}
-use Rattle.log_record.specs.declared.record.Record.{Record}
-use Rattle.log_order.specs.Content.{Content}
-use Rattle.joint_replay.specs.Lanes.{Lane, lane_of}
-use Rattle.joint_replay.specs.Joining.{Joining, lanes_from, begun, fresh}
-use Rattle.joint_replay.specs.Harts.{HartLane}
-use Rattle.joint_replay.specs.Calls.{IsReached}
-use Rattle.joint_replay.specs.Together.{lanes_of, joining, AreHarts, AreBegun, IsTogether}
+use Rattle.joint_replay.proofs.Common.{◌≡◌, ℕ, zero, suc, ◌+◌, refl, sym, ap, ◌∙◌, subst, arith, List, [], ◌∷◌, ◌++◌, length, None, Program, Record, Content, Lane, lane_of, Joining, lanes_from, begun, fresh, HartLane, IsReached, lanes_of, joining, AreHarts, AreBegun, IsTogether}
 
 lanes_added : (hs : List HartLane) (l : HartLane) → lanes_of (hs ++ l ∷ []) ≡ lanes_of hs ++ l.lane ∷ []
 lanes_added [] l = refl

@@ -1,29 +1,7 @@
 -- The lanes of a log in order.
-use Rattle.std.proofs.Common.{◌≡◌, ℕ, zero, suc, ◌+◌, ◌^◌, ◌<◌, ◌≤◌, Bool, true, false, ◌&&◌, ◌||◌, ◌==◌, ◌⊎◌, inl, inr, nat_lt, refl, sym, ap, ◌∙◌, subst, arith, List, [], ◌∷◌, slice_get, replicate, length, Option, Some, None, Result, Ok, Err}
-use Rattle.std.specs.Prelude.{if◌then◌else◌}
-use Rattle.std.specs.List.{list_any}
-use Rattle.std.proofs.lemmas.Bool.Decides.{eqb_tells}
-use Rattle.bn_base.specs.Programs.{Program}
-use Rattle.bn_base.specs.declared.end_mark.EndMark.{EndMark}
-use Rattle.log_record.specs.declared.record.Record.{Record}
-use Rattle.log_record.specs.declared.record.Record.TheVariants.{Header, FirstLoad, ScOk, ScFailed, Edge, End}
-use Rattle.log_record.specs.Spelling.{hart_of, bytes_of, total}
-use Rattle.log_order.specs.declared.view.OrderLimits.{OrderLimits}
-use Rattle.log_order.specs.declared.view.HartView.{HartView}
+use Rattle.joint_replay.proofs.Common.{◌≡◌, ℕ, zero, suc, ◌+◌, ◌^◌, ◌<◌, ◌≤◌, Bool, true, false, ◌&&◌, ◌||◌, ◌==◌, ◌⊎◌, inl, inr, nat_lt, refl, sym, ap, ◌∙◌, subst, arith, List, [], ◌∷◌, slice_get, replicate, length, Option, Some, None, Result, Ok, Err, if◌then◌else◌, list_any, eqb_tells, Program, EndMark, Record, Header, FirstLoad, ScOk, ScFailed, Edge, End, hart_of, bytes_of, total, OrderLimits, HartView, OrderBreak, is_number, is_unfinished, step, after_all, end_break, broken, broken_in, order_limits_of, order_break, Interval, interval_of, interval_from, puts, nothing, replayed, intervals_in, first_count, is_below, points_below, Cursor, Lane, with_cursor, cursors_of, lane_of, lanes_from, is_passed, RowsFrom, GoesOn, AreFrom, AreCursors, ArePoints, IsBelow, IsLane, Has, last_count, InCursors, HasEdge, Span, mark_of, spans, AreSpans, Fits, is_known, last_of, IsInside, OrderedLogsHaveShape, EdgesAreInside, PointsAscend, StartsAreSound}
 use Rattle.log_order.specs.declared.view.Phase.TheVariants.{Unknown}
-use Rattle.log_order.specs.declared.walk.OrderBreak.{OrderBreak}
-use Rattle.log_order.specs.Rules.{is_number, is_unfinished, fresh as fresh_view}
-use Rattle.log_order.specs.Order.{step, after_all, end_break, broken, broken_in, order_limits_of, order_break}
-use Rattle.hart_replay.specs.Replay.{Interval, interval_of, interval_from, puts, nothing, replayed}
-use Rattle.joint_replay.specs.Points.{intervals_in, first_count, is_below, points_below}
-use Rattle.joint_replay.specs.Lanes.{Cursor, Lane, with_cursor, cursors_of, lane_of}
-use Rattle.joint_replay.specs.Joining.{lanes_from, is_passed}
-use Rattle.joint_replay.specs.Counts.{RowsFrom}
-use Rattle.joint_replay.specs.Ways.{GoesOn, AreFrom, AreCursors, ArePoints, IsBelow, IsLane, Has, last_count, InCursors}
-use Rattle.joint_replay.specs.Sound.{HasEdge}
-use Rattle.joint_replay.specs.Shape.{Span, mark_of, spans, AreSpans, Fits, is_known}
-use Rattle.joint_replay.specs.Inside.{last_of, IsInside}
-use Rattle.joint_replay.specs.Laws.{OrderedLogsHaveShape, EdgesAreInside, PointsAscend, StartsAreSound}
+use Rattle.log_order.specs.Rules.{fresh as fresh_view}
 use Rattle.joint_replay.proofs.Onto.{ReplaysGoOn}
 use Rattle.joint_replay.proofs.Soundness.{get_other, some_is}
 use Rattle.joint_replay.proofs.Shapes.{step_gives, placed}

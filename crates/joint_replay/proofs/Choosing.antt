@@ -1,13 +1,6 @@
 -- The lowest ready hart, found one after another; and the harts of a joint replay as a list.
-use Rattle.std.proofs.Common.{◌≡◌, ℕ, zero, suc, ◌+◌, ◌<◌, Bool, true, refl, sym, ap, ◌∙◌, arith, List, [], ◌∷◌, length, drop, slice_get, Option, Some, None}
-use Rattle.joint_replay.specs.declared.kinds.Readiness.{Readiness}
+use Rattle.joint_replay.proofs.Common.{◌≡◌, ℕ, zero, suc, ◌+◌, ◌<◌, Bool, true, refl, sym, ap, ◌∙◌, arith, List, [], ◌∷◌, length, drop, slice_get, Option, Some, None, Readiness, Next, Hart, Lane, Joining, readiness, readiness_of, choice, choice_from, HartLane, lanes_of}
 use Rattle.joint_replay.specs.declared.kinds.Readiness.TheVariants as is
-use Rattle.joint_replay.specs.declared.kinds.Next.{Next}
-use Rattle.joint_replay.specs.declared.kinds.Next.TheVariants.{Hart}
-use Rattle.joint_replay.specs.Lanes.{Lane}
-use Rattle.joint_replay.specs.Joining.{Joining, readiness, readiness_of, choice, choice_from}
-use Rattle.joint_replay.specs.Harts.{HartLane}
-use Rattle.joint_replay.specs.Together.{lanes_of}
 
 pub lanes_length : (hs : List HartLane) → length (lanes_of hs) ≡ length hs
 lanes_length [] = refl

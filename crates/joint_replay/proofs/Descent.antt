@@ -1,19 +1,7 @@
 -- If no hart is ready, each one waits for an earlier one, without end.
-use Rattle.std.proofs.Common.{◌≡◌, ℕ, zero, suc, ◌+◌, ◌<◌, ◌≤◌, Bool, true, false, not, ◌&&◌, ◌||◌, ◌==◌, ◌⊎◌, inl, inr, nat_lt, refl, sym, ap, ◌∙◌, subst, arith, List, [], ◌∷◌, slice_get, Option, Some, None}
-use Rattle.log_record.specs.declared.record.Record.{Record}
-use Rattle.log_record.specs.declared.record.Record.TheVariants.{Header, FirstLoad, ScOk, ScFailed, Edge, End}
-use Rattle.joint_replay.specs.declared.kinds.Coming.{Coming}
-use Rattle.joint_replay.specs.declared.kinds.Coming.TheVariants.{PassAt, RowAt, EndAt}
-use Rattle.joint_replay.specs.declared.kinds.Readiness.{Readiness}
+use Rattle.joint_replay.proofs.Common.{◌≡◌, ℕ, zero, suc, ◌+◌, ◌<◌, ◌≤◌, Bool, true, false, not, ◌&&◌, ◌||◌, ◌==◌, ◌⊎◌, inl, inr, nat_lt, refl, sym, ap, ◌∙◌, subst, arith, List, [], ◌∷◌, slice_get, Option, Some, None, Record, Header, FirstLoad, ScOk, ScFailed, Edge, End, Coming, PassAt, RowAt, EndAt, Readiness, Next, Hart, AllDone, NoneReady, sources_into, Cursor, Lane, coming_of, count_of, point_of, is_within, is_passed, first_waited, waits_for, readiness_of, choice_from, HasEdge, NeverStuck}
 use Rattle.joint_replay.specs.declared.kinds.Readiness.TheVariants as is
-use Rattle.joint_replay.specs.declared.kinds.Next.{Next}
-use Rattle.joint_replay.specs.declared.kinds.Next.TheVariants.{Hart, AllDone, NoneReady}
-use Rattle.joint_replay.specs.Points.{sources_into}
-use Rattle.joint_replay.specs.Lanes.{Cursor, Lane, coming_of, count_of, point_of, is_within}
-use Rattle.joint_replay.specs.Joining.{is_passed, first_waited, waits_for, readiness_of, choice_from}
-use Rattle.joint_replay.specs.Sound.{HasEdge}
 use Rattle.joint_replay.specs.Chains.{HaveTimes}
-use Rattle.joint_replay.specs.Laws.{NeverStuck}
 
 false_le : (m n : ℕ) → nat_lt m n ≡ false → n ≤ m
 false_le m n h = grind arith

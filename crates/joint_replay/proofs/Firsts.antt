@@ -1,10 +1,5 @@
 -- The first step of a run, and the end of a run that takes none.
-use Rattle.std.proofs.Common.{◌≡◌, ℕ, zero, suc, refl, ap, ◌∙◌, subst, List, [], ◌∷◌, ◌++◌, length, slice_get, slice_set, Option, Some, None, Result, Ok, Err}
-use Rattle.hart_replay.specs.declared.error.ReplayError.{ReplayError}
-use Rattle.joint_replay.specs.declared.kinds.Next.TheVariants.{Hart}
-use Rattle.joint_replay.specs.Lanes.{Lane, Item, lane_step}
-use Rattle.joint_replay.specs.Memory.{memory_after}
-use Rattle.joint_replay.specs.Joining.{Joining, Taken, Ran, ran, choice, move, next_step, run_for, run_all}
+use Rattle.joint_replay.proofs.Common.{◌≡◌, ℕ, zero, suc, refl, ap, ◌∙◌, subst, List, [], ◌∷◌, ◌++◌, length, slice_get, slice_set, Option, Some, None, Result, Ok, Err, ReplayError, Hart, Lane, Item, lane_step, memory_after, Joining, Taken, Ran, ran, choice, move, next_step, run_for, run_all}
 use Rattle.joint_replay.specs.Firsts.{IsFirstStep, RunsByStep}
 use Rattle.joint_replay.proofs.Onward.{taken_by, step_fewer, step_taken, step_refused, all_done, none_ready, is_onward, first_of, runs_end}
 use Rattle.joint_replay.proofs.Telling.{chosen_there, chosen_ready}

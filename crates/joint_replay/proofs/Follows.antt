@@ -1,21 +1,11 @@
 -- The rows of a replay have the hart's counts, one after another, and the states between them.
-use Rattle.std.proofs.Common.{◌≡◌, ℕ, ◌+◌, Bool, true, false, ◌&&◌, ◌||◌, ◌==◌, refl, sym, ap, ◌∙◌, List, ◌∷◌, Option, Some, None, slice_index}
-use Rattle.bn_base.specs.Faults.{fault_number}
-use Rattle.bn_base.specs.Programs.{Program}
-use Rattle.bn_base.specs.declared.row.Row.{Row}
-use Rattle.bn_base.specs.declared.state.HartState.{HartState}
+use Rattle.joint_replay.proofs.Common.{◌≡◌, ℕ, ◌+◌, Bool, true, false, ◌&&◌, ◌||◌, ◌==◌, refl, sym, ap, ◌∙◌, List, ◌∷◌, Option, Some, None, slice_index, fault_number, Program, Row, HartState, Want, Load, Store, LoadReserved, StoreConditional, Amo, System, Cut, Faulted, row_of, call_row, ReplayError, LoadMissing, ScMissing, EndDiffers, Outcome, Done, Refused, Interval, Position, On, Stop, one_step, ask_step, after_ask, after_sc, missing, word_for, slot, found, call_reason, after_row, reply_in}
 use Rattle.rv_meaning.specs.Access.{stored_word, amo_result}
 use Rattle.rv_meaning.specs.Execute.{Step, Quiet, Asks, step, absorbed, count_up, count_up_if}
-use Rattle.rv_meaning.specs.declared.asks.Want.{Want}
-use Rattle.rv_meaning.specs.declared.asks.Want.TheVariants.{Load, Store, LoadReserved, StoreConditional, Amo, System, Cut, Faulted}
 use Rattle.rv_meaning.specs.declared.asks.Reply.{Reply}
 use Rattle.rv_meaning.specs.declared.asks.Reply.TheVariants.{Word, Stored, Answer, Over}
 use Rattle.rv_meaning.specs.declared.asks.Reply.TheVariants as replies
-use Rattle.rv_meaning.specs.Rows.{row_of, call_row}
-use Rattle.hart_replay.specs.declared.error.ReplayError.{ReplayError}
-use Rattle.hart_replay.specs.declared.error.ReplayError.TheVariants.{LoadMissing, ScMissing, EndDiffers}
-use Rattle.hart_replay.specs.Replay.{Outcome, Done, Refused, Interval, Position, Next, On, Stop, one_step, ask_step, after_ask, after_sc, missing, word_for, slot, found, call_reason}
-use Rattle.hart_replay.specs.Coming.{after_row, reply_in}
+use Rattle.hart_replay.specs.Replay.{Next}
 
 -- an instruction that was done has one row more: with the count before it, and the state after it is the row's
 abbrev pub Follows : Program → Position → Next → Type 0

@@ -1,18 +1,5 @@
 -- The intervals of a hart, one begun after another.
-use Rattle.std.proofs.Common.{◌≡◌, ℕ, ◌<◌, true, false, sym, ap, ◌∙◌, subst, List, [], ◌∷◌, ◌++◌, map, is_some, Option, Some, None}
-use Rattle.std.proofs.lemmas.List.{reverse-append}
-use Rattle.bn_base.specs.Programs.{Program}
-use Rattle.bn_base.specs.declared.end_mark.EndMark.{EndMark}
-use Rattle.bn_base.specs.declared.state.HartState.{HartState}
-use Rattle.log_record.specs.declared.record.Record.{Record}
-use Rattle.log_order.specs.Content.{Content}
-use Rattle.hart_replay.specs.Replay.{Interval, Replayed, interval_of, replayed}
-use Rattle.hart_replay.specs.Coming.{Replaying, Begins}
-use Rattle.joint_replay.specs.declared.intervals.Retained.{Retained}
-use Rattle.joint_replay.specs.Points.{IsThere}
-use Rattle.joint_replay.specs.Intervals.{numbers, AreThere}
-use Rattle.joint_replay.specs.Lanes.{Cursor, with_cursor, cursors_of}
-use Rattle.joint_replay.specs.Harts.{Running, running, later_cursors, hart_cursors, IsHartLane}
+use Rattle.joint_replay.proofs.Common.{◌≡◌, ℕ, ◌<◌, true, false, sym, ap, ◌∙◌, subst, List, [], ◌∷◌, ◌++◌, map, is_some, Option, Some, None, reverse-append, Program, EndMark, HartState, Record, Content, Interval, Replayed, interval_of, replayed, Replaying, Begins, Retained, IsThere, numbers, AreThere, Cursor, with_cursor, cursors_of, Running, running, later_cursors, hart_cursors, IsHartLane}
 
 -- of some intervals that are there, the last one and those before it are
 pub last_there : (h : ℕ) (records : List Record) (rs all : List Retained) (r : Retained) → all ≡ rs ++ r ∷ [] → AreThere h records all → AreThere h records rs × IsThere h records r.number r.place

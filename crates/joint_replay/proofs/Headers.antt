@@ -1,15 +1,6 @@
 -- The places of a hart's Headers in a log in order.
-use Rattle.std.proofs.Common.{◌≡◌, ℕ, zero, suc, ◌+◌, ◌<◌, ◌≤◌, Bool, true, false, ◌&&◌, ◌==◌, refl, sym, ap, ◌∙◌, subst, arith, List, [], ◌∷◌, take, length, slice_get, slice_index_or, replicate, is_some, Option, Some, None}
-use Rattle.bn_base.specs.declared.settings.RawSettings.{RawSettings}
-use Rattle.log_record.specs.declared.record.Record.{Record}
-use Rattle.log_record.specs.declared.record.Record.TheVariants.{Header, FirstLoad, ScOk, ScFailed, Edge, End}
-use Rattle.log_order.specs.declared.view.HartView.{HartView}
-use Rattle.log_order.specs.Rules.{is_unfinished, fresh as fresh_view}
-use Rattle.log_order.specs.Order.{broken_by, order_limits_of}
-use Rattle.hart_replay.specs.Replay.{Interval, interval_from, puts, nothing, interval_of}
-use Rattle.joint_replay.specs.Points.{intervals_in, number_in, number_before, IsThere}
-use Rattle.joint_replay.specs.Shape.{Span, mark_of, spans, AreSpans, Fits}
-use Rattle.joint_replay.specs.Laws.{OrderedLogsHaveShape}
+use Rattle.joint_replay.proofs.Common.{◌≡◌, ℕ, zero, suc, ◌+◌, ◌<◌, ◌≤◌, Bool, true, false, ◌&&◌, ◌==◌, refl, sym, ap, ◌∙◌, subst, arith, List, [], ◌∷◌, take, length, slice_get, slice_index_or, replicate, is_some, Option, Some, None, RawSettings, Record, Header, FirstLoad, ScOk, ScFailed, Edge, End, HartView, is_unfinished, broken_by, order_limits_of, Interval, interval_from, puts, nothing, interval_of, intervals_in, number_in, number_before, IsThere, Span, mark_of, spans, AreSpans, Fits, OrderedLogsHaveShape}
+use Rattle.log_order.specs.Rules.{fresh as fresh_view}
 use Rattle.joint_replay.proofs.Begins.{walk_of, not_any, fresh_known}
 
 same_number : (a b : ℕ) → (a == b) ≡ true → a ≡ b

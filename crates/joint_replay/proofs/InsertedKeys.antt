@@ -1,9 +1,7 @@
 -- A set's keys after one more is put among them.
-use Rattle.std.proofs.Common.{◌≡◌, ℕ, Bool, true, false, cond, ◌==◌, nat_lt, ap, refl, List, [], ◌∷◌}
-use Rattle.std.proofs.Common.{Less, Equal, Greater, arith}
+use Rattle.joint_replay.proofs.Common.{◌≡◌, ℕ, Bool, true, false, cond, ◌==◌, nat_lt, ap, refl, List, [], ◌∷◌, Less, Equal, Greater, arith, insert}
 use Rattle.std.specs.Ordering.{nat_cmp, match_ordering}
 use Rattle.std.specs.BTreeSet.{insert_key}
-use Rattle.joint_replay.specs.Points.{insert}
 
 apart : (m n : ℕ) → nat_lt m n ≡ true → (m == n) ≡ true → ⊥
 apart m n e f = grind arith

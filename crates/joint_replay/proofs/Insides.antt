@@ -1,21 +1,7 @@
 -- The targets of the Edges into a hart, by the walk of the order's rules: `seen` is above each target so far, and not above
 -- the next Header's or End's count.
-use Rattle.std.proofs.Common.{◌≡◌, ℕ, ◌+◌, ◌<◌, ◌≤◌, Bool, true, false, not, ◌&&◌, ◌||◌, ◌==◌, ◌⊎◌, inl, inr, nat_lt, refl, sym, ap, ◌∙◌, subst, arith, List, [], ◌∷◌, Option, Some, None, Result, Ok}
-use Rattle.std.specs.Prelude.{if◌then◌else◌, nat_le}
-use Rattle.bn_base.specs.declared.end_mark.EndMark.{EndMark}
-use Rattle.log_record.specs.declared.record.Record.{Record}
-use Rattle.log_record.specs.declared.record.Record.TheVariants.{Header, FirstLoad, ScOk, ScFailed, Edge, End}
-use Rattle.log_record.specs.Spelling.{hart_of}
-use Rattle.log_order.specs.declared.view.OrderLimits.{OrderLimits}
-use Rattle.log_order.specs.declared.view.HartView.{HartView}
-use Rattle.log_order.specs.declared.view.Phase.{Phase}
+use Rattle.joint_replay.proofs.Common.{◌≡◌, ℕ, ◌+◌, ◌<◌, ◌≤◌, Bool, true, false, not, ◌&&◌, ◌||◌, ◌==◌, ◌⊎◌, inl, inr, nat_lt, refl, sym, ap, ◌∙◌, subst, arith, List, [], ◌∷◌, Option, Some, None, Result, Ok, if◌then◌else◌, nat_le, EndMark, Record, Header, FirstLoad, ScOk, ScFailed, Edge, End, hart_of, OrderLimits, HartView, Phase, takes_header, takes_other, is_awaited, is_number, has_edge, has_end, goes_on, phase_after, after_one, is_done, is_unfinished, puts, nothing, Logged, HasEdge, Span, mark_of, spans, AreSpans, Fits, is_known, last_of, IsInside, EdgesAreInside}
 use Rattle.log_order.specs.declared.view.Phase.TheVariants.{Unknown, Awaiting, Open, Done}
-use Rattle.log_order.specs.Rules.{takes_header, takes_other, is_awaited, is_number, has_edge, has_end, goes_on, phase_after, after_one, is_done, is_unfinished}
-use Rattle.hart_replay.specs.Replay.{puts, nothing, Logged}
-use Rattle.joint_replay.specs.Sound.{HasEdge}
-use Rattle.joint_replay.specs.Shape.{Span, mark_of, spans, AreSpans, Fits, is_known}
-use Rattle.joint_replay.specs.Inside.{last_of, IsInside}
-use Rattle.joint_replay.specs.Laws.{EdgesAreInside}
 use Rattle.joint_replay.proofs.Shapes.{◌>>◌, own_walk, both, same_number, is_le, ok_is, goes_through, headed, other, edged, ended, Same, loads_same, ok_same, failed_same, others_same, project, fit, or_true}
 
 -- the counts seen so far are not above what comes

@@ -1,20 +1,5 @@
 -- What a step of a hart takes from the hart's list of items.
-use Rattle.std.proofs.Common.{◌≡◌, ℕ, ◌+◌, ◌≤◌, Bool, true, false, inl, inr, refl, sym, ap, ◌∙◌, arith, List, [], ◌∷◌, ◌++◌, map, Option, Some, None, Result, Ok, Err}
-use Rattle.std.specs.Prelude.{◌↔◌, is_some}
-use Rattle.bn_base.specs.Programs.{Program}
-use Rattle.bn_base.specs.declared.end_mark.EndMark.{EndMark}
-use Rattle.bn_base.specs.declared.row.Row.{Row}
-use Rattle.bn_base.specs.declared.state.HartState.{HartState}
-use Rattle.log_record.specs.declared.record.Record.{Record}
-use Rattle.hart_replay.specs.declared.error.ReplayError.{ReplayError}
-use Rattle.hart_replay.specs.Replay.{Outcome, Done, Refused, Interval, interval_of, replayed}
-use Rattle.joint_replay.specs.declared.kinds.Coming.{Coming}
-use Rattle.joint_replay.specs.declared.kinds.Coming.TheVariants.{PassAt, RowAt, EndAt}
-use Rattle.joint_replay.specs.Lanes.{Cursor, Lane, Item, Passing, Doing, Ending, with_cursor, cursors_of, coming_of, point_of, has_row, is_within, lane_step, cursor_step}
-use Rattle.joint_replay.specs.Joining.{is_passed}
-use Rattle.joint_replay.specs.Counts.{RowsFrom}
-use Rattle.joint_replay.specs.Ways.{AreFrom, AreCursors, ArePoints, IsLane}
-use Rattle.joint_replay.specs.Merges.{rows_then, interval_then, intervals_items, outcome_done, AreUnrefused, IsAt}
+use Rattle.joint_replay.proofs.Common.{◌≡◌, ℕ, ◌+◌, ◌≤◌, Bool, true, false, inl, inr, refl, sym, ap, ◌∙◌, arith, List, [], ◌∷◌, ◌++◌, map, Option, Some, None, Result, Ok, Err, ◌↔◌, is_some, Program, EndMark, Row, HartState, Record, ReplayError, Outcome, Done, Refused, Interval, interval_of, replayed, Coming, PassAt, RowAt, EndAt, Cursor, Lane, Item, Passing, Doing, Ending, with_cursor, cursors_of, coming_of, point_of, has_row, is_within, lane_step, cursor_step, is_passed, RowsFrom, AreFrom, AreCursors, ArePoints, IsLane, rows_then, interval_then, intervals_items, outcome_done, AreUnrefused, IsAt}
 use Rattle.joint_replay.proofs.LaneSteps.{lt_true, true_lt, less_or, cursor_passed, first_goes, passed_with, next_cursor, next_goes}
 use Rattle.joint_replay.proofs.Soundness.{some_is}
 

@@ -1,26 +1,7 @@
 -- The steps of a joint replay.
-use Rattle.std.proofs.Common.{◌≡◌, ℕ, zero, suc, ◌+◌, true, refl, sym, ap, ◌∙◌, subst, arith, List, [], ◌∷◌, ◌++◌, length, map, slice_get, slice_set, is_some, Option, Some, None, Result, Ok, Err}
-use Rattle.std.specs.Option.{option_map}
-use Rattle.bn_base.specs.Programs.{Program}
-use Rattle.log_record.specs.declared.record.Record.{Record}
-use Rattle.log_order.specs.Content.{Content}
-use Rattle.hart_replay.specs.declared.error.ReplayError.{ReplayError}
+use Rattle.joint_replay.proofs.Common.{◌≡◌, ℕ, zero, suc, ◌+◌, true, refl, sym, ap, ◌∙◌, subst, arith, List, [], ◌∷◌, ◌++◌, length, map, slice_get, slice_set, is_some, Option, Some, None, Result, Ok, Err, option_map, Program, Record, Content, ReplayError, Coming, Readiness, Lane, Item, lane_step, coming_of, point_of, sources_into, Bytes, memory_after, bytes_at, Joining, Walk, begun, longer, fresh, is_passed, readiness, readiness_of, first_waited, waits_for, next_step, move, with_step, ready_step, walk_on, HartLane, bare, IsReached, StepUnrefused, range_of, LaneUnrefused, lanes_of, joining, AreHarts, IsTogether, IsSound, Passes, PassesIf}
 use Rattle.hart_replay.specs.declared.error.ReplayError.TheVariants as replay
-use Rattle.joint_replay.specs.declared.kinds.Coming.{Coming}
-use Rattle.joint_replay.specs.declared.kinds.Readiness.{Readiness}
 use Rattle.joint_replay.specs.declared.kinds.Readiness.TheVariants as is
-use Rattle.joint_replay.specs.Lanes.{Lane, Item, lane_step, coming_of, point_of}
-use Rattle.joint_replay.specs.Points.{sources_into}
-use Rattle.joint_replay.specs.Memory.{Bytes, memory_after}
-use Rattle.joint_replay.specs.Words.{bytes_at}
-use Rattle.joint_replay.specs.Joining.{Joining, Walk, begun, longer, fresh, is_passed, readiness, readiness_of, first_waited, waits_for, next_step, move, with_step}
-use Rattle.joint_replay.specs.Orders.{ready_step, walk_on}
-use Rattle.joint_replay.specs.Harts.{HartLane}
-use Rattle.joint_replay.specs.Calls.{bare, IsReached, StepUnrefused}
-use Rattle.joint_replay.specs.Moves.{range_of, LaneUnrefused}
-use Rattle.joint_replay.specs.Together.{lanes_of, joining, AreHarts, IsTogether}
-use Rattle.joint_replay.specs.Sound.{IsSound}
-use Rattle.joint_replay.specs.Ways.{Passes, PassesIf}
 use Rattle.joint_replay.proofs.LaneSteps.{steps_pass}
 use Rattle.joint_replay.proofs.Soundness.{stays}
 

@@ -1,20 +1,6 @@
 -- The steps of a hart.
-use Rattle.std.proofs.Common.{◌≡◌, ◌⊎◌, inl, inr, ℕ, ◌<◌, true, false, refl, sym, ap, ◌∙◌, subst, arith, length, map, List, [], ◌∷◌, is_some, Option, Some, None, IfSome, Result, Ok, Err}
-use Rattle.bn_base.specs.Programs.{Program}
-use Rattle.bn_base.specs.declared.end_mark.EndMark.{EndMark}
-use Rattle.bn_base.specs.declared.row.Row.{Row}
-use Rattle.log_record.specs.declared.record.Record.{Record}
-use Rattle.hart_replay.specs.declared.error.ReplayError.{ReplayError}
-use Rattle.hart_replay.specs.declared.error.ReplayError.TheVariants.{OutOfMemory}
-use Rattle.hart_replay.specs.Replay.{Outcome, Done, Refused, Replayed}
-use Rattle.hart_replay.specs.Coming.{after_row, with_rows, outcome_only}
-use Rattle.joint_replay.specs.declared.intervals.Retained.{Retained}
-use Rattle.joint_replay.specs.declared.lane.Did.{Did}
+use Rattle.joint_replay.proofs.Common.{◌≡◌, ◌⊎◌, inl, inr, ℕ, ◌<◌, true, false, refl, sym, ap, ◌∙◌, subst, arith, length, map, List, [], ◌∷◌, is_some, Option, Some, None, IfSome, Result, Ok, Err, Program, EndMark, Row, Record, ReplayError, OutOfMemory, Outcome, Done, Refused, Replayed, after_row, with_rows, outcome_only, Retained, Did, Cursor, Lane, Item, Passing, Doing, Ending, cursor_step, lane_step, Running, hart_lane, hart_cursors, later_cursors, bare_cursor, bare, CursorUnrefused, LaneUnrefused, CursorSteps, LaneRefuses, LaneSteps}
 use Rattle.joint_replay.specs.declared.lane.Moved.TheVariants as to
-use Rattle.joint_replay.specs.Lanes.{Cursor, Lane, Item, Passing, Doing, Ending, cursor_step, lane_step}
-use Rattle.joint_replay.specs.Harts.{Running, hart_lane, hart_cursors, later_cursors}
-use Rattle.joint_replay.specs.Calls.{bare_cursor, bare}
-use Rattle.joint_replay.specs.Moves.{CursorUnrefused, LaneUnrefused, CursorSteps, LaneRefuses, LaneSteps}
 
 module _ (i : Program) (records : List Record) (h : ℕ) (later : List Retained) where
   -- an ordering point is passed

@@ -1,19 +1,5 @@
 -- A step of a hart passes the point that it is at, and no other on its way.
-use Rattle.std.proofs.Common.{◌≡◌, ℕ, ◌+◌, ◌<◌, ◌≤◌, Bool, true, false, not, ◌&&◌, ◌||◌, ◌⊎◌, inl, inr, nat_lt, refl, sym, ap, ◌∙◌, subst, arith, List, [], ◌∷◌, Option, Some, None}
-use Rattle.std.specs.Prelude.{is_some}
-use Rattle.bn_base.specs.Programs.{Program}
-use Rattle.bn_base.specs.declared.end_mark.EndMark.{EndMark}
-use Rattle.bn_base.specs.declared.row.Row.{Row}
-use Rattle.bn_base.specs.declared.state.HartState.{HartState}
-use Rattle.hart_replay.specs.Replay.{Outcome, Done, Refused}
-use Rattle.hart_replay.specs.Coming.{after_row}
-use Rattle.joint_replay.specs.declared.kinds.Coming.{Coming}
-use Rattle.joint_replay.specs.declared.kinds.Coming.TheVariants.{RowAt, EndAt}
-use Rattle.joint_replay.specs.Lanes.{Cursor, Lane, Passing, Doing, Ending, count_of, has_row, is_within, lane_step, cursor_step}
-use Rattle.joint_replay.specs.Joining.{is_passed}
-use Rattle.joint_replay.specs.Counts.{RowsFrom}
-use Rattle.joint_replay.specs.Ways.{GoesOn, AreFrom, AreCursors, ArePoints, Has, last_count, InCursors, Passes, PassesIf}
-use Rattle.joint_replay.specs.Laws.{StepsPass}
+use Rattle.joint_replay.proofs.Common.{◌≡◌, ℕ, ◌+◌, ◌<◌, ◌≤◌, Bool, true, false, not, ◌&&◌, ◌||◌, ◌⊎◌, inl, inr, nat_lt, refl, sym, ap, ◌∙◌, subst, arith, List, [], ◌∷◌, Option, Some, None, is_some, Program, EndMark, Row, HartState, Outcome, Done, Refused, after_row, Coming, RowAt, EndAt, Cursor, Lane, Passing, Doing, Ending, count_of, has_row, is_within, lane_step, cursor_step, is_passed, RowsFrom, GoesOn, AreFrom, AreCursors, ArePoints, Has, last_count, InCursors, Passes, PassesIf, StepsPass}
 
 pub lt_true : (m n : ℕ) → m < n → nat_lt m n ≡ true
 lt_true m n h = grind arith

@@ -1,3 +1,4 @@
+mod Common
 mod Worked
 pub mod Waiting
 pub mod Ascents

@@ -1,26 +1,6 @@
 -- Each walk is a merge of the harts' lists, and each merge that the kept Edges allow is a walk.
-use Rattle.std.proofs.Common.{◌≡◌, ℕ, zero, suc, ◌+◌, ◌<◌, ◌≤◌, ◌^◌, Bool, true, false, ◌==◌, ◌⊎◌, inl, inr, nat_lt, refl, sym, ap, ◌∙◌, subst, arith, List, [], ◌∷◌, ◌++◌, append_assoc, map, reverse, length, slice_get, Option, Some, None, Result, Ok, Err}
-use Rattle.std.specs.Prelude.{◌↔◌}
-use Rattle.std.proofs.lemmas.Bool.Decides.{eqb_tells}
-use Rattle.std.proofs.lemmas.List.{append-nil, reverse-append}
-use Rattle.bn_base.specs.Programs.{Program}
-use Rattle.log_record.specs.declared.record.Record.{Record}
-use Rattle.log_order.specs.Content.{Content, IsContent}
-use Rattle.hart_replay.specs.declared.error.ReplayError.{ReplayError}
-use Rattle.joint_replay.specs.declared.kinds.Coming.{Coming}
-use Rattle.joint_replay.specs.declared.kinds.Readiness.{Readiness}
+use Rattle.joint_replay.proofs.Common.{◌≡◌, ℕ, zero, suc, ◌+◌, ◌<◌, ◌≤◌, ◌^◌, Bool, true, false, ◌==◌, ◌⊎◌, inl, inr, nat_lt, refl, sym, ap, ◌∙◌, subst, arith, List, [], ◌∷◌, ◌++◌, append_assoc, map, reverse, length, slice_get, Option, Some, None, Result, Ok, Err, ◌↔◌, eqb_tells, append-nil, reverse-append, Program, Record, Content, IsContent, ReplayError, Coming, Readiness, intervals_in, first_count, is_below, ordering_points, Lane, Item, Passing, lane_of, coming_of, point_of, lane_step, Joining, Taken, Walk, begun, longer, fresh, lanes_from, is_passed, readiness_of, readiness, coming, HartLane, joining, IsTogether, IsReached, IsBegun, IsAllowed, ready_step, walk_on, Has, InCursors, IsOn, Passes, PassesIf, HasEdge, IsSound, StepsPass, StartsAreSound, own, harts_of, steps_of, one_more, items_of, AreUnrefused, IsFront, IsAt, Stands, IsMerge, IsWhole, IsPassed, IsRefusedAt, point_at, AreMerges, IsReadyThere, IsChosenThere, Admits, IsAtMerge, AreSources, SourcesAreThere, WalksAreMerges, ReadyIsAdmitted, PassedIsStanding}
 use Rattle.joint_replay.specs.declared.kinds.Readiness.TheVariants as is
-use Rattle.joint_replay.specs.Points.{intervals_in, first_count, is_below, ordering_points}
-use Rattle.joint_replay.specs.Lanes.{Lane, Item, Passing, lane_of, coming_of, point_of, lane_step}
-use Rattle.joint_replay.specs.Joining.{Joining, Taken, Walk, begun, longer, fresh, lanes_from, is_passed, readiness_of, readiness, coming}
-use Rattle.joint_replay.specs.Harts.{HartLane}
-use Rattle.joint_replay.specs.Together.{joining, IsTogether}
-use Rattle.joint_replay.specs.Calls.{IsReached}
-use Rattle.joint_replay.specs.Orders.{IsBegun, IsAllowed, ready_step, walk_on}
-use Rattle.joint_replay.specs.Ways.{Has, InCursors, IsOn, Passes, PassesIf}
-use Rattle.joint_replay.specs.Sound.{HasEdge, IsSound}
-use Rattle.joint_replay.specs.Laws.{StepsPass, StartsAreSound}
-use Rattle.joint_replay.specs.Merges.{own, harts_of, steps_of, one_more, items_of, AreUnrefused, IsFront, IsAt, Stands, IsMerge, IsWhole, IsPassed, IsRefusedAt, point_at, AreMerges, IsReadyThere, IsChosenThere, Admits, IsAtMerge, AreSources, SourcesAreThere, WalksAreMerges, ReadyIsAdmitted, PassedIsStanding}
 use Rattle.joint_replay.proofs.Soundness.{get_same, get_other, some_is, sources_passed, stays, after_sound}
 use Rattle.joint_replay.proofs.LaneSteps.{lt_true, less_or}
 use Rattle.joint_replay.proofs.Walks.{undone, passed_lower}

@@ -1,19 +1,6 @@
 -- Walks and the merges of the harts' lists.
-use Rattle.std.proofs.Common.{◌≡◌, ℕ, zero, suc, ◌+◌, ◌<◌, Bool, true, false, ◌==◌, ◌⊎◌, inl, inr, refl, sym, ap, ◌∙◌, arith, List, [], ◌∷◌, ◌++◌, length, slice_get, slice_set, Option, Some, None, Result, Ok, Err}
-use Rattle.log_record.specs.declared.record.Record.{Record}
-use Rattle.hart_replay.specs.declared.error.ReplayError.{ReplayError}
-use Rattle.joint_replay.specs.declared.kinds.Coming.{Coming}
-use Rattle.joint_replay.specs.declared.kinds.Readiness.{Readiness}
+use Rattle.joint_replay.proofs.Common.{◌≡◌, ℕ, zero, suc, ◌+◌, ◌<◌, Bool, true, false, ◌==◌, ◌⊎◌, inl, inr, refl, sym, ap, ◌∙◌, arith, List, [], ◌∷◌, ◌++◌, length, slice_get, slice_set, Option, Some, None, Result, Ok, Err, Record, ReplayError, Coming, Readiness, sources_into, Lane, Item, coming_of, point_of, lane_step, memory_after, Next, Hart, AllDone, Joining, Taken, is_passed, first_waited, waits_for, readiness_of, readiness, choice_from, next_step, move, ready_step, HasEdge, own, Stands}
 use Rattle.joint_replay.specs.declared.kinds.Readiness.TheVariants as is
-use Rattle.joint_replay.specs.Points.{sources_into}
-use Rattle.joint_replay.specs.Lanes.{Lane, Item, coming_of, point_of, lane_step}
-use Rattle.joint_replay.specs.Memory.{memory_after}
-use Rattle.joint_replay.specs.declared.kinds.Next.{Next}
-use Rattle.joint_replay.specs.declared.kinds.Next.TheVariants.{Hart, AllDone}
-use Rattle.joint_replay.specs.Joining.{Joining, Taken, is_passed, first_waited, waits_for, readiness_of, readiness, choice_from, next_step, move}
-use Rattle.joint_replay.specs.Orders.{ready_step}
-use Rattle.joint_replay.specs.Sound.{HasEdge}
-use Rattle.joint_replay.specs.Merges.{own, Stands}
 use Rattle.joint_replay.proofs.Soundness.{some_is}
 use Rattle.joint_replay.proofs.Descent.{Waited, waited}
 

@@ -1,20 +1,5 @@
 -- Edges whose sources are passed, the first ones into each hart.
-use Rattle.std.proofs.Common.{◌≡◌, ℕ, zero, suc, ◌+◌, ◌<◌, ◌≤◌, Bool, true, false, ◌==◌, inl, inr, refl, sym, ap, ◌∙◌, subst, arith, List, [], ◌∷◌, length, map, take, drop, replicate, slice_get, slice_set, slice_index_or, Option, Some, None}
-use Rattle.std.proofs.lemmas.Bool.Decides.{eqb_tells}
-use Rattle.bn_base.specs.Programs.{Program}
-use Rattle.log_record.specs.declared.record.Record.{Record}
-use Rattle.log_order.specs.Content.{Content, IsContent}
-use Rattle.hart_replay.specs.declared.error.ReplayError.{ReplayError}
-use Rattle.joint_replay.specs.declared.incoming_edges.IncomingEdge.{IncomingEdge}
-use Rattle.joint_replay.specs.Points.{sources_into}
-use Rattle.joint_replay.specs.Lanes.{Cursor, Lane}
-use Rattle.joint_replay.specs.Joining.{Joining, fresh, is_passed, first_waited}
-use Rattle.joint_replay.specs.Harts.{HartLane}
-use Rattle.joint_replay.specs.Calls.{bare}
-use Rattle.joint_replay.specs.Laws.{StartsAreSound}
-use Rattle.joint_replay.specs.Sound.{IsSound}
-use Rattle.joint_replay.specs.Sources.{edges_into, AscendFrom}
-use Rattle.joint_replay.specs.Together.{lanes_of, joining, ArePassed, AreMet, IsTogether}
+use Rattle.joint_replay.proofs.Common.{◌≡◌, ℕ, zero, suc, ◌+◌, ◌<◌, ◌≤◌, Bool, true, false, ◌==◌, inl, inr, refl, sym, ap, ◌∙◌, subst, arith, List, [], ◌∷◌, length, map, take, drop, replicate, slice_get, slice_set, slice_index_or, Option, Some, None, eqb_tells, Program, Record, Content, IsContent, ReplayError, IncomingEdge, sources_into, Cursor, Lane, Joining, fresh, is_passed, first_waited, HartLane, bare, StartsAreSound, IsSound, edges_into, AscendFrom, lanes_of, joining, ArePassed, AreMet, IsTogether}
 use Rattle.joint_replay.proofs.Ascents.{sources_at, same_sources, drop_ascends}
 use Rattle.joint_replay.proofs.Choosing.{lanes_length}
 use Rattle.joint_replay.proofs.JointMoves.{own_at}

@@ -1,19 +1,7 @@
 -- The rows of a replay are those to come from its start.
-use Rattle.std.proofs.Common.{◌≡◌, ℕ, zero, suc, ◌+◌, ◌-◌, ◌^◌, ◌<◌, Some, Bool, true, false, not, ◌&&◌, ◌||◌, ◌==◌, nat_lt, refl, sym, ◌∙◌, subst, List, [], ◌∷◌, take}
-use Rattle.bn_base.specs.Faults.{fault_number}
-use Rattle.bn_base.specs.Programs.{Program}
-use Rattle.bn_base.specs.declared.row.Row.{Row}
-use Rattle.bn_base.specs.declared.state.HartState.{HartState}
+use Rattle.joint_replay.proofs.Common.{◌≡◌, ℕ, zero, suc, ◌+◌, ◌-◌, ◌^◌, ◌<◌, Some, Bool, true, false, not, ◌&&◌, ◌||◌, ◌==◌, nat_lt, refl, sym, ◌∙◌, subst, List, [], ◌∷◌, take, fault_number, Program, Row, HartState, Want, Load, Store, LoadReserved, StoreConditional, Amo, System, Cut, Faulted, fault_row, Record, EndDiffers, Refused, Replayed, Interval, Position, On, Stop, one_step, ended, fault_end, finish, left_over, found, onto, steps, first, interval_of, replayed, replayed_in, with_rows, without_rows, to_come, RowsFrom, RowsGoOn}
 use Rattle.rv_meaning.specs.Execute.{Step, Quiet, Asks, step, count_up}
-use Rattle.rv_meaning.specs.declared.asks.Want.{Want}
-use Rattle.rv_meaning.specs.declared.asks.Want.TheVariants.{Load, Store, LoadReserved, StoreConditional, Amo, System, Cut, Faulted}
-use Rattle.rv_meaning.specs.Rows.{fault_row}
-use Rattle.log_record.specs.declared.record.Record.{Record}
-use Rattle.hart_replay.specs.declared.error.ReplayError.TheVariants.{EndDiffers}
-use Rattle.hart_replay.specs.Replay.{Refused, Replayed, Interval, Position, Next, On, Stop, one_step, ended, fault_end, finish, left_over, found, onto, steps, first, interval_of, replayed, replayed_in}
-use Rattle.hart_replay.specs.Coming.{with_rows, without_rows, to_come}
-use Rattle.joint_replay.specs.Counts.{RowsFrom}
-use Rattle.joint_replay.specs.Laws.{RowsGoOn}
+use Rattle.hart_replay.specs.Replay.{Next}
 use Rattle.joint_replay.proofs.Follows.{Follows, follows}
 
 abbrev behind : List Row → Replayed → Replayed

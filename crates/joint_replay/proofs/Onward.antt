@@ -1,18 +1,5 @@
 -- Runs, step by step.
-use Rattle.std.proofs.Common.{◌≡◌, ℕ, zero, suc, ◌+◌, ◌<◌, ◌⊎◌, inl, inr, refl, sym, ap, ◌∙◌, subst, arith, List, [], ◌∷◌, ◌++◌, append_assoc, length, slice_get, slice_set, Option, Some, None, Result, Ok, Err}
-use Rattle.std.proofs.lemmas.List.{append-nil}
-use Rattle.bn_base.specs.Programs.{Program}
-use Rattle.bn_base.specs.declared.row.Row.{Row}
-use Rattle.hart_replay.specs.declared.error.ReplayError.{ReplayError}
-use Rattle.hart_replay.specs.Replay.{Outcome, Done, Refused}
-use Rattle.joint_replay.specs.declared.error.JointError.{JointError}
-use Rattle.joint_replay.specs.declared.error.JointError.TheVariants.{Stuck}
-use Rattle.joint_replay.specs.declared.kinds.Next.{Next}
-use Rattle.joint_replay.specs.declared.kinds.Next.TheVariants.{Hart, AllDone, NoneReady}
-use Rattle.joint_replay.specs.Lanes.{Cursor, Lane, Item, Doing, Ending, row_given, cursors_steps, lane_step, lane_steps}
-use Rattle.joint_replay.specs.Memory.{memory_after}
-use Rattle.joint_replay.specs.Joining.{Joining, Taken, Walk, Ran, begun, ran, choice, move, next_step, error_of, positions_from, steps_left, run_on, run_for, run_all}
-use Rattle.joint_replay.specs.Texts.{item_text, steps_text}
+use Rattle.joint_replay.proofs.Common.{◌≡◌, ℕ, zero, suc, ◌+◌, ◌<◌, ◌⊎◌, inl, inr, refl, sym, ap, ◌∙◌, subst, arith, List, [], ◌∷◌, ◌++◌, append_assoc, length, slice_get, slice_set, Option, Some, None, Result, Ok, Err, append-nil, Program, Row, ReplayError, Outcome, Done, Refused, JointError, Stuck, Next, Hart, AllDone, NoneReady, Cursor, Lane, Item, Doing, Ending, row_given, cursors_steps, lane_step, lane_steps, memory_after, Joining, Taken, Walk, Ran, begun, ran, choice, move, next_step, error_of, positions_from, steps_left, run_on, run_for, run_all, item_text, steps_text}
 use Rattle.joint_replay.specs.Runs.{one_step, IsStep, IsFirstTaken, RunsGoOn, RunsEnd}
 
 -- ---- a step lowers what is left

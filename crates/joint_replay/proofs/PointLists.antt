@@ -1,13 +1,5 @@
 -- Numbers put in their places.
-use Rattle.std.proofs.Common.{◌≡◌, ℕ, ◌<◌, Bool, true, false, ◌&&◌, ◌==◌, ◌⊎◌, inl, inr, nat_lt, refl, sym, ap, ◌∙◌, subst, arith, List, [], ◌∷◌, Option}
-use Rattle.log_record.specs.declared.record.Record.{Record}
-use Rattle.log_record.specs.declared.record.Record.TheVariants.{Header, FirstLoad, ScOk, ScFailed, Edge, End}
-use Rattle.joint_replay.specs.Lanes.{Cursor}
-use Rattle.joint_replay.specs.Points.{first_count, is_below, insert, insert_if, points_below}
-use Rattle.joint_replay.specs.Ways.{ArePoints, IsBelow, Has}
-use Rattle.joint_replay.specs.Sound.{HasEdge}
-use Rattle.joint_replay.specs.Laws.{PointsAscend}
-use Rattle.joint_replay.specs.Merges.{IsNamed, PointsAreNamed}
+use Rattle.joint_replay.proofs.Common.{◌≡◌, ℕ, ◌<◌, Bool, true, false, ◌&&◌, ◌==◌, ◌⊎◌, inl, inr, nat_lt, refl, sym, ap, ◌∙◌, subst, arith, List, [], ◌∷◌, Option, Record, Header, FirstLoad, ScOk, ScFailed, Edge, End, Cursor, first_count, is_below, insert, insert_if, points_below, ArePoints, IsBelow, Has, HasEdge, PointsAscend, IsNamed, PointsAreNamed}
 
 true_lt : (m n : ℕ) → nat_lt m n ≡ true → m < n
 true_lt m n h = grind arith

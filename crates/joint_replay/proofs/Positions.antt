@@ -1,9 +1,5 @@
 -- The harts that aren't done, one after another.
-use Rattle.std.proofs.Common.{◌≡◌, ℕ, zero, suc, ◌+◌, ◌<◌, refl, sym, ap, ◌∙◌, arith, List, [], ◌∷◌, ◌++◌, append_assoc, length, drop, slice_get, Option, Some, None}
-use Rattle.std.proofs.lemmas.List.{append-nil}
-use Rattle.joint_replay.specs.declared.kinds.Coming.{Coming}
-use Rattle.joint_replay.specs.Lanes.{Lane, coming_of, count_of}
-use Rattle.joint_replay.specs.Joining.{Joining, coming, positions_from}
+use Rattle.joint_replay.proofs.Common.{◌≡◌, ℕ, zero, suc, ◌+◌, ◌<◌, refl, sym, ap, ◌∙◌, arith, List, [], ◌∷◌, ◌++◌, append_assoc, length, drop, slice_get, Option, Some, None, append-nil, Coming, Lane, coming_of, count_of, Joining, coming, positions_from}
 
 front : (xs : List Lane) (k : ℕ) → k < length xs → (x : Lane) × (slice_get xs k ≡ Some x) × (drop k xs ≡ x ∷ drop (suc k) xs)
 front [] k low = absurd (omega (arith, low))

@@ -1,11 +1,5 @@
 -- The retained intervals of a hart, gathered from the last to the first.
-use Rattle.std.proofs.Common.{◌≡◌, ℕ, zero, suc, ◌+◌, ◌≤◌, sym, ap, ◌∙◌, subst, arith, List, [], ◌∷◌, ◌++◌, length, drop, map}
-use Rattle.std.proofs.Math.Seq.{drop-nil}
-use Rattle.std.proofs.lemmas.List.{reverse-append}
-use Rattle.log_record.specs.declared.record.Record.{Record}
-use Rattle.joint_replay.specs.declared.intervals.Retained.{Retained}
-use Rattle.joint_replay.specs.Points.{intervals_in, IsThere}
-use Rattle.joint_replay.specs.Intervals.{numbers, AreThere}
+use Rattle.joint_replay.proofs.Common.{◌≡◌, ℕ, zero, suc, ◌+◌, ◌≤◌, sym, ap, ◌∙◌, subst, arith, List, [], ◌∷◌, ◌++◌, length, drop, map, drop-nil, reverse-append, Record, Retained, intervals_in, IsThere, numbers, AreThere}
 
 -- those whose Headers stand from a place on
 pub record Gathered (h : ℕ) (records : List Record) (place : ℕ) (found : List Retained) : Type 0 where

@@ -1,17 +1,7 @@
 -- Rows continue from the position that they are to come from.
-use Rattle.std.proofs.Common.{◌≡◌, ℕ, zero, suc, ◌+◌, ◌-◌, ◌<◌, ◌≤◌, ◌^◌, Bool, true, false, not, ◌&&◌, ◌||◌, ◌==◌, nat_lt, refl, sym, ap, ◌∙◌, subst, arith, [], ◌∷◌, ◌++◌, take}
-use Rattle.bn_base.specs.Faults.{fault_number}
-use Rattle.bn_base.specs.Programs.{Program}
-use Rattle.bn_base.specs.declared.state.HartState.{HartState}
+use Rattle.joint_replay.proofs.Common.{◌≡◌, ℕ, zero, suc, ◌+◌, ◌-◌, ◌<◌, ◌≤◌, ◌^◌, Bool, true, false, not, ◌&&◌, ◌||◌, ◌==◌, nat_lt, refl, sym, ap, ◌∙◌, subst, arith, [], ◌∷◌, ◌++◌, take, fault_number, Program, HartState, Want, Load, Store, LoadReserved, StoreConditional, Amo, System, Cut, Faulted, fault_row, EndDiffers, Refused, Replayed, Interval, Position, On, Stop, one_step, ended, fault_end, finish, left_over, found, with_rows, without_rows, to_come, RowsFrom, RowsGoOn}
 use Rattle.rv_meaning.specs.Execute.{Step, Quiet, Asks, step, count_up}
-use Rattle.rv_meaning.specs.declared.asks.Want.{Want}
-use Rattle.rv_meaning.specs.declared.asks.Want.TheVariants.{Load, Store, LoadReserved, StoreConditional, Amo, System, Cut, Faulted}
-use Rattle.rv_meaning.specs.Rows.{fault_row}
-use Rattle.hart_replay.specs.declared.error.ReplayError.TheVariants.{EndDiffers}
-use Rattle.hart_replay.specs.Replay.{Refused, Replayed, Interval, Position, Next, On, Stop, one_step, ended, fault_end, finish, left_over, found}
-use Rattle.hart_replay.specs.Coming.{with_rows, without_rows, to_come}
-use Rattle.joint_replay.specs.Counts.{RowsFrom}
-use Rattle.joint_replay.specs.Laws.{RowsGoOn}
+use Rattle.hart_replay.specs.Replay.{Next}
 use Rattle.joint_replay.proofs.Follows.{Follows, follows}
 
 abbrev GoOn : Program → ℕ → HartState → Replayed → Type 0

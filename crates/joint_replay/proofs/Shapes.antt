@@ -1,23 +1,7 @@
 -- The intervals of a hart in a log in order, by the walk of the order's rules.
-use Rattle.std.proofs.Common.{◌≡◌, ◌<◌, ℕ, ◌+◌, ◌^◌, ◌≤◌, max, Bool, true, false, not, ◌&&◌, ◌||◌, ◌==◌, ◌⊎◌, inl, inr, nat_lt, refl, sym, ap, ◌∙◌, subst, arith, List, [], ◌∷◌, length, slice_get, slice_set, Option, Some, None, Result, Ok, Err}
-use Rattle.std.specs.Prelude.{if◌then◌else◌, nat_le}
-use Rattle.bn_base.specs.declared.end_mark.EndMark.{EndMark}
-use Rattle.log_record.specs.declared.record.Record.{Record}
-use Rattle.log_record.specs.declared.record.Record.TheVariants.{Header, FirstLoad, ScOk, ScFailed, Edge, End}
-use Rattle.log_record.specs.Spelling.{hart_of}
-use Rattle.log_order.specs.declared.view.OrderLimits.{OrderLimits}
-use Rattle.log_order.specs.declared.view.HartView.{HartView}
-use Rattle.log_order.specs.declared.view.Phase.{Phase}
+use Rattle.joint_replay.proofs.Common.{◌≡◌, ◌<◌, ℕ, ◌+◌, ◌^◌, ◌≤◌, max, Bool, true, false, not, ◌&&◌, ◌||◌, ◌==◌, ◌⊎◌, inl, inr, nat_lt, refl, sym, ap, ◌∙◌, subst, arith, List, [], ◌∷◌, length, slice_get, slice_set, Option, Some, None, Result, Ok, Err, if◌then◌else◌, nat_le, EndMark, Record, Header, FirstLoad, ScOk, ScFailed, Edge, End, hart_of, OrderLimits, HartView, Phase, takes_header, takes_other, is_awaited, is_number, has_edge, has_end, goes_on, phase_after, after_one, after_header, after_edge, after_end, after_other, is_done, is_unfinished, puts, nothing, Logged, Span, mark_of, spans, AreSpans, Fits, is_known, OrderedLogsHaveShape, eqb_tells, bytes_of, ◌>>=◌, step, step_at, has_source, at_place, after_all, OrderBreak}
 use Rattle.log_order.specs.declared.view.Phase.TheVariants.{Unknown, Awaiting, Open, Done}
-use Rattle.log_order.specs.Rules.{takes_header, takes_other, is_awaited, is_number, has_edge, has_end, goes_on, phase_after, after_one, after_header, after_edge, after_end, after_other, is_done, is_unfinished}
-use Rattle.hart_replay.specs.Replay.{puts, nothing, Logged}
-use Rattle.joint_replay.specs.Shape.{Span, mark_of, spans, AreSpans, Fits, is_known}
-use Rattle.joint_replay.specs.Laws.{OrderedLogsHaveShape}
 use Rattle.joint_replay.proofs.Soundness.{get_same, get_other, some_is}
-use Rattle.std.proofs.lemmas.Bool.Decides.{eqb_tells}
-use Rattle.log_record.specs.Spelling.{bytes_of}
-use Rattle.log_order.specs.Order.{◌>>=◌, step, step_at, has_source, at_place, after_all}
-use Rattle.log_order.specs.declared.walk.OrderBreak.{OrderBreak}
 
 pub passes : {A : Type 0} (b : Bool) (e : ℕ) (x : Result A ℕ) (w : A) → (if b then Err e else x) ≡ Ok w → (b ≡ false) × (x ≡ Ok w)
 passes true e x w h = cc

@@ -1,19 +1,6 @@
 -- A step of a ready hart keeps the sources of passed targets passed.
-use Rattle.std.proofs.Common.{◌≡◌, ℕ, zero, suc, ◌<◌, Bool, true, false, ◌&&◌, ◌==◌, ◌⊎◌, inl, inr, refl, sym, ap, ◌∙◌, subst, arith, List, [], ◌∷◌, length, slice_get, slice_set, slice_index_or, Option, Some, None, Result, Ok, Err}
-use Rattle.std.proofs.lemmas.Bool.Decides.{eqb_tells}
-use Rattle.log_record.specs.declared.record.Record.{Record}
-use Rattle.log_record.specs.declared.record.Record.TheVariants.{Header, FirstLoad, ScOk, ScFailed, Edge, End}
-use Rattle.hart_replay.specs.declared.error.ReplayError.{ReplayError}
-use Rattle.joint_replay.specs.declared.kinds.Coming.{Coming}
-use Rattle.joint_replay.specs.declared.kinds.Readiness.{Readiness}
+use Rattle.joint_replay.proofs.Common.{◌≡◌, ℕ, zero, suc, ◌<◌, Bool, true, false, ◌&&◌, ◌==◌, ◌⊎◌, inl, inr, refl, sym, ap, ◌∙◌, subst, arith, List, [], ◌∷◌, length, slice_get, slice_set, slice_index_or, Option, Some, None, Result, Ok, Err, eqb_tells, Record, Header, FirstLoad, ScOk, ScFailed, Edge, End, ReplayError, Coming, Readiness, sources_into, Lane, Item, coming_of, point_of, lane_step, memory_after, Joining, is_passed, first_waited, waits_for, readiness_of, move, IsLane, IsOn, Passes, PassesIf, HasEdge, IsSound, SoundIf, StepsPass, SoundnessStays}
 use Rattle.joint_replay.specs.declared.kinds.Readiness.TheVariants as is
-use Rattle.joint_replay.specs.Points.{sources_into}
-use Rattle.joint_replay.specs.Lanes.{Lane, Item, coming_of, point_of, lane_step}
-use Rattle.joint_replay.specs.Memory.{memory_after}
-use Rattle.joint_replay.specs.Joining.{Joining, is_passed, first_waited, waits_for, readiness_of, move}
-use Rattle.joint_replay.specs.Ways.{IsLane, IsOn, Passes, PassesIf}
-use Rattle.joint_replay.specs.Sound.{HasEdge, IsSound, SoundIf}
-use Rattle.joint_replay.specs.Laws.{StepsPass, SoundnessStays}
 
 -- ---- lists
 

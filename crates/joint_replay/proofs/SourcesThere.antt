@@ -1,29 +1,7 @@
 -- The sources of Edges in a log in order: below the hart's first Header, or below its last End.
-use Rattle.std.proofs.Common.{◌≡◌, ℕ, zero, suc, ◌+◌, ◌<◌, ◌^◌, Bool, true, false, not, ◌&&◌, ◌||◌, ◌==◌, ◌⊎◌, inl, inr, nat_lt, refl, sym, ap, ◌∙◌, subst, arith, List, [], ◌∷◌, length, replicate, slice_get, slice_set, Option, Some, None, Result, Ok, Err}
-use Rattle.std.specs.Prelude.{if◌then◌else◌, nat_le}
-use Rattle.std.specs.List.{list_any}
-use Rattle.std.specs.Option.{option_map}
-use Rattle.std.proofs.lemmas.Bool.Decides.{eqb_tells}
-use Rattle.bn_base.specs.Programs.{Program}
-use Rattle.bn_base.specs.declared.end_mark.EndMark.{EndMark}
-use Rattle.log_record.specs.declared.record.Record.{Record}
-use Rattle.log_record.specs.declared.record.Record.TheVariants.{Header, FirstLoad, ScOk, ScFailed, Edge, End}
-use Rattle.log_record.specs.Spelling.{hart_of, bytes_of, total}
-use Rattle.log_order.specs.declared.view.OrderLimits.{OrderLimits}
-use Rattle.log_order.specs.declared.view.HartView.{HartView}
-use Rattle.log_order.specs.declared.view.Phase.{Phase}
+use Rattle.joint_replay.proofs.Common.{◌≡◌, ℕ, zero, suc, ◌+◌, ◌<◌, ◌^◌, Bool, true, false, not, ◌&&◌, ◌||◌, ◌==◌, ◌⊎◌, inl, inr, nat_lt, refl, sym, ap, ◌∙◌, subst, arith, List, [], ◌∷◌, length, replicate, slice_get, slice_set, Option, Some, None, Result, Ok, Err, if◌then◌else◌, nat_le, list_any, option_map, eqb_tells, Program, EndMark, Record, Header, FirstLoad, ScOk, ScFailed, Edge, End, hart_of, bytes_of, total, OrderLimits, HartView, Phase, takes_header, takes_other, goes_on, phase_after, after_one, is_done, is_unfinished, ◌>>=◌, has_source, step_at, step, after_all, is_from, is_past, is_late, late_edge, end_break as ended_by, broken, broken_in, order_limits_of, order_break, puts, nothing, Logged, intervals_in, first_count, is_below, points_below, Cursor, Lane, cursors_of, lane_of, Has, InCursors, HasEdge, Span, mark_of, spans, Fits, is_known, last_of, OrderedLogsHaveShape, PointsAscend, SourcesAreThere}
 use Rattle.log_order.specs.declared.view.Phase.TheVariants.{Unknown, Awaiting, Open, Done}
-use Rattle.log_order.specs.Rules.{takes_header, takes_other, goes_on, phase_after, after_one, is_done, is_unfinished, fresh as fresh_view}
-use Rattle.log_order.specs.Order.{◌>>=◌, has_source, step_at, step, after_all, is_from, is_past, is_late, late_edge, end_break as ended_by, broken, broken_in, order_limits_of, order_break}
-use Rattle.hart_replay.specs.Replay.{puts, nothing, Logged}
-use Rattle.joint_replay.specs.Points.{intervals_in, first_count, is_below, points_below}
-use Rattle.joint_replay.specs.Lanes.{Cursor, Lane, cursors_of, lane_of}
-use Rattle.joint_replay.specs.Ways.{Has, InCursors}
-use Rattle.joint_replay.specs.Sound.{HasEdge}
-use Rattle.joint_replay.specs.Shape.{Span, mark_of, spans, Fits, is_known}
-use Rattle.joint_replay.specs.Inside.{last_of}
-use Rattle.joint_replay.specs.Laws.{OrderedLogsHaveShape, PointsAscend}
-use Rattle.joint_replay.specs.Merges.{SourcesAreThere}
+use Rattle.log_order.specs.Rules.{fresh as fresh_view}
 use Rattle.joint_replay.proofs.Onto.{ReplaysGoOn}
 use Rattle.joint_replay.proofs.Soundness.{get_other}
 use Rattle.joint_replay.proofs.LaneSteps.{less_or, lt_true}

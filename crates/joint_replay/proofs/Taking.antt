@@ -1,22 +1,9 @@
 -- A step of a joint replay, as its code takes it.
-use Rattle.std.proofs.Common.{◌≡◌, ℕ, ◌<◌, ◌⊎◌, inl, inr, true, is_some, refl, sym, ap, ◌∙◌, subst, arith, List, length, slice_get, slice_set, slice_index_or, Option, Some, None, Ok, Err}
-use Rattle.bn_base.specs.Programs.{Program}
-use Rattle.log_order.specs.Content.{Content}
-use Rattle.hart_replay.specs.declared.error.ReplayError.{ReplayError}
+use Rattle.joint_replay.proofs.Common.{◌≡◌, ℕ, ◌<◌, ◌⊎◌, inl, inr, true, is_some, refl, sym, ap, ◌∙◌, subst, arith, List, length, slice_get, slice_set, slice_index_or, Option, Some, None, Ok, Err, Program, Content, ReplayError, JointError, Did, Lane, Item, Passing, Doing, Ending, coming_of, lane_step, Bytes, filled, forget, put_access, memory_after, Joining, readiness, error_of, HartLane, stepped_of, bare, Steps, LaneUnrefused, LaneRefuses, LaneSteps, IsMoved, noted, stepped_by, told, IsSound, lanes_of, joining, AreMet, IsTogether}
 use Rattle.hart_replay.specs.declared.error.ReplayError.TheVariants as replay
-use Rattle.joint_replay.specs.declared.error.JointError.{JointError}
 use Rattle.joint_replay.specs.declared.kinds.Readiness.TheVariants as is
-use Rattle.joint_replay.specs.declared.lane.Did.{Did}
 use Rattle.joint_replay.specs.declared.lane.Moved.{Moved}
 use Rattle.joint_replay.specs.declared.lane.Moved.TheVariants as to
-use Rattle.joint_replay.specs.Lanes.{Lane, Item, Passing, Doing, Ending, coming_of, lane_step}
-use Rattle.joint_replay.specs.Memory.{Bytes, filled, forget, put_access, memory_after}
-use Rattle.joint_replay.specs.Joining.{Joining, readiness, error_of}
-use Rattle.joint_replay.specs.Harts.{HartLane}
-use Rattle.joint_replay.specs.Calls.{stepped_of, bare, Steps}
-use Rattle.joint_replay.specs.Moves.{LaneUnrefused, LaneRefuses, LaneSteps, IsMoved, noted, stepped_by, told}
-use Rattle.joint_replay.specs.Sound.{IsSound}
-use Rattle.joint_replay.specs.Together.{lanes_of, joining, AreMet, IsTogether}
 use Rattle.joint_replay.proofs.Choosing.{lanes_length}
 use Rattle.joint_replay.proofs.JointMoves.{has_step, step_is, unrefused, after_step, together_after, together_refused, passed_after, same_range, length_set, bare_set, lane_kept}
 use Rattle.joint_replay.proofs.MetSources.{still_met, bare_stays}

@@ -1,21 +1,9 @@
 -- Steps that are told one after another.
-use Rattle.std.proofs.Common.{◌≡◌, ℕ, zero, suc, ◌+◌, ◌<◌, ◌⊎◌, inl, inr, Bool, true, false, refl, sym, ap, ◌∙◌, subst, arith, List, [], ◌∷◌, ◌++◌, append_assoc, length, slice_get, Option, Some, None, Result, Ok, Err}
-use Rattle.std.proofs.lemmas.List.{append-nil}
-use Rattle.log_record.specs.declared.record.Record.{Record}
-use Rattle.hart_replay.specs.declared.error.ReplayError.{ReplayError}
+use Rattle.joint_replay.proofs.Common.{◌≡◌, ℕ, zero, suc, ◌+◌, ◌<◌, ◌⊎◌, inl, inr, Bool, true, false, refl, sym, ap, ◌∙◌, subst, arith, List, [], ◌∷◌, ◌++◌, append_assoc, length, slice_get, Option, Some, None, Result, Ok, Err, append-nil, Record, ReplayError, JointError, Stuck, Readiness, Next, Hart, NoneReady, Lane, Item, Passing, Doing, Ending, Joining, Taken, Walk, Ran, begun, ran, choice, choice_from, readiness, readiness_of, positions_from, error_of, next_step, run_for, run_all, stepped_of, RanOut, IsRefused, StepUnrefused, Steps, item_text, stepped_text, steps_text}
 use Rattle.hart_replay.specs.declared.error.ReplayError.TheVariants as replay
-use Rattle.joint_replay.specs.declared.error.JointError.{JointError}
-use Rattle.joint_replay.specs.declared.error.JointError.TheVariants.{Stuck}
 use Rattle.joint_replay.specs.declared.error.JointError.TheVariants as why
-use Rattle.joint_replay.specs.declared.kinds.Readiness.{Readiness}
 use Rattle.joint_replay.specs.declared.kinds.Readiness.TheVariants as is
-use Rattle.joint_replay.specs.declared.kinds.Next.{Next}
-use Rattle.joint_replay.specs.declared.kinds.Next.TheVariants.{Hart, NoneReady}
 use Rattle.joint_replay.specs.declared.kinds.Stepped.{Stepped}
-use Rattle.joint_replay.specs.Lanes.{Lane, Item, Passing, Doing, Ending}
-use Rattle.joint_replay.specs.Joining.{Joining, Taken, Walk, Ran, begun, ran, choice, choice_from, readiness, readiness_of, positions_from, error_of, next_step, run_for, run_all}
-use Rattle.joint_replay.specs.Calls.{stepped_of, RanOut, IsRefused, StepUnrefused, Steps}
-use Rattle.joint_replay.specs.Texts.{item_text, stepped_text, steps_text}
 use Rattle.joint_replay.specs.Runs.{one_step, IsStep, Advanced, IsStarved, RunUnrefused, Advances, Runs, IsFirstTaken, RunsGoOn, RunsEnd}
 use Rattle.joint_replay.proofs.Onward.{walk_of, taken_by, step_made, first_step, none_ready, step_fewer, step_taken, step_refused, longer_run}
 

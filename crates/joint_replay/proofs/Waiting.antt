@@ -1,11 +1,6 @@
 -- The sources that a step waits for, looked up one after another.
-use Rattle.std.proofs.Common.{◌≡◌, ℕ, zero, suc, ◌+◌, ◌<◌, Bool, true, false, not, ◌&&◌, ◌==◌, refl, sym, ap, ◌∙◌, arith, List, [], ◌∷◌, length, drop, slice_get, slice_index_or, Option, Some}
-use Rattle.std.proofs.lemmas.Bool.{ne_eqb}
+use Rattle.joint_replay.proofs.Common.{◌≡◌, ℕ, zero, suc, ◌+◌, ◌<◌, Bool, true, false, not, ◌&&◌, ◌==◌, refl, sym, ap, ◌∙◌, arith, List, [], ◌∷◌, length, drop, slice_get, slice_index_or, Option, Some, ne_eqb, IncomingEdge, Lane, is_passed, first_waited, waits_for, AscendFrom}
 use Rattle.joint_replay.specs.declared.kinds.Readiness.TheVariants as is
-use Rattle.joint_replay.specs.declared.incoming_edges.IncomingEdge.{IncomingEdge}
-use Rattle.joint_replay.specs.Lanes.{Lane}
-use Rattle.joint_replay.specs.Joining.{is_passed, first_waited, waits_for}
-use Rattle.joint_replay.specs.Sources.{AscendFrom}
 use Rattle.joint_replay.proofs.Ascents.{sources_at, none_higher}
 
 -- the first source that isn't passed is among those of the Edges that are left, if there is one

@@ -1,20 +1,7 @@
 -- Chains in the walks of allowed orders.
-use Rattle.std.proofs.Common.{◌≡◌, ℕ, zero, suc, ◌<◌, ◌≤◌, Bool, true, ◌⊎◌, inl, inr, nat_lt, refl, sym, ap, ◌∙◌, subst, arith, List, [], ◌∷◌, slice_get, slice_set, Option, Some, None, Result, Ok, Err}
-use Rattle.std.proofs.lemmas.Bool.Decides.{eqb_tells}
-use Rattle.bn_base.specs.Programs.{Program}
-use Rattle.log_record.specs.declared.record.Record.{Record}
-use Rattle.hart_replay.specs.declared.error.ReplayError.{ReplayError}
-use Rattle.joint_replay.specs.declared.kinds.Coming.{Coming}
-use Rattle.joint_replay.specs.declared.kinds.Readiness.{Readiness}
+use Rattle.joint_replay.proofs.Common.{◌≡◌, ℕ, zero, suc, ◌<◌, ◌≤◌, Bool, true, ◌⊎◌, inl, inr, nat_lt, refl, sym, ap, ◌∙◌, subst, arith, List, [], ◌∷◌, slice_get, slice_set, Option, Some, None, Result, Ok, Err, eqb_tells, Program, Record, ReplayError, Coming, Readiness, Cursor, Lane, Item, coming_of, count_of, lane_step, memory_after, Joining, Taken, Walk, begun, longer, fresh, is_passed, readiness_of, move, IsBegun, ready_step, walk_on, AreCursors, ArePoints, InCursors, IsRowAt, Passes, PassesIf, IsSound, StepsPass, ChainsAreKept}
 use Rattle.joint_replay.specs.declared.kinds.Readiness.TheVariants as is
-use Rattle.joint_replay.specs.Lanes.{Cursor, Lane, Item, coming_of, count_of, lane_step}
-use Rattle.joint_replay.specs.Memory.{memory_after}
-use Rattle.joint_replay.specs.Joining.{Joining, Taken, Walk, begun, longer, fresh, is_passed, readiness_of, move}
-use Rattle.joint_replay.specs.Orders.{IsBegun, ready_step, walk_on}
-use Rattle.joint_replay.specs.Ways.{AreCursors, ArePoints, InCursors, IsRowAt, Passes, PassesIf}
-use Rattle.joint_replay.specs.Sound.{IsSound}
 use Rattle.joint_replay.specs.Chains.{StepTo, Leads, one, more, Did, IsLeft, IsToDo}
-use Rattle.joint_replay.specs.Laws.{StepsPass, ChainsAreKept}
 use Rattle.joint_replay.proofs.LaneSteps.{cursor_passed, first_goes, true_lt, lt_true}
 use Rattle.joint_replay.proofs.Soundness.{get_same, get_other, some_is, sources_passed, after_sound}
 

@@ -1,12 +1,6 @@
 -- Lists of known words.
-use Rattle.std.proofs.Common.{◌≡◌, ℕ, zero, suc, ◌+◌, ◌-◌, ◌*◌, ◌/◌, ◌%◌, ◌^◌, ◌<◌, ◌≤◌, Bool, true, false, cond, not, ◌&&◌, ◌||◌, nat_le, ◌==◌, nat_lt, ◌⊎◌, inl, inr, if◌then◌else◌, refl, sym, ap, ◌∙◌, arith, List, [], ◌∷◌, filter, Option, Some, None}
-use Rattle.std.proofs.lemmas.Bool.{eq-eqb, ne_eqb}
-use Rattle.std.proofs.lemmas.Bool.Decides.{eqb_tells}
-use Rattle.rv_meaning.specs.Words.{aligned}
-use Rattle.hart_replay.specs.Pages.{Frame, Known, word_at}
+use Rattle.joint_replay.proofs.Common.{◌≡◌, ℕ, zero, suc, ◌+◌, ◌-◌, ◌*◌, ◌/◌, ◌%◌, ◌^◌, ◌<◌, ◌≤◌, Bool, true, false, cond, not, ◌&&◌, ◌||◌, nat_le, ◌==◌, nat_lt, ◌⊎◌, inl, inr, if◌then◌else◌, refl, sym, ap, ◌∙◌, arith, List, [], ◌∷◌, filter, Option, Some, None, eq-eqb, ne_eqb, eqb_tells, aligned, Frame, Known, word_at, Bytes, has_byte, forget, put_word, word_in, known_from, in_front, words_from, words_of, AreBelow}
 use Rattle.hart_replay.specs.Sides.{word_count}
-use Rattle.joint_replay.specs.Memory.{Bytes, has_byte, forget, put_word, word_in, known_from}
-use Rattle.joint_replay.specs.Words.{in_front, words_from, words_of, AreBelow}
 
 pub count_is : word_count ≡ 2 ^ 30
 unfolding word_count

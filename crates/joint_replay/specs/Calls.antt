@@ -1,10 +1,7 @@
 -- What the calls of a joint replay do.
 use Rattle.std.specs.Prelude.{◌≡◌, ◌⊎◌, ℕ, List, map, slice_get, Option, Some, None, Result, Ok, Err}
-use Rattle.bn_base.specs.declared.state.HartState.{HartState}
-use Rattle.hart_replay.specs.declared.error.ReplayError.{ReplayError}
+use Rattle.joint_replay.specs.Common.{HartState, ReplayError, Done, outcome_only}
 use Rattle.hart_replay.specs.declared.error.ReplayError.TheVariants as replay
-use Rattle.hart_replay.specs.Replay.{Done}
-use Rattle.hart_replay.specs.Coming.{outcome_only}
 use Rattle.joint_replay.specs.declared.error.JointError.{JointError}
 use Rattle.joint_replay.specs.declared.error.JointError.TheVariants as why
 use Rattle.joint_replay.specs.declared.kinds.Stepped.{Stepped}

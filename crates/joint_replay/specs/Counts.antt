@@ -1,10 +1,6 @@
 -- Rows that continue from a state.
 use Rattle.std.specs.Prelude.{true, is_some, ◌≡◌, ℕ, ◌+◌, ◌<◌, ◌≤◌, List, [], ◌∷◌, None}
-use Rattle.bn_base.specs.Programs.{Program}
-use Rattle.bn_base.specs.declared.row.Row.{Row}
-use Rattle.bn_base.specs.declared.state.HartState.{HartState}
-use Rattle.hart_replay.specs.Replay.{Outcome, Done}
-use Rattle.hart_replay.specs.Coming.{after_row}
+use Rattle.joint_replay.specs.Common.{Program, Row, HartState, Outcome, Done, after_row}
 
 -- rows from a state on, up to a count: each has the count of the state before it and counts one more; after the last
 -- instruction there may be the row of a fault

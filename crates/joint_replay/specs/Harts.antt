@@ -1,12 +1,6 @@
 -- A hart of a joint replay, as its parts make it.
 use Rattle.std.specs.Prelude.{◌≡◌, ◌<◌, ℕ, Bool, true, false, List, [], ◌∷◌, Option, Some, None, IfSome}
-use Rattle.bn_base.specs.Programs.{Program}
-use Rattle.bn_base.specs.declared.state.HartState.{HartState}
-use Rattle.log_record.specs.declared.record.Record.{Record}
-use Rattle.log_order.specs.Content.{Content}
-use Rattle.hart_replay.specs.declared.error.ReplayError.TheVariants.{OutOfMemory}
-use Rattle.hart_replay.specs.Replay.{Replayed, Refused}
-use Rattle.hart_replay.specs.Coming.{Replaying, outcome_only}
+use Rattle.joint_replay.specs.Common.{Program, HartState, Record, Content, OutOfMemory, Replayed, Refused, Replaying, outcome_only}
 use Rattle.joint_replay.specs.declared.intervals.Retained.{Retained}
 use Rattle.joint_replay.specs.declared.kinds.Coming.{Coming}
 use Rattle.joint_replay.specs.declared.kinds.Coming.TheVariants.{RowAt, EndAt}

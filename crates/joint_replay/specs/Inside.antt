@@ -1,7 +1,6 @@
 -- The targets of the Edges into a hart of a log in order.
 use Rattle.std.specs.Prelude.{◌⊎◌, ℕ, ◌<◌, ◌≤◌, List, [], ◌∷◌}
-use Rattle.bn_base.specs.declared.end_mark.EndMark.{EndMark}
-use Rattle.log_order.specs.declared.view.Phase.{Phase}
+use Rattle.joint_replay.specs.Common.{EndMark, Phase}
 use Rattle.log_order.specs.declared.view.Phase.TheVariants.{Unknown, Awaiting, Open, Done}
 use Rattle.joint_replay.specs.Shape.{Span}
 

@@ -1,13 +1,6 @@
 -- What each hart has to do in a joint replay, and one step of it.
 use Rattle.std.specs.Prelude.{ℕ, ◌+◌, nat_lt, Bool, true, false, not, ◌&&◌, ◌||◌, List, [], ◌∷◌, length, is_some, Option, Some, None, Result, Ok, Err}
-use Rattle.bn_base.specs.Programs.{Program}
-use Rattle.bn_base.specs.declared.end_mark.EndMark.{EndMark}
-use Rattle.bn_base.specs.declared.row.Row.{Row}
-use Rattle.bn_base.specs.declared.state.HartState.{HartState}
-use Rattle.log_record.specs.declared.record.Record.{Record}
-use Rattle.hart_replay.specs.declared.error.ReplayError.{ReplayError}
-use Rattle.hart_replay.specs.Replay.{Done, Refused, Replayed, Interval, interval_of, replayed}
-use Rattle.hart_replay.specs.Coming.{after_row}
+use Rattle.joint_replay.specs.Common.{Program, EndMark, Row, HartState, Record, ReplayError, Done, Refused, Replayed, Interval, interval_of, replayed, after_row}
 use Rattle.joint_replay.specs.declared.kinds.Coming.{Coming}
 use Rattle.joint_replay.specs.declared.kinds.Coming.TheVariants.{PassAt, RowAt, EndAt}
 use Rattle.joint_replay.specs.Points.{intervals_in, ordering_points}

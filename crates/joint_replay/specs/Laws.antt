@@ -1,14 +1,8 @@
 -- The laws of joint replays. They hold of every log in order, forged ones too.
 use Rattle.std.specs.Prelude.{◌≡◌, ◌<◌, ◌-◌, ◌^◌, ◌||◌, ℕ, Bool, true, false, List, slice_get, Option, Some, None, Ok}
-use Rattle.bn_base.specs.Programs.{Program}
-use Rattle.bn_base.specs.declared.settings.RawSettings.{RawSettings}
-use Rattle.log_record.specs.declared.record.Record.{Record}
+use Rattle.joint_replay.specs.Common.{Program, RawSettings, Record, is_unfinished, after_all, broken_by, Interval, Position, to_come}
 use Rattle.log_order.specs.declared.view.OrderLimits.{OrderLimits}
 use Rattle.log_order.specs.declared.view.HartView.{HartView}
-use Rattle.log_order.specs.Rules.{is_unfinished}
-use Rattle.log_order.specs.Order.{after_all, broken_by}
-use Rattle.hart_replay.specs.Replay.{Interval, Position}
-use Rattle.hart_replay.specs.Coming.{to_come}
 use Rattle.joint_replay.specs.declared.kinds.Next.TheVariants.{NoneReady}
 use Rattle.joint_replay.specs.Points.{is_below, points_below}
 use Rattle.joint_replay.specs.Lanes.{Cursor, Lane, lane_step}

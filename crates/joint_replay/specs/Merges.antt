@@ -1,15 +1,6 @@
 -- Allowed orders, said of the harts' lists alone: merges in which each point stands after the sources of the Edges into it.
 use Rattle.std.specs.Prelude.{◌≡◌, ◌⊎◌, ◌↔◌, ℕ, ◌<◌, ◌≤◌, ◌^◌, ◌==◌, nat_lt, true, false, List, [], ◌∷◌, ◌++◌, map, reverse, slice_get, Option, Some, None, Err}
-use Rattle.bn_base.specs.Programs.{Program}
-use Rattle.bn_base.specs.declared.end_mark.EndMark.{EndMark}
-use Rattle.bn_base.specs.declared.row.Row.{Row}
-use Rattle.bn_base.specs.declared.settings.RawSettings.{RawSettings}
-use Rattle.bn_base.specs.declared.state.HartState.{HartState}
-use Rattle.log_record.specs.declared.record.Record.{Record}
-use Rattle.log_order.specs.Order.{broken_by}
-use Rattle.hart_replay.specs.declared.error.ReplayError.{ReplayError}
-use Rattle.hart_replay.specs.Replay.{Outcome, Done, Refused, Replayed, Interval, interval_of, replayed}
-use Rattle.hart_replay.specs.Coming.{after_row}
+use Rattle.joint_replay.specs.Common.{Program, EndMark, Row, RawSettings, HartState, Record, broken_by, ReplayError, Outcome, Done, Refused, Replayed, Interval, interval_of, replayed, after_row}
 use Rattle.joint_replay.specs.declared.kinds.Coming.{Coming}
 use Rattle.joint_replay.specs.declared.kinds.Readiness.TheVariants.{Ready}
 use Rattle.joint_replay.specs.Points.{intervals_in, first_count, is_below, ordering_points}

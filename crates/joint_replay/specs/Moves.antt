@@ -1,12 +1,6 @@
 -- What a step of a hart does.
 use Rattle.std.specs.Prelude.{◌≡◌, ◌⊎◌, ℕ, List, [], ◌∷◌, slice_index, is_some, Option, Some, None, Result, Ok, Err}
-use Rattle.std.specs.Option.{option_map}
-use Rattle.bn_base.specs.declared.row.Row.{Row}
-use Rattle.bn_base.specs.declared.state.HartState.{HartState}
-use Rattle.hart_replay.specs.declared.error.ReplayError.{ReplayError}
-use Rattle.hart_replay.specs.declared.error.ReplayError.TheVariants.{OutOfMemory}
-use Rattle.hart_replay.specs.Replay.{Done, Refused}
-use Rattle.hart_replay.specs.Coming.{after_row, with_rows, outcome_only}
+use Rattle.joint_replay.specs.Common.{option_map, Row, HartState, ReplayError, OutOfMemory, Done, Refused, after_row, with_rows, outcome_only}
 use Rattle.joint_replay.specs.declared.error.JointError.{JointError}
 use Rattle.joint_replay.specs.declared.kinds.Stepped.{Stepped}
 use Rattle.joint_replay.specs.declared.kinds.Stepped.TheVariants as has

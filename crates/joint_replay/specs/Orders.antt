@@ -2,8 +2,7 @@
 -- time for its second, and so on. So each order is a merge of beginnings of the harts' lists of steps.
 -- `Merges` says which merges these are without a joint replay.
 use Rattle.std.specs.Prelude.{◌≡◌, ℕ, List, [], ◌∷◌, Option, Some, None, Ok, Err}
-use Rattle.bn_base.specs.Programs.{Program}
-use Rattle.log_record.specs.declared.record.Record.{Record}
+use Rattle.joint_replay.specs.Common.{Program, Record}
 use Rattle.joint_replay.specs.declared.kinds.Readiness.TheVariants as is
 use Rattle.joint_replay.specs.declared.kinds.Next.TheVariants.{AllDone}
 use Rattle.joint_replay.specs.Lanes.{Item}

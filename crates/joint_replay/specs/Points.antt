@@ -1,9 +1,7 @@
 -- What the kept Edges say of the order: which points a hart passes, and what a point waits for. All of this is by the
 -- records alone.
 use Rattle.std.specs.Prelude.{◌≡◌, ℕ, ◌==◌, is_some, take, nat_lt, Bool, true, false, ◌&&◌, List, [], ◌∷◌, Option, Some, None}
-use Rattle.log_record.specs.declared.record.Record.{Record}
-use Rattle.log_record.specs.declared.record.Record.TheVariants.{Header, FirstLoad, ScOk, ScFailed, Edge, End}
-use Rattle.hart_replay.specs.Replay.{interval_of}
+use Rattle.joint_replay.specs.Common.{Record, Header, FirstLoad, ScOk, ScFailed, Edge, End, interval_of}
 
 -- the numbers of hart h's retained intervals, in the order of their Headers
 abbrev pub intervals_in : ℕ → List Record → List ℕ

@@ -1,12 +1,7 @@
 -- The intervals of a hart in a log in order.
 use Rattle.std.specs.Prelude.{◌≡◌, ℕ, ◌+◌, ◌≤◌, ◌==◌, Bool, true, false, List, [], ◌∷◌, Option, Some, None}
-use Rattle.bn_base.specs.declared.end_mark.EndMark.{EndMark}
-use Rattle.log_record.specs.declared.record.Record.{Record}
-use Rattle.log_record.specs.declared.record.Record.TheVariants.{Header}
-use Rattle.log_order.specs.declared.view.Phase.{Phase}
+use Rattle.joint_replay.specs.Common.{EndMark, Record, Header, Phase, is_number, puts, nothing}
 use Rattle.log_order.specs.declared.view.Phase.TheVariants.{Unknown, Awaiting, Open, Done}
-use Rattle.log_order.specs.Rules.{is_number}
-use Rattle.hart_replay.specs.Replay.{puts, nothing}
 
 -- an interval: its number, the Header's count, and the End's mark
 pub record Span : Type 0 where

@@ -1,7 +1,6 @@
 -- What holds of all harts together, at each time, in the joint replay of any log in order.
 use Rattle.std.specs.Prelude.{◌≡◌, ◌⊎◌, ℕ, true, List, [], ◌∷◌, slice_get, Option, Some, None}
-use Rattle.log_record.specs.declared.record.Record.{Record}
-use Rattle.log_record.specs.declared.record.Record.TheVariants.{Edge}
+use Rattle.joint_replay.specs.Common.{Record, Edge}
 use Rattle.joint_replay.specs.Lanes.{Lane, Item}
 use Rattle.joint_replay.specs.Joining.{Joining, is_passed}
 use Rattle.joint_replay.specs.Ways.{IsLane, IsOn}

@@ -1,8 +1,6 @@
 -- The kept Edges into a hart.
 use Rattle.std.specs.Prelude.{ℕ, ◌+◌, ◌≤◌, ◌==◌, true, false, List, [], ◌∷◌, Option, Some, None}
-use Rattle.log_record.specs.declared.record.Record.{Record}
-use Rattle.log_record.specs.declared.record.Record.TheVariants.{Header, FirstLoad, ScOk, ScFailed, Edge, End}
-use Rattle.log_order.specs.Content.{Content}
+use Rattle.joint_replay.specs.Common.{Record, Header, FirstLoad, ScOk, ScFailed, Edge, End, Content}
 use Rattle.joint_replay.specs.declared.incoming_edges.IncomingEdge.{IncomingEdge}
 
 -- the Edge into hart h that a record is, if it is one

@@ -1,9 +1,6 @@
 -- All harts of a joint replay, as its parts make them.
 use Rattle.std.specs.Prelude.{◌≡◌, ◌+◌, ℕ, true, List, [], ◌∷◌, length, map, take, slice_get, Option, Some}
-use Rattle.bn_base.specs.Programs.{Program}
-use Rattle.log_record.specs.declared.record.Record.{Record}
-use Rattle.log_order.specs.Content.{Content}
-use Rattle.hart_replay.specs.declared.error.ReplayError.{ReplayError}
+use Rattle.joint_replay.specs.Common.{Program, Record, Content, ReplayError}
 use Rattle.joint_replay.specs.declared.incoming_edges.IncomingEdge.{IncomingEdge}
 use Rattle.joint_replay.specs.Lanes.{Lane}
 use Rattle.joint_replay.specs.Harts.{HartLane}

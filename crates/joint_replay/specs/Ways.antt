@@ -1,7 +1,6 @@
 -- What holds of each hart at each time, in the replay of any log in order.
 use Rattle.std.specs.Prelude.{◌≡◌, ◌⊎◌, ℕ, ◌<◌, ◌≤◌, true, List, [], ◌∷◌, Option, Some, None, Result, Ok, Err}
-use Rattle.bn_base.specs.Programs.{Program}
-use Rattle.hart_replay.specs.declared.error.ReplayError.{ReplayError}
+use Rattle.joint_replay.specs.Common.{Program, ReplayError}
 use Rattle.joint_replay.specs.Lanes.{Cursor, Lane, Item, Passing, Doing, Ending, point_of}
 use Rattle.joint_replay.specs.Joining.{is_passed}
 use Rattle.joint_replay.specs.Counts.{RowsFrom}

@@ -1,7 +1,6 @@
 //! The bytes that read calls fill. The log doesn't have them, so a joint replay forgets their words.
 ghost use Rattle.std.specs.Prelude.{◌≡◌, Some};
-ghost use Rattle.std.specs.Option.{option_map};
-ghost use Rattle.bn_base.specs.declared.state.HartState.{HartState};
+ghost use Rattle.joint_replay.specs.Common.{option_map, HartState};
 ghost use Rattle.joint_replay.specs.Memory.{call_result, filled};
 ghost use Rattle.joint_replay.specs.Moves.{asked_by, range_of};
 

@@ -1,7 +1,6 @@
 //! The memory of a joint replay: the words that its steps told, and no others.
 ghost use Rattle.std.specs.Prelude.{◌≡◌, ◌≤◌, ◌<◌, ◌+◌, ◌*◌, ◌/◌, ◌^◌, ◌⊎◌, [], ◌∷◌, Some, OnOk, IfOk, MatchOption};
-ghost use Rattle.std.specs.Option.{option_map};
-ghost use Rattle.rv_meaning.specs.Words.{aligned};
+ghost use Rattle.joint_replay.specs.Common.{option_map, aligned};
 ghost use Rattle.joint_replay.specs.Memory.{forget, put_word, word_in, known_from, put_access};
 ghost use Rattle.joint_replay.specs.Words.{bytes_at};
 ghost use Rattle.joint_replay.specs.Moves.{noted};

@@ -1,10 +1,5 @@
 -- The walk back over blocks.
-use Rattle.std.proofs.Common.{◌≡◌, ℕ, suc, ◌+◌, ◌-◌, ◌≤◌, ◌<◌, Bool, true, false, List, [], ◌∷◌, ◌++◌, length, take, drop, length-append, length-drop, refl, sym, ap, ap₂, subst, ◌∙◌, arith}
-use Rattle.std.proofs.lemmas.List.{length-take-le, drop-take}
-use Rattle.std.proofs.Math.Seq.{take-length}
-use Rattle.le_numbers.specs.Numbers.{number_at}
-use Rattle.log_blocks.specs.Pieces.{Piece, gathered, len_in, start_in, piece_in, is_good, Walked, IsWalk}
-use Rattle.log_blocks.specs.Walks.{AreAt, AreLaid, HasWalked, HasSeen}
+use Rattle.log_blocks.proofs.Common.{◌≡◌, ℕ, suc, ◌+◌, ◌-◌, ◌≤◌, ◌<◌, Bool, true, false, List, [], ◌∷◌, ◌++◌, length, take, drop, length-append, length-drop, refl, sym, ap, ap₂, subst, ◌∙◌, arith, length-take-le, drop-take, take-length, number_at, Piece, gathered, len_in, start_in, piece_in, is_good, Walked, IsWalk, AreAt, AreLaid, HasWalked, HasSeen}
 use Rattle.log_blocks.specs.declared.walking.Walk.{Walk}
 use Rattle.log_blocks.proofs.Bytes.{take_take}
 

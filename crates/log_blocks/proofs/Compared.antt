@@ -1,18 +1,5 @@
 -- Comparing the blocks of a file with those into which its records are cut.
-use Rattle.std.proofs.Common.{◌≡◌, ℕ, ◌+◌, ◌%◌, ◌^◌, ◌<◌, Bool, true, false, not, List, [], ◌∷◌, ◌++◌, length, take, drop, get_or, length-append, Option, Some, None, refl, sym, ap, ap₂, subst, ◌∙◌, arith}
-use Rattle.std.specs.Prelude.{◌==◌, ◌&&◌, if◌then◌else◌}
-use Rattle.std.specs.List.{flat_map, AllByRecursion}
-use Rattle.std.specs.Str.{bytes_eq}
-use Rattle.std.proofs.lemmas.Grind.{flat_map-append}
-use Rattle.std.proofs.lemmas.List.{drop_at}
-use Rattle.std.proofs.lemmas.Slice.Eq.{bytes_eq-Decides}
-use Rattle.le_numbers.specs.Numbers.{number_at}
-use Rattle.log_record.specs.declared.record.Record.{Record}
-use Rattle.log_record.specs.Spelling.{bytes_of, Fits}
-use Rattle.log_file.specs.Blocks.{Block, cut_from, numbered, blocks_of, total_of}
-use Rattle.log_blocks.specs.Pieces.{Piece, gathered}
-use Rattle.log_blocks.specs.Cuts.{IsNext, is_block, piece_end, first_wrong}
-use Rattle.log_blocks.specs.Walks.{AreLaid}
+use Rattle.log_blocks.proofs.Common.{◌≡◌, ℕ, ◌+◌, ◌%◌, ◌^◌, ◌<◌, Bool, true, false, not, List, [], ◌∷◌, ◌++◌, length, take, drop, get_or, length-append, Option, Some, None, refl, sym, ap, ap₂, subst, ◌∙◌, arith, ◌==◌, ◌&&◌, if◌then◌else◌, flat_map, AllByRecursion, bytes_eq, flat_map-append, drop_at, bytes_eq-Decides, number_at, Record, bytes_of, Fits, Block, cut_from, numbered, blocks_of, total_of, Piece, gathered, IsNext, is_block, piece_end, first_wrong, AreLaid}
 use Rattle.log_blocks.proofs.Bytes.{told_by_length, same_rest}
 use Rattle.log_blocks.proofs.Left.{AreLeft, step, all_left, none_left}
 

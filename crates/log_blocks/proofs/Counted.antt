@@ -1,15 +1,5 @@
 -- Going through the records of a log.
-use Rattle.std.proofs.Common.{◌≡◌, ℕ, zero, suc, ◌+◌, ◌<◌, ◌≤◌, Bool, true, false, List, [], ◌∷◌, ◌++◌, length, drop, get_or, length-append, append_assoc, add-one, refl, sym, ap, subst, ◌∙◌, arith}
-use Rattle.std.proofs.Math.Seq.{drop-cons}
-use Rattle.std.specs.Prelude.{◌==◌}
-use Rattle.std.specs.List.{flat_map, AllByRecursion}
-use Rattle.std.proofs.lemmas.Bool.{eqb-true}
-use Rattle.std.proofs.lemmas.List.Concat.{flat_map-cons}
-use Rattle.log_record.specs.declared.record.Record.{Record}
-use Rattle.log_record.specs.Laws.{FitLater}
-use Rattle.log_record.specs.Spelling.{bytes_of, total, Fits}
-use Rattle.log_order.specs.Content.{Content, IsContent}
-use Rattle.log_file.specs.Counts.{headers_of, header_count}
+use Rattle.log_blocks.proofs.Common.{◌≡◌, ℕ, zero, suc, ◌+◌, ◌<◌, ◌≤◌, Bool, true, false, List, [], ◌∷◌, ◌++◌, length, drop, get_or, length-append, append_assoc, add-one, refl, sym, ap, subst, ◌∙◌, arith, drop-cons, ◌==◌, flat_map, AllByRecursion, eqb-true, flat_map-cons, Record, FitLater, bytes_of, total, Fits, Content, IsContent, headers_of, header_count}
 
 -- a log of version 2 has the records that one of version 1 has
 all_later : FitLater → (rs : List Record) → AllByRecursion (Fits 1) rs → AllByRecursion (Fits 2) rs

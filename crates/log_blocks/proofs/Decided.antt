@@ -1,33 +1,10 @@
 -- Bytes are a log's in the version that they name, or there is a cause to refuse them; and a log is salvaged of them, or there is a cause why none is.
-use Rattle.std.proofs.Common.{◌≡◌, ◌≢◌, ◌≤◌, ◌<◌, ◌-◌, ◌+◌, ◌^◌, ℕ, zero, suc, Bool, true, false, List, [], ◌∷◌, ◌++◌, length, take, drop, Option, Some, None, ap, subst, refl, arith, inl, inr, ◌⊎◌, length-append, length-drop}
-use Rattle.std.specs.Prelude.{◌==◌, Result, Ok, Err}
-use Rattle.std.proofs.lemmas.Bool.{eqb-true, eq-eqb}
-use Rattle.std.proofs.lemmas.List.{get_or-drop, length-take-le}
-use Rattle.bn_base.specs.Ranges.{IsSetting}
-use Rattle.le_numbers.specs.Numbers.{AreBytes}
-use Rattle.le_numbers.specs.Laws.{AreWritten as NumbersAreWritten, Fit, HaveTheirWidth}
-use Rattle.log_record.specs.declared.head.Head.{Head}
-use Rattle.log_record.specs.Laws.{TellTheirSize, AreRead, AreWritten}
-use Rattle.log_order.specs.declared.walk.OrderBreak.{OrderBreak}
-use Rattle.log_order.specs.Order.{broken_by}
-use Rattle.log_order.specs.Content.{Content, content, IsContent}
-use Rattle.log_file.specs.declared.error.FileError.{FileError}
-use Rattle.log_file.specs.declared.error.FileError.TheVariants.{LengthDiffers, BadRecord, BadOrder, OutOfMemory}
-use Rattle.log_file.specs.Blocks.{blocks_of}
+use Rattle.log_blocks.proofs.Common.{◌≡◌, ◌≢◌, ◌≤◌, ◌<◌, ◌-◌, ◌+◌, ◌^◌, ℕ, zero, suc, Bool, true, false, List, [], ◌∷◌, ◌++◌, length, take, drop, Option, Some, None, ap, subst, refl, arith, inl, inr, ◌⊎◌, length-append, length-drop, ◌==◌, Result, Ok, Err, eqb-true, eq-eqb, get_or-drop, length-take-le, IsSetting, AreBytes, AreWritten as NumbersAreWritten, Fit, HaveTheirWidth, Head, TellTheirSize, OrderBreak, broken_by, Content, content, IsContent, FileError, LengthDiffers, BadRecord, BadOrder, OutOfMemory, blocks_of, file_bytes, file_bytes2, IsVersion1, Damage, File, BadBlock, SalvageError, settings_in, head_in, dropped_in, size_in, head_digest, blocks_in, is_second, head_fault, Piece, gathered, start_in, len_in, piece_in, is_good, Walked, IsWalk, first_wrong, HasBlocks, IsRecordsFault, IsSecondRefusal, IsFirstRefusal, dropped_before, Reads, Salvages, AreReadOrRefused, AreSalvagedOrRefused}
+use Rattle.log_record.specs.Laws.{AreRead, AreWritten}
 use Rattle.log_file.specs.File as first
-use Rattle.log_file.specs.Layout.{file_bytes, file_bytes2, IsVersion1}
 use Rattle.log_file.specs.Readings.{TestsTell}
 use Rattle.log_file.specs.Readings as of_first
-use Rattle.log_blocks.specs.declared.damage.Damage.{Damage}
-use Rattle.log_blocks.specs.declared.damage.Damage.TheVariants.{File, BadBlock}
-use Rattle.log_blocks.specs.declared.damage.SalvageError.{SalvageError}
 use Rattle.log_blocks.specs.declared.damage.SalvageError.TheVariants as salvage
-use Rattle.log_blocks.specs.Fields.{settings_in, head_in, dropped_in, size_in, head_digest, blocks_in}
-use Rattle.log_blocks.specs.Faults.{is_second, head_fault}
-use Rattle.log_blocks.specs.Pieces.{Piece, gathered, start_in, len_in, piece_in, is_good, Walked, IsWalk}
-use Rattle.log_blocks.specs.Cuts.{first_wrong}
-use Rattle.log_blocks.specs.File.{HasBlocks, IsRecordsFault, IsSecondRefusal, IsFirstRefusal, dropped_before}
-use Rattle.log_blocks.specs.Readings.{Reads, Salvages, AreReadOrRefused, AreSalvagedOrRefused}
 use Rattle.log_blocks.proofs.Goods.{good, front_are}
 use Rattle.log_blocks.proofs.Parted.{Parted, Stuck, parted}
 use Rattle.log_blocks.proofs.Salvaged.{no_memory}

@@ -1,11 +1,5 @@
 -- What the last blocks of a file say.
-use Rattle.std.proofs.Common.{◌≡◌, ℕ, ◌+◌, ◌≤◌, Bool, true, false, nat_le, List, [], ◌∷◌, ◌++◌, length, refl, sym, ◌∙◌, ap, arith}
-use Rattle.std.proofs.lemmas.List.{append_assoc, append-nil, length-append}
-use Rattle.log_record.specs.declared.record.Record.{Record}
-use Rattle.log_record.specs.Spelling.{bytes_of}
-use Rattle.log_file.specs.Blocks.{Block, block_size, cut_from, last_block, numbered}
-use Rattle.log_blocks.specs.Cuts.{records_in}
-use Rattle.log_blocks.specs.Laws.{AreSmall, LastBlocksAreAnEnd}
+use Rattle.log_blocks.proofs.Common.{◌≡◌, ℕ, ◌+◌, ◌≤◌, Bool, true, false, nat_le, List, [], ◌∷◌, ◌++◌, length, refl, sym, ◌∙◌, ap, arith, append_assoc, append-nil, length-append, Record, bytes_of, Block, block_size, cut_from, last_block, numbered, records_in, AreSmall, LastBlocksAreAnEnd}
 
 -- all records of the parts
 joined : List (List Record) → List Record

@@ -1,15 +1,6 @@
 -- How many blocks a log has.
-use Rattle.std.proofs.Common.{◌≡◌, ℕ, suc, ◌+◌, ◌*◌, ◌^◌, ◌<◌, ◌≤◌, Bool, true, false, nat_le, List, [], ◌∷◌, ◌++◌, length, Option, Some, refl, ap, arith}
-use Rattle.std.specs.Prelude.{◌==◌}
-use Rattle.std.specs.List.{AllByRecursion}
-use Rattle.log_record.specs.declared.record.Record.{Record}
-use Rattle.log_record.specs.declared.record.Record.TheVariants.{Header, FirstLoad, ScOk, ScFailed, Edge, End}
-use Rattle.log_record.specs.Spelling.{bytes_of, total, FitsFields, Fits}
-use Rattle.log_order.specs.Content.{Content}
-use Rattle.log_file.specs.Blocks.{block_size, cut_from, last_block, numbered, blocks_of}
-use Rattle.log_file.specs.Layout.{file_bytes, file_bytes2}
+use Rattle.log_blocks.proofs.Common.{◌≡◌, ℕ, suc, ◌+◌, ◌*◌, ◌^◌, ◌<◌, ◌≤◌, Bool, true, false, nat_le, List, [], ◌∷◌, ◌++◌, length, Option, Some, refl, ap, arith, ◌==◌, AllByRecursion, Record, Header, FirstLoad, ScOk, ScFailed, Edge, End, bytes_of, total, FitsFields, Fits, Content, block_size, cut_from, last_block, numbered, blocks_of, file_bytes, file_bytes2, AreFew, HaveTheirSize, SavedHaveTheirLimit}
 use Rattle.log_file.specs.Laws as of_first
-use Rattle.log_blocks.specs.Laws.{AreFew, HaveTheirSize, SavedHaveTheirLimit}
 use Rattle.log_blocks.proofs.Pushed.{total_first}
 use Rattle.log_blocks.proofs.Sealed.{TagsTell}
 

@@ -1,15 +1,5 @@
 -- The first block of some records.
-use Rattle.std.proofs.Common.{◌≡◌, ℕ, ◌+◌, ◌<◌, ◌≤◌, Bool, true, false, nat_le, List, [], ◌∷◌, ◌++◌, length, length-append, append_assoc, append-nil, drop, Option, Some, None, refl, sym, ap, ◌∙◌, arith}
-use Rattle.std.specs.Prelude.{slice_index}
-use Rattle.std.specs.List.{flat_map, AllByRecursion}
-use Rattle.std.proofs.lemmas.List.{drop-drop, drop_at, drop_all, get_or-drop, length-drop}
-use Rattle.std.proofs.lemmas.List.Concat.{flat_map-cons}
-use Rattle.log_record.specs.declared.record.Record.{Record}
-use Rattle.log_record.specs.declared.record.Record.TheVariants.{Header, FirstLoad, ScOk, ScFailed, Edge, End}
-use Rattle.log_record.specs.Spelling.{size_of, bytes_of, total, Fits}
-use Rattle.log_record.specs.Laws.{TellTheirSize}
-use Rattle.log_file.specs.Blocks.{block_size, cut_from, last_block}
-use Rattle.log_blocks.specs.Cuts.{IsNext}
+use Rattle.log_blocks.proofs.Common.{◌≡◌, ℕ, ◌+◌, ◌<◌, ◌≤◌, Bool, true, false, nat_le, List, [], ◌∷◌, ◌++◌, length, length-append, append_assoc, append-nil, drop, Option, Some, None, refl, sym, ap, ◌∙◌, arith, slice_index, flat_map, AllByRecursion, drop-drop, drop_at, drop_all, get_or-drop, length-drop, flat_map-cons, Record, Header, FirstLoad, ScOk, ScFailed, Edge, End, size_of, bytes_of, total, Fits, TellTheirSize, block_size, cut_from, last_block, IsNext}
 
 pub some_bytes : (r : Record) → 0 < length (bytes_of r)
 some_bytes (Header h n ic pc x) = omega arith

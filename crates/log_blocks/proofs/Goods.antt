@@ -1,15 +1,6 @@
 -- A good block, by its test and by its bytes.
-use Rattle.std.proofs.Common.{◌≡◌, ℕ, zero, suc, ◌+◌, ◌-◌, ◌<◌, ◌≤◌, Bool, true, false, nat_le, ltb, cond, List, [], ◌∷◌, ◌++◌, length, take, drop, length-drop, append_assoc, refl, sym, ap, ap₂, subst, ◌∙◌, arith, inl, inr}
-use Rattle.std.specs.Prelude.{◌==◌, ◌&&◌, slice_index}
-use Rattle.std.specs.Str.{bytes_eq}
-use Rattle.std.proofs.lemmas.Bool.{eqb-true, cases_lt}
-use Rattle.std.proofs.lemmas.List.{drop-drop, take-append-drop, take_at, length-take-le, get_or_append_left, get_or_past}
-use Rattle.std.proofs.lemmas.Slice.Eq.{bytes_eq-Decides}
-use Rattle.sha2.specs.Sha256.{sha256}
-use Rattle.le_numbers.specs.Numbers.{number_bytes, AreBytes}
-use Rattle.le_numbers.specs.Laws.{HaveTheirWidth, AreWritten}
-use Rattle.log_file.specs.Blocks.{block_size}
-use Rattle.log_blocks.specs.Pieces.{Piece, piece_body, piece_bytes, pieces_bytes, gathered, len_in, left_in, before_in, start_in, piece_in, is_sized, is_good, Walked}
+use Rattle.log_blocks.proofs.Common.{◌≡◌, ℕ, zero, suc, ◌+◌, ◌-◌, ◌<◌, ◌≤◌, Bool, true, false, nat_le, ltb, cond, List, [], ◌∷◌, ◌++◌, length, take, drop, length-drop, append_assoc, refl, sym, ap, ap₂, subst, ◌∙◌, arith, inl, inr, ◌==◌, ◌&&◌, slice_index, bytes_eq, eqb-true, drop-drop, take-append-drop, take_at, length-take-le, get_or_append_left, get_or_past, bytes_eq-Decides, sha256, number_bytes, AreBytes, HaveTheirWidth, AreWritten, block_size, Piece, piece_body, piece_bytes, pieces_bytes, gathered, len_in, left_in, before_in, start_in, piece_in, is_sized, is_good, Walked}
+use Rattle.std.proofs.lemmas.Bool.{cases_lt}
 use Rattle.log_blocks.proofs.Written.{body_size}
 
 -- what a test that passed says

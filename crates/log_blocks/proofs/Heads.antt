@@ -1,23 +1,5 @@
 -- The head of a file that is written is read again, and has no fault.
-use Rattle.std.proofs.Common.{◌≡◌, ℕ, ◌+◌, ◌^◌, ◌<◌, ◌≤◌, Bool, true, false, ltb, List, [], ◌++◌, length, take, drop, length-append, append_assoc, append-nil, None, refl, sym, ap, ◌∙◌, arith}
-use Rattle.std.specs.Prelude.{◌==◌, ◌&&◌, ◌||◌, IsTrue, if◌then◌else◌}
-use Rattle.std.proofs.lemmas.Bool.{eqb-true, eq-eqb}
-use Rattle.std.proofs.lemmas.List.{drop-drop, take_at, drop_at}
-use Rattle.std.proofs.lemmas.Slice.Eq.{bytes_eq-Decides}
-use Rattle.sha2.specs.Sha256.{sha256}
-use Rattle.sha2.proofs.Facts256.{length-sha256}
-use Rattle.bn_base.specs.declared.settings.RawSettings.{RawSettings}
-use Rattle.bn_base.specs.Ranges.{IsSetting, is_between, is_small_power, most_harts, first_bad}
-use Rattle.le_numbers.specs.Numbers.{number_at, number_bytes}
-use Rattle.le_numbers.specs.Laws.{HaveTheirWidth, AreRead}
-use Rattle.log_record.specs.declared.head.Head.{Head}
-use Rattle.log_record.specs.Spelling.{total}
-use Rattle.log_order.specs.Content.{Content, IsContent}
-use Rattle.log_file.specs.Layout.{magic, head_bytes2, file_bytes2}
-use Rattle.log_file.specs.Blocks.{blocks_of, all_sealed}
-use Rattle.log_file.specs.Laws.{AreNotBad}
-use Rattle.log_blocks.specs.Fields.{settings_in, head_in, dropped_in, size_in, kept_digest, head_digest, blocks_in}
-use Rattle.log_blocks.specs.Faults.{head_fault}
+use Rattle.log_blocks.proofs.Common.{◌≡◌, ℕ, ◌+◌, ◌^◌, ◌<◌, ◌≤◌, Bool, true, false, ltb, List, [], ◌++◌, length, take, drop, length-append, append_assoc, append-nil, None, refl, sym, ap, ◌∙◌, arith, ◌==◌, ◌&&◌, ◌||◌, IsTrue, if◌then◌else◌, eqb-true, eq-eqb, drop-drop, take_at, drop_at, bytes_eq-Decides, sha256, length-sha256, RawSettings, IsSetting, is_between, is_small_power, most_harts, first_bad, number_at, number_bytes, HaveTheirWidth, AreRead, Head, total, Content, IsContent, magic, head_bytes2, file_bytes2, blocks_of, all_sealed, AreNotBad, settings_in, head_in, dropped_in, size_in, kept_digest, head_digest, blocks_in, head_fault}
 use Rattle.log_blocks.proofs.Layouts.{spelled, head_is_spelled}
 use Rattle.log_blocks.proofs.Sealed.{small}
 

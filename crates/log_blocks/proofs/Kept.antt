@@ -1,14 +1,5 @@
 -- What is salvaged of a log's file is an end of the log.
-use Rattle.std.proofs.Common.{◌≡◌, ℕ, ◌%◌, ◌^◌, List, [], ◌∷◌, ◌++◌, refl, sym, ap, subst, ◌∙◌}
-use Rattle.std.specs.List.{flat_map, AllByRecursion}
-use Rattle.std.proofs.lemmas.Grind.{flat_map-append}
-use Rattle.log_record.specs.declared.record.Record.{Record}
-use Rattle.log_record.specs.Spelling.{bytes_of, Fits}
-use Rattle.log_record.specs.Laws.{BeginNoOther}
-use Rattle.log_file.specs.Blocks.{Block}
-use Rattle.log_blocks.specs.Pieces.{gathered}
-use Rattle.log_blocks.specs.Cuts.{records_in}
-use Rattle.log_blocks.specs.Laws.{pieces_of, AreSmall, SalvagedAreAnEnd}
+use Rattle.log_blocks.proofs.Common.{◌≡◌, ℕ, ◌%◌, ◌^◌, List, [], ◌∷◌, ◌++◌, refl, sym, ap, subst, ◌∙◌, flat_map, AllByRecursion, flat_map-append, Record, bytes_of, Fits, BeginNoOther, Block, gathered, records_in, pieces_of, AreSmall, SalvagedAreAnEnd}
 use Rattle.log_blocks.proofs.Ends.{last_blocks}
 use Rattle.log_blocks.proofs.Recovered.{one_list}
 use Rattle.log_blocks.proofs.Sealed.{TagsTell, small}

@@ -1,11 +1,5 @@
 -- A head without a fault is the one that is written of what it says.
-use Rattle.std.proofs.Common.{◌≡◌, ℕ, ◌≤◌, List, ◌++◌, length, take, drop, length-append, append_assoc, sym, ap, ap₂, ◌∙◌, arith}
-use Rattle.std.proofs.lemmas.List.{drop-drop, take-append-drop}
-use Rattle.le_numbers.specs.Numbers.{number_at, number_bytes, AreBytes}
-use Rattle.le_numbers.specs.Laws.{AreWritten}
-use Rattle.log_record.specs.declared.head.Head.{Head}
-use Rattle.log_file.specs.Layout.{magic, settings_bytes, head_bytes2}
-use Rattle.log_blocks.specs.Fields.{head_in, dropped_in, size_in, head_digest, blocks_in}
+use Rattle.log_blocks.proofs.Common.{◌≡◌, ℕ, ◌≤◌, List, ◌++◌, length, take, drop, length-append, append_assoc, sym, ap, ap₂, ◌∙◌, arith, drop-drop, take-append-drop, number_at, number_bytes, AreBytes, AreWritten, Head, magic, settings_bytes, head_bytes2, head_in, dropped_in, size_in, head_digest, blocks_in}
 use Rattle.log_blocks.proofs.Bytes.{same_front}
 use Rattle.log_blocks.proofs.Tested.{Passed}
 

@@ -1,9 +1,5 @@
 -- Going along the blocks that a walk kept, from the first to the last.
-use Rattle.std.proofs.Common.{◌≡◌, ℕ, ◌+◌, ◌<◌, ◌≤◌, List, [], ◌∷◌, ◌++◌, length, take, drop, get_or, length-append, append_assoc, append-nil, refl, sym, ap, subst, ◌∙◌, arith}
-use Rattle.std.proofs.lemmas.List.{length-take-le, take_at, drop_at, take_more}
-use Rattle.std.proofs.Math.Seq.{take-length}
-use Rattle.log_blocks.specs.Pieces.{Piece, gathered}
-use Rattle.log_blocks.specs.Walks.{sizes_of, IsAt, AreAt, AreLaid}
+use Rattle.log_blocks.proofs.Common.{◌≡◌, ℕ, ◌+◌, ◌<◌, ◌≤◌, List, [], ◌∷◌, ◌++◌, length, take, drop, get_or, length-append, append_assoc, append-nil, refl, sym, ap, subst, ◌∙◌, arith, length-take-le, take_at, drop_at, take_more, take-length, Piece, gathered, sizes_of, IsAt, AreAt, AreLaid}
 
 -- the pieces that are still to come, of which the sizes are the first so many
 pub record AreLeft (bytes sizes : List ℕ) (at left : ℕ) (ps : List Piece) : Type 0 where

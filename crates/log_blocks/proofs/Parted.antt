@@ -1,15 +1,8 @@
 -- Bytes are those of records, or somewhere none begins.
-use Rattle.std.proofs.Common.{◌≡◌, ◌≤◌, ◌<◌, ◌+◌, ℕ, zero, suc, Bool, true, false, nat_le, List, [], ◌∷◌, ◌++◌, length, drop, Option, Some, None, ◌∙◌, ap, subst, sym, refl, arith, inl, inr, ◌⊎◌, append_assoc, length-append}
-use Rattle.std.specs.Prelude.{slice_index, IsTrue}
-use Rattle.std.specs.List.{flat_map, AllByRecursion}
+use Rattle.log_blocks.proofs.Common.{◌≡◌, ◌≤◌, ◌<◌, ◌+◌, ℕ, zero, suc, Bool, true, false, nat_le, List, [], ◌∷◌, ◌++◌, length, drop, Option, Some, None, ◌∙◌, ap, subst, sym, refl, arith, inl, inr, ◌⊎◌, append_assoc, length-append, slice_index, IsTrue, flat_map, AllByRecursion, get_or-drop, AreBytes, Record, TellTheirSize, bytes_of, size_of, is_marked, Fits, NoRecord}
 use Rattle.std.proofs.lemmas.Bool.Decides.{nat_tests}
-use Rattle.std.proofs.lemmas.List.{get_or-drop}
-use Rattle.le_numbers.specs.Numbers.{AreBytes}
-use Rattle.log_record.specs.declared.record.Record.{Record}
-use Rattle.log_record.specs.Laws.{TellTheirSize, AreRead, AreWritten}
+use Rattle.log_record.specs.Laws.{AreRead, AreWritten}
 use Rattle.log_record.specs.Reading.{record_in}
-use Rattle.log_record.specs.Spelling.{bytes_of, size_of, is_marked, Fits}
-use Rattle.log_file.specs.File.{NoRecord}
 use Rattle.log_blocks.proofs.Firsts.{some_bytes}
 
 -- a record that bytes begin with, and the rest

@@ -1,14 +1,5 @@
 -- Writing blocks.
-use Rattle.std.proofs.Common.{◌≡◌, ℕ, ◌+◌, ◌%◌, ◌^◌, ◌<◌, Bool, true, false, nat_le, List, [], ◌∷◌, ◌++◌, length, take, drop, length-append, append_assoc, append-nil, refl, sym, ap, ap₂, ◌∙◌, arith}
-use Rattle.std.specs.List.{flat_map, AllByRecursion}
-use Rattle.std.proofs.lemmas.Grind.{flat_map-append}
-use Rattle.std.proofs.lemmas.List.{take_at, drop_at}
-use Rattle.std.proofs.lemmas.List.Concat.{flat_map-cons}
-use Rattle.log_record.specs.declared.record.Record.{Record}
-use Rattle.log_record.specs.Spelling.{bytes_of, total, Fits}
-use Rattle.log_file.specs.Blocks.{block_size, cut_from, last_block, total_of, numbered, blocks_of, sealed, all_sealed}
-use Rattle.log_blocks.specs.Pieces.{Piece, piece, piece_bytes}
-use Rattle.log_blocks.specs.Cuts.{IsNext}
+use Rattle.log_blocks.proofs.Common.{◌≡◌, ℕ, ◌+◌, ◌%◌, ◌^◌, ◌<◌, Bool, true, false, nat_le, List, [], ◌∷◌, ◌++◌, length, take, drop, length-append, append_assoc, append-nil, refl, sym, ap, ap₂, ◌∙◌, arith, flat_map, AllByRecursion, flat_map-append, take_at, drop_at, flat_map-cons, Record, bytes_of, total, Fits, block_size, cut_from, last_block, total_of, numbered, blocks_of, sealed, all_sealed, Piece, piece, piece_bytes, IsNext}
 use Rattle.log_blocks.proofs.Compared.{add_mod, block_at, some_records}
 use Rattle.log_blocks.proofs.Firsts.{total_more, some_bytes}
 

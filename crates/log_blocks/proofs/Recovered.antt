@@ -1,36 +1,5 @@
 -- A file that is written is read again, and nothing is wrong with it.
-use Rattle.std.proofs.Common.{◌≡◌, ℕ, ◌+◌, ◌*◌, ◌%◌, ◌^◌, ◌<◌, ◌≤◌, Bool, true, false, nat_le, List, [], ◌∷◌, ◌++◌, length, length-append, append_assoc, append-nil, Option, Some, None, inl, inr, refl, sym, ap, subst, ◌∙◌, arith}
-use Rattle.std.specs.Prelude.{◌==◌, ◌&&◌, if◌then◌else◌}
-use Rattle.std.specs.List.{flat_map, AllByRecursion}
-use Rattle.std.specs.Str.{bytes_eq}
-use Rattle.std.proofs.lemmas.Bool.{eq-eqb}
-use Rattle.std.proofs.lemmas.Grind.{flat_map-append}
-use Rattle.std.proofs.lemmas.List.Concat.{flat_map-cons}
-use Rattle.std.proofs.lemmas.Slice.Eq.{bytes_eq-Decides}
-use Rattle.sha2.specs.Sha256.{sha256}
-use Rattle.sha2.proofs.Facts256.{length-sha256}
-use Rattle.le_numbers.specs.Laws.{HaveTheirWidth, AreRead}
-use Rattle.log_record.specs.declared.head.Head.{Head}
-use Rattle.log_record.specs.declared.record.Record.{Record}
-use Rattle.log_record.specs.Spelling.{bytes_of, total, Fits}
-use Rattle.log_record.specs.Laws.{BeginNoOther}
-use Rattle.log_order.specs.declared.walk.OrderBreak.{OrderBreak}
-use Rattle.log_order.specs.Order.{order_break, broken_by}
-use Rattle.log_order.specs.Content.{Content, content, IsContent}
-use Rattle.log_file.specs.declared.error.FileError.{FileError}
-use Rattle.log_file.specs.declared.error.FileError.TheVariants.{Short, BadMagic, BadVersion, BadHead, LengthDiffers, DigestDiffers, BadRecord, BadOrder, OutOfMemory}
-use Rattle.log_file.specs.Layout.{file_bytes2}
-use Rattle.log_file.specs.Laws.{AreNotBad}
-use Rattle.log_file.specs.Blocks.{Block, block_size, cut_from, last_block, total_of, numbered, blocks_of, sealed, all_sealed}
-use Rattle.log_blocks.specs.declared.damage.Damage.{Damage}
-use Rattle.log_blocks.specs.declared.damage.Damage.TheVariants.{File, BadBlock}
-use Rattle.log_blocks.specs.Fields.{head_in, dropped_in, size_in, head_digest, blocks_in}
-use Rattle.log_blocks.specs.Faults.{head_fault}
-use Rattle.log_blocks.specs.Pieces.{Piece, piece_of, pieces_bytes, gathered, IsWalk}
-use Rattle.log_blocks.specs.Cuts.{first_wrong}
-use Rattle.log_blocks.specs.File.{IsRecordsFault, IsWalkFault, IsHeadFault, dropped_before}
-use Rattle.log_blocks.specs.Laws.{pieces_of, SayOneThing, AreNotRefused, HaveTheirSize}
-use Rattle.log_blocks.specs.Readings.{WholeAreSalvaged}
+use Rattle.log_blocks.proofs.Common.{◌≡◌, ℕ, ◌+◌, ◌*◌, ◌%◌, ◌^◌, ◌<◌, ◌≤◌, Bool, true, false, nat_le, List, [], ◌∷◌, ◌++◌, length, length-append, append_assoc, append-nil, Option, Some, None, inl, inr, refl, sym, ap, subst, ◌∙◌, arith, ◌==◌, ◌&&◌, if◌then◌else◌, flat_map, AllByRecursion, bytes_eq, eq-eqb, flat_map-append, flat_map-cons, bytes_eq-Decides, sha256, length-sha256, HaveTheirWidth, AreRead, Head, Record, bytes_of, total, Fits, BeginNoOther, OrderBreak, order_break, broken_by, Content, content, IsContent, FileError, Short, BadMagic, BadVersion, BadHead, LengthDiffers, DigestDiffers, BadRecord, BadOrder, OutOfMemory, file_bytes2, AreNotBad, Block, block_size, cut_from, last_block, total_of, numbered, blocks_of, sealed, all_sealed, Damage, File, BadBlock, head_in, dropped_in, size_in, head_digest, blocks_in, head_fault, Piece, piece_of, pieces_bytes, gathered, IsWalk, first_wrong, IsRecordsFault, IsWalkFault, IsHeadFault, dropped_before, pieces_of, SayOneThing, AreNotRefused, HaveTheirSize, WholeAreSalvaged}
 use Rattle.log_blocks.proofs.Firsts.{some_bytes}
 use Rattle.log_blocks.proofs.Pushed.{total_cut, total_first}
 use Rattle.log_blocks.proofs.Sealed.{parts_bytes, parts_cut, Full, TagsTell, small, full_first}

@@ -1,22 +1,6 @@
 -- What is salvaged, and why nothing is.
-use Rattle.std.proofs.Common.{◌≡◌, ℕ, ◌+◌, ◌<◌, Bool, true, false, not, List, [], length, take, get_or, None, Result, Ok, Err, inl, inr, refl, sym, ap, ap₂, subst, ◌∙◌, arith}
-use Rattle.std.specs.Prelude.{◌==◌, ◌&&◌, ◌≢◌, IfOk, IfErr, MatchResult}
-use Rattle.std.proofs.lemmas.List.{length-take-le}
-use Rattle.std.proofs.lemmas.Bool.{eqb-true, eq-eqb}
-use Rattle.le_numbers.specs.Numbers.{number_at}
-use Rattle.bn_base.specs.declared.settings.RawSettings.{RawSettings}
-use Rattle.log_record.specs.declared.head.Head.{Head}
-use Rattle.log_order.specs.Content.{Content}
-use Rattle.log_file.specs.declared.error.FileError.{FileError}
-use Rattle.log_file.specs.declared.error.FileError.TheVariants.{Short, BadMagic, BadVersion, BadHead, LengthDiffers, DigestDiffers, BadRecord, BadOrder, OutOfMemory}
-use Rattle.log_blocks.specs.declared.damage.Damage.{Damage}
-use Rattle.log_blocks.specs.declared.damage.Damage.TheVariants.{File, BadBlock}
+use Rattle.log_blocks.proofs.Common.{◌≡◌, ℕ, ◌+◌, ◌<◌, Bool, true, false, not, List, [], length, take, get_or, None, Result, Ok, Err, inl, inr, refl, sym, ap, ap₂, subst, ◌∙◌, arith, ◌==◌, ◌&&◌, ◌≢◌, IfOk, IfErr, MatchResult, length-take-le, eqb-true, eq-eqb, number_at, RawSettings, Head, Content, FileError, Short, BadMagic, BadVersion, BadHead, LengthDiffers, DigestDiffers, BadRecord, BadOrder, OutOfMemory, Damage, File, BadBlock, settings_in, program_in, head_in, dropped_in, size_in, head_digest, blocks_in, head_fault, Piece, gathered, IsWalk, sizes_of, AreLaid, HasWalked, HasBlocks, IsRecordsFault, IsRead, IsSecondRefusal, dropped_before, IsSalvaged, IsSalvageFault, NoneIsLeft, told, IsSalvageRefusal}
 use Rattle.log_blocks.specs.declared.damage.SalvageError.TheVariants as salvage
-use Rattle.log_blocks.specs.Fields.{settings_in, program_in, head_in, dropped_in, size_in, head_digest, blocks_in}
-use Rattle.log_blocks.specs.Faults.{head_fault}
-use Rattle.log_blocks.specs.Pieces.{Piece, gathered, IsWalk}
-use Rattle.log_blocks.specs.Walks.{sizes_of, AreLaid, HasWalked}
-use Rattle.log_blocks.specs.File.{HasBlocks, IsRecordsFault, IsRead, IsSecondRefusal, dropped_before, IsSalvaged, IsSalvageFault, NoneIsLeft, told, IsSalvageRefusal}
 use Rattle.log_blocks.proofs.Left.{step, all_left, none_left}
 
 -- ---- how many records are before the blocks

@@ -1,17 +1,6 @@
 -- Bytes say one thing, by either version, and files say their logs.
-use Rattle.std.proofs.Common.{◌≡◌, ℕ, ◌≤◌, Bool, true, false, List, refl, sym, ap, subst, ◌∙◌}
-use Rattle.std.specs.Prelude.{◌==◌, Result, Ok, Err}
-use Rattle.log_order.specs.Content.{Content, IsContent}
-use Rattle.log_file.specs.Layout.{file_bytes, file_bytes2}
+use Rattle.log_blocks.proofs.Common.{◌≡◌, ℕ, ◌≤◌, Bool, true, false, List, refl, sym, ap, subst, ◌∙◌, ◌==◌, Result, Ok, Err, Content, IsContent, file_bytes, file_bytes2, OutOfMemory, Damage, File, SalvageError, is_second, IsSecondRefusal, IsFirstRefusal, NameTheirVersion, SayOneThing, AreNotRefused, RefusalsAreUnique, SalvagedAreUnique, SalvagedAreNotRefused, SalvageRefusalsAreUnique, Reads, ReadingsAreUnique, SalvagesAreUnique, FilesAreRead}
 use Rattle.log_file.specs.Laws as of_first
-use Rattle.log_file.specs.declared.error.FileError.TheVariants.{OutOfMemory}
-use Rattle.log_blocks.specs.declared.damage.Damage.{Damage}
-use Rattle.log_blocks.specs.declared.damage.Damage.TheVariants.{File}
-use Rattle.log_blocks.specs.declared.damage.SalvageError.{SalvageError}
-use Rattle.log_blocks.specs.Faults.{is_second}
-use Rattle.log_blocks.specs.File.{IsSecondRefusal, IsFirstRefusal}
-use Rattle.log_blocks.specs.Laws.{NameTheirVersion, SayOneThing, AreNotRefused, RefusalsAreUnique, SalvagedAreUnique, SalvagedAreNotRefused, SalvageRefusalsAreUnique}
-use Rattle.log_blocks.specs.Readings.{Reads, ReadingsAreUnique, SalvagesAreUnique, FilesAreRead}
 use Rattle.log_blocks.proofs.Counted.{is_first}
 use Rattle.log_blocks.proofs.Decided.{to_second, to_first}
 use Rattle.log_blocks.proofs.Versions.{first_refused}

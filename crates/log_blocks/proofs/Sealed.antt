@@ -1,26 +1,5 @@
 -- The pieces of a file that is read are the sealed blocks of its log.
-use Rattle.std.proofs.Common.{◌≡◌, ℕ, ◌+◌, ◌%◌, ◌^◌, ◌<◌, ◌≤◌, Bool, true, false, nat_le, List, [], ◌∷◌, ◌++◌, length, length-append, append_assoc, append-nil, Option, Some, None, refl, sym, ap, ap₂, subst, ◌∙◌, arith}
-use Rattle.std.specs.Prelude.{◌==◌, ◌&&◌, if◌then◌else◌}
-use Rattle.std.specs.List.{flat_map, AllByRecursion}
-use Rattle.std.specs.Str.{bytes_eq}
-use Rattle.std.proofs.lemmas.Bool.{eqb-true}
-use Rattle.std.proofs.lemmas.Grind.{flat_map-append}
-use Rattle.std.proofs.lemmas.List.{get_or-drop}
-use Rattle.std.proofs.lemmas.Slice.Eq.{bytes_eq-Decides}
-use Rattle.sha2.specs.Sha256.{sha256}
-use Rattle.le_numbers.specs.Numbers.{AreBytes}
-use Rattle.le_numbers.specs.Laws.{HaveTheirWidth, AreWritten}
-use Rattle.log_record.specs.declared.head.Head.{Head}
-use Rattle.log_record.specs.declared.record.Record.{Record}
-use Rattle.log_record.specs.declared.record.Record.TheVariants.{Header, FirstLoad, ScOk, ScFailed, Edge, End}
-use Rattle.log_record.specs.Spelling.{bytes_of, total, tag_of, size_of, FitsFields, Fits}
-use Rattle.log_order.specs.Content.{Content}
-use Rattle.log_file.specs.Layout.{head_bytes2, file_bytes2}
-use Rattle.log_file.specs.Blocks.{Block, block_size, cut_from, last_block, total_of, numbered, blocks_of, all_sealed}
-use Rattle.log_blocks.specs.Fields.{head_in, dropped_in, size_in, head_digest, blocks_in}
-use Rattle.log_blocks.specs.Pieces.{Piece, piece, piece_bytes, pieces_bytes, gathered}
-use Rattle.log_blocks.specs.Cuts.{is_block, piece_end, first_wrong}
-use Rattle.log_blocks.specs.File.{IsRead}
+use Rattle.log_blocks.proofs.Common.{◌≡◌, ℕ, ◌+◌, ◌%◌, ◌^◌, ◌<◌, ◌≤◌, Bool, true, false, nat_le, List, [], ◌∷◌, ◌++◌, length, length-append, append_assoc, append-nil, Option, Some, None, refl, sym, ap, ap₂, subst, ◌∙◌, arith, ◌==◌, ◌&&◌, if◌then◌else◌, flat_map, AllByRecursion, bytes_eq, eqb-true, flat_map-append, get_or-drop, bytes_eq-Decides, sha256, AreBytes, HaveTheirWidth, AreWritten, Head, Record, Header, FirstLoad, ScOk, ScFailed, Edge, End, bytes_of, total, tag_of, size_of, FitsFields, Fits, Content, head_bytes2, file_bytes2, Block, block_size, cut_from, last_block, total_of, numbered, blocks_of, all_sealed, head_in, dropped_in, size_in, head_digest, blocks_in, Piece, piece, piece_bytes, pieces_bytes, gathered, is_block, piece_end, first_wrong, IsRead}
 use Rattle.log_blocks.proofs.Bytes.{same_rest}
 use Rattle.log_blocks.proofs.Tested.{no_fault}
 use Rattle.log_blocks.proofs.Layouts.{head_written, file_parts}

@@ -1,26 +1,9 @@
 -- What is tested of blocks, and told of them, is their log's.
-use Rattle.std.proofs.Common.{◌≡◌, ℕ, ◌+◌, ◌<◌, ◌≤◌, ◌^◌, true, false, not, List, [], length, Option, None, Result, Ok, Err, inr, refl, sym, ap, ◌∙◌, arith}
-use Rattle.std.specs.Prelude.{◌==◌, ◌&&◌, MatchResult}
-use Rattle.bn_base.specs.Ranges.{IsSetting}
-use Rattle.le_numbers.specs.Numbers.{AreBytes}
-use Rattle.le_numbers.specs.Laws.{HaveTheirWidth, AreWritten}
-use Rattle.log_record.specs.declared.head.Head.{Head}
-use Rattle.log_order.specs.Content.{Content, content, IsContent}
+use Rattle.log_blocks.proofs.Common.{◌≡◌, ℕ, ◌+◌, ◌<◌, ◌≤◌, ◌^◌, true, false, not, List, [], length, Option, None, Result, Ok, Err, inr, refl, sym, ap, ◌∙◌, arith, ◌==◌, ◌&&◌, MatchResult, IsSetting, AreBytes, HaveTheirWidth, AreWritten, Head, Content, content, IsContent, blocks_of, IsTallied, Tells, file_bytes, file_bytes2, Damage, CountsBlocks, CountsFile, TestsBlocks, TestsRead, TestsSalvaged, RenewsSalvaged, first_wrong, is_second, head_in, dropped_in, IsRecordsFault, IsSecondRefusal, dropped_before, told, IsSalvageRefusal, Piece, gathered, AreLaid, HasWalked}
 use Rattle.log_file.specs.declared.counting.LogCounts.{LogCounts}
 use Rattle.log_file.specs.declared.counting.Tally.{Tally}
-use Rattle.log_file.specs.Blocks.{blocks_of}
-use Rattle.log_file.specs.Counts.{IsTallied, Tells}
-use Rattle.log_file.specs.Layout.{file_bytes, file_bytes2}
-use Rattle.log_blocks.specs.declared.damage.Damage.{Damage}
 use Rattle.log_blocks.specs.declared.salvaging.NewFile.{NewFile}
 use Rattle.log_blocks.specs.declared.testing.Tested.{Tested}
-use Rattle.log_blocks.specs.Counts.{CountsBlocks, CountsFile, TestsBlocks, TestsRead, TestsSalvaged, RenewsSalvaged}
-use Rattle.log_blocks.specs.Cuts.{first_wrong}
-use Rattle.log_blocks.specs.Faults.{is_second}
-use Rattle.log_blocks.specs.Fields.{head_in, dropped_in}
-use Rattle.log_blocks.specs.File.{IsRecordsFault, IsSecondRefusal, dropped_before, told, IsSalvageRefusal}
-use Rattle.log_blocks.specs.Pieces.{Piece, gathered}
-use Rattle.log_blocks.specs.Walks.{AreLaid, HasWalked}
 use Rattle.log_blocks.proofs.Decided.{to_second}
 use Rattle.log_blocks.proofs.Salvaged.{Behind, read_is, refused_is, salvaged_is, salvage_refused}
 use Rattle.log_blocks.proofs.Sealed.{TagsTell, read_is_spelled}

@@ -1,19 +1,7 @@
 -- What a head without a fault says.
-use Rattle.std.proofs.Common.{◌≡◌, ℕ, ◌≤◌, Bool, true, false, not, cond, eqb, ltb, List, length, take, Option, Some, None, Result, Ok, refl, sym, ap, ◌∙◌, arith}
-use Rattle.std.specs.Prelude.{◌≢◌}
-use Rattle.std.specs.Str.{bytes_eq}
-use Rattle.std.proofs.lemmas.Bool.{eqb-true, eq-eqb, ltb-false}
-use Rattle.std.proofs.lemmas.Slice.Eq.{bytes_eq-Decides}
+use Rattle.log_blocks.proofs.Common.{◌≡◌, ℕ, ◌≤◌, Bool, true, false, not, cond, eqb, ltb, List, length, take, Option, Some, None, Result, Ok, refl, sym, ap, ◌∙◌, arith, ◌≢◌, bytes_eq, eqb-true, eq-eqb, ltb-false, bytes_eq-Decides, RawSettings, first_bad, checked, checked_by, number_at, FileError, Short, BadMagic, BadVersion, BadHead, DigestDiffers, OutOfMemory, magic, settings_in, size_in, kept_digest, head_digest, later_fault, head_fault}
 use Rattle.bn_base.specs.declared.settings.BadSetting.{BadSetting}
-use Rattle.bn_base.specs.declared.settings.RawSettings.{RawSettings}
-use Rattle.bn_base.specs.Ranges.{first_bad, checked, checked_by}
-use Rattle.le_numbers.specs.Numbers.{number_at}
-use Rattle.log_file.specs.declared.error.FileError.{FileError}
-use Rattle.log_file.specs.declared.error.FileError.TheVariants.{Short, BadMagic, BadVersion, BadHead, DigestDiffers, OutOfMemory}
-use Rattle.log_file.specs.Layout.{magic}
 use Rattle.log_file.specs.Faults.{setting_fault}
-use Rattle.log_blocks.specs.Fields.{settings_in, size_in, kept_digest, head_digest}
-use Rattle.log_blocks.specs.Faults.{later_fault, head_fault}
 
 passed : (b : Bool) (e : FileError) (r : Option FileError) → cond (not b) (Some e) r ≡ None → (b ≡ true) × (r ≡ None)
 passed true e r h = (refl, h)

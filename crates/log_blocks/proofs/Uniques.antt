@@ -1,28 +1,6 @@
 -- Bytes have one answer.
-use Rattle.std.proofs.Common.{◌≡◌, ℕ, ◌+◌, ◌<◌, Bool, true, false, List, [], ◌∷◌, ◌++◌, length, append_assoc, Option, Some, None, inl, inr, refl, sym, ap, ap₂, subst, ◌∙◌, arith}
-use Rattle.std.specs.Prelude.{◌≢◌, ◌⊎◌}
-use Rattle.std.specs.List.{flat_map, AllByRecursion}
-use Rattle.std.proofs.lemmas.List.Concat.{flat_map-cons}
-use Rattle.log_record.specs.declared.head.Head.{Head}
-use Rattle.log_record.specs.declared.record.Record.{Record}
-use Rattle.log_record.specs.Spelling.{bytes_of, total, Fits}
-use Rattle.log_record.specs.Laws.{BeginNoOther}
-use Rattle.log_order.specs.declared.walk.OrderBreak.{OrderBreak}
-use Rattle.log_order.specs.Order.{order_break, broken_by}
-use Rattle.log_order.specs.Content.{Content, content}
-use Rattle.log_file.specs.declared.error.FileError.{FileError}
-use Rattle.log_file.specs.declared.error.FileError.TheVariants.{Short, BadMagic, BadVersion, BadHead, LengthDiffers, DigestDiffers, BadRecord, BadOrder, OutOfMemory}
-use Rattle.log_file.specs.Blocks.{blocks_of}
-use Rattle.log_blocks.specs.declared.damage.Damage.{Damage}
-use Rattle.log_blocks.specs.declared.damage.Damage.TheVariants.{File, BadBlock}
+use Rattle.log_blocks.proofs.Common.{◌≡◌, ℕ, ◌+◌, ◌<◌, Bool, true, false, List, [], ◌∷◌, ◌++◌, length, append_assoc, Option, Some, None, inl, inr, refl, sym, ap, ap₂, subst, ◌∙◌, arith, ◌≢◌, ◌⊎◌, flat_map, AllByRecursion, flat_map-cons, Head, Record, bytes_of, total, Fits, BeginNoOther, OrderBreak, order_break, broken_by, Content, content, FileError, Short, BadMagic, BadVersion, BadHead, LengthDiffers, DigestDiffers, BadRecord, BadOrder, OutOfMemory, blocks_of, Damage, File, BadBlock, head_in, dropped_in, size_in, head_digest, blocks_in, is_second, head_fault, Piece, gathered, IsWalk, first_wrong, NoRecord, CutOtherwise, BreaksOrder, HasBlocks, IsRecordsFault, IsHeadFault, IsWalkFault, IsSecondRefusal, dropped_before, IsSalvaged, IsSalvageFault, NoneIsLeft, IsFirstRefusal, FirstAreUnique, RefusalsAreUnique, SalvagedAreUnique, SalvagedAreNotRefused, SalvageRefusalsAreUnique}
 use Rattle.log_blocks.specs.declared.damage.SalvageError.TheVariants as salvage
-use Rattle.log_blocks.specs.Fields.{head_in, dropped_in, size_in, head_digest, blocks_in}
-use Rattle.log_blocks.specs.Faults.{is_second, head_fault}
-use Rattle.log_blocks.specs.Pieces.{Piece, gathered, IsWalk}
-use Rattle.log_blocks.specs.Cuts.{first_wrong}
-use Rattle.log_file.specs.File.{NoRecord}
-use Rattle.log_blocks.specs.File.{CutOtherwise, BreaksOrder, HasBlocks, IsRecordsFault, IsHeadFault, IsWalkFault, IsSecondRefusal, dropped_before, IsSalvaged, IsSalvageFault, NoneIsLeft, IsFirstRefusal}
-use Rattle.log_blocks.specs.Laws.{FirstAreUnique, RefusalsAreUnique, SalvagedAreUnique, SalvagedAreNotRefused, SalvageRefusalsAreUnique}
 use Rattle.log_blocks.proofs.Written.{Same, one_walk}
 use Rattle.log_blocks.proofs.Recovered.{no_stop, one_list}
 

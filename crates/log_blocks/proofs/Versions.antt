@@ -1,21 +1,6 @@
 -- Which version a file names, and that its log is read.
-use Rattle.std.proofs.Common.{◌≡◌, ℕ, ◌≤◌, Bool, true, false, nat_le, List, ◌++◌, length, take, drop, append_assoc, Result, Ok, Err, refl, sym, ap, subst, ◌∙◌, arith}
-use Rattle.std.specs.Prelude.{◌==◌, ◌&&◌, IfOk, IfErr, MatchResult}
-use Rattle.std.specs.Str.{bytes_eq}
-use Rattle.std.proofs.lemmas.Bool.{eq-eqb}
-use Rattle.std.proofs.lemmas.Slice.Eq.{bytes_eq-Decides}
-use Rattle.le_numbers.specs.Numbers.{number_at, number_bytes}
-use Rattle.le_numbers.specs.Laws.{HaveTheirWidth, AreRead}
-use Rattle.log_order.specs.Content.{Content, IsContent}
-use Rattle.log_file.specs.declared.error.FileError.{FileError}
-use Rattle.log_file.specs.declared.error.FileError.TheVariants.{OutOfMemory}
-use Rattle.log_file.specs.Layout.{magic, settings_bytes, signed_bytes, file_bytes, file_bytes2, IsVersion1}
+use Rattle.log_blocks.proofs.Common.{◌≡◌, ℕ, ◌≤◌, Bool, true, false, nat_le, List, ◌++◌, length, take, drop, append_assoc, Result, Ok, Err, refl, sym, ap, subst, ◌∙◌, arith, ◌==◌, ◌&&◌, IfOk, IfErr, MatchResult, bytes_eq, eq-eqb, bytes_eq-Decides, number_at, number_bytes, HaveTheirWidth, AreRead, Content, IsContent, FileError, OutOfMemory, magic, settings_bytes, signed_bytes, file_bytes, file_bytes2, IsVersion1, Damage, File, BadBlock, is_second, IsSecondRefusal, IsFirstRefusal, IsRefusal, IsSpelled, NameTheirVersion, SayOneThing, AreNotRefused}
 use Rattle.log_file.specs.Laws as of_first
-use Rattle.log_blocks.specs.declared.damage.Damage.{Damage}
-use Rattle.log_blocks.specs.declared.damage.Damage.TheVariants.{File, BadBlock}
-use Rattle.log_blocks.specs.Faults.{is_second}
-use Rattle.log_blocks.specs.File.{IsSecondRefusal, IsFirstRefusal, IsRefusal, IsSpelled}
-use Rattle.log_blocks.specs.Laws.{NameTheirVersion, SayOneThing, AreNotRefused}
 use Rattle.log_blocks.proofs.Tested.{Passed, no_fault}
 use Rattle.log_blocks.proofs.Heads.{no_fault_again}
 

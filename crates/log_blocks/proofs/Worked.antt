@@ -1,20 +1,7 @@
 -- A few blocks, worked out.
-use Rattle.std.proofs.Common.{◌≡◌, ◌<◌, ℕ, ◌+◌, Bool, true, false, ◌∷◌, ◌++◌, [], List, length, Option, Some, None, refl, sym, ap, ◌∙◌, arith, inl, inr}
-use Rattle.std.specs.Prelude.{nat_lt, if◌then◌else◌}
-use Rattle.le_numbers.specs.Numbers.{number_bytes}
-use Rattle.log_record.specs.declared.record.Record.TheVariants.{ScOk}
-use Rattle.log_record.specs.Spelling.{total}
-use Rattle.log_file.specs.Blocks.{cut_from, blocks_of}
-use Rattle.log_file.specs.declared.error.FileError.{FileError}
-use Rattle.log_file.specs.declared.error.FileError.TheVariants.{OutOfMemory}
-use Rattle.log_blocks.specs.declared.damage.Damage.TheVariants.{File, BadBlock}
+use Rattle.log_blocks.proofs.Common.{◌≡◌, ◌<◌, ℕ, ◌+◌, Bool, true, false, ◌∷◌, ◌++◌, [], List, length, Option, Some, None, refl, sym, ap, ◌∙◌, arith, inl, inr, nat_lt, if◌then◌else◌, number_bytes, ScOk, total, cut_from, blocks_of, FileError, OutOfMemory, File, BadBlock, size_in, head_digest, blocks_in, head_fault, is_good, IsWalk, first_wrong, IsWalkFault, IsSecondRefusal, IsSalvageRefusal}
 use Rattle.log_blocks.specs.declared.damage.SalvageError.TheVariants.{NothingLeft}
 use Rattle.log_blocks.specs.declared.damage.SalvageError.TheVariants as salvage
-use Rattle.log_blocks.specs.Fields.{size_in, head_digest, blocks_in}
-use Rattle.log_blocks.specs.Faults.{head_fault}
-use Rattle.log_blocks.specs.Pieces.{is_good, IsWalk}
-use Rattle.log_blocks.specs.Cuts.{first_wrong}
-use Rattle.log_blocks.specs.File.{IsWalkFault, IsSecondRefusal, IsSalvageRefusal}
 use Rattle.log_blocks.specs.Examples.{full_block, two_blocks}
 use Rattle.log_blocks.proofs.Written.{Same, one_walk}
 

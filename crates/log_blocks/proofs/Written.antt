@@ -1,15 +1,5 @@
 -- The blocks that are written of a log are walked over from their end.
-use Rattle.std.proofs.Common.{◌≡◌, ℕ, zero, suc, ◌+◌, ◌-◌, ◌<◌, ◌≤◌, ◌^◌, Bool, true, false, nat_le, ltb, List, [], ◌∷◌, ◌++◌, length, take, drop, length-append, append_assoc, append-nil, refl, sym, ap, ap₂, subst, ◌∙◌, arith}
-use Rattle.std.specs.Str.{bytes_eq}
-use Rattle.std.proofs.lemmas.Bool.{eq-eqb}
-use Rattle.std.proofs.lemmas.List.{drop-drop, take_at, drop_at}
-use Rattle.std.proofs.lemmas.Slice.Eq.{bytes_eq-Decides}
-use Rattle.sha2.specs.Sha256.{sha256}
-use Rattle.sha2.proofs.Facts256.{length-sha256}
-use Rattle.le_numbers.specs.Numbers.{number_bytes}
-use Rattle.le_numbers.specs.Laws.{HaveTheirWidth, AreRead}
-use Rattle.log_file.specs.Blocks.{block_size}
-use Rattle.log_blocks.specs.Pieces.{Piece, piece, piece_body, piece_bytes, pieces_bytes, gathered, len_in, left_in, before_in, start_in, piece_in, is_sized, is_good, Walked, IsWalk}
+use Rattle.log_blocks.proofs.Common.{◌≡◌, ℕ, zero, suc, ◌+◌, ◌-◌, ◌<◌, ◌≤◌, ◌^◌, Bool, true, false, nat_le, ltb, List, [], ◌∷◌, ◌++◌, length, take, drop, length-append, append_assoc, append-nil, refl, sym, ap, ap₂, subst, ◌∙◌, arith, bytes_eq, eq-eqb, drop-drop, take_at, drop_at, bytes_eq-Decides, sha256, length-sha256, number_bytes, HaveTheirWidth, AreRead, block_size, Piece, piece, piece_body, piece_bytes, pieces_bytes, gathered, len_in, left_in, before_in, start_in, piece_in, is_sized, is_good, Walked, IsWalk}
 
 -- a piece that a good block has: its numbers fit their fields
 pub record IsSound (n left : ℕ) (p : Piece) : Type 0 where

@@ -1,11 +1,7 @@
 -- What is counted of a log of either version.
 use Rattle.std.specs.Prelude.{◌≡◌, ℕ, List}
-use Rattle.log_record.specs.declared.head.Head.{Head}
-use Rattle.log_order.specs.Content.{Content, IsContent}
+use Rattle.log_blocks.specs.Common.{Head, Content, IsContent, OutOfMemory, file_bytes2, counts_of, Tells}
 use Rattle.log_file.specs.declared.counting.LogCounts.{LogCounts}
-use Rattle.log_file.specs.declared.error.FileError.TheVariants.{OutOfMemory}
-use Rattle.log_file.specs.Layout.{file_bytes2}
-use Rattle.log_file.specs.Counts.{counts_of, Tells}
 use Rattle.log_blocks.specs.Pieces.{Piece}
 use Rattle.log_blocks.specs.declared.salvaging.NewFile.{NewFile}
 use Rattle.log_blocks.specs.declared.testing.Tested.{Tested}

@@ -1,10 +1,6 @@
 -- Blocks and the records that they are cut from.
 use Rattle.std.specs.Prelude.{◌≡◌, ◌<◌, ◌+◌, ◌==◌, ◌&&◌, ◌%◌, ◌^◌, Bool, ℕ, List, [], ◌∷◌, ◌++◌, length, Option, Some, None, if◌then◌else◌}
-use Rattle.std.specs.List.{flat_map, AllByRecursion}
-use Rattle.std.specs.Str.{bytes_eq}
-use Rattle.log_record.specs.declared.record.Record.{Record}
-use Rattle.log_record.specs.Spelling.{bytes_of, total, Fits}
-use Rattle.log_file.specs.Blocks.{Block, cut_from}
+use Rattle.log_blocks.specs.Common.{flat_map, AllByRecursion, bytes_eq, Record, bytes_of, total, Fits, Block, cut_from}
 use Rattle.log_blocks.specs.Pieces.{Piece}
 
 -- the first block of some records has so many of them, which have so many bytes

@@ -1,8 +1,6 @@
 -- A few records and blocks.
 use Rattle.std.specs.Prelude.{replicate, [], List, ◌∷◌, ◌++◌}
-use Rattle.log_record.specs.declared.record.Record.{Record}
-use Rattle.log_record.specs.declared.record.Record.TheVariants.{Header, ScOk}
-use Rattle.log_record.specs.Spelling.{bytes_of}
+use Rattle.log_blocks.specs.Common.{Record, Header, ScOk, bytes_of}
 use Rattle.log_blocks.specs.Pieces.{Piece, piece}
 
 -- 28 Headers and four records of two bytes have 4,096 bytes

@@ -1,11 +1,7 @@
 -- What is wrong with the head of a file of version 2.
 use Rattle.std.specs.Prelude.{ℕ, not, ◌==◌, ◌&&◌, nat_le, nat_lt, Bool, List, take, length, Option, Some, None, if◌then◌else◌}
-use Rattle.std.specs.Str.{bytes_eq}
+use Rattle.log_blocks.specs.Common.{bytes_eq, number_at, FileError, Short, BadMagic, BadVersion, BadHead, DigestDiffers, magic}
 use Rattle.bn_base.specs.Ranges.{first_bad}
-use Rattle.le_numbers.specs.Numbers.{number_at}
-use Rattle.log_file.specs.declared.error.FileError.{FileError}
-use Rattle.log_file.specs.declared.error.FileError.TheVariants.{Short, BadMagic, BadVersion, BadHead, DigestDiffers}
-use Rattle.log_file.specs.Layout.{magic}
 use Rattle.log_file.specs.declared.offsets.TheConstants.{VERSION}
 use Rattle.log_file.specs.Faults.{setting_fault}
 use Rattle.log_blocks.specs.Fields.{settings_in, size_in, kept_digest, head_digest}

@@ -1,9 +1,7 @@
 -- The fields of a head of version 2, at their places.
 use Rattle.std.specs.Prelude.{ℕ, List, take, drop}
-use Rattle.sha2.specs.Sha256.{sha256}
+use Rattle.log_blocks.specs.Common.{sha256, number_at, Head}
 use Rattle.bn_base.specs.declared.settings.RawSettings.{RawSettings}
-use Rattle.le_numbers.specs.Numbers.{number_at}
-use Rattle.log_record.specs.declared.head.Head.{Head}
 use Rattle.log_file.specs.declared.offsets.TheConstants.{HARTS, INTERVAL, LIMIT, LOG_SIZE, MEMORY, SETS, WAYS, LINE, FORMAT, SETS2, WAYS2, PROGRAM2, DROPPED2, N2, DIGEST2}
 
 -- the settings: at the places that version 1 gives them, and after them the format and the second level

@@ -1,14 +1,7 @@
 -- Why bytes are no log file of version 2, and what is salvaged of them.
 use Rattle.std.specs.Prelude.{◌≡◌, ◌≢◌, ℕ, ◌+◌, ◌<◌, ◌⊎◌, List, [], ◌∷◌, length, Some, None, true, false}
-use Rattle.std.specs.List.{flat_map, AllByRecursion}
-use Rattle.log_record.specs.declared.head.Head.{Head}
-use Rattle.log_record.specs.declared.record.Record.{Record}
-use Rattle.log_record.specs.Spelling.{bytes_of, Fits}
+use Rattle.log_blocks.specs.Common.{flat_map, AllByRecursion, Head, Record, bytes_of, Fits, Content, IsContent, Short, BadMagic, BadVersion, BadHead, LengthDiffers, DigestDiffers, BadRecord, BadOrder, OutOfMemory, blocks_of, file_bytes, file_bytes2}
 use Rattle.log_order.specs.Order.{order_break, broken_by}
-use Rattle.log_order.specs.Content.{Content, IsContent}
-use Rattle.log_file.specs.declared.error.FileError.TheVariants.{Short, BadMagic, BadVersion, BadHead, LengthDiffers, DigestDiffers, BadRecord, BadOrder, OutOfMemory}
-use Rattle.log_file.specs.Blocks.{blocks_of}
-use Rattle.log_file.specs.Layout.{file_bytes, file_bytes2}
 use Rattle.log_file.specs.File.{NoRecord}
 use Rattle.log_file.specs.File as first
 use Rattle.log_blocks.specs.declared.damage.Damage.{Damage}

@@ -1,14 +1,6 @@
 -- Laws of blocks and their files, by their names.
 use Rattle.std.specs.Prelude.{◌≡◌, ◌≤◌, ◌+◌, ◌*◌, true, false, ℕ, List, ◌∷◌, ◌++◌, length, ◌≢◌, ◌%◌, ◌^◌, []}
-use Rattle.std.specs.List.{AllByRecursion}
-use Rattle.log_record.specs.declared.head.Head.{Head}
-use Rattle.log_record.specs.declared.record.Record.{Record}
-use Rattle.log_record.specs.Spelling.{bytes_of, total}
-use Rattle.log_order.specs.Content.{Content, IsContent}
-use Rattle.log_file.specs.Layout.{file_bytes, file_bytes2, saved_bytes}
-use Rattle.log_file.specs.Blocks.{Block, block_size, blocks_of}
-use Rattle.log_file.specs.declared.error.FileError.{FileError}
-use Rattle.log_file.specs.declared.error.FileError.TheVariants.{OutOfMemory}
+use Rattle.log_blocks.specs.Common.{AllByRecursion, Head, Record, bytes_of, total, Content, IsContent, file_bytes, file_bytes2, saved_bytes, Block, block_size, blocks_of, FileError, OutOfMemory}
 use Rattle.log_file.specs.File as first
 use Rattle.log_blocks.specs.declared.damage.SalvageError.{SalvageError}
 use Rattle.log_blocks.specs.declared.damage.SalvageError.TheVariants as salvage

@@ -1,11 +1,6 @@
 -- The sealed blocks of a file as bytes, whether or not these are records'.
 use Rattle.std.specs.Prelude.{ℕ, zero, suc, ◌+◌, ◌-◌, ◌%◌, ◌^◌, ◌==◌, ◌≡◌, ◌&&◌, nat_le, nat_lt, Bool, true, false, List, [], ◌∷◌, ◌++◌, take, drop, length, if◌then◌else◌}
-use Rattle.std.specs.List.{flat_map}
-use Rattle.std.specs.Str.{bytes_eq}
-use Rattle.sha2.specs.Sha256.{sha256}
-use Rattle.le_numbers.specs.Numbers.{number_at, number_bytes}
-use Rattle.log_record.specs.Spelling.{bytes_of}
-use Rattle.log_file.specs.Blocks.{Block, block_size}
+use Rattle.log_blocks.specs.Common.{flat_map, bytes_eq, sha256, number_at, number_bytes, bytes_of, Block, block_size}
 use Rattle.log_file.specs.declared.offsets.TheConstants.{BEFORE, LEFT, LEN}
 
 -- the bytes of a block's records, and the numbers of its seal

@@ -1,9 +1,6 @@
 -- What bytes are to the reader of logs of either version, and to salvage.
 use Rattle.std.specs.Prelude.{◌≡◌, ◌≢◌, ℕ, List, Result, Ok, Err}
-use Rattle.le_numbers.specs.Numbers.{AreBytes}
-use Rattle.log_order.specs.Content.{Content, IsContent}
-use Rattle.log_file.specs.declared.error.FileError.TheVariants.{OutOfMemory}
-use Rattle.log_file.specs.Layout.{file_bytes, file_bytes2, saved_bytes, IsVersion1}
+use Rattle.log_blocks.specs.Common.{AreBytes, Content, IsContent, OutOfMemory, file_bytes, file_bytes2, saved_bytes, IsVersion1}
 use Rattle.log_file.specs.Readings.{TestsTell}
 use Rattle.log_blocks.specs.declared.damage.Damage.{Damage}
 use Rattle.log_blocks.specs.declared.damage.Damage.TheVariants.{File}

@@ -1,10 +1,6 @@
 -- What a walk back leaves: the place of the blocks that it kept, and how long they are.
 use Rattle.std.specs.Prelude.{◌≡◌, ◌≤◌, ◌<◌, ℕ, ◌+◌, Bool, true, false, List, [], ◌∷◌, ◌++◌, take, drop, length, Option}
-use Rattle.std.specs.List.{flat_map, AllByRecursion}
-use Rattle.le_numbers.specs.Numbers.{number_at}
-use Rattle.log_record.specs.declared.record.Record.{Record}
-use Rattle.log_record.specs.Spelling.{bytes_of, Fits}
-use Rattle.log_file.specs.Blocks.{blocks_of}
+use Rattle.log_blocks.specs.Common.{flat_map, AllByRecursion, number_at, Record, bytes_of, Fits, blocks_of}
 use Rattle.log_blocks.specs.Cuts.{first_wrong}
 use Rattle.log_blocks.specs.declared.walking.Walk.{Walk}
 use Rattle.log_blocks.specs.Pieces.{Piece, gathered, IsWalk}

@@ -1,9 +1,6 @@
 //! What is counted of a log of either version.
 ghost use Rattle.std.specs.Prelude.{◌≡◌, ◌≤◌, ◌^◌, true, IfOk, IfErr};
-ghost use Rattle.std.specs.List.{AllByRecursion};
-ghost use Rattle.log_record.specs.Spelling.{total, Fits};
-ghost use Rattle.log_file.specs.Counts.{counts_in, counts_of};
-ghost use Rattle.log_file.specs.declared.error.FileError.TheVariants.{OutOfMemory};
+ghost use Rattle.log_blocks.specs.Common.{AllByRecursion, total, Fits, counts_in, counts_of, OutOfMemory};
 ghost use Rattle.log_blocks.specs.declared.damage.Damage.TheVariants.{File};
 ghost use Rattle.log_blocks.specs.Counts.{CountsFile};
 ghost use Rattle.log_blocks.specs.Faults.{is_second};

@@ -1,8 +1,6 @@
 //! Cutting the bytes of records into blocks.
 ghost use Rattle.std.specs.Prelude.{◌≡◌, ◌≤◌, List, ℕ, length};
-ghost use Rattle.std.specs.List.{flat_map, AllByRecursion};
-ghost use Rattle.log_record.specs.declared.record.Record.{Record};
-ghost use Rattle.log_record.specs.Spelling.{bytes_of, Fits};
+ghost use Rattle.log_blocks.specs.Common.{flat_map, AllByRecursion, Record, bytes_of, Fits};
 ghost use Rattle.log_blocks.specs.Cuts.{IsNext};
 
 use crate::sealing::BLOCK_SIZE;

@@ -1,9 +1,6 @@
 //! Blocks that are full, and blocks that are bad.
 ghost use Rattle.std.specs.Prelude.{◌≡◌, ◌<◌, ◌∷◌, ◌++◌, [], ℕ, List, length, true, false, Some, None};
-ghost use Rattle.log_record.specs.declared.record.Record.TheVariants.{ScOk};
-ghost use Rattle.log_record.specs.Spelling.{total};
-ghost use Rattle.log_file.specs.Blocks.{cut_from, blocks_of};
-ghost use Rattle.log_file.specs.declared.error.FileError.TheVariants.{OutOfMemory};
+ghost use Rattle.log_blocks.specs.Common.{ScOk, total, cut_from, blocks_of, OutOfMemory};
 ghost use Rattle.log_blocks.specs.declared.damage.Damage.TheVariants.{File, BadBlock};
 ghost use Rattle.log_blocks.specs.declared.damage.SalvageError.TheVariants.{NothingLeft};
 ghost use Rattle.log_blocks.specs.declared.damage.SalvageError.TheVariants as salvage;

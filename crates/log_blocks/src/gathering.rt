@@ -1,10 +1,6 @@
 //! The records' bytes of blocks, in one piece, and whether the blocks are cut as they should be.
 ghost use Rattle.std.specs.Prelude.{◌≡◌, ◌≤◌, ◌+◌, ◌==◌, ◌&&◌, not, List, ℕ, length, take, IfOk};
-ghost use Rattle.le_numbers.specs.Numbers.{number_at};
-ghost use Rattle.std.specs.List.{flat_map, AllByRecursion};
-ghost use Rattle.log_record.specs.declared.record.Record.{Record};
-ghost use Rattle.log_record.specs.Spelling.{bytes_of, Fits};
-ghost use Rattle.log_file.specs.Blocks.{blocks_of};
+ghost use Rattle.log_blocks.specs.Common.{number_at, flat_map, AllByRecursion, Record, bytes_of, Fits, blocks_of};
 ghost use Rattle.log_blocks.specs.Pieces.{Piece, gathered};
 ghost use Rattle.log_blocks.specs.Walks.{AreKept, FindsWrong};
 ghost use Rattle.log_blocks.specs.Cuts.{first_wrong};

@@ -1,8 +1,6 @@
 //! Reading a log file of either version: the log that it says, or the first cause to refuse it.
 ghost use Rattle.std.specs.Prelude.{◌≡◌, MatchResult, IfOk, IfErr};
-ghost use Rattle.log_order.specs.Content.{Content, IsContent};
-ghost use Rattle.log_file.specs.declared.error.FileError.TheVariants.{OutOfMemory};
-ghost use Rattle.log_file.specs.Layout.{file_bytes, file_bytes2, IsVersion1};
+ghost use Rattle.log_blocks.specs.Common.{Content, IsContent, OutOfMemory, file_bytes, file_bytes2, IsVersion1};
 ghost use Rattle.log_blocks.specs.declared.damage.Damage.TheVariants.{File};
 ghost use Rattle.log_blocks.specs.File.{IsSecondRefusal, IsRefusal, IsSpelled};
 

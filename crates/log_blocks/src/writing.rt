@@ -1,12 +1,6 @@
 //! Writing a file of version 2: a head, and blocks that are sealed by digests. `specs/` pins each byte.
 ghost use Rattle.std.specs.Prelude.{◌≡◌, ◌<◌, ◌≤◌, ◌++◌, ◌^◌, List, ℕ, length, IfOk, OnOk};
-ghost use Rattle.std.specs.List.{flat_map, AllByRecursion};
-ghost use Rattle.log_record.specs.declared.record.Record.{Record};
-ghost use Rattle.log_record.specs.Spelling.{bytes_of, Fits};
-ghost use Rattle.log_order.specs.Content.{content};
-ghost use Rattle.le_numbers.specs.Numbers.{number_bytes};
-ghost use Rattle.log_file.specs.Layout.{head_bytes2, file_bytes2};
-ghost use Rattle.log_file.specs.Blocks.{blocks_of, all_sealed};
+ghost use Rattle.log_blocks.specs.Common.{flat_map, AllByRecursion, Record, bytes_of, Fits, content, number_bytes, head_bytes2, file_bytes2, blocks_of, all_sealed};
 ghost use Rattle.log_blocks.specs.Pieces.{piece, piece_bytes};
 
 use crate::cutting::next_block;

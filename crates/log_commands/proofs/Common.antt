@@ -1,35 +1,31 @@
--- What two or more files of proofs/ cite of other crates and of specs/. Each of them imports it from here, by one line.
-pub use Rattle.std.proofs.Common.{Bool, Global, List, None, Option, Some, Vec, [], add-one, ap, append_assoc, arith, drop, drop-cons, false, get_or, inl, inr, length, nat_lt, refl, rules, subst, suc, sym, take, true, ℕ, ◌++◌, ◌+◌, ◌<◌, ◌==◌, ◌∙◌, ◌∷◌, ◌≡◌, ◌≢◌, ◌≤◌, ◌⊎◌}
+-- What several files of proofs/ cite of other crates and of specs/. They import it from here, by one line.
+pub use Rattle.std.proofs.Common.{Bool, Err, Global, IfErr, IfOk, IfSome, IsErrAnd, IsSomeAnd, List, None, Ok, OnErr, OnOk, Option, Result, Some, Vec, [], add-one, ap, append-nil, append_assoc, arith, codes, drop, drop-cons, false, get_or, inl, inr, is_some, length, length-append, nat_lt, not, option_map, refl, rules, subst, suc, sym, take, take_all, true, vec_len, ℕ, ◌++◌, ◌+◌, ◌<◌, ◌==◌, ◌∙◌, ◌∷◌, ◌≡◌, ◌≢◌, ◌≤◌, ◌⊎◌}
 pub use Rattle.std.proofs.lemmas.Bool.{cases_lt}
 pub use Rattle.std.proofs.lemmas.Bool.Decides.{nat_tests}
-pub use Rattle.std.proofs.lemmas.List.{append-nil, drop_all, length-append, take-append-le, take_all}
+pub use Rattle.std.proofs.lemmas.List.{drop_all, take-append-le}
 pub use Rattle.std.proofs.lemmas.Slice.Eq.{bytes_eq-Decides}
 pub use Rattle.std.specs.Io.KnownBytes.{Appends}
-pub use Rattle.std.specs.Prelude.{Err, IfErr, IfOk, IfSome, IsErrAnd, IsSomeAnd, Ok, OnErr, OnOk, Result, codes, is_some, not, option_map, vec_len}
 pub use Rattle.std.specs.Str.{bytes_eq}
 pub use Rattle.bn_base.specs.Programs.{Program}
 pub use Rattle.bn_base.specs.declared.end_mark.EndMark.{EndMark}
-pub use Rattle.bn_base.specs.declared.row.Row.{Row}
 pub use Rattle.bn_outside.specs.Counts.{Counts, LoadCause, NoneFell, Rose, counted}
 pub use Rattle.bn_outside.specs.Files.{Files, LoadTells, SameElsewhere, Stored, WhereTold}
 pub use Rattle.bn_outside.specs.StoreCalls.{LoadCall, SaveCall, StoreCall}
 pub use Rattle.bn_outside.specs.Streams.{AppendsPart, AppendsShort, Stream}
-pub use Rattle.hart_replay.specs.Coming.{Replaying, Stepped, outcome_only, with_rows}
-pub use Rattle.hart_replay.specs.Replay.{Done, Interval, Logged, Outcome, Refused, Replayed, interval_of}
+pub use Rattle.hart_replay.specs.Coming.{Replaying, Stepped, given, outcome_only, with_rows}
+pub use Rattle.hart_replay.specs.Replay.{Done, Logged, Outcome, Refused, Replayed, interval_of}
 pub use Rattle.hart_replay.specs.declared.error.ReplayError.{ReplayError}
 pub use Rattle.joint_replay.specs.Joining.{Joining, Ran, begun, ran, run_all, steps_left}
 pub use Rattle.joint_replay.specs.Memory.{known_from}
-pub use Rattle.joint_replay.specs.Runs.{Advanced, Advances, IsFirstTaken, RunsEnd, RunsGoOn, one_step}
+pub use Rattle.joint_replay.specs.Runs.{Advanced, Advances, IsFirstTaken, IsStarved, RunsEnd, RunsGoOn, one_step}
 pub use Rattle.joint_replay.specs.Texts.{item_text, joint_text, known_text, memory_text, steps_text}
 pub use Rattle.joint_replay.specs.declared.error.JointError.{JointError}
 pub use Rattle.log_blocks.specs.File.{IsRefusal, IsSalvageRefusal}
 pub use Rattle.log_blocks.specs.Readings.{Reads}
 pub use Rattle.log_blocks.specs.declared.damage.Damage.{Damage}
-pub use Rattle.log_blocks.specs.declared.damage.SalvageError.TheVariants.{File, NothingLeft}
 pub use Rattle.log_file.specs.declared.counting.LogCounts.{LogCounts}
 pub use Rattle.log_order.specs.Content.{Content}
 pub use Rattle.log_record.specs.declared.record.Record.{Record}
-pub use Rattle.rv_text.specs.Rows.{row_text}
 pub use Rattle.sha2.specs.Sha256.{sha256}
 pub use Rattle.log_commands.specs.Acting.{ActsOn, ActsTo, SavesAll, SavesFile, StopsSaving, with_err}
 pub use Rattle.log_commands.specs.Answering.{Answers, Fetches, IsByFiles, LoadsAll}
@@ -45,22 +41,22 @@ unfoldable pub use Rattle.log_commands.specs.Joined.{ran_told}
 pub use Rattle.log_commands.specs.JointEnds.{IsOutOfMemory, SendsJoint, SendsSteps, told_of_joint}
 pub use Rattle.log_commands.specs.Names.{FileNames, name_of, no_names}
 pub use Rattle.log_commands.specs.NewLogs.{IsBySalvage, renewed, salvage_refusal}
-pub use Rattle.log_commands.specs.Outside.{Always, CauseBy, FetchTells, Gathered, Gives, GivesOf, GivesTo, IsOwn, IsPrinted, KeptBoth, KeptFiles, KeptLog, KeptSaved, LogAlone, LogTells, MayChange, RefusalCause, Refuses, ResultCause, SameFiles, SaveBroke, SendStops, Sends, SendsBytes, SendsUntil, Sent, SentUntil, ToldRefusal, Unsaved, WithFiles, Wrote, saved_new, saved_of, told_of, told_of_new, told_of_reading, told_of_recording, none_if, without}
+pub use Rattle.log_commands.specs.Outside.{Always, CauseBy, FetchTells, Gathered, Gives, GivesOf, GivesTo, IsOwn, IsPrinted, KeptBoth, KeptFiles, KeptLog, KeptSaved, LogAlone, LogTells, MayChange, RefusalCause, Refuses, ResultCause, SameFiles, SaveBroke, SendStops, Sends, SendsBytes, SendsUntil, Sent, SentUntil, ToldRefusal, Unsaved, WithFiles, Wrote, none_if, saved_new, saved_of, told_of, told_of_new, told_of_reading, told_of_recording, without}
 pub use Rattle.log_commands.specs.PairAnswers.{LoadsPair, by_reading}
 pub use Rattle.log_commands.specs.Pairs.{ByPair, LoadedPair, pair_loaded, pair_of, pair_roles, pair_same}
-pub use Rattle.log_commands.specs.Printed.{EndsAs, IsCutShort, LacksALine, SendsReplay, end_of_interval, ending_of, outcome_of, rest_text, text_from}
+pub use Rattle.log_commands.specs.Printed.{IsCutShort, LacksALine, SendsReplay, end_of_interval, ending_of, outcome_of, rest_text, text_from}
 pub use Rattle.log_commands.specs.RaceAnswers.{races_in, races_listed, races_unless, races_with}
 pub use Rattle.log_commands.specs.Refusals.{digest_text, joint_refusal, log_refusal, positions_text, replay_status, status_of}
 unfoldable pub use Rattle.log_commands.specs.Refusals.{elf_said, file_said, line_of, replay_said, said_of}
 pub use Rattle.log_commands.specs.RunEnds.{IsRecorded, end_status}
 pub use Rattle.log_commands.specs.SaveCounts.{AnswerSaves, AtMostSaves, IsMade, IsRenewed, SavedAll, SavesEach, is_lean, saves_after}
 pub use Rattle.log_commands.specs.SliceAnswers.{slice_told, slice_with}
-pub use Rattle.log_commands.specs.Texts.{begin_text, check_line, record_text}
-unfoldable pub use Rattle.log_commands.specs.Texts.{list_text, rows_text, summary_text}
+pub use Rattle.log_commands.specs.Texts.{check_line, record_text}
+unfoldable pub use Rattle.log_commands.specs.Texts.{begin_text, list_text, rows_text, summary_text}
 pub use Rattle.log_commands.specs.Told.{Saved, Told, printed, printed_until}
 unfoldable pub use Rattle.log_commands.specs.Told.{refused}
 pub use Rattle.log_commands.specs.declared.answer.Answer.{Answer}
-pub use Rattle.log_commands.specs.declared.answer.Answer.TheVariants.{Agreed, Checked, Joined, Listed, Recorded, Renewed, Shown}
+pub use Rattle.log_commands.specs.declared.answer.Answer.TheVariants.{Agreed, Checked, Interval, Joined, Listed, Recorded, Renewed, Shown}
 pub use Rattle.log_commands.specs.declared.answer.NewLog.{NewLog}
 pub use Rattle.log_commands.specs.declared.answer.RunToTell.{RunToTell}
 pub use Rattle.log_commands.specs.declared.inputs.Inputs.{Inputs}

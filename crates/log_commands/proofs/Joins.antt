@@ -1,9 +1,8 @@
 -- The steps and the known words of a joint replay, sent one after another, and what is told of them.
-use Rattle.log_commands.proofs.Common.{◌≡◌, ℕ, ◌≤◌, nat_lt, Bool, true, false, List, [], ◌∷◌, ◌++◌, Option, Some, None, ◌∙◌, ap, subst, sym, refl, arith, inl, inr, ◌⊎◌, append_assoc, Result, Ok, Err, option_map, Appends, AppendsPart, Stream, ReplayError, JointError, known_from, Joining, Ran, begun, ran, run_all, item_text, known_text, steps_text, memory_text, joint_text, one_step, Advanced, Advances, IsFirstTaken, RunsGoOn, RunsEnd, stop_of, ran_told, joined, told_of_joint, IsOutOfMemory, SendsSteps, IfErr, Sends, SendsUntil, SentUntil, SendStops, Always, PrintsTo, joint_refusal, printed_until, JointReading, Refusal, OutOfMemory, WriteFailed}
+use Rattle.log_commands.proofs.Common.{◌≡◌, ℕ, ◌≤◌, nat_lt, Bool, true, false, List, [], ◌∷◌, ◌++◌, Option, Some, None, ◌∙◌, ap, subst, sym, refl, arith, inl, inr, ◌⊎◌, append_assoc, Result, Ok, Err, option_map, Appends, AppendsPart, Stream, ReplayError, JointError, known_from, Joining, Ran, begun, ran, run_all, item_text, known_text, steps_text, memory_text, joint_text, one_step, Advanced, Advances, IsFirstTaken, RunsGoOn, RunsEnd, stop_of, ran_told, joined, told_of_joint, IsOutOfMemory, SendsSteps, IfErr, Sends, SendsUntil, SentUntil, SendStops, Always, PrintsTo, joint_refusal, printed_until, JointReading, Refusal, OutOfMemory, WriteFailed, IsStarved}
 use Rattle.joint_replay.specs.declared.error.JointError.TheVariants.{Replay, Stuck}
 use Rattle.joint_replay.specs.declared.error.JointError.TheVariants as joint
 use Rattle.hart_replay.specs.declared.error.ReplayError.TheVariants as replay
-use Rattle.joint_replay.specs.Runs.{IsStarved}
 use Rattle.log_commands.proofs.Prints.{SoFar, so_far-none, so_far-more, so_far-gathered, so_far-done, so_far-stopped, so_far-ends, part-longer, part-behind, not-memory, stops-later, appends-both}
 use Rattle.log_commands.proofs.Acts.{until-prints, memory-prints}
 use Rattle.log_commands.proofs.Causes.{IsStop, joint-stop}

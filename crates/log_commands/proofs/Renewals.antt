@@ -1,6 +1,5 @@
 -- Logs that are made of others.
-use Rattle.log_commands.proofs.Common.{◌≡◌, ℕ, List, [], Some, ◌∙◌, ap, refl, Ok, Err, Content, LogCounts, IsSalvageRefusal, FileNames, check_line, Told, refused, renewed, salvage_refusal, IsBySalvage, saved_new, told_of_new, NewLog}
-use Rattle.std.specs.Prelude.{◌≢◌}
+use Rattle.log_commands.proofs.Common.{◌≡◌, ℕ, List, [], Some, ◌∙◌, ap, refl, Ok, Err, Content, LogCounts, IsSalvageRefusal, FileNames, check_line, Told, refused, renewed, salvage_refusal, IsBySalvage, saved_new, told_of_new, NewLog, ◌≢◌}
 use Rattle.log_file.specs.Layout.{file_bytes2}
 use Rattle.log_file.specs.Counts.{counts_of}
 use Rattle.log_blocks.specs.Counts.{RenewsSalvaged}

@@ -1,8 +1,8 @@
 -- The rows of a replay, sent one after another.
-use Rattle.log_commands.proofs.Common.{length-append, Replaying, Err, Ok, Result, ◌≡◌, ℕ, ◌≤◌, List, [], ◌∷◌, Option, ◌∙◌, ap, subst, sym, refl, ◌++◌, inl, inr, ◌⊎◌, arith, append_assoc, Appends, Row, AppendsPart, AppendsShort, Stream, length, ◌<◌, IfErr, LacksALine, IsCutShort, WriteFailed, Outcome, Done, Refused, Replayed, with_rows, outcome_only, ReplayError, rows_text, EndMark, outcome_of, ending_of, end_of_interval, Sent, SendStops, Refusal}
+use Rattle.log_commands.proofs.Common.{length-append, Replaying, Err, Ok, Result, ◌≡◌, ℕ, ◌≤◌, List, [], ◌∷◌, Option, ◌∙◌, ap, subst, sym, refl, ◌++◌, inl, inr, ◌⊎◌, arith, append_assoc, Appends, AppendsPart, AppendsShort, Stream, length, ◌<◌, IfErr, LacksALine, IsCutShort, WriteFailed, Outcome, Done, Refused, Replayed, with_rows, outcome_only, ReplayError, rows_text, EndMark, outcome_of, ending_of, end_of_interval, Sent, SendStops, Refusal, begin_text}
+use Rattle.bn_base.specs.declared.row.Row.{Row}
 use Rattle.rv_text.specs.Rows.{row_text}
 use Rattle.rv_text.specs.Marks.{end_text}
-use Rattle.log_commands.specs.Texts.{begin_text}
 use Rattle.hart_replay.specs.declared.error.ReplayError.TheVariants as replay
 use Rattle.log_commands.specs.declared.replay_lines.ReplayEnd.TheVariants as ending
 use Rattle.log_commands.proofs.Prints.{SoFar, so_far-none, so_far-more, so_far-gathered, so_far-done, so_far-stopped, so_far-short, so_far-ends, part-behind, part-short, short-none, short-longer, short-behind, not-memory, stops-later}

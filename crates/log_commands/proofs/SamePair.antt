@@ -1,6 +1,5 @@
 -- A log and its program that were loaded and read.
-use Rattle.log_commands.proofs.Common.{◌≡◌, ◌≤◌, nat_lt, length, List, [], Bool, true, false, Option, Some, None, sym, subst, refl, arith, Result, Ok, Err, IfOk, bytes_eq, nat_tests, sha256, Program, Files, Content, Damage, FileNames, by_log, with_image, where_same, pair_by, IsPairOfBytes, told_by, Makes, Reads, Bytes, bytes_of, unless_long, file_bytes, on_bytes, IsLoaded, WithFiles, ByPair, pair_roles, pair_loaded, pair_same, pair_of, LoadedPair, by_reading, Inputs, JointReading, Refusal}
-use Rattle.std.specs.Prelude.{ℕ}
+use Rattle.log_commands.proofs.Common.{◌≡◌, ◌≤◌, nat_lt, length, List, [], Bool, true, false, Option, Some, None, sym, subst, refl, arith, Result, Ok, Err, IfOk, bytes_eq, nat_tests, sha256, Program, Files, Content, Damage, FileNames, by_log, with_image, where_same, pair_by, IsPairOfBytes, told_by, Makes, Reads, Bytes, bytes_of, unless_long, file_bytes, on_bytes, IsLoaded, WithFiles, ByPair, pair_roles, pair_loaded, pair_same, pair_of, LoadedPair, by_reading, Inputs, JointReading, Refusal, ℕ}
 use Rattle.elf_loader.specs.Loaded.{image_of}
 use Rattle.elf_loader.specs.declared.error.ElfError.{ElfError}
 use Rattle.log_commands.specs.declared.names.Role.TheVariants as role

@@ -1,5 +1,6 @@
 -- What is told of the replay of an interval.
-use Rattle.log_commands.proofs.Common.{◌≡◌, ℕ, List, [], ◌++◌, Option, Some, None, ◌∙◌, ap, subst, sym, refl, inl, inr, ◌⊎◌, append_assoc, Appends, append-nil, EndMark, WhereTold, AppendsPart, Replaying, Outcome, Done, Refused, Replayed, Interval, interval_of, ReplayError, FileNames, begin_text, rows_text, Told, Saved, refused, outcome_of, end_of_interval, rest_text, ended, replay_found, SendStops, ToldRefusal, told_of_reading, SameFiles, KeptFiles, Call, AreKept, Tells, ReplayEnd, Refusal, OutOfMemory, ReplayStopped}
+use Rattle.log_commands.proofs.Common.{◌≡◌, ℕ, List, [], ◌++◌, Option, Some, None, ◌∙◌, ap, subst, sym, refl, inl, inr, ◌⊎◌, append_assoc, Appends, append-nil, EndMark, WhereTold, AppendsPart, Replaying, Outcome, Done, Refused, Replayed, interval_of, ReplayError, FileNames, begin_text, rows_text, Told, Saved, refused, outcome_of, end_of_interval, rest_text, ended, replay_found, SendStops, ToldRefusal, told_of_reading, SameFiles, KeptFiles, Call, AreKept, Tells, ReplayEnd, Refusal, OutOfMemory, ReplayStopped}
+use Rattle.hart_replay.specs.Replay.{Interval}
 use Rattle.bn_base.specs.declared.state.HartState.{HartState}
 use Rattle.hart_replay.specs.declared.error.ReplayError.TheVariants.{NoInterval}
 use Rattle.rv_text.specs.Marks.{end_text}

@@ -1,8 +1,6 @@
 -- What is done with an answer: its files are saved, and its texts printed.
 use Rattle.std.specs.Prelude.{◌≡◌, ◌⊎◌, ℕ, Bool, List, Some, Result, OnOk, IfErr}
-use Rattle.bn_outside.specs.Counts.{Rose, NoneFell, counted}
-use Rattle.bn_outside.specs.Files.{SameElsewhere, Stored, WhereTold}
-use Rattle.bn_outside.specs.Streams.{Stream}
+use Rattle.log_commands.specs.Common.{Rose, NoneFell, counted, SameElsewhere, Stored, WhereTold, Stream}
 use Rattle.log_commands.specs.Effects.{World, between, Acts, GivesStatus}
 use Rattle.log_commands.specs.FileCalls.{Note, Saves, store_call, saves_in, saves_of, SavesTo, SavesTold}
 use Rattle.log_commands.specs.Names.{FileNames, name_of}

@@ -1,8 +1,6 @@
 -- What a command makes of the bytes that were loaded, before anything is printed or saved.
 use Rattle.std.specs.Prelude.{◌≡◌, ℕ, List, [], ◌∷◌, Vec, Result, IfOk, IfErr}
-use Rattle.std.specs.declared.alloc.Global.{Global}
-use Rattle.bn_outside.specs.Counts.{NoneFell}
-use Rattle.bn_outside.specs.Files.{Files, Stored}
+use Rattle.log_commands.specs.Common.{Global, NoneFell, Files, Stored}
 use Rattle.log_commands.specs.Commands.{WithFile}
 use Rattle.log_commands.specs.FileCalls.{Note, Loads, store_call, LoadsTo, IsOfLoad}
 use Rattle.log_commands.specs.Inputs.{Bytes, put, limit_of, IsLoaded, OnlyLoads}

@@ -1,16 +1,9 @@
 -- What the command `audit` answers: whether a log is the file of the run of a book's turns.
 use Rattle.std.specs.Prelude.{◌≡◌, ◌≤◌, ◌⊎◌, ℕ, Bool, List, ◌∷◌, length, Option, Some, None, Result, Ok, Err}
-use Rattle.sha2.specs.Sha256.{sha256}
-use Rattle.bn_base.specs.Programs.{Program}
-use Rattle.bn_base.specs.declared.settings.RawSettings.{RawSettings}
-use Rattle.bn_base.specs.Ranges.{IsSetting}
-use Rattle.bn_outside.specs.Files.{Files}
-use Rattle.elf_loader.specs.Loaded.{image_of}
-use Rattle.log_order.specs.Content.{Content}
+use Rattle.log_commands.specs.Common.{sha256, Program, RawSettings, IsSetting, Files, image_of, Content, TurnError}
 use Rattle.run_files.specs.Files.{file_of}
 use Rattle.run_model.specs.Lists.{list_error}
 use Rattle.run_files.specs.Audits.{is_version2, version2_of, audited_file, verdict_of}
-use Rattle.run_model.specs.declared.error.TurnError.{TurnError}
 use Rattle.run_files.specs.declared.verdict.Verdict.{Verdict}
 use Rattle.run_files.specs.declared.verdict.Verdict.TheVariants.{Agree, Differ}
 use Rattle.replay_laws.specs.Law.{IsWhole}

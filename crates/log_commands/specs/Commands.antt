@@ -2,15 +2,7 @@
 -- read by the grammar of its bytes, which is a relation, in the version that they name. But for a recording without a seed no command has two answers
 -- (`one_answer`).
 use Rattle.std.specs.Prelude.{◌≡◌, ℕ, nat_lt, Bool, true, false, List, [], ◌++◌, length, Option, Some, None, Result, Ok, Err}
-use Rattle.bn_base.specs.Programs.{Program}
-use Rattle.bn_base.specs.declared.end_mark.EndMark.{EndMark}
-use Rattle.bn_outside.specs.Files.{Files}
-use Rattle.log_order.specs.Content.{Content}
-use Rattle.log_blocks.specs.Readings.{Reads}
-use Rattle.log_blocks.specs.declared.damage.Damage.{Damage}
-use Rattle.hart_replay.specs.Replay.{Outcome, Done, Refused, Replayed, Interval, interval_of, replayed}
-use Rattle.hart_replay.specs.declared.error.ReplayError.TheVariants.{NoInterval}
-use Rattle.rv_text.specs.Marks.{end_text}
+use Rattle.log_commands.specs.Common.{Program, EndMark, Files, Content, Reads, Damage, Outcome, Done, Refused, Replayed, Interval, interval_of, replayed, NoInterval, end_text}
 use Rattle.log_commands.specs.Names.{FileNames, name_of}
 use Rattle.log_commands.specs.Refusals.{status_of, line_of}
 use Rattle.log_commands.specs.Texts.{begin_text, rows_text, list_text, check_text}

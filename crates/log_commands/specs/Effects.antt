@@ -1,9 +1,6 @@
 -- What a whole call of the program does.
 use Rattle.std.specs.Prelude.{◌≡◌, ◌≢◌, ◌≤◌, ◌⊎◌, ℕ, List, [], Option, Some, None, Result, Ok, Err}
-use Rattle.std.specs.Io.KnownBytes.{Appends}
-use Rattle.bn_outside.specs.Counts.{Rose, NoneFell}
-use Rattle.bn_outside.specs.Files.{Files, Stored, WhereTold}
-use Rattle.bn_outside.specs.Streams.{AppendsPart, AppendsShort, Stream}
+use Rattle.log_commands.specs.Common.{Appends, Rose, NoneFell, Files, Stored, WhereTold, AppendsPart, AppendsShort, Stream}
 use Rattle.log_commands.specs.Names.{FileNames}
 use Rattle.log_commands.specs.Told.{Told, Saved}
 use Rattle.log_commands.specs.Outside.{Refuses, Wrote, SendStops, ToldRefusal, IsEarly, KeptFiles, Unsaved}

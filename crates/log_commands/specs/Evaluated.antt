@@ -1,13 +1,6 @@
 -- What a command comes to, by the bytes of its files.
 use Rattle.std.specs.Prelude.{◌≡◌, ◌⊎◌, ℕ, Bool, true, false, List, Result, Ok, Err}
-use Rattle.std.specs.Str.{bytes_eq}
-use Rattle.sha2.specs.Sha256.{sha256}
-use Rattle.bn_base.specs.Programs.{Program}
-use Rattle.elf_loader.specs.Loaded.{image_of}
-use Rattle.elf_loader.specs.declared.error.ElfError.{ElfError}
-use Rattle.log_order.specs.Content.{Content}
-use Rattle.log_blocks.specs.Readings.{Reads}
-use Rattle.log_blocks.specs.declared.damage.Damage.{Damage}
+use Rattle.log_commands.specs.Common.{bytes_eq, sha256, Program, image_of, ElfError, Content, Reads, Damage}
 use Rattle.log_commands.specs.Names.{FileNames}
 use Rattle.log_commands.specs.Told.{Told, refused}
 use Rattle.log_commands.specs.declared.pairs.JointReading.{JointReading}

@@ -1,7 +1,6 @@
 -- Which calls a command makes of its store, in which order, and what it tells if one of them or what it loaded ends it.
 use Rattle.std.specs.Prelude.{◌≡◌, ◌≢◌, ◌⊎◌, ℕ, Bool, true, false, List, [], ◌∷◌, ◌++◌, Option, Some, None, Result, Ok, Err}
-use Rattle.std.specs.Io.KnownBytes.{Appends}
-use Rattle.bn_outside.specs.Counts.{Counts}
+use Rattle.log_commands.specs.Common.{Appends, Counts}
 use Rattle.bn_outside.specs.StoreCalls.{StoreCall, LoadCall, SaveCall}
 use Rattle.log_commands.specs.Names.{FileNames, name_of}
 use Rattle.log_commands.specs.Inputs.{limit_of}

@@ -1,7 +1,6 @@
 -- What a command loads before it answers: the files that it needs, in its order.
 use Rattle.std.specs.Prelude.{◌≡◌, ◌⊎◌, ℕ, nat_lt, Bool, true, false, List, [], ◌∷◌, length, Option, Some, None, Result, Ok, Err}
-use Rattle.bn_outside.specs.Counts.{NoneFell}
-use Rattle.bn_outside.specs.Files.{Files, Stored}
+use Rattle.log_commands.specs.Common.{NoneFell, Files, Stored}
 use Rattle.log_commands.specs.Names.{FileNames, name_of}
 use Rattle.log_commands.specs.Outside.{ResultCause, without}
 use Rattle.log_commands.specs.declared.inputs.Inputs.{Inputs}

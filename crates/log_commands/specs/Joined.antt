@@ -1,10 +1,6 @@
 -- What the command `joint` answers: the joint replay of all intervals that a log keeps.
 use Rattle.std.specs.Prelude.{◌≡◌, ℕ, List, Option, None, option_map}
-use Rattle.bn_base.specs.Programs.{Program}
-use Rattle.bn_outside.specs.Files.{Files}
-use Rattle.log_order.specs.Content.{Content}
-use Rattle.joint_replay.specs.Joining.{Joining, Ran, fresh, run_all}
-use Rattle.joint_replay.specs.Texts.{joint_text}
+use Rattle.log_commands.specs.Common.{Program, Files, Content, Joining, Ran, fresh, run_all, joint_text}
 use Rattle.log_commands.specs.Names.{FileNames}
 use Rattle.log_commands.specs.Refusals.{joint_refusal}
 use Rattle.log_commands.specs.Told.{Told, printed_until}

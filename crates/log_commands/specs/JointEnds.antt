@@ -1,11 +1,9 @@
 -- How the command `joint` prints.
 use Rattle.std.specs.Prelude.{◌≡◌, ◌⊎◌, Some, None, Result, OnOk, IfErr}
 use Rattle.hart_replay.specs.declared.error.ReplayError.TheVariants as replay
-use Rattle.joint_replay.specs.Joining.{Joining, Ran, run_all}
-use Rattle.joint_replay.specs.Texts.{joint_text, steps_text}
+use Rattle.log_commands.specs.Common.{Joining, Ran, run_all, joint_text, steps_text, Stream}
 use Rattle.log_commands.specs.Names.{FileNames}
 use Rattle.log_commands.specs.Told.{Told}
-use Rattle.bn_outside.specs.Streams.{Stream}
 use Rattle.log_commands.specs.Outside.{SendsUntil}
 use Rattle.log_commands.specs.Joined.{joint_with, stop_of}
 use Rattle.log_commands.specs.declared.pairs.JointReading.{JointReading}

@@ -1,9 +1,6 @@
 -- The interval of a log that is replayed.
 use Rattle.std.specs.Prelude.{◌≡◌, Some, None}
-use Rattle.bn_base.specs.declared.end_mark.EndMark.{EndMark}
-use Rattle.hart_replay.specs.Coming.{Replaying}
-use Rattle.hart_replay.specs.Replay.{Interval, interval_of, replayed}
-use Rattle.hart_replay.specs.declared.error.ReplayError.TheVariants.{NoInterval}
+use Rattle.log_commands.specs.Common.{EndMark, Replaying, Interval, interval_of, replayed, NoInterval}
 use Rattle.log_commands.specs.declared.answer.IntervalToReplay.{IntervalToReplay}
 use Rattle.log_commands.specs.declared.refusal.Refusal.{Refusal}
 use Rattle.log_commands.specs.declared.refusal.Refusal.TheVariants.{ReplayStopped}

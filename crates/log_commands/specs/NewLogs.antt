@@ -1,8 +1,6 @@
 -- What the commands `convert` and `salvage` answer: a log is saved that is made of another.
 use Rattle.std.specs.Prelude.{◌≡◌, ℕ, List, [], Some, None, Result, Ok, Err}
-use Rattle.log_order.specs.Content.{Content}
-use Rattle.log_file.specs.Layout.{file_bytes2}
-use Rattle.log_blocks.specs.Readings.{Salvages}
+use Rattle.log_commands.specs.Common.{Content, file_bytes2, Salvages}
 use Rattle.log_blocks.specs.declared.damage.SalvageError.{SalvageError}
 use Rattle.log_blocks.specs.declared.damage.SalvageError.TheVariants as salvage
 use Rattle.log_commands.specs.Names.{FileNames}

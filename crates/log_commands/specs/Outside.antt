@@ -1,20 +1,8 @@
 -- What the parts of a command do to the outside.
 use Rattle.std.specs.Prelude.{◌≡◌, ◌≢◌, ◌≤◌, ◌<◌, ◌⊎◌, ◌++◌, ℕ, List, [], length, Option, Some, None, Result, Ok, Err, IfErr, OnErr, IsSomeAnd, option_map, Bool, true, false}
-use Rattle.std.specs.Io.KnownBytes.{Appends}
-use Rattle.std.specs.Str.{bytes_eq}
+use Rattle.log_commands.specs.Common.{Appends, bytes_eq, Global, Counts, Rose, Files, SameElsewhere, WhereTold, AppendsPart, AppendsShort, Stream, Program, RawSettings, image_of, ElfError, Content, Reads, Damage}
 use Rattle.std.specs.declared.vec.Vec.{Vec}
-use Rattle.std.specs.declared.alloc.Global.{Global}
-use Rattle.bn_outside.specs.Counts.{Counts, Rose}
-use Rattle.bn_outside.specs.Files.{Files, SameElsewhere, WhereTold}
-use Rattle.bn_outside.specs.Streams.{AppendsPart, AppendsShort, Stream}
-use Rattle.bn_base.specs.Programs.{Program}
-use Rattle.bn_base.specs.declared.settings.RawSettings.{RawSettings}
-use Rattle.elf_loader.specs.Loaded.{image_of}
-use Rattle.elf_loader.specs.declared.error.ElfError.{ElfError}
-use Rattle.log_order.specs.Content.{Content}
 use Rattle.log_blocks.specs.File.{IsRefusal}
-use Rattle.log_blocks.specs.Readings.{Reads}
-use Rattle.log_blocks.specs.declared.damage.Damage.{Damage}
 use Rattle.log_commands.specs.Names.{FileNames, name_of}
 use Rattle.log_commands.specs.Refusals.{status_of, line_of, log_refusal}
 use Rattle.log_commands.specs.Told.{Told, Saved, refused, printed}

@@ -1,14 +1,6 @@
 -- What a command answers by a log and the program that it was recorded of.
 use Rattle.std.specs.Prelude.{◌≡◌, ◌≤◌, ◌⊎◌, Bool, true, false, ℕ, List, [], ◌∷◌, length, Option, Some, Result, Ok, Err}
-use Rattle.std.specs.Str.{bytes_eq}
-use Rattle.sha2.specs.Sha256.{sha256}
-use Rattle.bn_base.specs.Programs.{Program}
-use Rattle.bn_outside.specs.Files.{Files}
-use Rattle.elf_loader.specs.Loaded.{image_of}
-use Rattle.elf_loader.specs.declared.error.ElfError.{ElfError}
-use Rattle.log_order.specs.Content.{Content, IsContent}
-use Rattle.log_file.specs.Layout.{saved_bytes, file_bytes2}
-use Rattle.log_blocks.specs.Readings.{Reads}
+use Rattle.log_commands.specs.Common.{bytes_eq, sha256, Program, Files, image_of, ElfError, Content, IsContent, saved_bytes, file_bytes2, Reads}
 use Rattle.log_commands.specs.Names.{FileNames}
 use Rattle.log_commands.specs.Told.{Told, refused}
 use Rattle.log_commands.specs.Commands.{WithFile, IsByLog}

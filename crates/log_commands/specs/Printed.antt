@@ -1,12 +1,7 @@
 -- What a replay prints on out.
 use Rattle.std.specs.Prelude.{◌≡◌, ◌⊎◌, List, [], ◌++◌, ℕ, Result, Ok, Err, IfErr}
-use Rattle.bn_base.specs.declared.end_mark.EndMark.{EndMark}
-use Rattle.hart_replay.specs.Replay.{Outcome, Done, Refused, Replayed}
-use Rattle.hart_replay.specs.Coming.{Replaying, outcome_only}
-use Rattle.hart_replay.specs.declared.error.ReplayError.{ReplayError}
+use Rattle.log_commands.specs.Common.{EndMark, Outcome, Done, Refused, Replayed, Replaying, outcome_only, ReplayError, end_text, AppendsShort, Stream}
 use Rattle.hart_replay.specs.declared.error.ReplayError.TheVariants as replay
-use Rattle.rv_text.specs.Marks.{end_text}
-use Rattle.bn_outside.specs.Streams.{AppendsShort, Stream}
 use Rattle.log_commands.specs.Outside.{Sends}
 use Rattle.log_commands.specs.Texts.{begin_text, rows_text}
 use Rattle.log_commands.specs.declared.replay_lines.ReplayEnd.{ReplayEnd}

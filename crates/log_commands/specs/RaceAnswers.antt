@@ -1,10 +1,6 @@
 -- What the command `races` answers: the races of what a log keeps, or that there are more than asked for.
 use Rattle.std.specs.Prelude.{◌≡◌, ◌≤◌, ℕ, nat_lt, Bool, true, false, List, Option, Some, None}
-use Rattle.bn_base.specs.Programs.{Program}
-use Rattle.bn_outside.specs.Files.{Files}
-use Rattle.log_order.specs.Content.{Content}
-use Rattle.joint_replay.specs.declared.error.JointError.{JointError}
-use Rattle.joint_replay.specs.Joining.{Ran, run_all}
+use Rattle.log_commands.specs.Common.{Program, Files, Content, JointError, Ran, run_all}
 use Rattle.race_report.specs.Races.{race_count, races_of}
 use Rattle.race_report.specs.Reports.{points_in}
 use Rattle.race_report.specs.Texts.{races_text}

@@ -1,21 +1,13 @@
 -- Why a command is refused: its status, and the line on err.
 use Rattle.std.specs.Prelude.{ℕ, ◌-◌, ◌^◌, false, List, ◌++◌, [], codes, decimal, Bool, true, Option, Some, None}
-use Rattle.std.specs.List.{flat_map}
+use Rattle.log_commands.specs.Common.{flat_map, setting_name, hex8, mark_text, ElfError, Damage, ReplayError, JointError, TurnError}
 use Rattle.std.specs.Fmt.{digits, padded_integral, format_spec}
-use Rattle.bn_base.specs.Ranges.{setting_name}
-use Rattle.rv_text.specs.Instructions.{hex8}
-use Rattle.rv_text.specs.Marks.{mark_text}
-use Rattle.elf_loader.specs.declared.error.ElfError.{ElfError}
 use Rattle.elf_loader.specs.declared.error.ElfError.TheVariants as elf
 use Rattle.log_file.specs.declared.error.FileError.{FileError}
 use Rattle.log_file.specs.declared.error.FileError.TheVariants as file
-use Rattle.log_blocks.specs.declared.damage.Damage.{Damage}
 use Rattle.log_blocks.specs.declared.damage.Damage.TheVariants.{File, BadBlock}
-use Rattle.hart_replay.specs.declared.error.ReplayError.{ReplayError}
 use Rattle.hart_replay.specs.declared.error.ReplayError.TheVariants as replay
-use Rattle.joint_replay.specs.declared.error.JointError.{JointError}
 use Rattle.joint_replay.specs.declared.error.JointError.TheVariants as joint
-use Rattle.run_model.specs.declared.error.TurnError.{TurnError}
 use Rattle.run_model.specs.declared.error.TurnError.TheVariants as turns
 use Rattle.log_commands.specs.Names.{FileNames, name_of}
 use Rattle.log_commands.specs.Marks.{counted}

@@ -1,8 +1,6 @@
 -- What the command `slice` answers: the backward slice of the row of a count in an interval that a log keeps.
 use Rattle.std.specs.Prelude.{◌≡◌, ℕ, List, Result, Ok, Err}
-use Rattle.bn_base.specs.Programs.{Program}
-use Rattle.bn_outside.specs.Files.{Files}
-use Rattle.log_order.specs.Content.{Content}
+use Rattle.log_commands.specs.Common.{Program, Files, Content}
 use Rattle.slice_back.specs.Slices.{sliced}
 use Rattle.slice_back.specs.Texts.{text_of}
 use Rattle.slice_back.specs.declared.error.SliceError.{SliceError}

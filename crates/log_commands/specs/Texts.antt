@@ -1,14 +1,11 @@
 -- The texts of intervals, logs and recordings.
 use Rattle.std.specs.Prelude.{ℕ, List, [], ◌∷◌, ◌++◌, codes, decimal}
-use Rattle.std.specs.List.{flat_map}
-use Rattle.bn_base.specs.declared.end_mark.EndMark.{EndMark}
+use Rattle.log_commands.specs.Common.{flat_map, EndMark, Content, mark_text}
 use Rattle.bn_base.specs.declared.row.Row.{Row}
 use Rattle.rv_text.specs.Rows.{row_text}
 use Rattle.log_record.specs.declared.record.Record.{Record}
 use Rattle.log_record.specs.declared.record.Record.TheVariants.{Header}
-use Rattle.log_order.specs.Content.{Content}
 use Rattle.hart_replay.specs.Scans.{mark_in}
-use Rattle.rv_text.specs.Marks.{mark_text}
 use Rattle.log_commands.specs.Marks.{counted}
 use Rattle.log_file.specs.declared.counting.LogCounts.{LogCounts}
 use Rattle.log_file.specs.Counts.{counts_of}

@@ -1,8 +1,6 @@
 //! The line of a refusal on err; each of its bytes is said in specs/Refusals.antt.
 ghost use Rattle.std.specs.Prelude.{◌≡◌, ◌++◌, OnOk, codes, decimal};
-ghost use Rattle.rv_text.specs.Instructions.{hex8};
-ghost use Rattle.bn_base.specs.Ranges.{setting_name};
-ghost use Rattle.rv_text.specs.Marks.{mark_text};
+ghost use Rattle.log_commands.specs.Common.{hex8, setting_name, mark_text};
 ghost use Rattle.log_commands.specs.Refusals.{digest_text, pair_text, digests_text, elf_said, file_said, log_said, replay_said, position_text, positions_text, book_said, said_of, line_of};
 ghost use Rattle.log_commands.specs.Marks.{counted};
 

@@ -1,7 +1,6 @@
 //! A log and the program that it was recorded of.
 ghost use Rattle.std.specs.Prelude.{◌≡◌};
-ghost use Rattle.std.specs.Str.{bytes_eq};
-ghost use Rattle.sha2.specs.Sha256.{sha256};
+ghost use Rattle.log_commands.specs.Common.{bytes_eq, sha256};
 ghost use Rattle.log_commands.specs.Evaluated.{Makes, IsPairOfBytes, where_same};
 ghost use Rattle.log_commands.specs.Outside.{IsOwn};
 ghost use Rattle.log_commands.specs.PairAnswers.{LoadsPair};

@@ -1,31 +1,8 @@
 -- A file that is written is read again.
-use Rattle.std.proofs.Common.{◌≡◌, ℕ, ◌+◌, ◌-◌, ◌%◌, ◌^◌, ◌<◌, ◌≤◌, List, ◌++◌, length, take, drop, length-drop, length-append, Result, Ok, Err, Option, Some, None, refl, sym, ap, subst, ◌∙◌, arith, inl, inr}
-use Rattle.std.specs.Prelude.{Bool, IsTrue, true, false, ◌==◌, ◌&&◌, ◌||◌, if◌then◌else◌, IfOk, IfErr, MatchResult}
-use Rattle.std.specs.List.{flat_map, AllByRecursion}
-use Rattle.std.proofs.lemmas.Bool.{eq-eqb, eqb-true, le-ltb}
-use Rattle.std.proofs.lemmas.List.{drop-drop, take_at, drop_at}
-use Rattle.std.proofs.lemmas.Slice.Eq.{bytes_eq-Decides}
-use Rattle.sha2.specs.Sha256.{sha256}
+use Rattle.log_file.proofs.Common.{◌≡◌, ℕ, ◌+◌, ◌-◌, ◌%◌, ◌^◌, ◌<◌, ◌≤◌, List, ◌++◌, length, take, drop, length-drop, length-append, Result, Ok, Err, Option, Some, None, refl, sym, ap, subst, ◌∙◌, arith, inl, inr, Bool, IsTrue, true, false, ◌==◌, ◌&&◌, ◌||◌, if◌then◌else◌, IfOk, IfErr, MatchResult, flat_map, AllByRecursion, eq-eqb, eqb-true, le-ltb, drop-drop, take_at, drop_at, bytes_eq-Decides, sha256, RawSettings, IsSetting, is_between, is_small_power, is_memory_size, most_harts, first_bad, number_at, number_bytes, HaveTheirWidth, Head, Record, Header, FirstLoad, ScOk, ScFailed, Edge, End, bytes_of, Fits, total, BeginNoOther, OrderBreak, order_break, broken_by, Content, content, IsContent, FileError, Short, BadMagic, BadVersion, BadHead, LengthDiffers, DigestDiffers, BadRecord, BadOrder, OutOfMemory, magic, signed_bytes, file_bytes, IsVersion1, settings_in, head_in, dropped_in, size_in, head_fault, signed_of, file_fault, IsRecordsFault, IsRefusal, SayOneThing, AreNotRefused, HaveTheirSize}
 use Rattle.sha2.proofs.Facts256.{length-sha256}
-use Rattle.bn_base.specs.declared.settings.RawSettings.{RawSettings}
-use Rattle.bn_base.specs.Ranges.{IsSetting, is_between, is_small_power, is_memory_size, most_harts, first_bad}
 use Rattle.std.specs.Int.{is_power_of_two}
-use Rattle.le_numbers.specs.Numbers.{number_at, number_bytes}
-use Rattle.le_numbers.specs.Laws.{HaveTheirWidth, AreRead}
-use Rattle.log_record.specs.declared.head.Head.{Head}
-use Rattle.log_record.specs.declared.record.Record.{Record}
-use Rattle.log_record.specs.declared.record.Record.TheVariants.{Header, FirstLoad, ScOk, ScFailed, Edge, End}
-use Rattle.log_record.specs.Spelling.{bytes_of, Fits, total}
-use Rattle.log_record.specs.Laws.{BeginNoOther}
-use Rattle.log_order.specs.declared.walk.OrderBreak.{OrderBreak}
-use Rattle.log_order.specs.Order.{order_break, broken_by}
-use Rattle.log_order.specs.Content.{Content, content, IsContent}
-use Rattle.log_file.specs.declared.error.FileError.{FileError}
-use Rattle.log_file.specs.declared.error.FileError.TheVariants.{Short, BadMagic, BadVersion, BadHead, LengthDiffers, DigestDiffers, BadRecord, BadOrder, OutOfMemory}
-use Rattle.log_file.specs.Layout.{magic, signed_bytes, file_bytes, IsVersion1, settings_in, head_in, dropped_in, size_in}
-use Rattle.log_file.specs.Faults.{head_fault, signed_of, file_fault}
-use Rattle.log_file.specs.File.{IsRecordsFault, IsRefusal}
-use Rattle.log_file.specs.Laws.{SayOneThing, AreNotRefused, HaveTheirSize}
+use Rattle.le_numbers.specs.Laws.{AreRead}
 use Rattle.log_file.proofs.Rows.{ArePrefixFree, no_stop, one_row}
 use Rattle.log_file.proofs.Heads.{spelled, signed_is_spelled}
 

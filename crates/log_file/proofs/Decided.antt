@@ -1,32 +1,11 @@
 -- Bytes are a log's, or there is a cause to refuse them.
-use Rattle.std.proofs.Common.{◌≡◌, ◌≢◌, ◌≤◌, ◌<◌, ◌-◌, ◌+◌, ℕ, zero, suc, Bool, true, false, not, cond, eqb, ltb, nat_le, List, [], ◌∷◌, ◌++◌, length, take, drop, Option, Some, None, ◌∙◌, ap, subst, sym, refl, arith, inl, inr, ◌⊎◌, append_assoc, length-append}
-use Rattle.std.specs.Prelude.{slice_index, IsTrue}
-use Rattle.std.specs.List.{flat_map, AllByRecursion}
-use Rattle.std.specs.Str.{bytes_eq}
+use Rattle.log_file.proofs.Common.{◌≡◌, ◌≢◌, ◌≤◌, ◌<◌, ◌-◌, ◌+◌, ℕ, zero, suc, Bool, true, false, not, cond, eqb, ltb, nat_le, List, [], ◌∷◌, ◌++◌, length, take, drop, Option, Some, None, ◌∙◌, ap, subst, sym, refl, arith, inl, inr, ◌⊎◌, append_assoc, length-append, slice_index, IsTrue, flat_map, AllByRecursion, bytes_eq, ltb-false, take-append-drop, get_or-drop, length-take, length-drop, sha256, first_bad, BadSetting, AreBytes, AreWritten as NumbersAreWritten, Fit, Record, TellTheirSize, AreRead, bytes_of, size_of, is_marked, Fits, OrderBreak, broken_by, Content, content, IsContent, setting_fault, head_fault, file_fault, signed_of, NoRecord, IsRefusal, head_in, dropped_in, settings_in, size_in, magic, file_bytes, IsVersion1, FileError, Short, BadMagic, BadVersion, BadHead, LengthDiffers, DigestDiffers, BadRecord, BadOrder, OutOfMemory, number_at}
 use Rattle.std.proofs.lemmas.Bool.Decides.{nat_tests}
-use Rattle.std.proofs.lemmas.Bool.{ltb-false}
-use Rattle.std.proofs.lemmas.List.{take-append-drop, get_or-drop, length-take, length-drop}
-use Rattle.sha2.specs.Sha256.{sha256}
-use Rattle.bn_base.specs.Ranges.{first_bad}
-use Rattle.bn_base.specs.declared.settings.BadSetting.{BadSetting}
-use Rattle.le_numbers.specs.Numbers.{AreBytes}
-use Rattle.le_numbers.specs.Laws.{AreWritten as NumbersAreWritten, Fit}
-use Rattle.log_record.specs.declared.record.Record.{Record}
-use Rattle.log_record.specs.Laws.{TellTheirSize, AreRead, AreWritten}
+use Rattle.log_record.specs.Laws.{AreWritten}
 use Rattle.log_record.specs.Reading.{record_in}
-use Rattle.log_record.specs.Spelling.{bytes_of, size_of, is_marked, Fits}
-use Rattle.log_order.specs.declared.walk.OrderBreak.{OrderBreak}
-use Rattle.log_order.specs.Order.{broken_by}
-use Rattle.log_order.specs.Content.{Content, content, IsContent}
-use Rattle.log_file.specs.Faults.{setting_fault, head_fault, file_fault, signed_of}
-use Rattle.log_file.specs.File.{NoRecord, IsRefusal}
 use Rattle.log_file.specs.Readings.{AreReadOrRefused}
-use Rattle.log_file.specs.Layout.{head_in, dropped_in, settings_in, size_in, magic, file_bytes, IsVersion1}
-use Rattle.log_file.specs.declared.error.FileError.{FileError}
-use Rattle.log_file.specs.declared.error.FileError.TheVariants.{Short, BadMagic, BadVersion, BadHead, LengthDiffers, DigestDiffers, BadRecord, BadOrder, OutOfMemory}
 use Rattle.log_file.proofs.Heads.{no_fault, is_file, front_bytes}
 use Rattle.log_file.proofs.Again.{some_bytes}
-use Rattle.le_numbers.specs.Numbers.{number_at}
 
 -- ---- records
 

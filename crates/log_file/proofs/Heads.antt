@@ -1,25 +1,6 @@
 -- What a head without a fault says.
-use Rattle.std.proofs.Common.{◌≡◌, ℕ, ◌-◌, ◌<◌, ◌≤◌, Bool, true, false, not, cond, eqb, ltb, List, ◌++◌, length, take, drop, length-drop, Result, Ok, Option, Some, None, inl, inr, refl, sym, ap, subst, ◌∙◌, append_assoc, arith}
-use Rattle.std.specs.Prelude.{slice_index}
-use Rattle.std.specs.List.{flat_map}
-use Rattle.std.specs.Str.{bytes_eq}
-use Rattle.std.proofs.lemmas.Bool.{cases_lt, eqb-true, eq-eqb, ltb-false}
-use Rattle.std.proofs.lemmas.List.{drop-drop, take-append-drop, get_or_append_left, get_or_past}
-use Rattle.std.proofs.lemmas.Slice.Eq.{bytes_eq-Decides}
-use Rattle.sha2.specs.Sha256.{sha256}
-use Rattle.bn_base.specs.declared.settings.BadSetting.{BadSetting}
-use Rattle.bn_base.specs.declared.settings.RawSettings.{RawSettings}
-use Rattle.bn_base.specs.Ranges.{first_bad, checked, checked_by}
-use Rattle.le_numbers.specs.Numbers.{number_at, number_bytes, AreBytes}
-use Rattle.le_numbers.specs.Laws.{AreWritten}
-use Rattle.log_record.specs.declared.head.Head.{Head}
-use Rattle.log_record.specs.Spelling.{bytes_of}
-use Rattle.log_order.specs.Content.{Content}
-use Rattle.log_file.specs.declared.error.FileError.{FileError}
-use Rattle.log_file.specs.declared.error.FileError.TheVariants.{BadMagic, BadVersion, BadHead, LengthDiffers, DigestDiffers}
-use Rattle.log_file.specs.Layout.{magic, settings_bytes, signed_bytes, settings_in, head_in, dropped_in, size_in, file_bytes}
-use Rattle.log_file.specs.Faults.{setting_fault, later_fault, head_fault}
-use Rattle.log_file.specs.File.{HasFields}
+use Rattle.log_file.proofs.Common.{◌≡◌, ℕ, ◌-◌, ◌<◌, ◌≤◌, Bool, true, false, not, cond, eqb, ltb, List, ◌++◌, length, take, drop, length-drop, Result, Ok, Option, Some, None, inl, inr, refl, sym, ap, subst, ◌∙◌, append_assoc, arith, slice_index, flat_map, bytes_eq, eqb-true, eq-eqb, ltb-false, drop-drop, take-append-drop, get_or_append_left, get_or_past, bytes_eq-Decides, sha256, BadSetting, RawSettings, first_bad, checked, checked_by, number_at, number_bytes, AreBytes, AreWritten, Head, bytes_of, Content, FileError, BadMagic, BadVersion, BadHead, LengthDiffers, DigestDiffers, magic, settings_bytes, signed_bytes, settings_in, head_in, dropped_in, size_in, file_bytes, setting_fault, later_fault, head_fault, HasFields}
+use Rattle.std.proofs.lemmas.Bool.{cases_lt}
 
 -- the bytes before the last digest, grouped from their front
 unfoldable pub spelled : Head → ℕ → ℕ → List ℕ → List ℕ

@@ -1,14 +1,5 @@
 -- Bytes have at most one first cause for a refusal.
-use Rattle.std.proofs.Common.{◌≡◌, ℕ, List, Option, Some, None, refl, sym, ap, ◌∙◌, inl, inr}
-use Rattle.std.specs.Prelude.{◌≢◌}
-use Rattle.log_record.specs.declared.head.Head.{Head}
-use Rattle.log_record.specs.Spelling.{bytes_of, total, Fits}
-use Rattle.log_record.specs.Laws.{BeginNoOther}
-use Rattle.log_order.specs.declared.walk.OrderBreak.{OrderBreak}
-use Rattle.log_order.specs.Order.{order_break, broken_by}
-use Rattle.log_file.specs.declared.error.FileError.{FileError}
-use Rattle.log_file.specs.declared.error.FileError.TheVariants.{Short, BadMagic, BadVersion, BadHead, LengthDiffers, DigestDiffers, BadRecord, BadOrder, OutOfMemory}
-use Rattle.log_file.specs.File.{NoRecord, BreaksOrder, IsRecordsFault, IsRefusal}
+use Rattle.log_file.proofs.Common.{◌≡◌, ℕ, List, Option, Some, None, refl, sym, ap, ◌∙◌, inl, inr, ◌≢◌, Head, bytes_of, total, Fits, BeginNoOther, OrderBreak, order_break, broken_by, FileError, Short, BadMagic, BadVersion, BadHead, LengthDiffers, DigestDiffers, BadRecord, BadOrder, OutOfMemory, NoRecord, BreaksOrder, IsRecordsFault, IsRefusal}
 use Rattle.log_file.proofs.Rows.{no_stop, one_row, one_stop}
 use Rattle.log_file.proofs.Again.{records_free}
 

@@ -1,27 +1,6 @@
 -- What is tested of a file's bytes, and told of them, is its log's.
-use Rattle.std.proofs.Common.{◌≡◌, ℕ, ◌-◌, ◌^◌, ◌<◌, ◌≤◌, List, [], ◌++◌, length, drop, append-nil, length-append, length-drop, None, Result, Ok, Err, inr, refl, sym, ap, subst, ◌∙◌, arith}
-use Rattle.std.specs.Prelude.{IfOk, IfErr, ◌≢◌}
-use Rattle.std.specs.List.{flat_map, AllByRecursion}
-use Rattle.std.proofs.lemmas.List.{length-take-le}
-use Rattle.bn_base.specs.declared.settings.RawSettings.{RawSettings}
-use Rattle.bn_base.specs.Ranges.{IsSetting}
-use Rattle.le_numbers.specs.Numbers.{AreBytes}
-use Rattle.le_numbers.specs.Laws.{AreWritten}
-use Rattle.log_record.specs.declared.head.Head.{Head}
-use Rattle.log_record.specs.declared.record.Record.{Record}
-use Rattle.log_record.specs.Laws.{BeginNoOther}
-use Rattle.log_record.specs.Spelling.{bytes_of, Fits}
-use Rattle.log_order.specs.Order.{broken_by}
-use Rattle.log_order.specs.Content.{Content, content, IsContent}
-use Rattle.log_file.specs.declared.counting.LogCounts.{LogCounts}
-use Rattle.log_file.specs.declared.error.FileError.{FileError}
-use Rattle.log_file.specs.declared.error.FileError.TheVariants.{OutOfMemory}
+use Rattle.log_file.proofs.Common.{◌≡◌, ℕ, ◌-◌, ◌^◌, ◌<◌, ◌≤◌, List, [], ◌++◌, length, drop, append-nil, length-append, length-drop, None, Result, Ok, Err, inr, refl, sym, ap, subst, ◌∙◌, arith, IfOk, IfErr, ◌≢◌, flat_map, AllByRecursion, length-take-le, RawSettings, IsSetting, AreBytes, AreWritten, Head, Record, BeginNoOther, bytes_of, Fits, broken_by, Content, content, IsContent, LogCounts, FileError, OutOfMemory, settings_in, digest_in, head_in, dropped_in, file_bytes, IsVersion1, head_fault, signed_of, AreInOrder, HasFields, IsRefusal, SayOneThing, AreNotRefused, counts_of, IsCounted, Tells, TestsFields, TestsFile, CountsFile}
 use Rattle.log_file.specs.declared.testing.Tested.{Tested}
-use Rattle.log_file.specs.Layout.{settings_in, digest_in, head_in, dropped_in, file_bytes, IsVersion1}
-use Rattle.log_file.specs.Faults.{head_fault, signed_of}
-use Rattle.log_file.specs.File.{AreInOrder, HasFields, IsRefusal}
-use Rattle.log_file.specs.Laws.{SayOneThing, AreNotRefused}
-use Rattle.log_file.specs.Counts.{counts_of, IsCounted, Tells, TestsFields, TestsFile, CountsFile}
 use Rattle.log_file.proofs.Again.{fit_first, no_file_fault, records_free, some_bytes}
 use Rattle.log_file.proofs.Heads.{is_file, front_bytes}
 use Rattle.log_file.proofs.Rows.{one_stop}

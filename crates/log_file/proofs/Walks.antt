@@ -1,25 +1,10 @@
 -- Walking along the records of a log, one after another.
-use Rattle.std.proofs.Common.{Bool, true, false, ◌≡◌, ℕ, ◌+◌, ◌-◌, ◌<◌, ◌≤◌, List, [], ◌∷◌, ◌++◌, length, length-append, append-nil, append_assoc, drop, Option, Some, None, Result, Ok, Err, refl, sym, ap, ap₂, ◌∙◌, arith, take, replicate}
-use Rattle.std.specs.Prelude.{slice_index, ◌==◌, ◌≢◌}
-use Rattle.std.proofs.lemmas.List.{drop_at, take-replicate}
-use Rattle.std.specs.List.{flat_map, list_any, AllByRecursion}
-use Rattle.log_record.specs.declared.head.Head.{Head}
-use Rattle.log_record.specs.declared.record.Record.{Record}
-use Rattle.log_record.specs.declared.record.Record.TheVariants.{Header, FirstLoad, ScOk, ScFailed, Edge, End}
-use Rattle.log_record.specs.Spelling.{size_of, bytes_of, total, Fits, BeginsWith}
-use Rattle.log_record.specs.Laws.{TellTheirSize}
-use Rattle.bn_base.specs.declared.settings.RawSettings.{RawSettings}
+use Rattle.log_file.proofs.Common.{Bool, true, false, ◌≡◌, ℕ, ◌+◌, ◌-◌, ◌<◌, ◌≤◌, List, [], ◌∷◌, ◌++◌, length, length-append, append-nil, append_assoc, drop, Option, Some, None, Result, Ok, Err, refl, sym, ap, ap₂, ◌∙◌, arith, take, replicate, slice_index, ◌==◌, ◌≢◌, drop_at, take-replicate, flat_map, list_any, AllByRecursion, Head, Record, Header, FirstLoad, ScOk, ScFailed, Edge, End, size_of, bytes_of, total, Fits, BeginsWith, TellTheirSize, RawSettings, OrderBreak, ◌>>=◌, at_place, order_break, step, after_all, is_late, late_edge, end_break, broken_in, broken, broken_by, order_limits_of, is_unfinished, fresh, LogCounts, BreaksOrder, headers_of, header_count, Walks, IsWalked, IsTallied, IsCounted}
 use Rattle.log_order.specs.declared.view.OrderLimits.{OrderLimits}
 use Rattle.log_order.specs.declared.view.HartView.{HartView}
-use Rattle.log_order.specs.declared.walk.OrderBreak.{OrderBreak}
-use Rattle.log_order.specs.Order.{◌>>=◌, at_place, order_break, step, after_all, is_late, late_edge, end_break, broken_in, broken, broken_by, order_limits_of}
-use Rattle.log_order.specs.Rules.{is_unfinished, fresh}
 use Rattle.log_file.proofs.Again.{some_bytes}
-use Rattle.log_file.specs.declared.counting.LogCounts.{LogCounts}
 use Rattle.log_file.specs.declared.counting.Tally.{Tally}
 use Rattle.log_file.specs.declared.counting.Walked.{Walked}
-use Rattle.log_file.specs.File.{BreaksOrder}
-use Rattle.log_file.specs.Counts.{headers_of, header_count, Walks, IsWalked, IsTallied, IsCounted}
 
 abbrev Harts : Type 0
 Harts = List HartView

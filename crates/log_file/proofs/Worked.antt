@@ -1,16 +1,5 @@
 -- What is wrong with a few bytes, worked out.
-use Rattle.std.proofs.Common.{◌≡◌, ℕ, Bool, false, not, ◌∷◌, ◌++◌, [], List, replicate, Some, None, refl, arith, ap}
-use Rattle.std.specs.Prelude.{if◌then◌else◌}
-use Rattle.std.specs.Str.{bytes_eq}
-use Rattle.sha2.specs.Sha256.{sha256}
-use Rattle.le_numbers.specs.Numbers.{number_at, number_bytes}
-use Rattle.log_record.specs.declared.record.Record.{Record}
-use Rattle.log_record.specs.declared.record.Record.TheVariants.{Header, FirstLoad, ScOk, ScFailed, Edge, End}
-use Rattle.log_record.specs.Spelling.{bytes_of}
-use Rattle.log_file.specs.declared.error.FileError.TheVariants.{Short, BadMagic, BadVersion, BadHead, LengthDiffers, DigestDiffers}
-use Rattle.log_file.specs.Layout.{magic, settings_bytes, signed_bytes}
-use Rattle.log_file.specs.Faults.{head_fault, file_fault}
-use Rattle.log_file.specs.File.{NoRecord}
+use Rattle.log_file.proofs.Common.{◌≡◌, ℕ, Bool, false, not, ◌∷◌, ◌++◌, [], List, replicate, Some, None, refl, arith, ap, if◌then◌else◌, bytes_eq, sha256, number_at, number_bytes, Record, Header, FirstLoad, ScOk, ScFailed, Edge, End, bytes_of, Short, BadMagic, BadVersion, BadHead, LengthDiffers, DigestDiffers, magic, settings_bytes, signed_bytes, head_fault, file_fault, NoRecord}
 use Rattle.log_file.specs.Examples.{no_digest, signed, signed_as}
 
 pub short_is : file_fault (replicate 123 0) ≡ Some (Short 123)

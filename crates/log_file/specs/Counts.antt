@@ -1,16 +1,8 @@
 -- What is counted of a log.
 use Rattle.std.specs.Prelude.{◌≡◌, ℕ, ◌+◌, ◌≤◌, List, [], ◌∷◌, length, drop, Option, Some, None, Result, Ok, Err}
-use Rattle.std.specs.List.{flat_map, AllByRecursion}
-use Rattle.bn_base.specs.declared.settings.RawSettings.{RawSettings}
-use Rattle.log_record.specs.declared.head.Head.{Head}
-use Rattle.log_record.specs.declared.record.Record.{Record}
+use Rattle.log_file.specs.Common.{flat_map, AllByRecursion, RawSettings, Head, Record, bytes_of, total, Fits, HartView, OrderBreak, after_all, broken_by, Content}
 use Rattle.log_record.specs.declared.record.Record.TheVariants.{Header, FirstLoad, ScOk, ScFailed, Edge, End}
-use Rattle.log_record.specs.Spelling.{bytes_of, total, Fits}
 use Rattle.log_order.specs.declared.view.OrderLimits.{OrderLimits}
-use Rattle.log_order.specs.declared.view.HartView.{HartView}
-use Rattle.log_order.specs.declared.walk.OrderBreak.{OrderBreak}
-use Rattle.log_order.specs.Order.{after_all, broken_by}
-use Rattle.log_order.specs.Content.{Content}
 use Rattle.log_file.specs.declared.counting.LogCounts.{LogCounts}
 use Rattle.log_file.specs.declared.counting.Tally.{Tally}
 use Rattle.log_file.specs.declared.counting.Walked.{Walked}

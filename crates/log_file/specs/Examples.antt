@@ -1,9 +1,6 @@
 -- Heads of small logs.
 use Rattle.std.specs.Prelude.{ℕ, replicate, [], List, ◌++◌}
-use Rattle.bn_base.specs.Ranges.{default_settings}
-use Rattle.bn_base.specs.declared.settings.RawSettings.{RawSettings}
-use Rattle.le_numbers.specs.Numbers.{number_bytes}
-use Rattle.log_record.specs.declared.head.Head.{Head}
+use Rattle.log_file.specs.Common.{default_settings, RawSettings, number_bytes, Head}
 use Rattle.log_file.specs.Layout.{settings_bytes, signed_bytes}
 
 -- 32 bytes in the place of a digest

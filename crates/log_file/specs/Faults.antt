@@ -1,10 +1,7 @@
 -- What is wrong with the bytes of a file, up to its records.
 use Rattle.std.specs.Prelude.{ℕ, ◌-◌, not, ◌==◌, nat_lt, List, take, drop, length, Option, Some, None, if◌then◌else◌}
-use Rattle.std.specs.Str.{bytes_eq}
-use Rattle.sha2.specs.Sha256.{sha256}
+use Rattle.log_file.specs.Common.{bytes_eq, sha256, first_bad, number_at}
 use Rattle.bn_base.specs.declared.settings.BadSetting.{BadSetting}
-use Rattle.bn_base.specs.Ranges.{first_bad}
-use Rattle.le_numbers.specs.Numbers.{number_at}
 use Rattle.log_file.specs.declared.error.FileError.{FileError}
 use Rattle.log_file.specs.declared.offsets.TheConstants.{VERSION}
 use Rattle.log_file.specs.declared.error.FileError.TheVariants.{Short, BadMagic, BadVersion, BadHead, LengthDiffers, DigestDiffers}

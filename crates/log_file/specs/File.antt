@@ -1,11 +1,6 @@
 -- Why bytes are no log file.
 use Rattle.std.specs.Prelude.{◌≡◌, ℕ, ◌<◌, ◌⊎◌, List, ◌++◌, drop, length, Some, None}
-use Rattle.std.specs.List.{flat_map, AllByRecursion}
-use Rattle.log_record.specs.declared.head.Head.{Head}
-use Rattle.log_record.specs.declared.record.Record.{Record}
-use Rattle.log_record.specs.Spelling.{bytes_of, total, Fits}
-use Rattle.log_order.specs.Order.{order_break, broken_by}
-use Rattle.log_order.specs.Content.{Content}
+use Rattle.log_file.specs.Common.{flat_map, AllByRecursion, Head, Record, bytes_of, total, Fits, order_break, broken_by, Content}
 use Rattle.log_file.specs.declared.error.FileError.{FileError}
 use Rattle.log_file.specs.declared.error.FileError.TheVariants.{Short, BadMagic, BadVersion, BadHead, LengthDiffers, DigestDiffers, BadRecord, BadOrder, OutOfMemory}
 use Rattle.log_file.specs.Layout.{head_in, dropped_in}

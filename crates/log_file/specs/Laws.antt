@@ -1,9 +1,6 @@
 -- Laws of files and logs, by their names.
 use Rattle.std.specs.Prelude.{◌≡◌, ◌+◌, length, None}
-use Rattle.bn_base.specs.Ranges.{IsSetting, first_bad}
-use Rattle.bn_base.specs.declared.settings.RawSettings.{RawSettings}
-use Rattle.log_record.specs.Spelling.{total}
-use Rattle.log_order.specs.Content.{Content, IsContent}
+use Rattle.log_file.specs.Common.{IsSetting, first_bad, RawSettings, total, Content, IsContent}
 use Rattle.log_file.specs.declared.error.FileError.{FileError}
 use Rattle.log_file.specs.declared.error.FileError.TheVariants.{OutOfMemory}
 use Rattle.log_file.specs.Layout.{file_bytes, IsVersion1}

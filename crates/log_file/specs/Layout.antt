@@ -1,14 +1,8 @@
 -- The bytes of a log file: its fields one after another.
 use Rattle.std.specs.Prelude.{◌≡◌, ℕ, ◌==◌, true, false, List, ◌++◌, codes, take, drop, length}
-use Rattle.std.specs.List.{flat_map}
-use Rattle.sha2.specs.Sha256.{sha256}
-use Rattle.bn_base.specs.declared.settings.RawSettings.{RawSettings}
-use Rattle.le_numbers.specs.Numbers.{number_at, number_bytes}
-use Rattle.log_record.specs.declared.head.Head.{Head}
-use Rattle.log_record.specs.Spelling.{bytes_of, total}
+use Rattle.log_file.specs.Common.{flat_map, sha256, RawSettings, number_at, number_bytes, Head, bytes_of, total, Content, IsContent}
 use Rattle.log_file.specs.Blocks.{blocks_of, all_sealed}
 use Rattle.log_file.specs.declared.offsets.TheConstants.{HARTS, INTERVAL, LIMIT, LOG_SIZE, MEMORY, SETS, WAYS, LINE, PROGRAM, DROPPED, N}
-use Rattle.log_order.specs.Content.{Content, IsContent}
 
 -- the bytes that begin each file
 unfoldable pub magic : List ℕ

@@ -1,9 +1,6 @@
 -- What bytes are to the reader of logs.
 use Rattle.std.specs.Prelude.{◌≡◌, ◌≢◌, ◌⊎◌, ℕ, List, None}
-use Rattle.bn_base.specs.Ranges.{first_bad, IsSetting}
-use Rattle.bn_base.specs.declared.settings.RawSettings.{RawSettings}
-use Rattle.le_numbers.specs.Numbers.{AreBytes}
-use Rattle.log_order.specs.Content.{Content}
+use Rattle.log_file.specs.Common.{first_bad, IsSetting, RawSettings, AreBytes, Content}
 use Rattle.log_file.specs.declared.error.FileError.{FileError}
 use Rattle.log_file.specs.declared.error.FileError.TheVariants.{OutOfMemory}
 use Rattle.log_file.specs.Layout.{file_bytes, IsVersion1}

@@ -1,11 +1,6 @@
 //! Testing and counting the bytes of records, in no memory.
 ghost use Rattle.std.specs.Prelude.{◌≡◌, ◌≤◌, ◌<◌, ◌++◌, ◌∷◌, [], List, ℕ, length, Result, IfOk, IfErr};
-ghost use Rattle.std.specs.List.{flat_map, AllByRecursion};
-ghost use Rattle.log_record.specs.declared.record.Record.{Record};
-ghost use Rattle.log_record.specs.Spelling.{bytes_of, total, Fits};
-ghost use Rattle.log_order.specs.declared.view.HartView.{HartView};
-ghost use Rattle.log_order.specs.declared.walk.OrderBreak.{OrderBreak};
-ghost use Rattle.log_order.specs.Order.{after_all, is_late, late_edge, end_break, broken_in};
+ghost use Rattle.log_file.specs.Common.{flat_map, AllByRecursion, Record, bytes_of, total, Fits, HartView, OrderBreak, after_all, is_late, late_edge, end_break, broken_in};
 ghost use Rattle.log_file.specs.File.{NoRecord};
 ghost use Rattle.log_file.specs.Counts.{headers_of, Walks, IsWalked, IsTallied};
 

@@ -1,7 +1,6 @@
 //! Bytes that are no log file, each with the first thing that is wrong with them.
 ghost use Rattle.std.specs.Prelude.{◌≡◌, ◌∷◌, ◌++◌, [], false, replicate, List, ℕ, Some};
-ghost use Rattle.std.specs.Str.{bytes_eq};
-ghost use Rattle.sha2.specs.Sha256.{sha256};
+ghost use Rattle.log_file.specs.Common.{bytes_eq, sha256};
 ghost use Rattle.log_file.specs.declared.error.FileError.TheVariants.{Short, BadMagic, BadVersion, BadHead, LengthDiffers, DigestDiffers};
 ghost use Rattle.log_file.specs.Faults.{head_fault, file_fault};
 ghost use Rattle.log_file.specs.File.{NoRecord};

@@ -1,7 +1,6 @@
 //! The fields before the records, as both versions have them.
 ghost use Rattle.std.specs.Prelude.{◌≡◌, ◌≤◌, ◌+◌, Some, None, drop, length, IfOk, IfErr};
-ghost use Rattle.std.specs.Str.{bytes_eq};
-ghost use Rattle.sha2.specs.Sha256.{sha256};
+ghost use Rattle.log_file.specs.Common.{bytes_eq, sha256};
 ghost use Rattle.log_file.specs.Layout.{settings_in, digest_in};
 ghost use Rattle.log_file.specs.Faults.{later_fault, head_fault};
 

@@ -1,9 +1,6 @@
 //! The records whose bytes are tested, as a list.
 ghost use Rattle.std.specs.Prelude.{◌≡◌, List, IfOk};
-ghost use Rattle.std.specs.List.{flat_map, AllByRecursion};
-ghost use Rattle.log_record.specs.declared.record.Record.{Record};
-ghost use Rattle.log_record.specs.Spelling.{bytes_of, Fits};
-ghost use Rattle.log_order.specs.Content.{Content, IsContent};
+ghost use Rattle.log_file.specs.Common.{flat_map, AllByRecursion, Record, bytes_of, Fits, Content, IsContent};
 ghost use Rattle.log_file.specs.Counts.{Tells};
 
 use crate::counting::LogCounts;

@@ -1,17 +1,7 @@
 -- A break is the first.
-use Rattle.std.specs.Prelude.{if◌then◌else◌}
-use Rattle.std.proofs.Common.{◌≡◌, ℕ, ◌+◌, List, [], ◌∷◌, length, Bool, true, false, Option, Some, None, Result, Ok, Err, refl, ap, ◌∙◌, arith}
-use Rattle.std.proofs.lemmas.List.{length-append}
+use Rattle.log_order.proofs.Common.{if◌then◌else◌, ◌≡◌, ℕ, ◌+◌, List, [], ◌∷◌, length, Bool, true, false, Option, Some, None, Result, Ok, Err, refl, ap, ◌∙◌, arith, length-append, Record, bytes_of, OrderLimits, HartView, total, ◌>>=◌, step, at_place, after_all, is_late, late_edge, OrderBreak, order_break}
 use Rattle.std.proofs.lemmas.List.Concat.{flat_map-cons}
-use Rattle.log_record.specs.declared.record.Record.{Record}
-use Rattle.log_record.specs.Spelling.{bytes_of}
-use Rattle.log_order.specs.declared.view.OrderLimits.{OrderLimits}
-use Rattle.log_order.specs.declared.view.HartView.{HartView}
-use Rattle.log_record.specs.Spelling.{total}
-use Rattle.log_order.specs.Order.{◌>>=◌, step, at_place, after_all, is_late, late_edge}
 use Rattle.log_order.specs.First.{BreaksFirst, IsLateFirst}
-use Rattle.log_order.specs.declared.walk.OrderBreak.{OrderBreak}
-use Rattle.log_order.specs.Order.{order_break}
 
 abbrev Harts : Type 0
 Harts = List HartView

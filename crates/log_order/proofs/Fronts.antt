@@ -1,23 +1,7 @@
 -- Records without the first ones keep the order.
-use Rattle.std.proofs.Common.{◌≡◌, ℕ, zero, suc, ◌+◌, Bool, true, false, not, ◌&&◌, ◌||◌, Option, Some, None, List, [], ◌∷◌, ◌++◌, length, replicate, Result, Ok, Err, refl, sym, ap, subst, ◌∙◌, arith}
-use Rattle.std.specs.Prelude.{if◌then◌else◌, slice_get, slice_set}
-use Rattle.std.specs.List.{list_any}
+use Rattle.log_order.proofs.Common.{◌≡◌, ℕ, zero, suc, ◌+◌, Bool, true, false, not, ◌&&◌, ◌||◌, Option, Some, None, List, [], ◌∷◌, ◌++◌, length, replicate, Result, Ok, Err, refl, sym, ap, subst, ◌∙◌, arith, if◌then◌else◌, slice_get, slice_set, list_any, length-set, Record, Header, FirstLoad, ScOk, ScFailed, Edge, End, bytes_of, OrderLimits, Phase, Unknown, Awaiting, Open, Done, HartView, hart_of, total, after_one, fresh, is_done, is_unfinished, ◌>>=◌, has_source, step_at, step, at_place, after_all, is_from, is_past, is_late, late_edge, end_break, broken_in, broken, IsWeakPhase, IsWeakNumber, IsWeak, AreWeak, OrderBreak, order_break}
 use Rattle.std.specs.Option.{option_map}
-use Rattle.std.proofs.lemmas.List.{length-set}
-use Rattle.log_record.specs.declared.record.Record.{Record}
-use Rattle.log_record.specs.declared.record.Record.TheVariants.{Header, FirstLoad, ScOk, ScFailed, Edge, End}
-use Rattle.log_record.specs.Spelling.{bytes_of}
-use Rattle.log_order.specs.declared.view.OrderLimits.{OrderLimits}
-use Rattle.log_order.specs.declared.view.Phase.{Phase}
-use Rattle.log_order.specs.declared.view.Phase.TheVariants.{Unknown, Awaiting, Open, Done}
-use Rattle.log_order.specs.declared.view.HartView.{HartView}
-use Rattle.log_record.specs.Spelling.{hart_of, total}
-use Rattle.log_order.specs.Rules.{after_one, fresh, is_done, is_unfinished}
-use Rattle.log_order.specs.Order.{◌>>=◌, has_source, step_at, step, at_place, after_all, is_from, is_past, is_late, late_edge, end_break, broken_in, broken}
-use Rattle.log_order.specs.Weak.{IsWeakPhase, IsWeakNumber, IsWeak, AreWeak}
 use Rattle.log_order.proofs.Weaker.{weak_one}
-use Rattle.log_order.specs.declared.walk.OrderBreak.{OrderBreak}
-use Rattle.log_order.specs.Order.{order_break}
 
 abbrev Harts : Type 0
 Harts = List HartView

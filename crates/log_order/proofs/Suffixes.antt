@@ -1,16 +1,6 @@
 -- What a ring of records does to their order.
-use Rattle.log_record.specs.declared.record.Record.TheVariants.{Header, FirstLoad, ScOk, ScFailed, Edge, End}
-use Rattle.std.proofs.Common.{◌≡◌, ℕ, ◌+◌, ◌<◌, true, false, None, List, [], ◌∷◌, ◌++◌, length, replicate, Ok, refl, sym, subst, append_assoc, arith, ◌≤◌, Bool, Option, Some}
-use Rattle.std.specs.Prelude.{◌==◌, nat_le, slice_get}
-use Rattle.std.specs.List.{list_any, AllByRecursion}
-use Rattle.std.proofs.lemmas.List.{length-append}
-use Rattle.log_record.specs.declared.record.Record.{Record}
-use Rattle.log_record.specs.Spelling.{bytes_of}
-use Rattle.log_order.specs.declared.view.OrderLimits.{OrderLimits}
-use Rattle.log_order.specs.declared.view.HartView.{HartView}
+use Rattle.log_order.proofs.Common.{Header, FirstLoad, ScOk, ScFailed, Edge, End, ◌≡◌, ℕ, ◌+◌, ◌<◌, true, false, None, List, [], ◌∷◌, ◌++◌, length, replicate, Ok, refl, sym, subst, append_assoc, arith, ◌≤◌, Bool, Option, Some, ◌==◌, nat_le, slice_get, list_any, AllByRecursion, length-append, Record, bytes_of, OrderLimits, HartView, fresh, is_done, is_unfinished, step, after_all, is_late, late_edge, end_break, broken, is_past, is_from, order_limits_of, broken_by}
 use Rattle.bn_base.specs.declared.settings.RawSettings.{RawSettings}
-use Rattle.log_order.specs.Rules.{fresh, is_done, is_unfinished}
-use Rattle.log_order.specs.Order.{step, after_all, is_late, late_edge, end_break, broken, is_past, is_from, order_limits_of, broken_by}
 use Rattle.log_order.specs.Suffix.{Keeps, IsEarly, EndsLast}
 use Rattle.log_order.proofs.Fronts.{appended, suffix_fresh, front_given_up, weak_any, weak_late_edge, Runs2, weak_all, all_same}
 

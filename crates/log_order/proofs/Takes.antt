@@ -1,13 +1,5 @@
 -- What a recorder shows of a record, so that it may follow.
-use Rattle.std.proofs.Common.{◌≡◌, ℕ, ◌+◌, ◌≤◌, ◌<◌, ◌^◌, max, Bool, true, false, not, ◌&&◌, Option, Some, List, length, Ok, refl, arith}
-use Rattle.std.specs.Prelude.{nat_lt, nat_le, ◌==◌, slice_get, slice_set, ◌≢◌}
-use Rattle.bn_base.specs.declared.end_mark.EndMark.{EndMark}
-use Rattle.log_record.specs.declared.record.Record.TheVariants.{Header, FirstLoad, ScOk, ScFailed, Edge, End}
-use Rattle.log_order.specs.declared.view.OrderLimits.{OrderLimits}
-use Rattle.log_order.specs.declared.view.Phase.TheVariants.{Awaiting, Open}
-use Rattle.log_order.specs.declared.view.HartView.{HartView}
-use Rattle.log_order.specs.Rules.{has_end, after_header, after_edge, after_end, after_other, phase_after}
-use Rattle.log_order.specs.Order.{step}
+use Rattle.log_order.proofs.Common.{◌≡◌, ℕ, ◌+◌, ◌≤◌, ◌<◌, ◌^◌, max, Bool, true, false, not, ◌&&◌, Option, Some, List, length, Ok, refl, arith, nat_lt, nat_le, ◌==◌, slice_get, slice_set, ◌≢◌, EndMark, Header, FirstLoad, ScOk, ScFailed, Edge, End, OrderLimits, Awaiting, Open, HartView, has_end, after_header, after_edge, after_end, after_other, phase_after, step}
 
 abbrev Harts : Type 0
 Harts = List HartView

@@ -1,15 +1,5 @@
 -- What may follow if more is known may follow if less is.
-use Rattle.std.proofs.Common.{◌≡◌, ℕ, ◌+◌, ◌≤◌, ◌^◌, max, Bool, true, false, not, ◌&&◌, Option, Some, None, Result, Ok, Err, refl, subst, arith}
-use Rattle.std.specs.Prelude.{nat_lt, nat_le, ◌==◌, if◌then◌else◌}
-use Rattle.bn_base.specs.declared.end_mark.EndMark.{EndMark}
-use Rattle.log_record.specs.declared.record.Record.{Record}
-use Rattle.log_record.specs.declared.record.Record.TheVariants.{Header, FirstLoad, ScOk, ScFailed, Edge, End}
-use Rattle.log_order.specs.declared.view.OrderLimits.{OrderLimits}
-use Rattle.log_order.specs.declared.view.Phase.{Phase}
-use Rattle.log_order.specs.declared.view.Phase.TheVariants.{Unknown, Awaiting, Open, Done}
-use Rattle.log_order.specs.declared.view.HartView.{HartView}
-use Rattle.log_order.specs.Rules.{takes_header, takes_other, is_number, is_awaited, has_edge, has_end, next_number, goes_on, phase_after, after_header, after_edge, after_end, after_other, after_one, is_done}
-use Rattle.log_order.specs.Weak.{IsWeakNumber, IsWeakPhase, IsWeak}
+use Rattle.log_order.proofs.Common.{◌≡◌, ℕ, ◌+◌, ◌≤◌, ◌^◌, max, Bool, true, false, not, ◌&&◌, Option, Some, None, Result, Ok, Err, refl, subst, arith, nat_lt, nat_le, ◌==◌, if◌then◌else◌, EndMark, Record, Header, FirstLoad, ScOk, ScFailed, Edge, End, OrderLimits, Phase, Unknown, Awaiting, Open, Done, HartView, takes_header, takes_other, is_number, is_awaited, has_edge, has_end, next_number, goes_on, phase_after, after_header, after_edge, after_end, after_other, after_one, is_done, IsWeakNumber, IsWeakPhase, IsWeak}
 
 passes : {X : Type 0} (b : Bool) (e : ℕ) (x : Result X ℕ) (y : X) → (if b then Err e else x) ≡ Ok y → (b ≡ false) × (x ≡ Ok y)
 passes true e x y h = absurd cc

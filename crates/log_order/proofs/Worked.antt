@@ -1,9 +1,6 @@
 -- The order of a few records, worked out.
-use Rattle.std.proofs.Common.{◌≡◌, ◌∷◌, ◌++◌, [], Some, None, refl}
+use Rattle.log_order.proofs.Common.{◌≡◌, ◌∷◌, ◌++◌, [], Some, None, refl, FirstLoad, ScOk, Edge, after_header, after_edge, after_end, after_other, order_break, step, after_all, late_edge, end_break, broken, broken_by}
 use Rattle.le_numbers.specs.Numbers.{number_bytes}
-use Rattle.log_record.specs.declared.record.Record.TheVariants.{FirstLoad, ScOk, Edge}
-use Rattle.log_order.specs.Rules.{after_header, after_edge, after_end, after_other}
-use Rattle.log_order.specs.Order.{order_break, step, after_all, late_edge, end_break, broken, broken_by}
 use Rattle.log_order.specs.Examples.{settings, header, end, an_exit}
 
 pub exit_is : broken_by (settings 1) 0 (an_exit 0) ≡ None

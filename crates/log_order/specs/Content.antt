@@ -1,10 +1,7 @@
 -- What a log says.
 use Rattle.std.specs.Prelude.{◌≡◌, ℕ, ◌<◌, ◌≤◌, ◌^◌, List, length, None}
-use Rattle.std.specs.List.{AllByRecursion}
-use Rattle.bn_base.specs.Ranges.{IsSetting}
+use Rattle.log_order.specs.Common.{AllByRecursion, IsSetting, Record, Fits, total}
 use Rattle.log_record.specs.declared.head.Head.{Head}
-use Rattle.log_record.specs.declared.record.Record.{Record}
-use Rattle.log_record.specs.Spelling.{Fits, total}
 use Rattle.log_order.specs.Order.{broken_by}
 
 -- the head, how many records were given up, and those that are kept

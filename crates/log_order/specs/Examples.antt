@@ -1,9 +1,6 @@
 -- A few records of small logs.
 use Rattle.std.specs.Prelude.{ℕ, ◌∷◌, [], List, replicate}
-use Rattle.bn_base.specs.Ranges.{default_settings}
-use Rattle.bn_base.specs.declared.settings.RawSettings.{RawSettings}
-use Rattle.log_record.specs.declared.record.Record.{Record}
-use Rattle.log_record.specs.declared.record.Record.TheVariants.{Header, End}
+use Rattle.log_order.specs.Common.{default_settings, RawSettings, Record, Header, End}
 
 -- the default settings, but for this many harts
 abbrev pub settings : ℕ → RawSettings

@@ -1,8 +1,6 @@
 -- What it means that a break is the first.
 use Rattle.std.specs.Prelude.{◌≡◌, ℕ, ◌+◌, true, false, List, ◌∷◌, ◌++◌, Ok, Err}
-use Rattle.std.specs.List.{AllByRecursion}
-use Rattle.log_record.specs.declared.record.Record.{Record}
-use Rattle.log_record.specs.Spelling.{total}
+use Rattle.log_order.specs.Common.{AllByRecursion, Record, total}
 use Rattle.log_order.specs.declared.view.OrderLimits.{OrderLimits}
 use Rattle.log_order.specs.declared.view.HartView.{HartView}
 use Rattle.log_order.specs.Order.{step, after_all, is_late}

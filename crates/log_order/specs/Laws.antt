@@ -1,9 +1,6 @@
 -- The laws of the order of records that speak of a hart's view.
 use Rattle.std.specs.Prelude.{◌≡◌, ◌≢◌, ◌<◌, ◌≤◌, ◌+◌, ◌^◌, ◌==◌, ℕ, Bool, true, max, List, length, replicate, slice_get, slice_set, Option, Some, None, Ok}
-use Rattle.std.specs.List.{AllByRecursion}
-use Rattle.bn_base.specs.declared.end_mark.EndMark.{EndMark}
-use Rattle.log_record.specs.declared.record.Record.{Record}
-use Rattle.log_record.specs.declared.record.Record.TheVariants.{Header, FirstLoad, ScOk, ScFailed, Edge, End}
+use Rattle.log_order.specs.Common.{AllByRecursion, EndMark, Record, Header, FirstLoad, ScOk, ScFailed, Edge, End}
 use Rattle.log_order.specs.declared.view.OrderLimits.{OrderLimits}
 use Rattle.log_order.specs.declared.view.HartView.{HartView}
 use Rattle.log_order.specs.declared.view.Phase.{Phase}

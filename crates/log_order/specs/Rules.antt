@@ -1,8 +1,6 @@
 -- Which record may come next of a hart.
 use Rattle.std.specs.Prelude.{ℕ, ◌+◌, ◌^◌, max, Bool, true, false, not, ◌&&◌, ◌||◌, ◌==◌, nat_le, nat_lt, Option, Some, None, Result, Ok, Err, if◌then◌else◌}
-use Rattle.bn_base.specs.declared.end_mark.EndMark.{EndMark}
-use Rattle.log_record.specs.declared.record.Record.{Record}
-use Rattle.log_record.specs.declared.record.Record.TheVariants.{Header, FirstLoad, ScOk, ScFailed, Edge, End}
+use Rattle.log_order.specs.Common.{EndMark, Record, Header, FirstLoad, ScOk, ScFailed, Edge, End}
 use Rattle.log_order.specs.declared.rule.OrderRule.{OrderRule}
 use Rattle.log_order.specs.declared.rule.OrderRule.TheVariants.{HartsBelow, HeaderWhileAwaiting, OtherWhileOpen, HeaderAwaited, CountsRight, HartsDone, SourcesDone}
 use Rattle.log_order.specs.declared.view.OrderLimits.{OrderLimits}

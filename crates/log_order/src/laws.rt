@@ -1,9 +1,6 @@
 //! Laws by which a recorder's kept records are in order, whatever the ring has dropped.
 ghost use Rattle.std.specs.Prelude.{◌≡◌, ◌+◌, ◌++◌, ◌∷◌, [], ℕ, true, List, length, replicate, Some, None, Ok, Err};
-ghost use Rattle.std.specs.List.{AllByRecursion};
-ghost use Rattle.bn_base.specs.declared.settings.RawSettings.{RawSettings};
-ghost use Rattle.log_record.specs.declared.record.Record.{Record};
-ghost use Rattle.log_record.specs.declared.record.Record.TheVariants.{Header, FirstLoad, ScOk, ScFailed, Edge, End};
+ghost use Rattle.log_order.specs.Common.{AllByRecursion, RawSettings, Record, Header, FirstLoad, ScOk, ScFailed, Edge, End};
 ghost use Rattle.log_order.specs.declared.view.OrderLimits.{OrderLimits};
 ghost use Rattle.log_order.specs.declared.view.HartView.{HartView};
 ghost use Rattle.log_order.specs.Rules.{fresh};

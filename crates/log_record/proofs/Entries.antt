@@ -1,15 +1,8 @@
 -- The entries of a list, after the state of one more record is kept.
-use Rattle.std.proofs.Common.{◌≡◌, ℕ, ◌+◌, List, [], ◌∷◌, ◌++◌, length, map, refl, ap, ◌∙◌, arith}
-use Rattle.std.specs.List.{AllByRecursion}
-use Rattle.std.specs.Prelude.{Result, Ok, Err, IsErr, is_ok, if◌then◌else◌}
-use Rattle.std.proofs.lemmas.List.{get_or_append_left, map-append, length-append}
+use Rattle.log_record.proofs.Common.{◌≡◌, ℕ, ◌+◌, List, [], ◌∷◌, ◌++◌, length, map, refl, ap, ◌∙◌, arith, AllByRecursion, Result, Ok, Err, IsErr, is_ok, if◌then◌else◌, get_or_append_left, map-append, length-append, Record, Header, FirstLoad, ScOk, ScFailed, Edge, End, StoredRecord, state_of, states_of, entry_of, header_with, record_of, IsKept}
 use Rattle.std.proofs.Math.Seq.{get_or-append_seam}
 use Rattle.bn_base.specs.declared.state.HartState.{HartState}
-use Rattle.log_record.specs.declared.record.Record.{Record}
-use Rattle.log_record.specs.declared.record.Record.TheVariants.{Header, FirstLoad, ScOk, ScFailed, Edge, End}
-use Rattle.log_record.specs.declared.stored_record.StoredRecord.{StoredRecord}
 use Rattle.log_record.specs.declared.stored_record.StoredRecord.TheVariants.{Header as KeptHeader, FirstLoad as KeptLoad, ScOk as KeptOk, ScFailed as KeptFailed, Edge as KeptEdge, End as KeptEnd}
-use Rattle.log_record.specs.Entries.{state_of, states_of, entry_of, header_with, record_of, IsKept}
 
 -- an entry represents the same record, whatever states are kept after the others
 same : (states more : List HartState) (e : StoredRecord) → IsKept (length states) e → record_of (states ++ more) e ≡ record_of states e

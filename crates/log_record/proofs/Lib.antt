@@ -1,3 +1,4 @@
+mod Common
 pub mod Sizes
 pub mod Words
 pub mod Records

@@ -1,17 +1,6 @@
 -- What is read is the record whose bytes are at the front.
-use Rattle.std.proofs.Common.{◌≡◌, ℕ, zero, suc, ◌^◌, ◌<◌, ◌≤◌, ◌+◌, Bool, true, false, eqb, List, [], ◌∷◌, ◌++◌, length, length-append, length-drop, drop, refl, sym, ap, ap₂, subst, ◌∙◌, append_assoc, arith}
-use Rattle.std.specs.Prelude.{Option, Some, None, slice_index, IsTrue}
-use Rattle.std.specs.List.{flat_map, AllByRecursion}
-use Rattle.std.proofs.lemmas.Bool.{ne_eqb}
-use Rattle.std.proofs.lemmas.List.{drop-drop, append_cancel_left}
-use Rattle.le_numbers.specs.Numbers.{number_at, number_bytes, AreBytes}
-use Rattle.le_numbers.specs.Laws.{AreRead as NumbersAreRead, AreWritten as NumbersAreWritten, Fit}
-use Rattle.bn_base.specs.declared.end_mark.EndMark.{EndMark}
-use Rattle.log_record.specs.declared.record.Record.{Record}
-use Rattle.log_record.specs.declared.record.Record.TheVariants.{Header, FirstLoad, ScOk, ScFailed, Edge, End}
-use Rattle.log_record.specs.Spelling.{size_of, bytes_of, is_mark, is_marked, FitsFields, BeginsWith}
+use Rattle.log_record.proofs.Common.{◌≡◌, ℕ, zero, suc, ◌^◌, ◌<◌, ◌≤◌, ◌+◌, Bool, true, false, eqb, List, [], ◌∷◌, ◌++◌, length, length-append, length-drop, drop, refl, sym, ap, ap₂, subst, ◌∙◌, append_assoc, arith, Option, Some, None, slice_index, IsTrue, flat_map, AllByRecursion, ne_eqb, drop-drop, append_cancel_left, number_at, number_bytes, AreBytes, AreRead as NumbersAreRead, AreWritten as NumbersAreWritten, Fit, EndMark, Record, Header, FirstLoad, ScOk, ScFailed, Edge, End, size_of, bytes_of, is_mark, is_marked, FitsFields, BeginsWith, words_at, header_in, first_load_in, edge_in, end_in, record_in}
 use Rattle.log_record.specs.Laws.{TellTheirSize, AreRead, AreWritten, BeginNoOther, FitLater}
-use Rattle.log_record.specs.Reading.{words_at, header_in, first_load_in, edge_in, end_in, record_in}
 use Rattle.log_record.proofs.Words.{drop-words_at, length-words_at, words_at-small, words_at-written}
 
 -- a byte, and the bytes after it

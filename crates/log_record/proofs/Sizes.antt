@@ -1,13 +1,5 @@
 -- How many bytes records have.
-use Rattle.std.proofs.Common.{◌≡◌, ℕ, ◌+◌, ◌*◌, List, [], ◌∷◌, ◌++◌, length, drop, length-append, arith, ap, ◌∙◌, refl}
-use Rattle.std.specs.Prelude.{Some, slice_index}
-use Rattle.std.specs.List.{flat_map}
-use Rattle.bn_base.specs.declared.end_mark.EndMark.{EndMark}
-use Rattle.le_numbers.specs.Numbers.{number_bytes}
-use Rattle.le_numbers.specs.Laws.{HaveTheirWidth}
-use Rattle.log_record.specs.declared.record.Record.{Record}
-use Rattle.log_record.specs.declared.record.Record.TheVariants.{Header, FirstLoad, ScOk, ScFailed, Edge, End}
-use Rattle.log_record.specs.Spelling.{size_of, tag_of, bytes_of, AreRegisters, FitsFields}
+use Rattle.log_record.proofs.Common.{◌≡◌, ℕ, ◌+◌, ◌*◌, List, [], ◌∷◌, ◌++◌, length, drop, length-append, arith, ap, ◌∙◌, refl, Some, slice_index, flat_map, EndMark, number_bytes, HaveTheirWidth, Record, Header, FirstLoad, ScOk, ScFailed, Edge, End, size_of, tag_of, bytes_of, AreRegisters, FitsFields}
 use Rattle.log_record.specs.Laws.{TellTheirSize}
 
 tag_again : (r : Record) (rest : List ℕ) → slice_index (bytes_of r ++ rest) 0 ≡ tag_of r

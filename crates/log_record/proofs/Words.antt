@@ -1,12 +1,5 @@
 -- Words one after another: what is written at a place is read there, and what is read is written there.
-use Rattle.std.proofs.Common.{◌≡◌, ℕ, zero, suc, ◌+◌, ◌-◌, ◌*◌, ◌^◌, ◌<◌, ◌≤◌, List, [], ◌∷◌, ◌++◌, length, drop, refl, sym, ap, ap₂, ◌∙◌, append_assoc, arith}
-use Rattle.std.specs.List.{flat_map, AllByRecursion}
-use Rattle.std.specs.Prelude.{slice_index}
-use Rattle.log_record.specs.Spelling.{AreRegisters}
-use Rattle.std.proofs.lemmas.List.{append-nil}
-use Rattle.le_numbers.specs.Numbers.{number_at, number_bytes, AreBytes}
-use Rattle.le_numbers.specs.Laws.{AreRead, AreWritten, Fit}
-use Rattle.log_record.specs.Reading.{words_at}
+use Rattle.log_record.proofs.Common.{◌≡◌, ℕ, zero, suc, ◌+◌, ◌-◌, ◌*◌, ◌^◌, ◌<◌, ◌≤◌, List, [], ◌∷◌, ◌++◌, length, drop, refl, sym, ap, ap₂, ◌∙◌, append_assoc, arith, flat_map, AllByRecursion, slice_index, AreRegisters, append-nil, number_at, number_bytes, AreBytes, AreRead, AreWritten, Fit, words_at}
 
 pub length-words_at : (count at : ℕ) (bytes : List ℕ) → length (words_at count at bytes) ≡ count
 unfolding words_at

@@ -1,15 +1,5 @@
 -- What a ring holds after an append.
-use Rattle.std.proofs.Common.{◌≡◌, ◌∙◌, ◌+◌, ◌-◌, ◌≤◌, ℕ, List, [], ◌∷◌, ◌++◌, length, drop, sym, ap, ap₂, arith, append_assoc, length-append}
-use Rattle.std.specs.List.{flat_map, AllByRecursion}
-use Rattle.std.proofs.lemmas.List.{append-nil}
-use Rattle.circular_buffer.specs.Buffer.{Buffer, buffer, keep_last}
-use Rattle.std.specs.Prelude.{Some}
-use Rattle.log_record.specs.declared.record.Record.{Record}
-use Rattle.log_record.specs.declared.record.Record.TheVariants.{Header, FirstLoad, ScOk, ScFailed, Edge, End}
-use Rattle.log_record.specs.Spelling.{bytes_of, Fits}
-use Rattle.log_record.specs.Laws.{TellTheirSize, AreRead}
-use Rattle.log_ring.specs.Whole.{records_in, IsWhole}
-use Rattle.log_ring.specs.Kept.{kept, Held, held, HoldsLog, GivesUp}
+use Rattle.log_ring.proofs.Common.{◌≡◌, ◌∙◌, ◌+◌, ◌-◌, ◌≤◌, ℕ, List, [], ◌∷◌, ◌++◌, length, drop, sym, ap, ap₂, arith, append_assoc, length-append, flat_map, AllByRecursion, append-nil, Buffer, buffer, keep_last, Some, Record, Header, FirstLoad, ScOk, ScFailed, Edge, End, bytes_of, Fits, TellTheirSize, AreRead, records_in, IsWhole, kept, Held, held, HoldsLog, GivesUp}
 use Rattle.log_ring.proofs.Cuts.{records_in-bytes, whole_of}
 use Rattle.log_ring.proofs.Fitting.{kept-suffix, kept-kept, kept-append}
 

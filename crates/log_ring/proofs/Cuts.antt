@@ -1,14 +1,6 @@
 -- Bytes of whole records are cut into these records.
-use Rattle.std.proofs.Common.{◌≡◌, ◌∙◌, ◌≤◌, ◌<◌, ℕ, zero, suc, List, [], ◌∷◌, ◌++◌, length, drop, refl, sym, ap, ap₂, subst, arith, length-append}
-use Rattle.std.specs.Prelude.{Option, Some, None, unwrap_or, slice_index, slice_get, Bool, IsTrue, ◌==◌, ◌↔◌}
-use Rattle.std.specs.List.{flat_map, AllByRecursion}
-use Rattle.std.proofs.lemmas.List.{drop_at}
-use Rattle.log_record.specs.declared.record.Record.{Record}
-use Rattle.log_record.specs.declared.record.Record.TheVariants.{Header, FirstLoad, ScOk, ScFailed, Edge, End}
-use Rattle.log_record.specs.Spelling.{size_of, bytes_of, Fits}
+use Rattle.log_ring.proofs.Common.{◌≡◌, ◌∙◌, ◌≤◌, ◌<◌, ℕ, zero, suc, List, [], ◌∷◌, ◌++◌, length, drop, refl, sym, ap, ap₂, subst, arith, length-append, Option, Some, None, unwrap_or, slice_index, slice_get, Bool, IsTrue, ◌==◌, ◌↔◌, flat_map, AllByRecursion, drop_at, Record, Header, FirstLoad, ScOk, ScFailed, Edge, End, size_of, bytes_of, Fits, TellTheirSize, AreRead, cut, records_in, IsWhole, Oldest}
 use Rattle.log_record.specs.Reading.{record_in}
-use Rattle.log_record.specs.Laws.{TellTheirSize, AreRead}
-use Rattle.log_ring.specs.Whole.{cut, records_in, IsWhole, Oldest}
 
 -- no record has fewer than two bytes
 pub two_bytes : (r : Record) → 2 ≤ length (bytes_of r)

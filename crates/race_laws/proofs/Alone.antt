@@ -1,16 +1,6 @@
 -- Each Edge of a stream is that of an edge.
-use Rattle.std.proofs.Common.{◌≡◌, ℕ, zero, suc, Bool, true, false, ◌&&◌, ◌==◌, refl, inl, inr, sym, ap, ◌∙◌, subst, List, [], ◌∷◌, length, slice_get, map, Option, Some, Contains, arith}
-use Rattle.bn_base.specs.declared.settings.RawSettings.{RawSettings}
-use Rattle.log_record.specs.declared.record.Record.{Record}
-use Rattle.log_record.specs.declared.record.Record.TheVariants.{Header, FirstLoad, ScOk, ScFailed, Edge, End}
-use Rattle.race_log.specs.Points.{Point}
-use Rattle.race_log.specs.Netzer.{IsEdge}
-use Rattle.race_log.specs.Kept.{In}
-use Rattle.race_log.specs.Tests.{edges_into, name_of, sources_into, edges_of_first}
+use Rattle.race_laws.proofs.Common.{◌≡◌, ℕ, zero, suc, Bool, true, false, ◌&&◌, ◌==◌, refl, inl, inr, sym, ap, ◌∙◌, subst, List, [], ◌∷◌, length, slice_get, map, Option, Some, Contains, arith, RawSettings, Record, Header, FirstLoad, ScOk, ScFailed, Edge, End, Point, IsEdge, In, edges_into, name_of, sources_into, edges_of_first, Run, edges_in, edge_record, edge_between, HasNetzersEdges, KeepsEdgesAlone, ReplayedAreSinceHeaders}
 use Rattle.hart_replay.specs.Replay.{Interval, interval_of, interval_from, puts, nothing}
-use Rattle.run_model.specs.Turn.{Run}
-use Rattle.race_laws.specs.Edges.{edges_in, edge_record, edge_between}
-use Rattle.race_laws.specs.Laws.{HasNetzersEdges, KeepsEdgesAlone, ReplayedAreSinceHeaders}
 use Rattle.race_laws.proofs.Members.{contains_in, in_contains, in_right, in_parts, map_in}
 use Rattle.race_laws.proofs.Heads.{EdgeLaws}
 

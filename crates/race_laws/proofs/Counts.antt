@@ -1,22 +1,8 @@
 -- The Edges of a stream, by hart and count.
-use Rattle.std.proofs.Common.{◌≡◌, ℕ, zero, suc, ◌<◌, ◌≤◌, ◌⊎◌, refl, inl, inr, arith, sym, ap, ap₂, ◌∙◌, subst, subst₂, List, [], ◌∷◌, length, slice_get, map, Option, Some}
-use Rattle.std.proofs.lemmas.Option.{slice_get_within}
-use Rattle.std.proofs.lemmas.Bool.Decides.{eqb_tells}
-use Rattle.bn_base.specs.declared.settings.RawSettings.{RawSettings}
-use Rattle.log_record.specs.declared.record.Record.{Record}
-use Rattle.log_record.specs.declared.record.Record.TheVariants.{Header, FirstLoad, ScOk, ScFailed, Edge, End}
-use Rattle.race_log.specs.Points.{Point, IsConflict}
-use Rattle.race_log.specs.Netzer.{ProgramOrder, Conflict, Either, Chain, IsEdge, OtherThan}
-use Rattle.race_log.specs.Netzer.Chain.{one, more}
-use Rattle.race_log.specs.ByCount.{IsInOrder, StandByCounts}
-use Rattle.race_log.specs.Kept.{In}
-use Rattle.race_log.specs.Tests.{name_of, edges_into, sources_into, edges_of_first, all_edges}
-use Rattle.run_model.specs.Turn.{Run}
-use Rattle.race_laws.specs.Edges.{edges_in, edge_record, edge_between}
+use Rattle.race_laws.proofs.Common.{◌≡◌, ℕ, zero, suc, ◌<◌, ◌≤◌, ◌⊎◌, refl, inl, inr, arith, sym, ap, ap₂, ◌∙◌, subst, subst₂, List, [], ◌∷◌, length, slice_get, map, Option, Some, slice_get_within, eqb_tells, RawSettings, Record, Header, FirstLoad, ScOk, ScFailed, Edge, End, Point, IsConflict, ProgramOrder, Conflict, Either, Chain, IsEdge, OtherThan, one, more, IsInOrder, StandByCounts, In, name_of, edges_into, sources_into, edges_of_first, all_edges, Run, edges_in, edge_record, edge_between, HasNetzersEdges, HasEdgesOfInstructions, HasNoImpliedEdge, HasLeastEdges}
 use Rattle.race_laws.specs.Pairs.{StepBy, LeadsBy, IsConflictAt, IsEdgeAt, EdgeAmong, OtherEdge, OrderConflicts}
 use Rattle.race_laws.specs.Pairs.StepBy.{onward, across}
 use Rattle.race_laws.specs.Pairs.LeadsBy.{by_one, by_more}
-use Rattle.race_laws.specs.Laws.{HasNetzersEdges, HasEdgesOfInstructions, HasNoImpliedEdge, HasLeastEdges}
 use Rattle.race_laws.proofs.Members.{contains_in, in_contains, in_left, in_right, in_map}
 use Rattle.race_laws.proofs.Heads.{EdgeLaws}
 use Rattle.race_laws.proofs.Alone.{edges_alone}

@@ -1,24 +1,5 @@
 -- The Headers of a stream: the Edges into all later points of the hart come after each.
-use Rattle.std.proofs.Common.{◌≡◌, ℕ, zero, suc, ◌+◌, ◌<◌, ◌≤◌, ◌⊎◌, ◌↔◌, refl, inl, inr, arith, sym, ap, ap₂, ◌∙◌, subst, List, [], ◌∷◌, ◌++◌, length, slice_get, Option, Some, None, Contains}
-use Rattle.std.specs.Prelude.{IsTrue}
-use Rattle.std.proofs.lemmas.Option.{slice_get_within}
-use Rattle.bn_base.specs.Programs.{Program}
-use Rattle.bn_base.specs.declared.settings.RawSettings.{RawSettings}
-use Rattle.bn_base.specs.declared.state.HartState.{HartState}
-use Rattle.rv_meaning.specs.declared.asks.Reply.{Reply}
-use Rattle.first_load_bits.specs.declared.warm.Warm.{Warm}
-use Rattle.race_log.specs.Points.{Point}
-use Rattle.race_log.specs.Netzer.{IsEdge}
-use Rattle.race_log.specs.Kept.{In, after}
-use Rattle.race_log.specs.Tests.{edge, edges_into, sources_into, name_of}
-use Rattle.log_record.specs.declared.record.Record.{Record}
-use Rattle.log_record.specs.declared.record.Record.TheVariants.{Header, FirstLoad, ScOk, ScFailed, Edge, End}
-use Rattle.run_model.specs.declared.hart.Hart.{Hart}
-use Rattle.run_model.specs.declared.turn_end.TurnEnd.{TurnEnd}
-use Rattle.run_model.specs.declared.turn_end.TurnEnd.TheVariants.{GoesOn, NewInterval, HartOver, RunOver}
-use Rattle.run_model.specs.Turn.{points_after, edges_from, edge_records, load_record, sc_record, next_records, run_over_records}
-use Rattle.run_model.specs.Runs.{first_headers}
-use Rattle.race_laws.specs.Edges.{edge_record, edge_between}
+use Rattle.race_laws.proofs.Common.{◌≡◌, ℕ, zero, suc, ◌+◌, ◌<◌, ◌≤◌, ◌⊎◌, ◌↔◌, refl, inl, inr, arith, sym, ap, ap₂, ◌∙◌, subst, List, [], ◌∷◌, ◌++◌, length, slice_get, Option, Some, None, Contains, IsTrue, slice_get_within, Program, RawSettings, HartState, Reply, Warm, Point, IsEdge, In, after, edge, edges_into, sources_into, name_of, Record, Header, FirstLoad, ScOk, ScFailed, Edge, End, Hart, TurnEnd, GoesOn, NewInterval, HartOver, RunOver, points_after, edges_from, edge_records, load_record, sc_record, next_records, run_over_records, first_headers, edge_record, edge_between}
 use Rattle.race_laws.proofs.Places.{get_old, get_new, in_after, longer, same_edge}
 use Rattle.race_laws.proofs.Members.{contains_in, in_left, in_right, in_map}
 use Rattle.race_laws.proofs.Streams.{ArePlain, load_plain, sc_plain, over_plain, rest_of}

@@ -1,12 +1,7 @@
 -- The order of a run's points, point by point.
-use Rattle.std.proofs.Common.{◌≡◌, ℕ, ◌+◌, ◌<◌, ◌≤◌, true, refl, inl, inr, arith, ap, subst, List, [], slice_get, get_or, Option, Some, None}
-use Rattle.std.proofs.lemmas.Option.{slice_get-get_or}
+use Rattle.race_laws.proofs.Common.{◌≡◌, ℕ, ◌+◌, ◌<◌, ◌≤◌, true, refl, inl, inr, arith, ap, subst, List, [], slice_get, get_or, Option, Some, None, slice_get-get_or, Point, IsInOrder, is_there, point_of, points_after}
 use Rattle.std.proofs.lemmas.List.Quantifiers.{all_pairs_push}
-use Rattle.race_log.specs.Points.{Point}
-use Rattle.race_log.specs.ByCount.{IsInOrder}
 use Rattle.run_model.specs.declared.span.Span.{Span}
-use Rattle.run_model.specs.Counts.{is_there}
-use Rattle.run_model.specs.Turn.{point_of, points_after}
 use Rattle.race_laws.proofs.Places.{in_after}
 
 -- points are in order, of earlier turns than this one, and each of a lower count than its hart's

@@ -1,19 +1,7 @@
 -- Orders that respect the kept Edges, by a test for them.
-use Rattle.std.proofs.Common.{◌≡◌, ℕ, ◌≤◌, Bool, true, false, ◌&&◌, ◌||◌, ◌==◌, ◌⊎◌, refl, inl, inr, arith, ap, ◌∙◌, List, [], ◌∷◌, ◌++◌, slice_get}
-use Rattle.std.specs.Prelude.{IsTrue}
-use Rattle.bn_base.specs.declared.settings.RawSettings.{RawSettings}
-use Rattle.log_record.specs.declared.record.Record.{Record}
-use Rattle.log_record.specs.declared.record.Record.TheVariants.{Header, FirstLoad, ScOk, ScFailed, Edge, End}
-use Rattle.race_log.specs.Points.{Point, MeetAt}
-use Rattle.race_log.specs.Netzer.{AtPlaces, IsEdge, Chosen, EndingAfter}
+use Rattle.race_laws.proofs.Common.{◌≡◌, ℕ, ◌≤◌, Bool, true, false, ◌&&◌, ◌||◌, ◌==◌, ◌⊎◌, refl, inl, inr, arith, ap, ◌∙◌, List, [], ◌∷◌, ◌++◌, slice_get, IsTrue, RawSettings, Record, Header, FirstLoad, ScOk, ScFailed, Edge, End, Point, MeetAt, AtPlaces, IsEdge, Chosen, EndingAfter, In, edge, name_of, Run, edge_record, edge_between, KeptEdge, KeepsLateEdges, KeepsWords}
 use Rattle.race_log.specs.Merges.{StandsIn, Precedes, IsMerge, IsMergeBegun, IsNext, Respects, AreKeptEdges}
-use Rattle.race_log.specs.Kept.{In}
-use Rattle.race_log.specs.Tests.{edge, name_of}
-use Rattle.run_model.specs.Turn.{Run}
-use Rattle.race_laws.specs.Edges.{edge_record, edge_between}
-use Rattle.race_laws.specs.Since.{KeptEdge}
 use Rattle.race_laws.specs.Orders.{HasEnds, BeginningsGoOn}
-use Rattle.race_laws.specs.Laws.{KeepsLateEdges, KeepsWords}
 use Rattle.race_laws.proofs.Members.{contains_in, in_contains}
 use Rattle.race_laws.proofs.Heads.{EdgeLaws}
 

@@ -1,30 +1,8 @@
 -- The Edges of a stream, turn by turn.
-use Rattle.std.proofs.Common.{◌≡◌, ℕ, zero, suc, ◌+◌, Bool, true, false, not, ◌&&◌, ◌==◌, refl, sym, ap, ap₂, ◌∙◌, List, [], ◌∷◌, ◌++◌, length, Option, Some, None, map}
-use Rattle.std.proofs.lemmas.List.{append-nil, map-append}
-use Rattle.bn_base.specs.Programs.{Program}
-use Rattle.bn_base.specs.declared.settings.RawSettings.{RawSettings}
-use Rattle.bn_base.specs.declared.state.HartState.{HartState}
-use Rattle.bn_outside.specs.declared.turn_row.TurnRow.{TurnRow}
-use Rattle.rv_meaning.specs.Execute.{absorbed}
-use Rattle.rv_meaning.specs.declared.asks.Ask.{Ask}
-use Rattle.rv_meaning.specs.declared.asks.Reply.{Reply}
+use Rattle.race_laws.proofs.Common.{◌≡◌, ℕ, zero, suc, ◌+◌, Bool, true, false, not, ◌&&◌, ◌==◌, refl, sym, ap, ap₂, ◌∙◌, List, [], ◌∷◌, ◌++◌, length, Option, Some, None, map, append-nil, Program, RawSettings, HartState, TurnRow, absorbed, Ask, Reply, Warm, Point, after, sources_into, edges_of_first, Record, Header, FirstLoad, ScOk, ScFailed, Edge, End, Hart, TurnEnd, GoesOn, NewInterval, HartOver, RunOver, answer, call_of, Run, serve, served_if, is_guarded, guarded_run, guard_records, is_orderly, turn, ask_at, span_of, next_of, loading, warmth, word_before, point_of, points_after, edges_from, edge_records, load_record, sc_record, mark, next_records, stopped_records, run_over_records, start, first_headers, run_from, after_rows, edges_in, edge_record, netzer_records, HasNetzersEdges, EdgesAreNetzers}
+use Rattle.std.proofs.lemmas.List.{map-append}
 use Rattle.rv_meaning.specs.declared.asks.Reply.TheVariants as replies
-use Rattle.first_load_bits.specs.declared.warm.Warm.{Warm}
 use Rattle.first_load_bits.specs.declared.warm.Warm.TheVariants as answers
-use Rattle.race_log.specs.Points.{Point}
-use Rattle.race_log.specs.Kept.{after}
-use Rattle.race_log.specs.Tests.{sources_into, edges_of_first}
-use Rattle.log_record.specs.declared.record.Record.{Record}
-use Rattle.log_record.specs.declared.record.Record.TheVariants.{Header, FirstLoad, ScOk, ScFailed, Edge, End}
-use Rattle.run_model.specs.declared.hart.Hart.{Hart}
-use Rattle.run_model.specs.declared.turn_end.TurnEnd.{TurnEnd}
-use Rattle.run_model.specs.declared.turn_end.TurnEnd.TheVariants.{GoesOn, NewInterval, HartOver, RunOver}
-use Rattle.run_model.specs.Machine.{answer, call_of}
-use Rattle.run_model.specs.Turn.{Run, serve, served_if, is_guarded, guarded_run, guard_records, is_orderly, turn, ask_at, span_of, next_of, loading, warmth, word_before, point_of, points_after, edges_from, edge_records, load_record, sc_record, mark, next_records, stopped_records, run_over_records}
-use Rattle.run_model.specs.Runs.{start, first_headers, run_from}
-use Rattle.run_laws.specs.History.{after_rows}
-use Rattle.race_laws.specs.Edges.{edges_in, edge_record, netzer_records}
-use Rattle.race_laws.specs.Laws.{HasNetzersEdges, EdgesAreNetzers}
 use Rattle.race_laws.proofs.Places.{led_to, all_after}
 
 -- ---- records that are neither Edges nor Headers

@@ -1,27 +1,10 @@
 -- What stands after each turn of a run.
-use Rattle.std.proofs.Common.{◌≡◌, ℕ, ◌<◌, ◌≤◌, ◌==◌, ◌+◌, ◌^◌, Bool, true, false, not, ◌&&◌, nat_lt, refl, inl, inr, arith, sym, ap, ◌∙◌, subst, List, [], ◌∷◌, Some, None}
+use Rattle.race_laws.proofs.Common.{◌≡◌, ℕ, ◌<◌, ◌≤◌, ◌==◌, ◌+◌, ◌^◌, Bool, true, false, not, ◌&&◌, nat_lt, refl, inl, inr, arith, sym, ap, ◌∙◌, subst, List, [], ◌∷◌, Some, None, eqb_tells, Program, IsSetting, RawSettings, HartState, TurnRow, absorbed, Ask, Reply, Hart, TurnEnd, GoesOn, NewInterval, HartOver, RunOver, answer, call_of, Run, serve, serve_orderly, serve_disorderly, served_if, is_orderly, is_guarded, guarded_run, asked_run, guard_records, by_guard, span_of, next_of, loading, warmth, word_before, skipped_after, point_of, hart_after, other_after, harts_after, dead, start, start_state, start_hart, IsFit, IsRested, anew, GuardedAsksFit, MovesOn, EachTurnMovesOn, EachTurnFits, OthersStayFit, after_rows, IsLawful}
 use Rattle.std.proofs.lemmas.Bool.{false≢true}
-use Rattle.std.proofs.lemmas.Bool.Decides.{eqb_tells}
-use Rattle.bn_base.specs.Programs.{Program}
-use Rattle.bn_base.specs.Ranges.{IsSetting}
-use Rattle.bn_base.specs.declared.settings.RawSettings.{RawSettings}
-use Rattle.bn_base.specs.declared.state.HartState.{HartState}
-use Rattle.bn_outside.specs.declared.turn_row.TurnRow.{TurnRow}
-use Rattle.rv_meaning.specs.Execute.{absorbed}
-use Rattle.rv_meaning.specs.declared.asks.Ask.{Ask}
-use Rattle.rv_meaning.specs.declared.asks.Reply.{Reply}
 use Rattle.rv_meaning.specs.declared.asks.Reply.TheVariants as replies
 use Rattle.rv_meaning.specs.declared.asks.Want.{Want}
 use Rattle.rv_meaning.specs.Orderly.{is_cut}
 use Rattle.log_record.specs.Spelling.{total}
-use Rattle.run_model.specs.declared.hart.Hart.{Hart}
-use Rattle.run_model.specs.declared.turn_end.TurnEnd.{TurnEnd}
-use Rattle.run_model.specs.declared.turn_end.TurnEnd.TheVariants.{GoesOn, NewInterval, HartOver, RunOver}
-use Rattle.run_model.specs.Machine.{answer, call_of}
-use Rattle.run_model.specs.Turn.{Run, serve, serve_orderly, serve_disorderly, served_if, is_orderly, is_guarded, guarded_run, asked_run, guard_records, by_guard, span_of, next_of, loading, warmth, word_before, skipped_after, point_of, hart_after, other_after, harts_after, dead}
-use Rattle.run_model.specs.Runs.{start, start_state, start_hart}
-use Rattle.run_model.specs.Counts.{IsFit, IsRested, anew, GuardedAsksFit, MovesOn, EachTurnMovesOn, EachTurnFits, OthersStayFit}
-use Rattle.run_laws.specs.History.{after_rows, IsLawful}
 use Rattle.race_laws.proofs.Order.{Ordered, order_none, order_after, fresh_of}
 use Rattle.race_laws.proofs.Heads.{EdgeLaws, Heads, heads_after, first_heads}
 

@@ -1,23 +1,8 @@
 -- The laws of a run's races.
-use Rattle.std.proofs.Common.{◌≡◌, ◌↔◌, ℕ, refl, inl, inr, arith, subst, List, ◌++◌, slice_get, Some}
-use Rattle.bn_base.specs.Programs.{Program}
-use Rattle.bn_base.specs.Ranges.{IsSetting}
-use Rattle.bn_base.specs.declared.settings.RawSettings.{RawSettings}
-use Rattle.bn_outside.specs.declared.turn_row.TurnRow.{TurnRow}
-use Rattle.log_record.specs.declared.record.Record.{Record}
+use Rattle.race_laws.proofs.Common.{◌≡◌, ◌↔◌, ℕ, refl, inl, inr, arith, subst, List, ◌++◌, slice_get, Some, Program, IsSetting, RawSettings, TurnRow, Record, Point, ProgramOrder, Conflict, Either, Chain, IsEdge, EndingAfter, one, more, IsInOrder, IsEdgeBetween, Run, start, after_rows, IsLawful, rows_from, edge_between, KeptEdge, HasOrder, HasEdgesByCount, KeepsLateEdges, OrdersConflicts}
 use Rattle.log_ring.specs.Kept.{kept}
-use Rattle.race_log.specs.Points.{Point}
-use Rattle.race_log.specs.Netzer.{ProgramOrder, Conflict, Either, Chain, IsEdge, EndingAfter}
-use Rattle.race_log.specs.Netzer.Chain.{one, more}
-use Rattle.race_log.specs.ByCount.{IsInOrder, IsEdgeBetween}
-use Rattle.run_model.specs.Turn.{Run}
-use Rattle.run_model.specs.Runs.{start}
-use Rattle.run_laws.specs.History.{after_rows, IsLawful, rows_from}
 use Rattle.run_laws.specs.Laws.{TurnsAreLawful}
-use Rattle.race_laws.specs.Edges.{edge_between}
 use Rattle.race_laws.specs.Runs.{OfLists, OfRows}
-use Rattle.race_laws.specs.Since.{KeptEdge}
-use Rattle.race_laws.specs.Laws.{HasOrder, HasEdgesByCount, KeepsLateEdges, OrdersConflicts}
 use Rattle.race_laws.proofs.Members.{contains_in, in_contains}
 use Rattle.race_laws.proofs.Heads.{Heads, drop_heads, find_head}
 use Rattle.race_laws.proofs.Turns.{Laws, Stands, rows_stand, start_stands}

@@ -1,13 +1,9 @@
 -- The races of small recordings, worked out by hand.
-use Rattle.std.proofs.Common.{◌≡◌, ◌∷◌, [], true, false, refl}
+use Rattle.race_laws.proofs.Common.{◌≡◌, ◌∷◌, [], true, false, refl, Edge, at_places, leads, any_below, before, edge, greatest_first, edges_into, edges_of_first, conflict, serve, edges_in, netzer_records}
 use Rattle.le_numbers.specs.Numbers.{number_bytes}
-use Rattle.log_record.specs.declared.record.Record.TheVariants.{Edge}
 use Rattle.log_ring.specs.Kept.{kept}
-use Rattle.race_log.specs.Tests.{at_places, leads, any_below, before, edge, greatest_first, edges_into, edges_of_first, conflict}
-use Rattle.run_model.specs.Turn.{serve}
 use Rattle.run_model.specs.Examples.{recorded, a_relay}
 use Rattle.run_laws.specs.Examples.{a_relay_of_intervals}
-use Rattle.race_laws.specs.Edges.{edges_in, netzer_records}
 use Rattle.race_laws.specs.Examples.{names, headers_in, kept_of_size}
 
 pub relay_names : names a_relay ≡ (0, 4) ∷ (1, 3) ∷ (1, 4) ∷ (2, 4) ∷ (2, 5) ∷ []

@@ -1,9 +1,7 @@
 -- What is shown of small recordings.
 use Rattle.std.specs.Prelude.{ℕ, List, [], ◌∷◌, map}
-use Rattle.log_record.specs.declared.record.Record.{Record}
-use Rattle.log_record.specs.declared.record.Record.TheVariants.{Header}
+use Rattle.race_laws.specs.Common.{Record, Header, Recording, recorded}
 use Rattle.log_ring.specs.Kept.{kept}
-use Rattle.run_model.specs.Examples.{Recording, recorded}
 
 -- the points of a recording, by hart and count
 abbrev pub names : Recording → List (ℕ × ℕ)

@@ -1,3 +1,4 @@
+pub mod Common
 pub mod Edges
 pub mod Pairs
 pub mod Runs

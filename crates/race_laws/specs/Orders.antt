@@ -1,8 +1,6 @@
 -- Orders of points that respect the kept Edges.
 use Rattle.std.specs.Prelude.{ℕ, Bool, IsTrue, ◌⊎◌, List, [], ◌∷◌, ◌++◌}
-use Rattle.log_record.specs.declared.record.Record.{Record}
-use Rattle.race_log.specs.Points.{Point}
-use Rattle.race_log.specs.Merges.{StandsIn, IsMerge, IsMergeBegun, IsNext, Respects}
+use Rattle.race_laws.specs.Common.{Record, Point, StandsIn, IsMerge, IsMergeBegun, IsNext, Respects}
 use Rattle.race_laws.specs.Since.{KeptEdge}
 
 -- among the places are both ends of each kept Edge

@@ -1,10 +1,6 @@
 -- Chains of program order and of pairs of instructions, each instruction by its hart and count.
 use Rattle.std.specs.Prelude.{◌≢◌, ℕ, ◌<◌, List}
-use Rattle.std.specs.List.{Contains}
-use Rattle.log_record.specs.declared.record.Record.{Record}
-use Rattle.log_record.specs.declared.record.Record.TheVariants.{Edge}
-use Rattle.race_log.specs.Points.{Point, IsConflict}
-use Rattle.race_log.specs.ByCount.{IsPointAt, IsEdgeBetween}
+use Rattle.race_laws.specs.Common.{Contains, Record, Edge, Point, IsConflict, IsPointAt, IsEdgeBetween}
 
 -- from a lower to a higher count of one hart, or along a pair
 pub data StepBy (Pair : ℕ → ℕ → ℕ → ℕ → Type 0) : ℕ → ℕ → ℕ → ℕ → Type 0 where

@@ -1,12 +1,7 @@
 -- What holds of all recorded runs.
 use Rattle.std.specs.Prelude.{◌≡◌, ℕ, true, List}
-use Rattle.bn_base.specs.Programs.{Program}
+use Rattle.race_laws.specs.Common.{Program, RawSettings, TurnRow, Run, start, run_of, legal_from, after_rows, IsLawful}
 use Rattle.bn_base.specs.Ranges.{IsSetting}
-use Rattle.bn_base.specs.declared.settings.RawSettings.{RawSettings}
-use Rattle.bn_outside.specs.declared.turn_row.TurnRow.{TurnRow}
-use Rattle.run_model.specs.Turn.{Run}
-use Rattle.run_model.specs.Runs.{start, run_of, legal_from}
-use Rattle.run_laws.specs.History.{after_rows, IsLawful}
 
 -- it holds of the run of each legal list of turns
 abbrev pub OfLists : (RawSettings → Run → Type 0) → Type 0

@@ -1,10 +1,6 @@
 -- The points from which on the kept Edges order all conflicts.
 use Rattle.std.specs.Prelude.{◌≡◌, ◌≤◌, ℕ, List, slice_get, Some}
-use Rattle.std.specs.List.{Contains}
-use Rattle.log_record.specs.declared.record.Record.{Record}
-use Rattle.log_record.specs.declared.record.Record.TheVariants.{Header}
-use Rattle.race_log.specs.Points.{Point}
-use Rattle.race_log.specs.Netzer.{IsEdge}
+use Rattle.race_laws.specs.Common.{Contains, Record, Header, Point, IsEdge}
 use Rattle.race_laws.specs.Edges.{edge_between}
 
 -- the point at place m is in an interval of its hart whose Header is among the records, or in a later one

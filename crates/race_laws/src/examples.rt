@@ -1,8 +1,6 @@
 //! The races of small recordings, worked out by hand.
 ghost use Rattle.std.specs.Prelude.{◌≡◌, ◌∷◌, [], true, false};
-ghost use Rattle.log_record.specs.declared.record.Record.TheVariants.{Edge};
-ghost use Rattle.race_log.specs.Tests.{conflict, edge};
-ghost use Rattle.run_model.specs.Examples.{recorded, a_relay};
+ghost use Rattle.race_laws.specs.Common.{Edge, conflict, edge, recorded, a_relay};
 ghost use Rattle.run_laws.specs.Examples.{a_relay_of_intervals};
 ghost use Rattle.race_laws.specs.Edges.{edges_in, netzer_records};
 ghost use Rattle.race_laws.specs.Examples.{names, headers_in, kept_of_size};

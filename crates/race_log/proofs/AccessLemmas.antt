@@ -1,16 +1,6 @@
 -- The times in one access of a shadow.
-use Rattle.std.proofs.Common.{◌≡◌, ◌≢◌, ℕ, ◌+◌, ◌-◌, ◌<◌, Bool, true, false, ◌==◌, refl, inl, inr, arith, sym, ap, ◌∙◌, slice_index_or, subst, if◌then◌else◌, nat_lt}
-use Rattle.std.proofs.lemmas.Option.{slice_get_read}
-use Rattle.vector_time.specs.declared.times.Times.{Times}
-use Rattle.vector_time.specs.Times.{count_of}
-use Rattle.race_log.specs.declared.mode.Mode.{Mode}
-use Rattle.race_log.specs.declared.shadow.Shadow.{Shadow}
-use Rattle.race_log.specs.Kept.{is_write}
-use Rattle.race_log.specs.Search.{gathered, counts_after}
-use Rattle.race_log.specs.Slots.{counts_past}
-use Rattle.race_log.specs.Represents.{harts_of, times_of, next_count, kept_of, TakesIn}
+use Rattle.race_log.proofs.Common.{◌≡◌, ◌≢◌, ℕ, ◌+◌, ◌-◌, ◌<◌, Bool, true, false, ◌==◌, refl, inl, inr, arith, sym, ap, ◌∙◌, slice_index_or, subst, if◌then◌else◌, nat_lt, slice_get_read, Times, count_of, Mode, Shadow, is_write, gathered, counts_after, counts_past, harts_of, times_of, next_count, kept_of, TakesIn, counts_at}
 use Rattle.race_log.specs.Accesses.{NotesAlone}
-use Rattle.race_log.specs.Words.{counts_at}
 use Rattle.race_log.proofs.BoolFacts.{known, same_number, other_number}
 
 -- what is read of the times is the hart's

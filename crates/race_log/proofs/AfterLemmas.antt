@@ -1,12 +1,5 @@
 -- What the times say after one more point.
-use Rattle.std.proofs.Common.{◌≡◌, ◌≢◌, ℕ, ◌+◌, ◌<◌, true, false, ◌==◌, refl, inl, inr, arith, sym, ap, ◌∙◌, List, length, slice_get, Option, Some, None, subst, add-one, if◌then◌else◌}
-use Rattle.race_log.specs.Points.{Point}
-use Rattle.race_log.specs.Netzer.{Before}
-use Rattle.race_log.specs.Netzer.Chain.{one}
-use Rattle.race_log.specs.Merges.{is_of_hart}
-use Rattle.race_log.specs.ByCount.{IsInOrder}
-use Rattle.race_log.specs.Holds.{UpTo, OwnUpTo, CountsOf, TimesOf}
-use Rattle.race_log.specs.Kept.{after}
+use Rattle.race_log.proofs.Common.{◌≡◌, ◌≢◌, ℕ, ◌+◌, ◌<◌, true, false, ◌==◌, refl, inl, inr, arith, sym, ap, ◌∙◌, List, length, slice_get, Option, Some, None, subst, add-one, if◌then◌else◌, Point, Before, one, is_of_hart, IsInOrder, UpTo, OwnUpTo, CountsOf, TimesOf, after}
 use Rattle.race_log.proofs.BoolFacts.{known, same_number}
 use Rattle.race_log.proofs.Chains.{chain_rises}
 use Rattle.race_log.proofs.EdgeLaws.{all_rise}

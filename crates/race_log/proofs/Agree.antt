@@ -1,10 +1,5 @@
 -- The tests on points, and what they decide.
-use Rattle.std.proofs.Common.{◌≡◌, ◌≢◌, ℕ, Bool, true, not, ◌&&◌, ◌||◌, ◌==◌, refl, inl, inr, arith, sym, ◌∙◌, List, slice_get, Option, Some, None, nat_lt, lt-ltb, ltb-true}
-use Rattle.std.specs.List.{list_any, Any}
-use Rattle.std.proofs.lemmas.List.Folds.{Any-from_list_any, list_any-from_Any}
-use Rattle.race_log.specs.Points.{Point, Access, IsConflict, IsSameHart, Touches, Writes}
-use Rattle.race_log.specs.Netzer.{AtPlaces, ProgramOrder, Conflict}
-use Rattle.race_log.specs.Tests.{touches, writes_word, clashes, is_conflict, is_same_hart, of_both, at_places, program_order, conflict}
+use Rattle.race_log.proofs.Common.{◌≡◌, ◌≢◌, ℕ, Bool, true, not, ◌&&◌, ◌||◌, ◌==◌, refl, inl, inr, arith, sym, ◌∙◌, List, slice_get, Option, Some, None, nat_lt, lt-ltb, ltb-true, list_any, Any, Any-from_list_any, list_any-from_Any, Point, Access, IsConflict, IsSameHart, Touches, Writes, AtPlaces, ProgramOrder, Conflict, touches, writes_word, clashes, is_conflict, is_same_hart, of_both, at_places, program_order, conflict}
 use Rattle.race_log.proofs.BoolFacts.{and_left, and_right, both, or_split, or_first, or_second, not_true, true_not, same_number}
 
 pub same_test : (a c : ℕ) → a ≡ c → (a == c) ≡ true

@@ -1,8 +1,5 @@
 -- How many epochs are marked, and how many there are at most.
-use Rattle.std.proofs.Common.{◌≡◌, ℕ, zero, suc, ◌+◌, ◌<◌, ◌≤◌, ◌∷◌, ◌++◌, [], ◌⊎◌, inl, inr, Bool, true, false, cond, refl, arith, ap, ◌∙◌, List, filter, length, slice_get, slice_set, IsTrue}
-use Rattle.std.proofs.lemmas.Bool.{cases_eq}
-use Rattle.race_log.specs.declared.epochs.Epoch.{Epoch}
-use Rattle.race_log.specs.Slots.{is_marked, marks_in}
+use Rattle.race_log.proofs.Common.{◌≡◌, ℕ, zero, suc, ◌+◌, ◌<◌, ◌≤◌, ◌∷◌, ◌++◌, [], ◌⊎◌, inl, inr, Bool, true, false, cond, refl, arith, ap, ◌∙◌, List, filter, length, slice_get, slice_set, IsTrue, cases_eq, Epoch, is_marked, marks_in}
 use Rattle.race_log.proofs.PageLemmas.{get_here, get_there}
 
 -- ---- how many are marked

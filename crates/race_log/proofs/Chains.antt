@@ -1,8 +1,5 @@
 -- Chains of steps.
-use Rattle.std.proofs.Common.{◌≡◌, ℕ, zero, suc, ◌+◌, ◌<◌, Bool, true, ◌&&◌, ◌||◌, ◌⊎◌, ◌==◌, inl, inr, arith}
-use Rattle.race_log.specs.Netzer.{Chain, Either}
-use Rattle.race_log.specs.Netzer.Chain.{one, more}
-use Rattle.race_log.specs.Tests.{leads}
+use Rattle.race_log.proofs.Common.{◌≡◌, ℕ, zero, suc, ◌+◌, ◌<◌, Bool, true, ◌&&◌, ◌||◌, ◌⊎◌, ◌==◌, inl, inr, arith, Chain, Either, one, more, leads}
 use Rattle.race_log.proofs.BoolFacts.{and_left, and_right, both, or_split, or_first, or_second, known}
 
 -- each step leads to a higher number

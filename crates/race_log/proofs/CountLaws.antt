@@ -1,13 +1,7 @@
 -- Chains over instructions by hart and count, and chains over places.
-use Rattle.std.proofs.Common.{◌≡◌, ℕ, ◌<◌, ◌≤◌, ◌⊎◌, refl, inl, inr, arith, sym, ap, ◌∙◌, List, slice_get, Some, subst, subst₂, AllPairs}
-use Rattle.std.proofs.lemmas.Option.{get_or_from_slice_get}
-use Rattle.race_log.specs.Points.{Point, IsConflict}
-use Rattle.race_log.specs.Netzer.{ProgramOrder, Conflict, Either, Before, IsEdge}
-use Rattle.race_log.specs.Netzer.Chain.{one, more}
-use Rattle.race_log.specs.ByCount.{IsInOrder, IsPointAt, Step, Leads, IsEdgeBetween, IsUpTo, IsTimesOf}
+use Rattle.race_log.proofs.Common.{◌≡◌, ℕ, ◌<◌, ◌≤◌, ◌⊎◌, refl, inl, inr, arith, sym, ap, ◌∙◌, List, slice_get, Some, subst, subst₂, AllPairs, get_or_from_slice_get, Point, IsConflict, ProgramOrder, Conflict, Either, Before, IsEdge, one, more, IsInOrder, IsPointAt, Step, Leads, IsEdgeBetween, IsUpTo, IsTimesOf, UpTo, TimesOf}
 use Rattle.race_log.specs.ByCount.Step.{onward, across}
 use Rattle.race_log.specs.ByCount.Leads.{by_one, by_more}
-use Rattle.race_log.specs.Holds.{UpTo, TimesOf}
 use Rattle.race_log.proofs.Chains.{chain_join}
 use Rattle.race_log.proofs.EdgeLaws.{one_point, orders_apart}
 use Rattle.race_log.proofs.MergeLaws.{is_in}

@@ -1,8 +1,5 @@
 -- The laws of a run's edges.
-use Rattle.std.proofs.Common.{◌≡◌, ℕ, true, false, not, ◌&&◌, ◌⊎◌, refl, inl, inr, sym, ◌∙◌, ap, List, slice_get, Some}
-use Rattle.race_log.specs.Points.{Point, IsConflict, IsSameHart}
-use Rattle.race_log.specs.Netzer.{AtPlaces, ProgramOrder, Conflict, Either, Chain, Before, IsEdge, OtherThan}
-use Rattle.race_log.specs.Tests.{either, any_below, conflict, program_order, before, edge}
+use Rattle.race_log.proofs.Common.{◌≡◌, ℕ, true, false, not, ◌&&◌, ◌⊎◌, refl, inl, inr, sym, ◌∙◌, ap, List, slice_get, Some, Point, IsConflict, IsSameHart, AtPlaces, ProgramOrder, Conflict, Either, Chain, Before, IsEdge, OtherThan, either, any_below, conflict, program_order, before, edge}
 use Rattle.race_log.proofs.BoolFacts.{and_left, and_right, both, or_split, or_first, or_second, known, not_true, true_not, some_below, below_some}
 use Rattle.race_log.proofs.Agree.{order_is, is_order, clash_is, is_clash}
 use Rattle.race_log.proofs.Chains.{Rises, chain_rises, chain_map, leads_chain, chain_leads, steps_rise, pair_needed, conflict_led}

@@ -1,11 +1,5 @@
 -- Epochs and which of them are used.
-use Rattle.std.proofs.Common.{◌≡◌, ◌≢◌, ℕ, ◌+◌, ◌<◌, ◌≤◌, ◌∷◌, [], zero, suc, Bool, true, false, cond, not, ◌&&◌, ◌++◌, refl, inl, inr, arith, sym, ap, ◌∙◌, List, Some, slice_get, slice_set, slice_index, slice_index_or, length, subst, IsTrue, nat_lt, lt-ltb, ltb-true}
-use Rattle.std.proofs.lemmas.Option.{slice_get-get_or}
-use Rattle.std.proofs.lemmas.Bool.{false≢true, cases_eq}
-use Rattle.std.proofs.lemmas.List.{get_or-set_same, get_or-set_other}
-use Rattle.vector_time.specs.Times.{count_of}
-use Rattle.race_log.specs.declared.epochs.Epoch.{Epoch}
-use Rattle.race_log.specs.Slots.{counts_of, is_marked, is_settled, AreSettledNow}
+use Rattle.race_log.proofs.Common.{◌≡◌, ◌≢◌, ℕ, ◌+◌, ◌<◌, ◌≤◌, ◌∷◌, [], zero, suc, Bool, true, false, cond, not, ◌&&◌, ◌++◌, refl, inl, inr, arith, sym, ap, ◌∙◌, List, Some, slice_get, slice_set, slice_index, slice_index_or, length, subst, IsTrue, nat_lt, lt-ltb, ltb-true, slice_get-get_or, false≢true, cases_eq, get_or-set_same, get_or-set_other, count_of, Epoch, counts_of, is_marked, is_settled, AreSettledNow}
 use Rattle.race_log.proofs.PageLemmas.{get_here, get_there}
 use Rattle.race_log.proofs.BoolFacts.{and_left, or_split, or_first, or_second, both}
 

@@ -1,8 +1,5 @@
 -- A merge that isn't whole can be gone on with.
-use Rattle.std.proofs.Common.{◌≡◌, ℕ, zero, suc, ◌+◌, ◌-◌, ◌<◌, ◌≤◌, Bool, true, false, ◌&&◌, ◌⊎◌, ◌==◌, refl, inl, inr, arith, sym, ap, ap₂, ◌∙◌, List, [], ◌∷◌, ◌++◌, length, slice_get, Option, Some, None, filter, IsTrue, append_assoc, append-nil, subst}
-use Rattle.race_log.specs.Points.{Point}
-use Rattle.race_log.specs.Netzer.{Chosen}
-use Rattle.race_log.specs.Merges.{is_of_hart, count_up, place, StandsIn, Respects, own_list, own_part, IsMerge, IsMergeBegun, IsNext, AreKeptEdges}
+use Rattle.race_log.proofs.Common.{◌≡◌, ℕ, zero, suc, ◌+◌, ◌-◌, ◌<◌, ◌≤◌, Bool, true, false, ◌&&◌, ◌⊎◌, ◌==◌, refl, inl, inr, arith, sym, ap, ap₂, ◌∙◌, List, [], ◌∷◌, ◌++◌, length, slice_get, Option, Some, None, filter, IsTrue, append_assoc, append-nil, subst, Point, Chosen, is_of_hart, count_up, place, StandsIn, Respects, own_list, own_part, IsMerge, IsMergeBegun, IsNext, AreKeptEdges}
 use Rattle.race_log.proofs.BoolFacts.{and_left, and_right, both, known, same_number}
 use Rattle.race_log.proofs.Agree.{same_test}
 use Rattle.race_log.proofs.MergeLaws.{filter_in, filter_out, place_at, place_past, stands_to_filter, stands_from_filter, of_hart_at}

@@ -1,19 +1,5 @@
 -- How many accesses are kept.
-use Rattle.std.proofs.Common.{◌≡◌, ℕ, zero, suc, ◌+◌, ◌*◌, ◌≤◌, ◌%◌, ◌==◌, Bool, true, false, cond, refl, inl, inr, arith, sym, ap, subst, List, [], ◌∷◌, Option, Some, None, slice_get, length, length-append, if◌then◌else◌}
-use Rattle.std.specs.List.{list_any}
-use Rattle.std.proofs.Math.Nat.{mul-add}
-use Rattle.std.proofs.lemmas.List.Folds.{list_any_at}
-use Rattle.std.proofs.lemmas.Option.{get_or_from_slice_get}
-use Rattle.race_log.specs.declared.shadow.Shadow.{Shadow}
-use Rattle.race_log.specs.declared.mode.Mode.{Mode}
-use Rattle.race_log.specs.declared.slot.Slot.{Slot}
-use Rattle.race_log.specs.Points.{Point}
-use Rattle.race_log.specs.Tests.{touches}
-use Rattle.race_log.specs.Kept.{Kept, In}
-use Rattle.race_log.specs.Slots.{kept_by, kept_here, write_in, read_in, reads_in, word_in}
-use Rattle.race_log.specs.Sweep.{sum_below, accessed_below}
-use Rattle.race_log.specs.Words.{place_of, page_of, epoch_counts}
-use Rattle.race_log.specs.Represents.{RepresentsAccesses, harts_of, kept_of, words_of, held_of}
+use Rattle.race_log.proofs.Common.{◌≡◌, ℕ, zero, suc, ◌+◌, ◌*◌, ◌≤◌, ◌%◌, ◌==◌, Bool, true, false, cond, refl, inl, inr, arith, sym, ap, subst, List, [], ◌∷◌, Option, Some, None, slice_get, length, length-append, if◌then◌else◌, list_any, mul-add, list_any_at, get_or_from_slice_get, Shadow, Mode, Slot, Point, touches, Kept, In, kept_by, kept_here, write_in, read_in, reads_in, word_in, sum_below, accessed_below, place_of, page_of, epoch_counts, RepresentsAccesses, harts_of, kept_of, words_of, held_of}
 use Rattle.race_log.proofs.BoolFacts.{known}
 use Rattle.race_log.proofs.MergeLaws.{is_in}
 use Rattle.race_log.proofs.PageLemmas.{word_none}

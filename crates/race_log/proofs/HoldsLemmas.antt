@@ -1,8 +1,5 @@
 -- Counts that represent a set of points.
-use Rattle.std.proofs.Common.{◌≡◌, ℕ, ◌<◌, ◌⊎◌, inl, inr, arith, ◌∙◌, List, max}
-use Rattle.race_log.specs.Points.{Point}
-use Rattle.race_log.specs.Search.{merged}
-use Rattle.race_log.specs.Holds.{CountsOf}
+use Rattle.race_log.proofs.Common.{◌≡◌, ℕ, ◌<◌, ◌⊎◌, inl, inr, arith, ◌∙◌, List, max, Point, merged, CountsOf}
 
 pub holds_map : (run : List Point) (S R : ℕ → Type 0) (counts : ℕ → ℕ) → ((m : ℕ) → S m → R m) → ((m : ℕ) → R m → S m) → CountsOf run S counts → CountsOf run R counts
 holds_map run S R counts f g h = record {

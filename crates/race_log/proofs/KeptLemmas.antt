@@ -1,11 +1,5 @@
 -- What is kept of a word after one more point.
-use Rattle.std.proofs.Common.{◌≡◌, ℕ, Bool, true, false, not, ◌&&◌, ◌||◌, ◌⊎◌, ◌==◌, refl, inl, inr, sym, ap, ◌∙◌, List, [], ◌∷◌, length, slice_get, Some, filter, subst}
-use Rattle.race_log.specs.Points.{Point}
-use Rattle.race_log.specs.Netzer.{Before}
-use Rattle.race_log.specs.Tests.{touches, writes_word}
-use Rattle.race_log.specs.ByCount.{IsInOrder}
-use Rattle.race_log.specs.Holds.{UpTo, TimesOf}
-use Rattle.race_log.specs.Kept.{Kept, is_write, Replaces, after, In, KeptAt, AllKnow, Suffices, stays}
+use Rattle.race_log.proofs.Common.{◌≡◌, ℕ, Bool, true, false, not, ◌&&◌, ◌||◌, ◌⊎◌, ◌==◌, refl, inl, inr, sym, ap, ◌∙◌, List, [], ◌∷◌, length, slice_get, Some, filter, subst, Point, Before, touches, writes_word, IsInOrder, UpTo, TimesOf, Kept, is_write, Replaces, after, In, KeptAt, AllKnow, Suffices, stays}
 use Rattle.race_log.proofs.BoolFacts.{or_second, known, same_number, other_number}
 use Rattle.race_log.proofs.Agree.{is_touches, writes_is, any_map}
 use Rattle.race_log.proofs.MergeLaws.{is_in, of_hart_at}

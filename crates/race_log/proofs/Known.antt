@@ -1,14 +1,5 @@
 -- What a shadow's answers and times mean by hart and count.
-use Rattle.std.proofs.Common.{◌≡◌, ◌≢◌, ℕ, ◌<◌, Bool, true, ◌↔◌, refl, inl, inr, arith, sym, ap, ◌∙◌, List, [], ◌∷◌, length, slice_get, Option, Some, None, map, subst, All, Contains}
-use Rattle.race_log.specs.declared.shadow.Shadow.{Shadow}
-use Rattle.race_log.specs.Points.{Point}
-use Rattle.race_log.specs.Netzer.Chain.{one}
-use Rattle.race_log.specs.Tests.{edge, edges_into, sources_into, name_of}
-use Rattle.race_log.specs.Merges.{is_of_hart}
-use Rattle.race_log.specs.ByCount.{IsInOrder, IsPointAt, IsEdgeBetween, IsLatestPoint, IsTimesOf}
-use Rattle.race_log.specs.Holds.{UpTo, OwnUpTo}
-use Rattle.race_log.specs.Kept.{after, In}
-use Rattle.race_log.specs.Represents.{RepresentsAccesses, harts_of, times_of}
+use Rattle.race_log.proofs.Common.{◌≡◌, ◌≢◌, ℕ, ◌<◌, Bool, true, ◌↔◌, refl, inl, inr, arith, sym, ap, ◌∙◌, List, [], ◌∷◌, length, slice_get, Option, Some, None, map, subst, All, Contains, Shadow, Point, one, edge, edges_into, sources_into, name_of, is_of_hart, IsInOrder, IsPointAt, IsEdgeBetween, IsLatestPoint, IsTimesOf, UpTo, OwnUpTo, after, In, RepresentsAccesses, harts_of, times_of}
 use Rattle.race_log.proofs.BoolFacts.{same_number}
 use Rattle.race_log.proofs.EdgeLaws.{edge_is, is_edge}
 use Rattle.race_log.proofs.MergeLaws.{is_in, of_hart_at}

@@ -1,8 +1,5 @@
 -- The latest source among kept accesses, and how many harts still have one.
-use Rattle.std.proofs.Common.{◌≡◌, ℕ, zero, suc, ◌<◌, ◌≤◌, Bool, true, false, ◌&&◌, ◌⊎◌, ◌==◌, refl, inl, inr, arith, sym, ◌∙◌, List, [], ◌∷◌, Option, Some, None, cond, nat_lt}
-use Rattle.std.specs.List.{list_any}
-use Rattle.race_log.specs.Search.{is_source, latest, newer}
-use Rattle.race_log.specs.Kept.{Kept, In}
+use Rattle.race_log.proofs.Common.{◌≡◌, ℕ, zero, suc, ◌<◌, ◌≤◌, Bool, true, false, ◌&&◌, ◌⊎◌, ◌==◌, refl, inl, inr, arith, sym, ◌∙◌, List, [], ◌∷◌, Option, Some, None, cond, nat_lt, list_any, is_source, latest, newer, Kept, In}
 use Rattle.race_log.proofs.BoolFacts.{and_left, and_right, both, or_split, or_first, or_second, known}
 
 any_found : {X : Type 0} (test : X → Bool) (xs : List X) → list_any test xs ≡ true → (x : X) × In xs x × (test x ≡ true)

@@ -1,3 +1,4 @@
+mod Common
 pub mod BoolFacts
 pub mod Agree
 pub mod Chains

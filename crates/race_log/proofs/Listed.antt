@@ -1,7 +1,5 @@
 -- The numbers that pass a test, the greatest first.
-use Rattle.std.proofs.Common.{◌≡◌, ℕ, zero, suc, ◌<◌, ◌≤◌, Bool, true, ◌⊎◌, ◌==◌, refl, inl, inr, arith, List, [], ◌∷◌, length, slice_index_or, Contains, AllPairs}
-use Rattle.race_log.specs.Tests.{greatest_first}
-use Rattle.race_log.specs.Kept.{In}
+use Rattle.race_log.proofs.Common.{◌≡◌, ℕ, zero, suc, ◌<◌, ◌≤◌, Bool, true, ◌⊎◌, ◌==◌, refl, inl, inr, arith, List, [], ◌∷◌, length, slice_index_or, Contains, AllPairs, greatest_first, In}
 use Rattle.race_log.proofs.BoolFacts.{known}
 
 -- numbers below the bound, each below the one before it

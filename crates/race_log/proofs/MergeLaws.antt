@@ -1,9 +1,5 @@
 -- Merges of the harts' lists.
-use Rattle.std.proofs.Common.{◌≡◌, ℕ, zero, suc, ◌+◌, ◌<◌, ◌≤◌, Bool, true, false, ◌&&◌, ◌⊎◌, ◌==◌, refl, inl, inr, arith, ap, ◌∙◌, List, [], ◌∷◌, length, slice_get, Some, filter}
-use Rattle.race_log.specs.Points.{Point, MeetAt}
-use Rattle.race_log.specs.Netzer.{AtPlaces, Chain, Either, ProgramOrder, Conflict, IsEdge, EndingAfter}
-use Rattle.race_log.specs.Netzer.Chain.{one, more}
-use Rattle.race_log.specs.Merges.{is_of_hart, count_up, place, StandsIn, Precedes, IsMerge, Respects}
+use Rattle.race_log.proofs.Common.{◌≡◌, ℕ, zero, suc, ◌+◌, ◌<◌, ◌≤◌, Bool, true, false, ◌&&◌, ◌⊎◌, ◌==◌, refl, inl, inr, arith, ap, ◌∙◌, List, [], ◌∷◌, length, slice_get, Some, filter, Point, MeetAt, AtPlaces, Chain, Either, ProgramOrder, Conflict, IsEdge, EndingAfter, one, more, is_of_hart, count_up, place, StandsIn, Precedes, IsMerge, Respects}
 use Rattle.race_log.proofs.BoolFacts.{both, known, same_number, other_number}
 use Rattle.race_log.proofs.Agree.{same_test}
 use Rattle.race_log.proofs.Chains.{chain_map}

@@ -1,12 +1,5 @@
 -- A shadow that knows of no point.
-use Rattle.std.proofs.Common.{◌≡◌, ℕ, zero, suc, Bool, refl, inl, arith, List, [], ◌∷◌, ◌++◌, slice_get, Some, subst}
-use Rattle.vector_time.specs.declared.times.Times.{Times}
-use Rattle.vector_time.specs.Times.{count_of}
-use Rattle.race_log.specs.declared.shadow.Shadow.{Shadow}
-use Rattle.race_log.specs.Points.{Point}
-use Rattle.race_log.specs.Kept.{Suffices}
-use Rattle.race_log.specs.Represents.{RepresentsAccesses, is_live, times_of, kept_of}
-use Rattle.race_log.specs.Words.{counts_at}
+use Rattle.race_log.proofs.Common.{◌≡◌, ℕ, zero, suc, Bool, refl, inl, arith, List, [], ◌∷◌, ◌++◌, slice_get, Some, subst, Times, count_of, Shadow, Point, Suffices, RepresentsAccesses, is_live, times_of, kept_of, counts_at}
 
 no_point : (m : ℕ) (p : Point) → slice_get [] m ≡ Some p → ⊥
 no_point m p e = cc

@@ -1,11 +1,5 @@
 -- A run and one more point.
-use Rattle.std.proofs.Common.{◌≡◌, ℕ, zero, suc, ◌<◌, true, ◌⊎◌, refl, inl, inr, arith, sym, ap, ◌∙◌, List, [], ◌∷◌, length, slice_get, Option, Some, None, subst}
-use Rattle.race_log.specs.Points.{Point, IsConflict, IsSameHart}
-use Rattle.race_log.specs.Netzer.{AtPlaces, ProgramOrder, Conflict, Either, Before}
-use Rattle.race_log.specs.Netzer.Chain.{one, more}
-use Rattle.race_log.specs.Merges.{is_of_hart}
-use Rattle.race_log.specs.Holds.{UpTo}
-use Rattle.race_log.specs.Kept.{after}
+use Rattle.race_log.proofs.Common.{◌≡◌, ℕ, zero, suc, ◌<◌, true, ◌⊎◌, refl, inl, inr, arith, sym, ap, ◌∙◌, List, [], ◌∷◌, length, slice_get, Option, Some, None, subst, Point, IsConflict, IsSameHart, AtPlaces, ProgramOrder, Conflict, Either, Before, one, more, is_of_hart, UpTo, after}
 use Rattle.race_log.proofs.BoolFacts.{same_number}
 use Rattle.race_log.proofs.Chains.{chain_map}
 use Rattle.race_log.proofs.EdgeLaws.{all_rise, one_point}

@@ -1,15 +1,5 @@
 -- What a shadow notes decides for which runs it stands.
-use Rattle.std.proofs.Common.{◌≡◌, ℕ, zero, suc, ◌<◌, ◌/◌, ◌%◌, ◌==◌, List, [], ◌∷◌, map, cond, refl, sym, ◌∙◌, ap, ap₂, subst, slice_get}
-use Rattle.std.specs.Prelude.{Option, Some, None, nat_lt, ◌&&◌, All, Vec}
-use Rattle.std.specs.Global.{Global}
-use Rattle.race_log.specs.declared.shadow.Shadow.{Shadow}
-use Rattle.race_log.specs.declared.slot.Slot.{Slot}
-use Rattle.race_log.specs.Holds.{CountsOf, OwnUpTo}
-use Rattle.race_log.specs.Kept.{Kept, Suffices}
-use Rattle.race_log.specs.Sweep.{has_bit}
-use Rattle.race_log.specs.Slots.{counts_in, word_in, slots_of}
-use Rattle.race_log.specs.Words.{counts_at, place_of}
-use Rattle.race_log.specs.Represents.{is_live, kept_of}
+use Rattle.race_log.proofs.Common.{◌≡◌, ℕ, zero, suc, ◌<◌, ◌/◌, ◌%◌, ◌==◌, List, [], ◌∷◌, map, cond, refl, sym, ◌∙◌, ap, ap₂, subst, slice_get, Option, Some, None, nat_lt, ◌&&◌, All, Vec, Global, Shadow, Slot, CountsOf, OwnUpTo, Kept, Suffices, has_bit, counts_in, word_in, slots_of, counts_at, place_of, is_live, kept_of}
 use Rattle.race_log.specs.Noted.{Noted, noted, NotesDecide}
 
 slots_or : Option (List Slot) → List Slot

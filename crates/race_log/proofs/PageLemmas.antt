@@ -1,13 +1,6 @@
 -- An access that is kept in the slots of a word.
-use Rattle.std.proofs.Common.{◌≡◌, ◌≢◌, ℕ, zero, suc, ◌+◌, ◌-◌, ◌*◌, ◌<◌, ◌≤◌, Bool, true, false, ◌&&◌, ◌||◌, ◌⊎◌, ◌==◌, cond, refl, inl, inr, arith, sym, ap, ap₂, ◌∙◌, List, [], ◌∷◌, ◌++◌, Option, Some, None, slice_get, slice_set, length, subst, IsTrue}
-use Rattle.std.proofs.Math.Nat.{add-mul}
+use Rattle.race_log.proofs.Common.{◌≡◌, ◌≢◌, ℕ, zero, suc, ◌+◌, ◌-◌, ◌*◌, ◌<◌, ◌≤◌, Bool, true, false, ◌&&◌, ◌||◌, ◌⊎◌, ◌==◌, cond, refl, inl, inr, arith, sym, ap, ap₂, ◌∙◌, List, [], ◌∷◌, ◌++◌, Option, Some, None, slice_get, slice_set, length, subst, IsTrue, add-mul, Mode, Read, Write, Slot, Epoch, Kept, In, Replaces, is_write, stays, counts_past, kept_by, kept_here, write_in, read_in, reads_in, word_in, is_settled, IsSettledPage}
 use Rattle.std.proofs.lemmas.Nat.{mul-le}
-use Rattle.race_log.specs.declared.mode.Mode.{Mode}
-use Rattle.race_log.specs.declared.mode.Mode.TheVariants.{Read, Write}
-use Rattle.race_log.specs.declared.slot.Slot.{Slot}
-use Rattle.race_log.specs.declared.epochs.Epoch.{Epoch}
-use Rattle.race_log.specs.Kept.{Kept, In, Replaces, is_write, stays}
-use Rattle.race_log.specs.Slots.{counts_past, kept_by, kept_here, write_in, read_in, reads_in, word_in, is_settled, IsSettledPage}
 use Rattle.race_log.proofs.BoolFacts.{known, same_number, other_number}
 
 -- ---- a slot that is written

@@ -1,16 +1,5 @@
 -- Pages of slots.
-use Rattle.std.proofs.Common.{◌≡◌, ◌≢◌, ℕ, zero, suc, ◌+◌, ◌-◌, ◌*◌, ◌/◌, ◌%◌, ◌<◌, ◌≤◌, Bool, true, false, ◌==◌, cond, refl, inl, inr, arith, sym, ap, ◌∙◌, List, [], ◌∷◌, ◌++◌, Some, slice_get, slice_set, slice_index_or, length, subst, IsTrue}
-use Rattle.std.specs.Prelude.{Vec}
-use Rattle.std.specs.Global.{Global}
-use Rattle.std.proofs.lemmas.Option.{slice_get-get_or}
-use Rattle.std.proofs.lemmas.Bool.{cases_eq, cases_lt}
-use Rattle.race_log.specs.declared.slot.Slot.{Slot}
-use Rattle.race_log.specs.declared.epochs.Epoch.{Epoch}
-use Rattle.race_log.specs.declared.words.KeptWords.{KeptWords}
-use Rattle.race_log.specs.Kept.{Kept, Replaces}
-use Rattle.race_log.specs.Slots.{word_in, slots_of, IsSettledPage, AreSettled, AreFull}
-use Rattle.race_log.specs.Sweep.{sum_below}
-use Rattle.race_log.specs.Words.{place_of, has_room, HasPages}
+use Rattle.race_log.proofs.Common.{◌≡◌, ◌≢◌, ℕ, zero, suc, ◌+◌, ◌-◌, ◌*◌, ◌/◌, ◌%◌, ◌<◌, ◌≤◌, Bool, true, false, ◌==◌, cond, refl, inl, inr, arith, sym, ap, ◌∙◌, List, [], ◌∷◌, ◌++◌, Some, slice_get, slice_set, slice_index_or, length, subst, IsTrue, Vec, Global, slice_get-get_or, cases_eq, cases_lt, Slot, Epoch, KeptWords, Kept, Replaces, word_in, slots_of, IsSettledPage, AreSettled, AreFull, sum_below, place_of, has_room, HasPages}
 use Rattle.race_log.proofs.BoolFacts.{known, same_number}
 use Rattle.race_log.proofs.Agree.{same_test}
 use Rattle.race_log.proofs.PageLemmas.{get_here, get_there, word_none, places_apart}

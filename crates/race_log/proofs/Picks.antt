@@ -1,10 +1,5 @@
 -- The rounds find the sources of all edges into a new point.
-use Rattle.std.proofs.Common.{◌≡◌, ℕ, zero, suc, ◌-◌, ◌<◌, ◌≤◌, Bool, true, not, ◌&&◌, ◌||◌, ◌⊎◌, ◌==◌, refl, inl, inr, arith, sym, ap, ap₂, ◌∙◌, List, [], ◌∷◌, slice_get, Option, Some, None, nat_lt, lt-ltb, map}
-use Rattle.race_log.specs.Points.{Point}
-use Rattle.race_log.specs.Tests.{touches, name_of}
-use Rattle.race_log.specs.Holds.{UpTo, CountsOf}
-use Rattle.race_log.specs.Kept.{Kept, is_write, In, KeptAt}
-use Rattle.race_log.specs.Search.{is_source, latest, merged, sources, counts_after}
+use Rattle.race_log.proofs.Common.{◌≡◌, ℕ, zero, suc, ◌-◌, ◌<◌, ◌≤◌, Bool, true, not, ◌&&◌, ◌||◌, ◌⊎◌, ◌==◌, refl, inl, inr, arith, sym, ap, ap₂, ◌∙◌, List, [], ◌∷◌, slice_get, Option, Some, None, nat_lt, lt-ltb, map, Point, touches, name_of, UpTo, CountsOf, Kept, is_write, In, KeptAt, is_source, latest, merged, sources, counts_after}
 use Rattle.race_log.proofs.BoolFacts.{and_left, and_right, both, known, not_true, same_number}
 use Rattle.race_log.proofs.Agree.{same_test}
 use Rattle.race_log.proofs.EdgeLaws.{one_point}

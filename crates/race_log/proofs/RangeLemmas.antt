@@ -1,10 +1,5 @@
 -- A point that reads or writes all words of a range.
-use Rattle.std.proofs.Common.{◌≡◌, ◌≢◌, ℕ, zero, suc, ◌+◌, ◌*◌, ◌<◌, Bool, true, false, ◌||◌, ◌==◌, inl, inr, arith, sym, ap, ◌∙◌, length, slice_index_or}
-use Rattle.std.specs.List.{list_any}
-use Rattle.race_log.specs.declared.mode.Mode.{Mode}
-use Rattle.race_log.specs.Points.{Point, Access, IsConflict, Touches, Writes}
-use Rattle.race_log.specs.Tests.{touches, writes_word}
-use Rattle.race_log.specs.Kept.{is_write, accesses_from, access_point}
+use Rattle.race_log.proofs.Common.{◌≡◌, ◌≢◌, ℕ, zero, suc, ◌+◌, ◌*◌, ◌<◌, Bool, true, false, ◌||◌, ◌==◌, inl, inr, arith, sym, ap, ◌∙◌, length, slice_index_or, list_any, Mode, Point, Access, IsConflict, Touches, Writes, touches, writes_word, is_write, accesses_from, access_point}
 use Rattle.race_log.proofs.BoolFacts.{or_split, or_first, or_second, known, same_number}
 use Rattle.race_log.proofs.Agree.{touches_is, is_touches, writes_is, is_writes, same_test}
 

@@ -1,7 +1,5 @@
 -- The rounds of a search for sources.
-use Rattle.std.proofs.Common.{◌≡◌, ℕ, zero, suc, ◌+◌, ◌*◌, ◌-◌, ◌<◌, Bool, refl, arith, ap, ◌∙◌, sym, List, [], ◌∷◌, ◌++◌, ◌&&◌, cond, Option, Some, None}
-use Rattle.race_log.specs.Search.{gathered, is_source, newer, latest, merged, sources, counts_after}
-use Rattle.race_log.specs.Kept.{Kept}
+use Rattle.race_log.proofs.Common.{◌≡◌, ℕ, zero, suc, ◌+◌, ◌*◌, ◌-◌, ◌<◌, Bool, refl, arith, ap, ◌∙◌, sym, List, [], ◌∷◌, ◌++◌, ◌&&◌, cond, Option, Some, None, gathered, is_source, newer, latest, merged, sources, counts_after, Kept}
 
 -- counts that are equal at each hart are equal
 pub same_counts : {f g : ℕ → ℕ} → ((h : ℕ) → f h ≡ g h) → f ≡ g

@@ -1,15 +1,7 @@
 -- How many pages and slots there are.
-use Rattle.std.proofs.Common.{◌≡◌, ◌≢◌, ℕ, zero, suc, ◌+◌, ◌-◌, ◌*◌, ◌/◌, ◌<◌, ◌≤◌, ◌==◌, Bool, true, false, cond, refl, inl, inr, arith, sym, ap, ◌∙◌, length, slice_get, slice_set, IsTrue}
-use Rattle.std.specs.Prelude.{Vec, List}
-use Rattle.std.specs.Global.{Global}
-use Rattle.std.proofs.lemmas.Bool.{cases_eq, cases_lt, false≢true}
-use Rattle.race_log.specs.declared.slot.Slot.{Slot}
+use Rattle.race_log.proofs.Common.{◌≡◌, ◌≢◌, ℕ, zero, suc, ◌+◌, ◌-◌, ◌*◌, ◌/◌, ◌<◌, ◌≤◌, ◌==◌, Bool, true, false, cond, refl, inl, inr, arith, sym, ap, ◌∙◌, length, slice_get, slice_set, IsTrue, Vec, List, Global, cases_eq, cases_lt, false≢true, Slot, KeptWords, slots_of, slots_in, sum_below, has_epoch, AreAllUsed, IsAsLarge, MakesPages}
 use Rattle.race_log.specs.declared.epochs.Epochs.{Epochs}
-use Rattle.race_log.specs.declared.words.KeptWords.{KeptWords}
-use Rattle.race_log.specs.Slots.{slots_of, slots_in}
-use Rattle.race_log.specs.Sweep.{sum_below}
 use Rattle.race_log.specs.Bound.{pages_to}
-use Rattle.race_log.specs.Words.{has_epoch, AreAllUsed, IsAsLarge, MakesPages}
 use Rattle.race_log.proofs.BoolFacts.{known, same_number}
 use Rattle.race_log.proofs.EpochLemmas.{is_free, begin_low}
 use Rattle.race_log.proofs.PagesLemmas.{page_here, page_there}

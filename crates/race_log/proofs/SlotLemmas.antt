@@ -1,12 +1,5 @@
 -- The slots of a word.
-use Rattle.std.proofs.Common.{◌≡◌, ◌≢◌, ℕ, zero, suc, ◌+◌, ◌-◌, ◌%◌, ◌<◌, Bool, true, false, not, ◌&&◌, ◌||◌, ◌==◌, cond, refl, inl, inr, arith, ap, ◌∙◌, List, [], ◌∷◌, ◌++◌, Option, Some, None, slice_get}
-use Rattle.race_log.specs.declared.mode.Mode.TheVariants.{Read}
-use Rattle.race_log.specs.declared.slot.Slot.{Slot}
-use Rattle.race_log.specs.Kept.{Kept}
-use Rattle.race_log.specs.Search.{latest, newer}
-use Rattle.race_log.specs.declared.words.KeptWords.{KeptWords}
-use Rattle.race_log.specs.Words.{kept_in, page_of, place_of, epoch_counts}
-use Rattle.race_log.specs.Slots.{kept_by, read_in, reads_in, word_in}
+use Rattle.race_log.proofs.Common.{◌≡◌, ◌≢◌, ℕ, zero, suc, ◌+◌, ◌-◌, ◌%◌, ◌<◌, Bool, true, false, not, ◌&&◌, ◌||◌, ◌==◌, cond, refl, inl, inr, arith, ap, ◌∙◌, List, [], ◌∷◌, ◌++◌, Option, Some, None, slice_get, Read, Slot, Kept, latest, newer, KeptWords, kept_in, page_of, place_of, epoch_counts, kept_by, read_in, reads_in, word_in}
 use Rattle.race_log.proofs.BoolFacts.{known, same_number}
 use Rattle.race_log.proofs.Rounds.{latest-append}
 

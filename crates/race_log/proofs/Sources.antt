@@ -1,14 +1,5 @@
 -- Kept accesses of a new point's words, and when they are sources of edges into it.
-use Rattle.std.proofs.Common.{◌≡◌, ◌≢◌, ℕ, ◌<◌, ◌≤◌, Bool, true, not, ◌&&◌, ◌||◌, ◌⊎◌, ◌==◌, refl, inl, inr, arith, sym, ap, ◌∙◌, List, length, slice_get, Some, nat_lt, lt-ltb, ltb-true}
-use Rattle.race_log.specs.Points.{Point}
-use Rattle.race_log.specs.Netzer.{Before, Conflict, IsEdge}
-use Rattle.race_log.specs.Netzer.Chain.{one}
-use Rattle.race_log.specs.Tests.{touches, writes_word, name_of}
-use Rattle.race_log.specs.Merges.{is_of_hart}
-use Rattle.race_log.specs.ByCount.{IsInOrder}
-use Rattle.race_log.specs.Holds.{UpTo, OwnUpTo, CountsOf}
-use Rattle.race_log.specs.Kept.{Kept, is_write, after, In, KeptAt, Suffices}
-use Rattle.race_log.specs.Search.{is_source}
+use Rattle.race_log.proofs.Common.{◌≡◌, ◌≢◌, ℕ, ◌<◌, ◌≤◌, Bool, true, not, ◌&&◌, ◌||◌, ◌⊎◌, ◌==◌, refl, inl, inr, arith, sym, ap, ◌∙◌, List, length, slice_get, Some, nat_lt, lt-ltb, ltb-true, Point, Before, Conflict, IsEdge, one, touches, writes_word, name_of, is_of_hart, IsInOrder, UpTo, OwnUpTo, CountsOf, Kept, is_write, after, In, KeptAt, Suffices, is_source}
 use Rattle.race_log.proofs.BoolFacts.{and_left, and_right, both, or_split, or_first, or_second, known, not_true, true_not, same_number, other_number}
 use Rattle.race_log.proofs.Agree.{same_test}
 use Rattle.race_log.proofs.Chains.{chain_rises}

@@ -1,22 +1,6 @@
 -- One access of a shadow.
-use Rattle.std.proofs.Common.{◌≡◌, ◌≢◌, ℕ, zero, suc, ◌+◌, ◌*◌, ◌-◌, ◌<◌, ◌≤◌, Bool, true, false, ◌⊎◌, ◌==◌, refl, inl, inr, arith, sym, ap, ap₂, ◌∙◌, List, [], ◌∷◌, ◌++◌, length, slice_get, slice_set, slice_index_or, Some, map, subst, All, if◌then◌else◌, ◌&&◌, nat_lt, lt-ltb, ltb-true}
-use Rattle.std.proofs.lemmas.Option.{get_or_from_slice_get, slice_get-get_or}
-use Rattle.std.proofs.lemmas.Bool.{cases_lt}
+use Rattle.race_log.proofs.Common.{◌≡◌, ◌≢◌, ℕ, zero, suc, ◌+◌, ◌*◌, ◌-◌, ◌<◌, ◌≤◌, Bool, true, false, ◌⊎◌, ◌==◌, refl, inl, inr, arith, sym, ap, ap₂, ◌∙◌, List, [], ◌∷◌, ◌++◌, length, slice_get, slice_set, slice_index_or, Some, map, subst, All, if◌then◌else◌, ◌&&◌, nat_lt, lt-ltb, ltb-true, get_or_from_slice_get, slice_get-get_or, cases_lt, All-push, Times, count_of, Mode, Shadow, Point, touches, edge, edges_into, sources_into, name_of, IsInOrder, IsTimesOf, OwnUpTo, CountsOf, TimesOf, Kept, is_write, access_point, after, In, Suffices, Replaces, gathered, sources, counts_after, has_bit, KeepsAccess, counts_at, RepresentsAccesses, KnowsSame, harts_of, lasting_of, lasts, is_live, next_turn, next_count, times_of, kept_of}
 use Rattle.std.proofs.lemmas.List.Quantifiers.{all_pairs_push}
-use Rattle.std.proofs.lemmas.List.Elements.{All-push}
-use Rattle.vector_time.specs.declared.times.Times.{Times}
-use Rattle.vector_time.specs.Times.{count_of}
-use Rattle.race_log.specs.declared.mode.Mode.{Mode}
-use Rattle.race_log.specs.declared.shadow.Shadow.{Shadow}
-use Rattle.race_log.specs.Points.{Point}
-use Rattle.race_log.specs.Tests.{touches, edge, edges_into, sources_into, name_of}
-use Rattle.race_log.specs.ByCount.{IsInOrder, IsTimesOf}
-use Rattle.race_log.specs.Holds.{OwnUpTo, CountsOf, TimesOf}
-use Rattle.race_log.specs.Kept.{Kept, is_write, access_point, after, In, Suffices, Replaces}
-use Rattle.race_log.specs.Search.{gathered, sources, counts_after}
-use Rattle.race_log.specs.Sweep.{has_bit}
-use Rattle.race_log.specs.Words.{KeepsAccess, counts_at}
-use Rattle.race_log.specs.Represents.{RepresentsAccesses, KnowsSame, harts_of, lasting_of, lasts, is_live, next_turn, next_count, times_of, kept_of}
 use Rattle.race_log.proofs.BoolFacts.{and_left, both, known}
 use Rattle.race_log.proofs.EdgeLaws.{edge_is, is_edge}
 use Rattle.race_log.proofs.MergeLaws.{is_in, of_hart_at}

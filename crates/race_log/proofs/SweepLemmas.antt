@@ -1,12 +1,5 @@
 -- Accesses that are given up.
-use Rattle.std.proofs.Common.{◌≡◌, ◌≢◌, ℕ, zero, suc, ◌+◌, ◌*◌, ◌<◌, Bool, true, false, cond, not, refl, arith, sym, ap, ap₂, ◌∙◌, List, [], ◌∷◌, ◌++◌, Option, Some, slice_get, length, subst, length-append}
-use Rattle.std.proofs.lemmas.List.{append_assoc, append-nil}
-use Rattle.std.proofs.lemmas.List.Elements.{filter-append}
-use Rattle.vector_time.specs.declared.times.Times.{Times}
-use Rattle.race_log.specs.declared.slot.Slot.{Slot}
-use Rattle.race_log.specs.Kept.{Kept}
-use Rattle.race_log.specs.Slots.{write_in, read_in, reads_in, word_in}
-use Rattle.race_log.specs.Sweep.{is_covered, uncovered, GivesUp, sum_below}
+use Rattle.race_log.proofs.Common.{◌≡◌, ◌≢◌, ℕ, zero, suc, ◌+◌, ◌*◌, ◌<◌, Bool, true, false, cond, not, refl, arith, sym, ap, ap₂, ◌∙◌, List, [], ◌∷◌, ◌++◌, Option, Some, slice_get, length, subst, length-append, append_assoc, append-nil, filter-append, Times, Slot, Kept, write_in, read_in, reads_in, word_in, is_covered, uncovered, GivesUp, sum_below}
 use Rattle.race_log.proofs.PageLemmas.{reads_same, word_none}
 
 -- ---- lists

@@ -1,17 +1,7 @@
 -- A shadow after a sweep.
-use Rattle.std.proofs.Common.{◌≡◌, ℕ, zero, suc, ◌<◌, ◌+◌, ◌*◌, Bool, true, false, not, ◌&&◌, ◌||◌, ◌==◌, nat_lt, ltb-true, refl, inl, inr, arith, sym, ap, ap₂, ◌∙◌, subst, min, bit_and, List, filter, All, IsTrue}
+use Rattle.race_log.proofs.Common.{◌≡◌, ℕ, zero, suc, ◌<◌, ◌+◌, ◌*◌, Bool, true, false, not, ◌&&◌, ◌||◌, ◌==◌, nat_lt, ltb-true, refl, inl, inr, arith, sym, ap, ap₂, ◌∙◌, subst, min, bit_and, List, filter, All, IsTrue, min-zero, zero-min, eq-eqb, Shadow, KeptWords, Point, OwnUpTo, CountsOf, Kept, In, KeptAt, AllKnow, Suffices, has_bit, all_below, has_room, has_epoch, HasRoom, RepresentsAccesses, harts_of, lasts, is_live, next_turn, times_of, kept_of, is_known}
 use Rattle.std.specs.Int.{bit_at}
-use Rattle.std.proofs.Math.Nat.{min-zero, zero-min}
-use Rattle.std.proofs.lemmas.Bool.{eq-eqb}
 use Rattle.std.proofs.lemmas.Nat.Bits.{bit_at_and, bit_at-lt, bit_at_ones}
-use Rattle.race_log.specs.declared.shadow.Shadow.{Shadow}
-use Rattle.race_log.specs.declared.words.KeptWords.{KeptWords}
-use Rattle.race_log.specs.Points.{Point}
-use Rattle.race_log.specs.Holds.{OwnUpTo, CountsOf}
-use Rattle.race_log.specs.Kept.{Kept, In, KeptAt, AllKnow, Suffices}
-use Rattle.race_log.specs.Sweep.{has_bit, all_below}
-use Rattle.race_log.specs.Words.{has_room, has_epoch, HasRoom}
-use Rattle.race_log.specs.Represents.{RepresentsAccesses, harts_of, lasts, is_live, next_turn, times_of, kept_of, is_known}
 use Rattle.race_log.proofs.BoolFacts.{known, and_left, and_right, both, same_number}
 use Rattle.race_log.proofs.Rounds.{same_counts}
 use Rattle.race_log.proofs.KeptLemmas.{fewer_suffice}

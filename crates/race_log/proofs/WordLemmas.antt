@@ -1,8 +1,5 @@
 -- Accesses kept of the words of a range.
-use Rattle.std.proofs.Common.{◌≡◌, ◌≢◌, ℕ, ◌+◌, ◌*◌, refl, inl, inr, arith, sym, subst, ◌∙◌, List}
-use Rattle.std.proofs.lemmas.Bool.{cases_eq}
-use Rattle.race_log.specs.Kept.{Kept, Replaces}
-use Rattle.race_log.specs.Words.{KeepsAccess}
+use Rattle.race_log.proofs.Common.{◌≡◌, ◌≢◌, ℕ, ◌+◌, ◌*◌, refl, inl, inr, arith, sym, subst, ◌∙◌, List, cases_eq, Kept, Replaces, KeepsAccess}
 
 pub keeps_none : (k : Kept) (first : ℕ) (old : ℕ → List Kept) → KeepsAccess k first 0 old old
 keeps_none k first old = record { inside = λ i low. absurd (omega arith); outside = λ w far. refl }

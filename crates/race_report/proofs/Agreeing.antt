@@ -1,11 +1,5 @@
 -- The tests say what a race is.
-use Rattle.std.proofs.Common.{◌≡◌, ◌≢◌, ◌⊎◌, inl, inr, ℕ, zero, suc, ◌<◌, ◌≤◌, ◌==◌, nat_lt, Bool, true, false, not, cond, ◌&&◌, ◌||◌, refl, sym, ap, ◌∙◌, subst, arith, List, [], ◌∷◌, length, map, filter, min, slice_get, slice_index_or, Option, Some, None, Any}
-use Rattle.std.specs.List.{list_any}
-use Rattle.race_log.specs.Points.{Point, Access, Writes, MeetAt}
-use Rattle.race_log.specs.Tests.{before, clashes}
-use Rattle.race_report.specs.Points.{Accessing, accesses_of}
-use Rattle.race_report.specs.Races.{whole_point, syncs_from, IsLowest, IsRace, lesser, least_from, shared, is_apart, race_word, race_at}
-use Rattle.race_report.specs.Laws.{TestsSayRaces}
+use Rattle.race_report.proofs.Common.{◌≡◌, ◌≢◌, ◌⊎◌, inl, inr, ℕ, zero, suc, ◌<◌, ◌≤◌, ◌==◌, nat_lt, Bool, true, false, not, cond, ◌&&◌, ◌||◌, refl, sym, ap, ◌∙◌, subst, arith, List, [], ◌∷◌, length, map, filter, min, slice_get, slice_index_or, Option, Some, None, Any, list_any, Point, Access, Writes, MeetAt, before, clashes, Accessing, accesses_of, whole_point, syncs_from, IsLowest, IsRace, lesser, least_from, shared, is_apart, race_word, race_at, TestsSayRaces}
 use Rattle.race_report.proofs.Lists.{is_in}
 use Rattle.race_report.proofs.Ordered.{TestsDecide}
 

@@ -1,15 +1,6 @@
 -- Lists of the same points, in which conflicting points stand alike, have the same races.
-use Rattle.std.proofs.Common.{◌≡◌, ◌⊎◌, inl, inr, ℕ, zero, suc, ◌+◌, ◌<◌, Bool, true, false, refl, sym, ap, ◌∙◌, subst, arith, List, [], ◌∷◌, slice_get, Option, Some, Any}
-use Rattle.bn_base.specs.declared.row.Row.{Row}
-use Rattle.race_log.specs.Kept.{In}
-use Rattle.race_log.specs.Points.{Point, Access, MeetAt, IsConflict}
-use Rattle.race_log.specs.Netzer.{ProgramOrder, Conflict, Either}
+use Rattle.race_report.proofs.Common.{◌≡◌, ◌⊎◌, inl, inr, ℕ, zero, suc, ◌+◌, ◌<◌, Bool, true, false, refl, sym, ap, ◌∙◌, subst, arith, List, [], ◌∷◌, slice_get, Option, Some, Any, Row, In, Point, Access, MeetAt, IsConflict, ProgramOrder, Conflict, Either, Race, Touch, Accessing, accesses_of, whole_point, sync_point, syncs_from, IsOrdered, races_of, AreCounted, IsRaceOf, IsRowBefore, IsRaceBefore, Ascend, AreAlike, RacesAreListed, RacesAscend, RacesGoByConflicts}
 use Rattle.race_log.specs.Netzer.Chain.{one, more}
-use Rattle.race_report.specs.declared.race.Race.{Race}
-use Rattle.race_report.specs.declared.touch.Touch.{Touch}
-use Rattle.race_report.specs.Points.{Accessing, accesses_of}
-use Rattle.race_report.specs.Races.{whole_point, sync_point, syncs_from, IsOrdered, races_of}
-use Rattle.race_report.specs.Laws.{AreCounted, IsRaceOf, IsRowBefore, IsRaceBefore, Ascend, AreAlike, RacesAreListed, RacesAscend, RacesGoByConflicts}
 use Rattle.race_report.proofs.Prefixes.{syncs_at}
 
 some_is : {X : Type 0} (x y : X) (o : Option X) → o ≡ Some x → o ≡ Some y → x ≡ y

@@ -1,13 +1,5 @@
 -- The list of races ascends.
-use Rattle.std.proofs.Common.{◌≡◌, ◌⊎◌, inl, inr, ℕ, zero, suc, ◌<◌, ◌==◌, Bool, true, false, cond, refl, sym, ap, ◌∙◌, subst, arith, List, [], ◌∷◌, ◌++◌, append_assoc, length, slice_get, Option, Some, None}
-use Rattle.std.proofs.lemmas.List.{append-nil}
-use Rattle.bn_base.specs.declared.row.Row.{Row}
-use Rattle.race_log.specs.Kept.{In}
-use Rattle.race_report.specs.declared.meeting.Meeting.{Meeting}
-use Rattle.race_report.specs.declared.race.Race.{Race}
-use Rattle.race_report.specs.Points.{Accessing}
-use Rattle.race_report.specs.Races.{race_at, meeting_at, meetings_below, meetings_of, row_if, row_of, race_by, race_if, races_with, races_by_second, is_at, races_by_place, races_by_first}
-use Rattle.race_report.specs.Laws.{AreCounted, HaveOwnRows, IsRowBefore, IsRaceBefore, Ascend, RacesAscend}
+use Rattle.race_report.proofs.Common.{◌≡◌, ◌⊎◌, inl, inr, ℕ, zero, suc, ◌<◌, ◌==◌, Bool, true, false, cond, refl, sym, ap, ◌∙◌, subst, arith, List, [], ◌∷◌, ◌++◌, append_assoc, length, slice_get, Option, Some, None, append-nil, Row, In, Meeting, Race, Accessing, race_at, meeting_at, meetings_below, meetings_of, row_if, row_of, race_by, race_if, races_with, races_by_second, is_at, races_by_place, races_by_first, AreCounted, HaveOwnRows, IsRowBefore, IsRaceBefore, Ascend, RacesAscend}
 use Rattle.race_report.proofs.Listed.{same_number, in_cases, in_meetings, in_with}
 
 some_is : {X : Type 0} (x y : X) (o : Option X) → o ≡ Some x → o ≡ Some y → x ≡ y

@@ -1,34 +1,17 @@
 -- Each hart's points come by their counts.
-use Rattle.std.proofs.Common.{◌≡◌, ◌⊎◌, inl, inr, ℕ, zero, suc, ◌+◌, ◌<◌, ◌≤◌, ◌==◌, nat_lt, Bool, true, false, not, is_some, ◌&&◌, ◌||◌, refl, sym, ap, ◌∙◌, subst, arith, List, [], ◌∷◌, ◌++◌, length, slice_get, slice_set, Option, Some, None, Result, Ok, Err}
-use Rattle.std.proofs.lemmas.List.{append-nil}
-use Rattle.bn_base.specs.Programs.{Program}
-use Rattle.bn_base.specs.declared.end_mark.EndMark.{EndMark}
+use Rattle.race_report.proofs.Common.{◌≡◌, ◌⊎◌, inl, inr, ℕ, zero, suc, ◌+◌, ◌<◌, ◌≤◌, ◌==◌, nat_lt, Bool, true, false, not, is_some, ◌&&◌, ◌||◌, refl, sym, ap, ◌∙◌, subst, arith, List, [], ◌∷◌, ◌++◌, length, slice_get, slice_set, Option, Some, None, Result, Ok, Err, append-nil, Program, EndMark, Row, HartState, ReplayError, Outcome, Done, Refused, Record, Stuck, Next, Hart, AllDone, NoneReady, Cursor, Lane, Item, Passing, Doing, Ending, row_given, lane_step, cursor_step, has_row, memory_after, Joining, Taken, Walk, Ran, ran, fresh, lanes_from, choice, is_passed, move, next_step, error_of, positions_from, steps_left, run_for, RunsByStep, Touch, Accessing, accessing, touch_of, point_in, points_of, or_else, word_with, is_atomic, loaded_touch, AreCounted, PointsAreCounted}
 use Rattle.bn_base.specs.declared.fault.Fault.{Fault}
-use Rattle.bn_base.specs.declared.row.Row.{Row}
-use Rattle.bn_base.specs.declared.state.HartState.{HartState}
-use Rattle.hart_replay.specs.declared.error.ReplayError.{ReplayError}
-use Rattle.hart_replay.specs.Replay.{Outcome, Done, Refused}
 use Rattle.hart_replay.specs.Coming.{after_row}
-use Rattle.log_record.specs.declared.record.Record.{Record}
-use Rattle.joint_replay.specs.declared.error.JointError.TheVariants.{Stuck}
 use Rattle.joint_replay.specs.declared.kinds.Coming.{Coming}
 use Rattle.joint_replay.specs.declared.kinds.Coming.TheVariants.{RowAt, EndAt}
 use Rattle.joint_replay.specs.declared.kinds.Readiness.{Readiness}
 use Rattle.joint_replay.specs.declared.kinds.Readiness.TheVariants as is
-use Rattle.joint_replay.specs.declared.kinds.Next.{Next}
-use Rattle.joint_replay.specs.declared.kinds.Next.TheVariants.{Hart, AllDone, NoneReady}
-use Rattle.joint_replay.specs.Lanes.{Cursor, Lane, Item, Passing, Doing, Ending, row_given, lane_step, cursor_step, has_row, count_of}
-use Rattle.joint_replay.specs.Memory.{memory_after}
-use Rattle.joint_replay.specs.Joining.{Joining, Taken, Walk, Ran, ran, fresh, lanes_from, choice, is_passed, move, next_step, error_of, positions_from, steps_left, run_for}
+use Rattle.joint_replay.specs.Lanes.{count_of}
 use Rattle.joint_replay.specs.Orders.{ready_step}
 use Rattle.joint_replay.specs.Counts.{RowsFrom}
 use Rattle.joint_replay.specs.Ways.{GoesOn, AreFrom, IsLane, Passes, PassesIf}
 use Rattle.joint_replay.specs.Sound.{IsSound, SoundIf}
-use Rattle.joint_replay.specs.Firsts.{RunsByStep}
 use Rattle.joint_replay.specs.Laws.{StepsPass, StartsAreSound, SoundnessStays}
-use Rattle.race_report.specs.declared.touch.Touch.{Touch}
-use Rattle.race_report.specs.Points.{Accessing, accessing, touch_of, point_in, points_of, or_else, word_with, is_atomic, loaded_touch}
-use Rattle.race_report.specs.Laws.{AreCounted, PointsAreCounted}
 
 true_lt : (m n : ℕ) → nat_lt m n ≡ true → m < n
 true_lt m n h = grind arith

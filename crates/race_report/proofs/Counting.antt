@@ -1,15 +1,5 @@
 -- How many races there are.
-use Rattle.std.proofs.Common.{◌≡◌, ℕ, zero, suc, ◌+◌, ◌<◌, ◌≤◌, refl, sym, ap, ◌∙◌, subst, arith, List, [], ◌∷◌, ◌++◌, length, slice_get, Option, Some, None}
-use Rattle.std.proofs.lemmas.List.{append-nil, length-append}
-use Rattle.bn_base.specs.declared.row.Row.{Row}
-use Rattle.race_report.specs.declared.meeting.Meeting.{Meeting}
-use Rattle.race_report.specs.declared.touch.Touch.{Touch}
-use Rattle.race_report.specs.declared.gathered.Gathered.{Gathered}
-use Rattle.race_report.specs.Points.{Accessing, accessing}
-use Rattle.race_report.specs.Races.{race_at, meeting_at, meetings_of, count_below, race_count}
-use Rattle.race_report.specs.Found.{total_of, total}
-use Rattle.race_report.specs.Kept.{lists_of}
-use Rattle.race_report.specs.Gathering.{IsGathered, IsState, point_by}
+use Rattle.race_report.proofs.Common.{◌≡◌, ℕ, zero, suc, ◌+◌, ◌<◌, ◌≤◌, refl, sym, ap, ◌∙◌, subst, arith, List, [], ◌∷◌, ◌++◌, length, slice_get, Option, Some, None, append-nil, length-append, Row, Meeting, Touch, Gathered, Accessing, accessing, race_at, meeting_at, meetings_of, count_below, race_count, total_of, total, lists_of, IsGathered, IsState, point_by}
 use Rattle.race_report.proofs.Prefixes.{meetings_more, length_more}
 
 abbrev list_or : Option (List Meeting) → List Meeting

@@ -1,14 +1,5 @@
 -- The accesses of each word, with those of one point more.
-use Rattle.std.proofs.Common.{◌≡◌, ◌≢◌, ℕ, zero, suc, ◌+◌, ◌≤◌, ◌/◌, ◌%◌, ◌^◌, ◌==◌, Bool, true, false, cond, ◌&&◌, ◌||◌, refl, sym, ap, ◌∙◌, subst, arith, List, [], ◌∷◌, ◌++◌, length, map, slice_get, Option, Some, None}
-use Rattle.std.specs.List.{list_any}
-use Rattle.bn_base.specs.declared.row.Row.{Row}
-use Rattle.race_log.specs.Tests.{clashes}
-use Rattle.race_report.specs.declared.touch.Touch.{Touch}
-use Rattle.race_report.specs.declared.track.Track.{Track}
-use Rattle.race_report.specs.Points.{Accessing, words_from}
-use Rattle.race_report.specs.Tracks.{AreBelow, noted_one, noted}
-use Rattle.race_report.specs.Kept.{IsTracked}
-use Rattle.race_report.specs.Gathering.{meets, passes, AreFalling, ArePlaces, Follows, point_by}
+use Rattle.race_report.proofs.Common.{◌≡◌, ◌≢◌, ℕ, zero, suc, ◌+◌, ◌≤◌, ◌/◌, ◌%◌, ◌^◌, ◌==◌, Bool, true, false, cond, ◌&&◌, ◌||◌, refl, sym, ap, ◌∙◌, subst, arith, List, [], ◌∷◌, ◌++◌, length, map, slice_get, Option, Some, None, list_any, Row, clashes, Touch, Track, Accessing, words_from, AreBelow, noted_one, noted, IsTracked, meets, passes, AreFalling, ArePlaces, Follows, point_by}
 use Rattle.race_report.proofs.Lists.{is_in}
 use Rattle.race_report.proofs.Rounds.{AllAligned}
 use Rattle.race_report.proofs.Prefixes.{get_last, get_none, length_more}

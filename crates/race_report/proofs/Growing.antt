@@ -1,17 +1,5 @@
 -- The races, with those of one point more.
-use Rattle.std.proofs.Common.{◌≡◌, ◌≢◌, ℕ, zero, suc, ◌+◌, ◌<◌, ◌≤◌, ◌%◌, ◌==◌, nat_lt, Bool, true, false, not, cond, ◌&&◌, refl, sym, ap, ◌∙◌, arith, List, [], ◌∷◌, ◌++◌, length, filter, slice_get, Option, Some, None}
-use Rattle.std.proofs.lemmas.List.{append-nil}
-use Rattle.std.specs.List.{list_any}
-use Rattle.bn_base.specs.declared.row.Row.{Row}
-use Rattle.race_log.specs.Tests.{clashes, before}
-use Rattle.race_log.specs.ByCount.{IsInOrder, IsTimesOf}
-use Rattle.race_report.specs.declared.meeting.Meeting.{Meeting}
-use Rattle.race_report.specs.declared.touch.Touch.{Touch}
-use Rattle.race_report.specs.declared.track.Track.{Track}
-use Rattle.race_report.specs.Points.{Accessing, accesses_of, words_from}
-use Rattle.race_report.specs.Races.{sync_point, syncs_from, shared, least_from, race_at, race_word, meeting_at, meetings_below, meetings_of}
-use Rattle.race_report.specs.Found.{last_meets, met_words}
-use Rattle.race_report.specs.Gathering.{sync_of, point_by, meets, passes, Follows}
+use Rattle.race_report.proofs.Common.{◌≡◌, ◌≢◌, ℕ, zero, suc, ◌+◌, ◌<◌, ◌≤◌, ◌%◌, ◌==◌, nat_lt, Bool, true, false, not, cond, ◌&&◌, refl, sym, ap, ◌∙◌, arith, List, [], ◌∷◌, ◌++◌, length, filter, slice_get, Option, Some, None, append-nil, list_any, Row, clashes, before, IsInOrder, IsTimesOf, Meeting, Touch, Track, Accessing, accesses_of, words_from, sync_point, syncs_from, shared, least_from, race_at, race_word, meeting_at, meetings_below, meetings_of, last_meets, met_words, sync_of, point_by, meets, passes, Follows}
 use Rattle.race_report.proofs.Lists.{is_in}
 use Rattle.race_report.proofs.Rounds.{found_at}
 use Rattle.race_report.proofs.Ordered.{TestsDecide, PlacesStandForCounts, ordered_is, shared_is}

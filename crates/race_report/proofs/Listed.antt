@@ -1,11 +1,5 @@
 -- The list of races has all of them, and nothing else.
-use Rattle.std.proofs.Common.{◌≡◌, ◌⊎◌, inl, inr, ℕ, zero, suc, ◌<◌, ◌==◌, Bool, true, false, cond, refl, sym, ap, ◌∙◌, subst, arith, List, [], ◌∷◌, ◌++◌, length, slice_get, Option, Some, None}
-use Rattle.race_log.specs.Kept.{In}
-use Rattle.race_report.specs.declared.meeting.Meeting.{Meeting}
-use Rattle.race_report.specs.declared.race.Race.{Race}
-use Rattle.race_report.specs.Points.{Accessing}
-use Rattle.race_report.specs.Races.{race_at, meeting_at, meetings_below, meetings_of, row_if, row_of, race_by, race_if, races_with, races_by_second, is_at, races_by_place, races_by_first, races_of}
-use Rattle.race_report.specs.Laws.{TestsSayRaces, AreCounted, IsRaceOf, RacesAreListed}
+use Rattle.race_report.proofs.Common.{◌≡◌, ◌⊎◌, inl, inr, ℕ, zero, suc, ◌<◌, ◌==◌, Bool, true, false, cond, refl, sym, ap, ◌∙◌, subst, arith, List, [], ◌∷◌, ◌++◌, length, slice_get, Option, Some, None, In, Meeting, Race, Accessing, race_at, meeting_at, meetings_below, meetings_of, row_if, row_of, race_by, race_if, races_with, races_by_second, is_at, races_by_place, races_by_first, races_of, TestsSayRaces, AreCounted, IsRaceOf, RacesAreListed}
 
 pub same_number : (a b : ℕ) → (a == b) ≡ true → a ≡ b
 same_number a b h = grind arith

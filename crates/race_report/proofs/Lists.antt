@@ -1,11 +1,5 @@
 -- What is found of a point's races, place by place.
-use Rattle.std.proofs.Common.{◌≡◌, ◌≢◌, ℕ, zero, suc, ◌+◌, ◌-◌, if◌then◌else◌, slice_index_or, ◌<◌, ◌==◌, Bool, true, false, cond, ◌||◌, refl, sym, ap, ◌∙◌, subst, arith, List, [], ◌∷◌, ◌++◌, length, slice_get, slice_set, min, Vec, Option, Some, None}
-use Rattle.std.proofs.lemmas.Option.{slice_get-get_or}
-use Rattle.std.specs.Global.{Global}
-use Rattle.std.specs.List.{list_any}
-use Rattle.race_report.specs.declared.meeting.Meeting.{Meeting}
-use Rattle.race_report.specs.Races.{lesser, meeting_at}
-use Rattle.race_report.specs.Found.{meeting, lists_in, total_of, total, last_meets, met, met_at, met_all}
+use Rattle.race_report.proofs.Common.{◌≡◌, ◌≢◌, ℕ, zero, suc, ◌+◌, ◌-◌, if◌then◌else◌, slice_index_or, ◌<◌, ◌==◌, Bool, true, false, cond, ◌||◌, refl, sym, ap, ◌∙◌, subst, arith, List, [], ◌∷◌, ◌++◌, length, slice_get, slice_set, min, Vec, Option, Some, None, slice_get-get_or, Global, list_any, Meeting, lesser, meeting_at, meeting, lists_in, total_of, total, last_meets, met, met_at, met_all}
 
 -- ---- one list
 

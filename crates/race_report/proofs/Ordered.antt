@@ -1,11 +1,5 @@
 -- Counts tell which points are ordered before a point, and the words that two points share.
-use Rattle.std.proofs.Common.{◌≡◌, ◌≢◌, ◌↔◌, inl, inr, ℕ, ◌<◌, nat_lt, Bool, true, false, IsTrue, cond, refl, sym, ap, arith, List, [], ◌∷◌, map, filter, slice_get, Some}
-use Rattle.std.specs.List.{list_any}
-use Rattle.race_log.specs.Points.{Point, Access}
-use Rattle.race_log.specs.Netzer.{Before}
-use Rattle.race_log.specs.Tests.{before, clashes}
-use Rattle.race_log.specs.ByCount.{IsInOrder, Leads, IsTimesOf, IsUpTo}
-use Rattle.race_report.specs.Races.{shared}
+use Rattle.race_report.proofs.Common.{◌≡◌, ◌≢◌, ◌↔◌, inl, inr, ℕ, ◌<◌, nat_lt, Bool, true, false, IsTrue, cond, refl, sym, ap, arith, List, [], ◌∷◌, map, filter, slice_get, Some, list_any, Point, Access, Before, before, clashes, IsInOrder, Leads, IsTimesOf, IsUpTo, shared}
 
 abbrev pub TestsDecide : Type 0
 TestsDecide = (run : List Point) (m n : ℕ) → IsTrue (before run m n) ↔ Before run m n

@@ -1,10 +1,5 @@
 -- Races one after another.
-use Rattle.std.proofs.Common.{◌≡◌, ℕ, zero, suc, ◌+◌, ◌<◌, ◌≤◌, ◌==◌, Bool, true, false, cond, refl, sym, ap, ◌∙◌, arith, List, [], ◌∷◌, ◌++◌, append_assoc, length, drop, slice_get, slice_index_or, Option, Some, None}
-use Rattle.std.specs.Option.{option_map}
-use Rattle.bn_base.specs.declared.row.Row.{Row}
-use Rattle.race_report.specs.declared.meeting.Meeting.{Meeting}
-use Rattle.race_report.specs.Points.{Accessing}
-use Rattle.race_report.specs.Races.{meetings_of, row_if, row_of, race_by, race_if, races_with, is_at, races_by_second, races_by_place, races_by_first}
+use Rattle.race_report.proofs.Common.{◌≡◌, ℕ, zero, suc, ◌+◌, ◌<◌, ◌≤◌, ◌==◌, Bool, true, false, cond, refl, sym, ap, ◌∙◌, arith, List, [], ◌∷◌, ◌++◌, append_assoc, length, drop, slice_get, slice_index_or, Option, Some, None, option_map, Row, Meeting, Accessing, meetings_of, row_if, row_of, race_by, race_if, races_with, is_at, races_by_second, races_by_place, races_by_first}
 
 pub race_none : (o : Option Accessing) (word : ℕ) → race_by o None word ≡ []
 race_none None word = refl

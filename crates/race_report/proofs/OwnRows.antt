@@ -1,29 +1,15 @@
 -- The row of each point is its hart's.
-use Rattle.std.proofs.Common.{◌≡◌, ℕ, zero, suc, ◌+◌, ◌-◌, ◌==◌, nat_lt, Bool, true, false, not, ◌&&◌, ◌||◌, refl, sym, ap, ◌∙◌, subst, arith, List, [], ◌∷◌, ◌++◌, slice_get, slice_set, slice_index, Option, Some, None}
-use Rattle.std.specs.Prelude.{Result, Ok, Err}
-use Rattle.std.proofs.lemmas.List.{append-nil}
+use Rattle.race_report.proofs.Common.{◌≡◌, ℕ, zero, suc, ◌+◌, ◌-◌, ◌==◌, nat_lt, Bool, true, false, not, ◌&&◌, ◌||◌, refl, sym, ap, ◌∙◌, subst, arith, List, [], ◌∷◌, ◌++◌, slice_get, slice_set, slice_index, Option, Some, None, Result, Ok, Err, append-nil, Program, Row, Record, ReplayError, Outcome, Done, Refused, Replayed, Interval, Position, On, Stop, interval_of, word_for, missing, slot, after_ask, after_sc, call_reason, found, system_step, ask_step, one_step, left_over, onto, finish, fault_end, ended, steps, first, replayed_in, replayed, Stuck, Next as Choice, Hart, AllDone, NoneReady, Cursor, Lane, Item, Passing, Doing, Ending, row_given, with_cursor, cursors_of, lane_of, lane_step, cursor_step, Joining, Taken, Walk, Ran, ran, fresh, lanes_from, choice, next_step, error_of, positions_from, steps_left, run_for, Touch, Accessing, accessing, touch_of, point_in, points_of, HaveOwnRows, PointsHaveOwnRows}
 use Rattle.bn_base.specs.Faults.{fault_number}
-use Rattle.bn_base.specs.Programs.{Program}
-use Rattle.bn_base.specs.declared.row.Row.{Row}
 use Rattle.rv_meaning.specs.Access.{stored_word, amo_result}
 use Rattle.rv_meaning.specs.Execute.{Step, Quiet, Asks, step, absorbed}
 use Rattle.rv_meaning.specs.Rows.{row_of, call_row, fault_row}
 use Rattle.rv_meaning.specs.declared.asks.Want.{Want}
 use Rattle.rv_meaning.specs.declared.asks.Want.TheVariants.{Load, Store, LoadReserved, StoreConditional, Amo, System, Cut, Faulted}
 use Rattle.rv_meaning.specs.declared.asks.Reply.TheVariants.{Word, Stored, Answer, Over}
-use Rattle.log_record.specs.declared.record.Record.{Record}
-use Rattle.hart_replay.specs.declared.error.ReplayError.{ReplayError}
 use Rattle.hart_replay.specs.declared.error.ReplayError.TheVariants.{EndDiffers, ScMissing}
-use Rattle.hart_replay.specs.Replay.{Outcome, Done, Refused, Replayed, Interval, Position, Next, On, Stop, interval_of, word_for, missing, slot, after_ask, after_sc, call_reason, found, system_step, ask_step, one_step, left_over, onto, finish, fault_end, ended, steps, first, replayed_in, replayed}
-use Rattle.joint_replay.specs.declared.error.JointError.TheVariants.{Stuck}
-use Rattle.joint_replay.specs.declared.kinds.Next.{Next as Choice}
-use Rattle.joint_replay.specs.declared.kinds.Next.TheVariants.{Hart, AllDone, NoneReady}
-use Rattle.joint_replay.specs.Lanes.{Cursor, Lane, Item, Passing, Doing, Ending, row_given, with_cursor, cursors_of, lane_of, lane_step, cursor_step}
-use Rattle.joint_replay.specs.Joining.{Joining, Taken, Walk, Ran, ran, fresh, lanes_from, choice, next_step, error_of, positions_from, steps_left, run_for}
+use Rattle.hart_replay.specs.Replay.{Next}
 use Rattle.joint_replay.specs.Points.{intervals_in}
-use Rattle.race_report.specs.declared.touch.Touch.{Touch}
-use Rattle.race_report.specs.Points.{Accessing, accessing, touch_of, point_in, points_of}
-use Rattle.race_report.specs.Laws.{HaveOwnRows, PointsHaveOwnRows}
 use Rattle.race_report.proofs.Counted.{step_lane, set_here, set_there, same_number, some_same}
 
 -- ---- the rows of a replay

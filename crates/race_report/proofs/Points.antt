@@ -1,13 +1,6 @@
 -- A point as it is taken in.
-use Rattle.std.proofs.Common.{◌≡◌, ℕ, ◌<◌, Bool, true, false, if◌then◌else◌, refl, sym, ap, ◌∙◌, subst, List, [], map}
-use Rattle.race_log.specs.Points.{Point, Access}
-use Rattle.race_log.specs.ByCount.{IsTimesOf}
+use Rattle.race_report.proofs.Common.{◌≡◌, ℕ, ◌<◌, Bool, true, false, if◌then◌else◌, refl, sym, ap, ◌∙◌, subst, List, [], map, Point, Access, IsTimesOf, access_point, accesses_from, is_write, Touch, IsTouch, words_from, accesses_of, with_accesses, sync_of}
 use Rattle.race_log.specs.declared.mode.Mode.{Mode}
-use Rattle.race_log.specs.Kept.{access_point, accesses_from, is_write}
-use Rattle.race_report.specs.declared.touch.Touch.{Touch}
-use Rattle.race_report.specs.Points.{IsTouch, words_from, accesses_of}
-use Rattle.race_report.specs.Races.{with_accesses}
-use Rattle.race_report.specs.Gathering.{sync_of}
 
 accesses_are : (touch : Touch) (b : Bool) → touch.syncs ≡ b → IsTouch touch → accesses_from touch.first (if b then 1 else 0) touch.writes ≡ elim b as (λ y. List Access) [ true ↦ accesses_of touch | false ↦ [] ]
 accesses_are touch true e t = ap (λ (k : ℕ). map (λ w. record { word = w; writes = touch.writes }) (words_from touch.first k)) (sym (t.one e))

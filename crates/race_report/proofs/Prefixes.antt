@@ -1,10 +1,5 @@
 -- Races of the first points are races of all.
-use Rattle.std.proofs.Common.{◌≡◌, ℕ, zero, suc, ◌+◌, ◌<◌, ◌≤◌, ◌==◌, nat_lt, Bool, true, false, not, cond, ◌&&◌, ◌||◌, refl, sym, ap, ◌∙◌, arith, List, [], ◌∷◌, ◌++◌, length, slice_get, Option, Some, None}
-use Rattle.race_log.specs.Points.{Point}
-use Rattle.race_log.specs.Tests.{before, leads, either, at_places, of_both, program_order, conflict, is_same_hart, is_conflict}
-use Rattle.race_report.specs.declared.meeting.Meeting.{Meeting}
-use Rattle.race_report.specs.Points.{Accessing, accesses_of}
-use Rattle.race_report.specs.Races.{shared, least_from, sync_point, syncs_from, race_at, race_word, meeting_at, meetings_below, meetings_of}
+use Rattle.race_report.proofs.Common.{◌≡◌, ℕ, zero, suc, ◌+◌, ◌<◌, ◌≤◌, ◌==◌, nat_lt, Bool, true, false, not, cond, ◌&&◌, ◌||◌, refl, sym, ap, ◌∙◌, arith, List, [], ◌∷◌, ◌++◌, length, slice_get, Option, Some, None, Point, before, leads, either, at_places, of_both, program_order, conflict, is_same_hart, is_conflict, Meeting, Accessing, accesses_of, shared, least_from, sync_point, syncs_from, race_at, race_word, meeting_at, meetings_below, meetings_of}
 
 false_le : (m n : ℕ) → nat_lt m n ≡ false → n ≤ m
 false_le m n h = grind arith

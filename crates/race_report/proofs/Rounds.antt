@@ -1,10 +1,5 @@
 -- What is found of a point's races with all other harts, at one earlier place.
-use Rattle.std.proofs.Common.{◌≡◌, ◌≢◌, ℕ, zero, suc, ◌<◌, ◌≤◌, ◌%◌, ◌==◌, nat_lt, Bool, true, false, not, cond, ◌&&◌, ◌||◌, refl, sym, ap, ◌∙◌, arith, List, [], ◌∷◌, ◌++◌, length, filter, slice_get, Option, Some, None}
-use Rattle.std.proofs.lemmas.List.{append-nil}
-use Rattle.race_report.specs.declared.meeting.Meeting.{Meeting}
-use Rattle.race_report.specs.Races.{lesser, least_from, meeting_at}
-use Rattle.race_report.specs.Found.{last_meets, met, met_all, uncovered, met_harts, met_words}
-use Rattle.race_report.specs.Gathering.{AreFalling}
+use Rattle.race_report.proofs.Common.{◌≡◌, ◌≢◌, ℕ, zero, suc, ◌<◌, ◌≤◌, ◌%◌, ◌==◌, nat_lt, Bool, true, false, not, cond, ◌&&◌, ◌||◌, refl, sym, ap, ◌∙◌, arith, List, [], ◌∷◌, ◌++◌, length, filter, slice_get, Option, Some, None, append-nil, Meeting, lesser, least_from, meeting_at, last_meets, met, met_all, uncovered, met_harts, met_words, AreFalling}
 use Rattle.race_report.proofs.Lists.{is_in, met_all_at, met_all_length, met_after}
 
 false_le : (m n : ℕ) → nat_lt m n ≡ false → n ≤ m

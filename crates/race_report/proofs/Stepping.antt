@@ -1,36 +1,15 @@
 -- A joint replay, step by step, with its points.
-use Rattle.std.proofs.Common.{◌≡◌, inl, inr, ℕ, zero, suc, ◌+◌, ◌<◌, ◌≤◌, refl, sym, ap, ◌∙◌, subst, arith, List, [], ◌∷◌, ◌++◌, append_assoc, length, slice_get, slice_set, Option, Some, None, Result, Ok, Err}
-use Rattle.std.proofs.lemmas.List.{append-nil}
-use Rattle.std.specs.Option.{option_map}
-use Rattle.bn_base.specs.Programs.{Program}
-use Rattle.bn_base.specs.declared.end_mark.EndMark.{EndMark}
-use Rattle.bn_base.specs.declared.row.Row.{Row}
-use Rattle.bn_base.specs.declared.state.HartState.{HartState}
-use Rattle.hart_replay.specs.declared.error.ReplayError.{ReplayError}
+use Rattle.race_report.proofs.Common.{◌≡◌, inl, inr, ℕ, zero, suc, ◌+◌, ◌<◌, ◌≤◌, refl, sym, ap, ◌∙◌, subst, arith, List, [], ◌∷◌, ◌++◌, append_assoc, length, slice_get, slice_set, Option, Some, None, Result, Ok, Err, append-nil, option_map, Program, EndMark, Row, HartState, ReplayError, Hart, AllDone, NoneReady, Cursor, Lane, Item, Passing, Doing, Ending, row_given, lane_step, cursor_step, state_of, memory_after, Outcome, Done, Refused, Joining, Taken, Ran, fresh, lanes_from, begun, ran, choice, move, next_step, error_of, positions_from, steps_left, run_all, IsFirstStep, RunsByStep, Gathered, Accessing, asked_by, point_in, points_of, IsGathered, IsState, Record, Race, races_of, total, IsReport, TellsReport, Stops, RanOutOfMemory, IsUnrefused, TakesRow, Advances, HasState, IsOnTheWay, Gathers, GathersRest, GathersInto}
 use Rattle.hart_replay.specs.declared.error.ReplayError.TheVariants as replay
 use Rattle.joint_replay.specs.declared.error.JointError.{JointError}
 use Rattle.joint_replay.specs.declared.error.JointError.TheVariants as why
 use Rattle.joint_replay.specs.declared.kinds.Stepped.TheVariants.{Passed, Did, Ended}
-use Rattle.joint_replay.specs.declared.kinds.Next.TheVariants.{Hart, AllDone, NoneReady}
-use Rattle.joint_replay.specs.Lanes.{Cursor, Lane, Item, Passing, Doing, Ending, row_given, lane_step, cursor_step, state_of}
-use Rattle.joint_replay.specs.Memory.{memory_after}
-use Rattle.hart_replay.specs.Replay.{Outcome, Done, Refused}
-use Rattle.joint_replay.specs.Joining.{Joining, Taken, Ran, fresh, lanes_from, begun, ran, choice, move, next_step, error_of, positions_from, steps_left, run_all}
 use Rattle.joint_replay.specs.Calls.{stepped_of, state_at, Steps}
 use Rattle.joint_replay.specs.Runs.{Runs}
-use Rattle.joint_replay.specs.Firsts.{IsFirstStep, RunsByStep}
 use Rattle.race_report.specs.declared.calls.Asked.{Asked}
 use Rattle.race_report.specs.declared.error.RaceError.{RaceError}
 use Rattle.race_report.specs.declared.error.RaceError.TheVariants.{Joint, TooMany, OutOfMemory}
-use Rattle.race_report.specs.declared.gathered.Gathered.{Gathered}
-use Rattle.race_report.specs.Points.{Accessing, asked_by, point_in, points_of}
-use Rattle.race_report.specs.Gathering.{IsGathered, IsState}
 use Rattle.race_report.proofs.Counting.{state_of as whole_state, total_is}
-use Rattle.log_record.specs.declared.record.Record.{Record}
-use Rattle.race_report.specs.declared.race.Race.{Race}
-use Rattle.race_report.specs.Races.{races_of}
-use Rattle.race_report.specs.Found.{total}
-use Rattle.race_report.specs.Reports.{IsReport, TellsReport, Stops, RanOutOfMemory, IsUnrefused, TakesRow, Advances, HasState, IsOnTheWay, Gathers, GathersRest, GathersInto}
 
 -- ---- a step that did no row
 

@@ -1,21 +1,7 @@
 -- One point more is taken in.
-use Rattle.std.proofs.Common.{◌≡◌, ℕ, zero, suc, ◌+◌, ◌<◌, ◌≤◌, ◌%◌, ◌==◌, Bool, true, false, IsTrue, ◌||◌, if◌then◌else◌, refl, sym, ap, ◌∙◌, subst, arith, All, List, [], ◌∷◌, ◌++◌, length, map, slice_get, Some}
+use Rattle.race_report.proofs.Common.{◌≡◌, ℕ, zero, suc, ◌+◌, ◌<◌, ◌≤◌, ◌%◌, ◌==◌, Bool, true, false, IsTrue, ◌||◌, if◌then◌else◌, refl, sym, ap, ◌∙◌, subst, arith, All, List, [], ◌∷◌, ◌++◌, length, map, slice_get, Some, Row, Point, IsTimesOf, after, RepresentsAccesses, harts_of, next_turn, next_count, lasting_of, Meeting, Touch, Gathered, Accessing, IsTouch, words_from, sync_point, syncs_from, meetings_of, AreBelow, noted, met_words, IsTracked, lists_of, everyone, sync_of, point_by, Follows, IsGathered}
 use Rattle.std.proofs.lemmas.List.Elements.{All-head, All-tail}
-use Rattle.bn_base.specs.declared.row.Row.{Row}
-use Rattle.race_log.specs.Points.{Point}
-use Rattle.race_log.specs.ByCount.{IsTimesOf}
-use Rattle.race_log.specs.Kept.{after}
-use Rattle.race_log.specs.Represents.{RepresentsAccesses, harts_of, next_turn, next_count, lasting_of}
 use Rattle.race_log.specs.Sweep.{has_bit}
-use Rattle.race_report.specs.declared.meeting.Meeting.{Meeting}
-use Rattle.race_report.specs.declared.touch.Touch.{Touch}
-use Rattle.race_report.specs.declared.gathered.Gathered.{Gathered}
-use Rattle.race_report.specs.Points.{Accessing, IsTouch, words_from}
-use Rattle.race_report.specs.Races.{sync_point, syncs_from, meetings_of}
-use Rattle.race_report.specs.Tracks.{AreBelow, noted}
-use Rattle.race_report.specs.Found.{met_words}
-use Rattle.race_report.specs.Kept.{IsTracked, lists_of}
-use Rattle.race_report.specs.Gathering.{everyone, sync_of, point_by, Follows, IsGathered}
 use Rattle.race_report.proofs.Rounds.{met_words_length}
 use Rattle.race_report.proofs.Ordered.{TestsDecide, PlacesStandForCounts}
 use Rattle.race_report.proofs.Prefixes.{syncs_at, syncs_more, length_more}

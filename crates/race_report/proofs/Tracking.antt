@@ -1,9 +1,5 @@
 -- The accesses of each word, as linked entries.
-use Rattle.std.proofs.Common.{rules, ◌≡◌, ℕ, zero, suc, ◌<◌, ◌≤◌, ◌/◌, ◌==◌, nat_lt, Bool, true, false, cond, ◌&&◌, if◌then◌else◌, refl, sym, ap, ◌∙◌, subst, arith, List, [], ◌∷◌, ◌++◌, length, slice_get, slice_set, slice_index_or, Option, Some, None, IfSome, Result, Ok, Err, OnOk, IsOk}
-use Rattle.std.proofs.lemmas.Option.{slice_get-get_or}
-use Rattle.hart_replay.specs.Pages.{Known, word_at}
-use Rattle.race_report.specs.declared.track.TrackEntry.{TrackEntry}
-use Rattle.race_report.specs.Tracks.{known_at, head_at, room_in, room_at, IsChain, IsTrackedIn, AreLinked, AreBelow, noted_one}
+use Rattle.race_report.proofs.Common.{rules, ◌≡◌, ℕ, zero, suc, ◌<◌, ◌≤◌, ◌/◌, ◌==◌, nat_lt, Bool, true, false, cond, ◌&&◌, if◌then◌else◌, refl, sym, ap, ◌∙◌, subst, arith, List, [], ◌∷◌, ◌++◌, length, slice_get, slice_set, slice_index_or, Option, Some, None, IfSome, Result, Ok, Err, OnOk, IsOk, slice_get-get_or, Known, word_at, TrackEntry, known_at, head_at, room_in, room_at, IsChain, IsTrackedIn, AreLinked, AreBelow, noted_one}
 use Rattle.race_report.proofs.Prefixes.{get_front, get_last, length_more}
 
 pub if_some : {X : Type 0} (P : X → Type 0) (o : Option X) → ((x : X) → o ≡ Some x → P x) → IfSome o P

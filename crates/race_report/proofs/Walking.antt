@@ -1,10 +1,5 @@
 -- A walk back over a hart's accesses of a word, and over words one after another.
-use Rattle.std.proofs.Common.{◌≡◌, ℕ, suc, ◌+◌, ◌-◌, ◌<◌, ◌≤◌, ◌%◌, ◌^◌, nat_lt, Bool, true, false, cond, refl, sym, ap, ◌∙◌, subst, arith, List, [], ◌∷◌, slice_get, Option, Some, None}
-use Rattle.race_report.specs.declared.meeting.Meeting.{Meeting}
-use Rattle.race_report.specs.declared.track.TrackEntry.{TrackEntry}
-use Rattle.race_report.specs.Points.{words_from}
-use Rattle.race_report.specs.Tracks.{IsChain}
-use Rattle.race_report.specs.Found.{met_at, met_all, uncovered}
+use Rattle.race_report.proofs.Common.{◌≡◌, ℕ, suc, ◌+◌, ◌-◌, ◌<◌, ◌≤◌, ◌%◌, ◌^◌, nat_lt, Bool, true, false, cond, refl, sym, ap, ◌∙◌, subst, arith, List, [], ◌∷◌, slice_get, Option, Some, None, Meeting, TrackEntry, words_from, IsChain, met_at, met_all, uncovered}
 
 -- what is left of a walk: the places from an entry on, and what their races make of what is found
 pub record IsLeft (entries : List TrackEntry) (number : Option ℕ) (count n w : ℕ) (end now : List (List Meeting)) : Type 0 where

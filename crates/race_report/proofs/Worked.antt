@@ -1,8 +1,6 @@
 -- Small logs and their races, by computation.
-use Rattle.std.proofs.Common.{◌≡◌, [], ◌∷◌, refl}
-use Rattle.race_log.specs.Tests.{at_places, leads, any_below, before}
+use Rattle.race_report.proofs.Common.{◌≡◌, [], ◌∷◌, refl, at_places, leads, any_below, before, race_at, meetings_below}
 use Rattle.joint_replay.specs.Examples.{filled_word}
-use Rattle.race_report.specs.Races.{race_at, meetings_below}
 use Rattle.race_report.specs.Examples.{relay, passed_message, early_message, reserved_message, missed_message, races_in, count_in}
 
 pub relay_races : races_in 3 relay ≡ (0, 4, 1, 3, 0x20000) ∷ (0, 4, 2, 5, 0x20000) ∷ (1, 4, 2, 4, 0x20004) ∷ []

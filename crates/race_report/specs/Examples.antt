@@ -1,8 +1,7 @@
 -- Small logs, written by hand, and their races.
 use Rattle.std.specs.Prelude.{ℕ, ◌-◌, ◌*◌, List, [], ◌∷◌, map}
-use Rattle.log_record.specs.declared.record.Record.{Record}
+use Rattle.race_report.specs.Common.{Record, Joining, fresh, run_all}
 use Rattle.log_record.specs.declared.record.Record.TheVariants.{Header, FirstLoad, ScFailed, Edge}
-use Rattle.joint_replay.specs.Joining.{Joining, fresh, run_all}
 use Rattle.joint_replay.specs.Examples.{code, end, relay_words}
 use Rattle.race_report.specs.declared.race.Race.{Race}
 use Rattle.race_report.specs.Points.{points_of}

@@ -1,11 +1,7 @@
 -- The points of a joint replay so far, as they are gathered.
 use Rattle.std.specs.Prelude.{◌≡◌, ◌<◌, ◌≤◌, ◌%◌, ◌==◌, ◌&&◌, ℕ, Bool, true, false, IsTrue, List, [], ◌∷◌, length, map, slice_get, Option, Some, None}
-use Rattle.std.specs.List.{list_any}
+use Rattle.race_report.specs.Common.{list_any, Row, Point, clashes, RepresentsAccesses, harts_of, next_turn, next_count, lasts}
 use Rattle.bn_base.specs.declared.settings.TheConstants.{HARTS}
-use Rattle.bn_base.specs.declared.row.Row.{Row}
-use Rattle.race_log.specs.Points.{Point}
-use Rattle.race_log.specs.Tests.{clashes}
-use Rattle.race_log.specs.Represents.{RepresentsAccesses, harts_of, next_turn, next_count, lasts}
 use Rattle.race_report.specs.declared.touch.Touch.{Touch}
 use Rattle.race_report.specs.declared.track.Track.{Track}
 use Rattle.race_report.specs.declared.gathered.Gathered.{Gathered}

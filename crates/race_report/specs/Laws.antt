@@ -1,13 +1,8 @@
 -- The laws of race reports.
 use Rattle.std.specs.Prelude.{◌≡◌, ◌<◌, ◌^◌, ◌↔◌, ◌⊎◌, ℕ, List, [], ◌∷◌, slice_get, Some, None}
-use Rattle.bn_base.specs.Programs.{Program}
-use Rattle.bn_base.specs.declared.row.Row.{Row}
+use Rattle.race_report.specs.Common.{Program, Row, Record, In, IsConflict, fresh, run_all}
 use Rattle.bn_base.specs.declared.settings.RawSettings.{RawSettings}
-use Rattle.log_record.specs.declared.record.Record.{Record}
 use Rattle.log_order.specs.Order.{broken_by}
-use Rattle.race_log.specs.Kept.{In}
-use Rattle.race_log.specs.Points.{IsConflict}
-use Rattle.joint_replay.specs.Joining.{fresh, run_all}
 use Rattle.race_report.specs.declared.race.Race.{Race}
 use Rattle.race_report.specs.Points.{Accessing, points_of}
 use Rattle.race_report.specs.Races.{IsRace, race_at, races_of, whole_point}

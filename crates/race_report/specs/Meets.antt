@@ -1,8 +1,6 @@
 -- What a point's races and accesses add to what is kept.
 use Rattle.std.specs.Prelude.{◌≡◌, ◌<◌, ◌++◌, ◌%◌, ℕ, List}
-use Rattle.bn_base.specs.declared.row.Row.{Row}
-use Rattle.bn_base.specs.declared.state.HartState.{HartState}
-use Rattle.vector_time.specs.Times.{count_of}
+use Rattle.race_report.specs.Common.{Row, HartState, count_of}
 use Rattle.race_report.specs.declared.calls.Asked.{Asked}
 use Rattle.race_report.specs.declared.race_lists.RaceLists.{RaceLists}
 use Rattle.race_report.specs.declared.gathered.Gathered.{Gathered}

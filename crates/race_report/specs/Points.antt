@@ -1,16 +1,11 @@
 -- The points of a joint replay that access words.
 use Rattle.std.specs.Prelude.{◌≡◌, ℕ, zero, suc, ◌+◌, ◌/◌, ◌%◌, ◌^◌, ◌==◌, nat_lt, nat_le, Bool, true, false, ◌&&◌, ◌||◌}
 use Rattle.std.specs.Prelude.{List, [], ◌∷◌, ◌++◌, map, slice_index, Option, Some, None}
-use Rattle.bn_base.specs.declared.row.Row.{Row}
-use Rattle.bn_base.specs.declared.state.HartState.{HartState}
+use Rattle.race_report.specs.Common.{Row, HartState, Access, Item, Passing, Doing, Ending, Bytes, call_result, filled, Taken}
 use Rattle.rv_decode.specs.declared.name.Name.{Name}
 use Rattle.rv_decode.specs.declared.name.Name.TheVariants.{LrW, ScW, AmoswapW, AmoaddW, AmoxorW, AmoandW, AmoorW, AmominW, AmomaxW, AmominuW, AmomaxuW}
 use Rattle.rv_decode.specs.Table.{Instruction, decoded}
 use Rattle.rv_meaning.specs.Words.{aligned}
-use Rattle.race_log.specs.Points.{Access}
-use Rattle.joint_replay.specs.Lanes.{Item, Passing, Doing, Ending}
-use Rattle.joint_replay.specs.Memory.{Bytes, call_result, filled}
-use Rattle.joint_replay.specs.Joining.{Taken}
 use Rattle.race_report.specs.declared.calls.Asked.{Asked}
 use Rattle.race_report.specs.declared.touch.Touch.{Touch}
 

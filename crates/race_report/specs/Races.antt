@@ -2,11 +2,8 @@
 -- of the joint replay.
 use Rattle.std.specs.Prelude.{◌≡◌, ◌≤◌, ◌<◌, ℕ, zero, suc, ◌+◌, ◌==◌, nat_lt, Bool, true, false, not, cond, ◌&&◌}
 use Rattle.std.specs.Prelude.{List, [], ◌∷◌, ◌++◌, filter, map, length, min, slice_get, Option, Some, None}
-use Rattle.std.specs.List.{list_any}
-use Rattle.bn_base.specs.declared.row.Row.{Row}
-use Rattle.race_log.specs.Points.{Point, Access, MeetAt, IsConflict}
+use Rattle.race_report.specs.Common.{list_any, Row, Point, Access, MeetAt, IsConflict, clashes, before}
 use Rattle.race_log.specs.Netzer.{Before}
-use Rattle.race_log.specs.Tests.{clashes, before}
 use Rattle.race_report.specs.declared.race.Race.{Race}
 use Rattle.race_report.specs.declared.touch.Touch.{Touch}
 use Rattle.race_report.specs.declared.meeting.Meeting.{Meeting}

@@ -1,14 +1,10 @@
 -- What a race report answers.
 use Rattle.std.specs.Prelude.{◌≡◌, ◌≢◌, ◌⊎◌, ◌≤◌, ◌<◌, ℕ, List, ◌++◌, length, Option, Some, None, Result, Ok, Err}
-use Rattle.bn_base.specs.Programs.{Program}
-use Rattle.bn_base.specs.declared.row.Row.{Row}
-use Rattle.bn_base.specs.declared.state.HartState.{HartState}
+use Rattle.race_report.specs.Common.{Program, Row, HartState, Item, Joining, Taken, Ran, fresh, next_step, run_all}
 use Rattle.log_order.specs.Content.{Content}
 use Rattle.hart_replay.specs.declared.error.ReplayError.TheVariants as replay
 use Rattle.joint_replay.specs.declared.error.JointError.{JointError}
 use Rattle.joint_replay.specs.declared.error.JointError.TheVariants as why
-use Rattle.joint_replay.specs.Lanes.{Item}
-use Rattle.joint_replay.specs.Joining.{Joining, Taken, Ran, fresh, next_step, run_all}
 use Rattle.race_report.specs.declared.calls.Asked.{Asked}
 use Rattle.race_report.specs.declared.error.RaceError.{RaceError}
 use Rattle.race_report.specs.declared.error.RaceError.TheVariants.{Joint, TooMany, OutOfMemory}

@@ -1,10 +1,8 @@
 -- The text of a race report.
 use Rattle.std.specs.Prelude.{◌≡◌, ◌≤◌, ℕ, List, ◌++◌, codes, decimal, length, None, Result, Ok, Err}
-use Rattle.std.specs.List.{flat_map}
-use Rattle.bn_base.specs.declared.row.Row.{Row}
+use Rattle.race_report.specs.Common.{flat_map, Row, Ran}
 use Rattle.rv_text.specs.Instructions.{hex8}
 use Rattle.rv_text.specs.Rows.{row_text}
-use Rattle.joint_replay.specs.Joining.{Ran}
 use Rattle.race_report.specs.declared.error.RaceError.{RaceError}
 use Rattle.race_report.specs.declared.race.Race.{Race}
 use Rattle.race_report.specs.Races.{race_count, races_of}

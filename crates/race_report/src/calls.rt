@@ -1,7 +1,6 @@
 //! The bytes that read calls fill and write calls take.
 ghost use Rattle.std.specs.Prelude.{◌≡◌, ◌≤◌, true, false, Some, IfSome};
-ghost use Rattle.bn_base.specs.declared.state.HartState.{HartState};
-ghost use Rattle.joint_replay.specs.Memory.{call_result, filled};
+ghost use Rattle.race_report.specs.Common.{HartState, call_result, filled};
 ghost use Rattle.race_report.specs.Points.{asked_by, sent, words_with, IsTouch};
 
 use crate::touch::Touch;

@@ -1,11 +1,8 @@
 //! Which points are ordered before a point.
 ghost use Rattle.std.specs.Prelude.{◌≡◌, ◌<◌, ◌≤◌, ◌+◌, ◌^◌, ◌==◌, ℕ, List, IsTrue, OnOk, IfOk, if◌then◌else◌};
 ghost use Rattle.bn_base.specs.declared.settings.TheConstants.{HARTS};
-ghost use Rattle.vector_time.specs.Times.{count_of};
-ghost use Rattle.race_log.specs.Points.{Point};
+ghost use Rattle.race_report.specs.Common.{count_of, Point, after, is_write, RepresentsAccesses, harts_of, next_turn, next_count, lasts, lasting_of};
 ghost use Rattle.race_log.specs.ByCount.{IsTimesOf};
-ghost use Rattle.race_log.specs.Kept.{after, is_write};
-ghost use Rattle.race_log.specs.Represents.{RepresentsAccesses, harts_of, next_turn, next_count, lasts, lasting_of};
 ghost use Rattle.race_report.specs.Points.{IsTouch};
 ghost use Rattle.race_report.specs.Gathering.{everyone, sync_of};
 

@@ -1,28 +1,6 @@
 -- Warm words have the values that a hart's rows know: what another hart's turn leaves of that.
-use Rattle.std.proofs.Common.{◌≡◌, ℕ, zero, suc, ◌+◌, ◌-◌, ◌*◌, ◌/◌, ◌<◌, ◌≤◌, Bool, true, false, cond, List, [], ◌∷◌, length, Option, Some, None, refl, sym, ◌∙◌, ap, arith, inl, inr, length-take, add-zero}
-use Rattle.std.specs.Prelude.{◌==◌, ◌≢◌, take}
-use Rattle.std.proofs.lemmas.Bool.{false≢true, eq-eqb}
-use Rattle.std.proofs.lemmas.Bool.Decides.{eqb_tells}
-use Rattle.bn_base.specs.Programs.{Program}
-use Rattle.bn_base.specs.declared.settings.RawSettings.{RawSettings}
-use Rattle.bn_base.specs.declared.state.HartState.{HartState}
-use Rattle.rv_meaning.specs.Words.{aligned}
-use Rattle.rv_meaning.specs.declared.asks.Ask.{Ask}
-use Rattle.rv_meaning.specs.declared.asks.Want.{Want}
-use Rattle.rv_meaning.specs.declared.asks.Want.TheVariants.{Load, Store, LoadReserved, StoreConditional, Amo, System, Cut, Faulted}
-use Rattle.system_calls.specs.declared.effect.Plan.{Plan}
+use Rattle.replay_laws.proofs.Common.{◌≡◌, ℕ, zero, suc, ◌+◌, ◌-◌, ◌*◌, ◌/◌, ◌<◌, ◌≤◌, Bool, true, false, cond, List, [], ◌∷◌, length, Option, Some, None, refl, sym, ◌∙◌, ap, arith, inl, inr, length-take, add-zero, ◌==◌, ◌≢◌, take, false≢true, eq-eqb, eqb_tells, Program, RawSettings, HartState, aligned, Ask, Want, Load, Store, LoadReserved, StoreConditional, Amo, System, Cut, Faulted, Plan, updated, Mode, Read, Write, Geometry, Event, line_of, word_of, Touch, Drop, geometry_of, warm, held, Span, TurnEnd, Machine, answer_call, answer_sc, call_of, filled, put_byte, word_count, is_reserved, sent, planned, Run, ask_at, drops, dropped, other_events, own_events, events_after, cleared, call_span, sc_span}
 use Rattle.system_calls.specs.declared.effect.Plan.TheVariants as plans
-use Rattle.bus_memory.specs.Contents.{updated}
-use Rattle.race_log.specs.declared.mode.Mode.{Mode}
-use Rattle.race_log.specs.declared.mode.Mode.TheVariants.{Read, Write}
-use Rattle.first_load_bits.specs.Events.{Geometry, Event, line_of, word_of}
-use Rattle.first_load_bits.specs.Events.{Touch, Drop}
-use Rattle.first_load_bits.specs.Represents.{geometry_of}
-use Rattle.first_load_bits.specs.Warm.{warm, held}
-use Rattle.run_model.specs.declared.span.Span.{Span}
-use Rattle.run_model.specs.declared.turn_end.TurnEnd.{TurnEnd}
-use Rattle.run_model.specs.Machine.{Machine, answer_call, answer_sc, call_of, filled, put_byte, word_count, is_reserved, sent, planned}
-use Rattle.run_model.specs.Turn.{Run, ask_at, drops, dropped, other_events, own_events, events_after, cleared, call_span, sc_span}
 use Rattle.replay_laws.proofs.Asked.{memory_after, span_to, next_to, served_ask, served_turn}
 
 pub not_equal : (a b : ℕ) → a ≢ b → (a == b) ≡ false

@@ -1,18 +1,5 @@
 -- Names for what a hart's ask gives.
-use Rattle.std.specs.Prelude.{ℕ, Option, false}
-use Rattle.bn_base.specs.Programs.{Program}
-use Rattle.bn_base.specs.declared.settings.RawSettings.{RawSettings}
-use Rattle.bn_base.specs.declared.state.HartState.{HartState}
-use Rattle.rv_meaning.specs.Execute.{absorbed}
-use Rattle.rv_meaning.specs.declared.asks.Ask.{Ask}
-use Rattle.rv_meaning.specs.declared.asks.Want.{Want}
-use Rattle.rv_meaning.specs.declared.asks.Reply.{Reply}
-use Rattle.run_model.specs.declared.hart.Hart.{Hart}
-use Rattle.run_model.specs.declared.turn_end.TurnEnd.{TurnEnd}
-use Rattle.run_model.specs.declared.span.Span.{Span}
-use Rattle.run_model.specs.Machine.{Machine, Answered, answer, call_of}
-use Rattle.run_model.specs.Turn.{Run, span_of, next_of, ask_at, serve_call}
-use Rattle.replay_laws.specs.Known.{touched}
+use Rattle.replay_laws.proofs.Common.{ℕ, Option, false, Program, RawSettings, HartState, absorbed, Ask, Want, Reply, Hart, TurnEnd, Span, Machine, Answered, answer, call_of, Run, span_of, next_of, ask_at, serve_call, touched}
 
 -- the ask of a want in a state
 abbrev pub asking : Want → HartState → Ask

@@ -1,27 +1,5 @@
 -- The point of the run at which an interval begins, if its Header is kept.
-use Rattle.std.proofs.Common.{◌≡◌, ℕ, zero, suc, ◌+◌, ◌<◌, ◌≤◌, Bool, true, false, ◌&&◌, List, [], ◌∷◌, ◌++◌, take, drop, length, length-append, Option, Some, None, refl, sym, ◌∙◌, ap, arith, subst, inl, inr}
-use Rattle.std.specs.Prelude.{◌==◌, ◌≢◌, nat_lt, if◌then◌else◌}
-use Rattle.std.proofs.lemmas.Bool.{false≢true, eq-eqb}
-use Rattle.std.proofs.lemmas.Bool.Decides.{eqb_tells}
-use Rattle.std.proofs.lemmas.List.{append_assoc, append-nil}
-use Rattle.bn_base.specs.Programs.{Program}
-use Rattle.bn_base.specs.declared.row.Row.{Row}
-use Rattle.bn_base.specs.declared.settings.RawSettings.{RawSettings}
-use Rattle.bn_base.specs.declared.state.HartState.{HartState}
-use Rattle.system_calls.specs.declared.effect.Plan.{Plan}
-use Rattle.first_load_bits.specs.Events.{Event}
-use Rattle.first_load_bits.specs.Events.{Clear}
-use Rattle.first_load_bits.specs.Represents.{geometry_of}
-use Rattle.first_load_bits.specs.Warm.{warm}
-use Rattle.log_record.specs.declared.record.Record.{Record}
-use Rattle.hart_replay.specs.Replay.{Interval, puts, nothing, interval_from, interval_of}
-use Rattle.run_model.specs.declared.hart.Hart.{Hart}
-use Rattle.run_model.specs.declared.turn_end.TurnEnd.{TurnEnd}
-use Rattle.run_model.specs.declared.turn_end.TurnEnd.TheVariants.{GoesOn, NewInterval, HartOver, RunOver}
-use Rattle.run_model.specs.declared.span.Span.{Span}
-use Rattle.run_model.specs.Turn.{Run, next_records, events_after, own_events, other_events, header}
-use Rattle.run_model.specs.Machine.{call_of}
-use Rattle.run_model.specs.Runs.{start, start_state, first_headers}
+use Rattle.replay_laws.proofs.Common.{◌≡◌, ℕ, zero, suc, ◌+◌, ◌<◌, ◌≤◌, Bool, true, false, ◌&&◌, List, [], ◌∷◌, ◌++◌, take, drop, length, length-append, Option, Some, None, refl, sym, ◌∙◌, ap, arith, subst, inl, inr, ◌==◌, ◌≢◌, nat_lt, if◌then◌else◌, false≢true, eq-eqb, eqb_tells, append_assoc, append-nil, Program, Row, RawSettings, HartState, Plan, Event, Clear, geometry_of, warm, Record, Interval, puts, nothing, interval_from, interval_of, Hart, TurnEnd, GoesOn, NewInterval, HartOver, RunOver, Span, Run, next_records, events_after, own_events, other_events, header, call_of, start, start_state, first_headers}
 use Rattle.replay_laws.proofs.Agree.{not_equal}
 use Rattle.replay_laws.proofs.Asked.{served_turn, span_to}
 use Rattle.replay_laws.proofs.Coming.{IsServed, equal_flip}

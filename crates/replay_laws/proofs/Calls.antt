@@ -1,29 +1,8 @@
 -- A system call in the replay of an interval.
-use Rattle.std.proofs.Common.{◌≡◌, ℕ, ◌+◌, ◌<◌, ◌^◌, Bool, true, false, not, ◌&&◌, List, ◌∷◌, Some, None, refl, sym, ◌∙◌, ap, arith, subst, inl, inr}
-use Rattle.std.specs.Prelude.{◌==◌, ◌||◌, ◌⊎◌, nat_lt, slice_index}
-use Rattle.std.proofs.lemmas.Bool.{false≢true, eq-eqb}
-use Rattle.std.proofs.lemmas.Bool.Decides.{eqb_tells}
-use Rattle.bn_base.specs.Programs.{Program}
-use Rattle.bn_base.specs.declared.end_mark.EndMark.{EndMark}
-use Rattle.bn_base.specs.declared.state.HartState.{HartState}
-use Rattle.rv_meaning.specs.Execute.{Asks, step, absorbed, count_up, count_up_if, is_exit}
-use Rattle.rv_meaning.specs.declared.asks.Ask.{Ask}
-use Rattle.rv_meaning.specs.declared.asks.Want.TheVariants.{System}
-use Rattle.rv_meaning.specs.declared.asks.Reply.TheVariants.{Answer, Over}
+use Rattle.replay_laws.proofs.Common.{◌≡◌, ℕ, ◌+◌, ◌<◌, ◌^◌, Bool, true, false, not, ◌&&◌, List, ◌∷◌, Some, None, refl, sym, ◌∙◌, ap, arith, subst, inl, inr, ◌==◌, ◌||◌, ◌⊎◌, nat_lt, slice_index, false≢true, eq-eqb, eqb_tells, Program, EndMark, HartState, Asks, step, absorbed, count_up, count_up_if, is_exit, Ask, System, Answer, Over, Plan, is_end, ExitsAloneEnd, call_row, Interval, Position, Logged, puts, system_step, call_reason, found, Next as Goal, On, Stop, Refused, EndDiffers, TurnEnd, GoesOn, NewInterval, HartOver, RunOver, Machine, answer_call, planned, kernel_of, after_call, sc_record, mark}
 use Rattle.system_calls.specs.declared.kernel.Kernel.{Kernel}
-use Rattle.system_calls.specs.declared.effect.Plan.{Plan}
 use Rattle.system_calls.specs.declared.effect.Plan.TheVariants as plans
 use Rattle.system_calls.specs.Calls.{plan_of}
-use Rattle.system_calls.specs.Laws.{is_end, ExitsAloneEnd}
-use Rattle.rv_meaning.specs.Rows.{call_row}
-use Rattle.hart_replay.specs.Replay.{Interval, Position, Logged, puts, system_step, call_reason, found}
-use Rattle.hart_replay.specs.Replay.{Next as Goal}
-use Rattle.hart_replay.specs.Replay.{On, Stop, Refused}
-use Rattle.hart_replay.specs.declared.error.ReplayError.TheVariants.{EndDiffers}
-use Rattle.run_model.specs.declared.turn_end.TurnEnd.{TurnEnd}
-use Rattle.run_model.specs.declared.turn_end.TurnEnd.TheVariants.{GoesOn, NewInterval, HartOver, RunOver}
-use Rattle.run_model.specs.Machine.{Machine, answer_call, planned, kernel_of}
-use Rattle.run_model.specs.Turn.{after_call, sc_record, mark}
 use Rattle.replay_laws.proofs.Asked.{asking}
 use Rattle.replay_laws.proofs.Ends.{is_call}
 use Rattle.replay_laws.proofs.Step.{StillHolds, Stepped, ask_goes}

@@ -1,27 +1,5 @@
 -- The counts of harts, and the harts and records after a move.
-use Rattle.std.proofs.Common.{◌≡◌, ℕ, ◌+◌, ◌<◌, ◌≤◌, ◌^◌, Bool, true, false, List, [], ◌∷◌, ◌++◌, Option, None, refl, sym, ◌∙◌, ap, arith, subst, inl, inr}
-use Rattle.std.specs.Prelude.{◌==◌, nat_le, if◌then◌else◌}
-use Rattle.std.proofs.lemmas.Bool.{false≢true}
-use Rattle.bn_base.specs.Programs.{Program}
-use Rattle.bn_base.specs.declared.settings.RawSettings.{RawSettings}
-use Rattle.bn_base.specs.declared.state.HartState.{HartState}
-use Rattle.rv_meaning.specs.Execute.{absorbed, count_up}
-use Rattle.rv_meaning.specs.declared.asks.Ask.{Ask}
-use Rattle.rv_meaning.specs.declared.asks.Want.{Want}
-use Rattle.rv_meaning.specs.declared.asks.Want.TheVariants.{Load, Store, LoadReserved, StoreConditional, Amo, System, Cut, Faulted}
-use Rattle.rv_meaning.specs.declared.asks.Reply.{Reply}
-use Rattle.rv_meaning.specs.declared.asks.Reply.TheVariants.{Went, Over}
-use Rattle.system_calls.specs.Laws.{ExitsAloneEnd}
-use Rattle.first_load_bits.specs.declared.warm.Warm.{Warm}
-use Rattle.race_log.specs.Points.{Point}
-use Rattle.log_record.specs.declared.record.Record.{Record}
-use Rattle.hart_replay.specs.Replay.{Interval, Logged, puts, nothing, first}
-use Rattle.run_model.specs.declared.hart.Hart.{Hart}
-use Rattle.run_model.specs.declared.turn_end.TurnEnd.{TurnEnd}
-use Rattle.run_model.specs.declared.turn_end.TurnEnd.TheVariants.{GoesOn, NewInterval}
-use Rattle.run_model.specs.Machine.{Machine, answer_sc, is_reserved}
-use Rattle.run_model.specs.Turn.{Run, ask_at, by_guard, begun_anew, budget, loading, warmth, word_before, load_record, sc_record, skipped_after, point_of, hart_after, other_after, mark}
-use Rattle.run_model.specs.Rows.{reply_at}
+use Rattle.replay_laws.proofs.Common.{◌≡◌, ℕ, ◌+◌, ◌<◌, ◌≤◌, ◌^◌, Bool, true, false, List, [], ◌∷◌, ◌++◌, Option, None, refl, sym, ◌∙◌, ap, arith, subst, inl, inr, ◌==◌, nat_le, if◌then◌else◌, false≢true, Program, RawSettings, HartState, absorbed, count_up, Ask, Want, Load, Store, LoadReserved, StoreConditional, Amo, System, Cut, Faulted, Reply, Went, Over, ExitsAloneEnd, Warm, Point, Record, Interval, Logged, puts, nothing, first, Hart, TurnEnd, GoesOn, NewInterval, Machine, answer_sc, is_reserved, Run, ask_at, by_guard, begun_anew, budget, loading, warmth, word_before, load_record, sc_record, skipped_after, point_of, hart_after, other_after, mark, reply_at}
 use Rattle.replay_laws.proofs.Asked.{asking, state_after, span_to, next_at, served_turn}
 use Rattle.replay_laws.proofs.Step.{of_memory}
 use Rattle.replay_laws.proofs.Calls.{plan_counts}

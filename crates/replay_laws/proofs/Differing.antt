@@ -1,21 +1,5 @@
 -- The marks of a replay that ends otherwise than its log says.
-use Rattle.std.proofs.Common.{◌≡◌, ◌<◌, ◌^◌, ◌⊎◌, inl, inr, ℕ, zero, suc, ◌+◌, ◌-◌, ◌==◌, Bool, true, false, not, ◌&&◌, ◌||◌, List, ◌∷◌, length, Option, Some, None, refl, sym, ◌∙◌, ap, subst, arith}
-use Rattle.std.specs.Prelude.{◌≢◌, nat_lt, nat_le, slice_index}
-use Rattle.bn_base.specs.Programs.{Program}
-use Rattle.bn_base.specs.Faults.{fault_number}
-use Rattle.bn_base.specs.declared.end_mark.EndMark.{EndMark}
-use Rattle.bn_base.specs.declared.fault.Fault.{Fault}
-use Rattle.bn_base.specs.declared.row.Row.{Row}
-use Rattle.bn_base.specs.declared.state.HartState.{HartState}
-use Rattle.rv_meaning.specs.Rows.{row_of, fault_row}
-use Rattle.rv_meaning.specs.Access.{stored_word, amo_result}
-use Rattle.rv_meaning.specs.Execute.{Quiet, Asks, step, count_up}
-use Rattle.rv_meaning.specs.Execute.{Step}
-use Rattle.rv_meaning.specs.declared.asks.Want.{Want}
-use Rattle.rv_meaning.specs.declared.asks.Want.TheVariants.{Load, Store, LoadReserved, StoreConditional, Amo, System, Cut, Faulted}
-use Rattle.rv_meaning.specs.declared.asks.Reply.TheVariants.{Word, Stored}
-use Rattle.hart_replay.specs.Replay.{Outcome, Done, Refused, Replayed, Interval, Position, Next, On, Stop, found, finish, left_over, fault_end, ended, one_step, ask_step, after_ask, after_sc, system_step, missing, word_for, slot, call_reason, steps, first, replayed_in, taken_from}
-use Rattle.hart_replay.specs.declared.error.ReplayError.TheVariants.{EndDiffers, RecordsLeft, LoadMissing, ScMissing}
+use Rattle.replay_laws.proofs.Common.{◌≡◌, ◌<◌, ◌^◌, ◌⊎◌, inl, inr, ℕ, zero, suc, ◌+◌, ◌-◌, ◌==◌, Bool, true, false, not, ◌&&◌, ◌||◌, List, ◌∷◌, length, Option, Some, None, refl, sym, ◌∙◌, ap, subst, arith, ◌≢◌, nat_lt, nat_le, slice_index, Program, fault_number, EndMark, Fault, Row, HartState, row_of, fault_row, stored_word, amo_result, Quiet, Asks, step, count_up, Step, Want, Load, Store, LoadReserved, StoreConditional, Amo, System, Cut, Faulted, Word, Stored, Outcome, Done, Refused, Replayed, Interval, Position, Next, On, Stop, found, finish, left_over, fault_end, ended, one_step, ask_step, after_ask, after_sc, system_step, missing, word_for, slot, call_reason, steps, first, replayed_in, taken_from, EndDiffers, RecordsLeft, LoadMissing, ScMissing}
 use Rattle.replay_laws.proofs.Calls.{exit_counts}
 use Rattle.replay_laws.specs.Differing.{IsFair, EndsThatDifferAreTold}
 

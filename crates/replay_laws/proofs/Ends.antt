@@ -1,21 +1,6 @@
 -- The end of an interval in its replay.
-use Rattle.std.proofs.Common.{◌≡◌, ℕ, ◌+◌, ◌-◌, ◌<◌, ◌≤◌, Bool, true, false, not, ◌&&◌, [], ◌∷◌, ◌++◌, length, sym, ◌∙◌, ap, arith}
-use Rattle.std.specs.Prelude.{◌==◌, ◌||◌, nat_lt}
-use Rattle.std.proofs.lemmas.Bool.{eq-eqb}
-use Rattle.std.proofs.lemmas.Bool.Decides.{nat_tests}
-use Rattle.std.proofs.lemmas.List.{append-nil}
-use Rattle.bn_base.specs.Faults.{fault_number}
-use Rattle.bn_base.specs.Programs.{Program}
-use Rattle.bn_base.specs.declared.end_mark.EndMark.{EndMark}
-use Rattle.bn_base.specs.declared.fault.Fault.{Fault}
+use Rattle.replay_laws.proofs.Common.{◌≡◌, ℕ, ◌+◌, ◌-◌, ◌<◌, ◌≤◌, Bool, true, false, not, ◌&&◌, [], ◌∷◌, ◌++◌, length, sym, ◌∙◌, ap, arith, ◌==◌, ◌||◌, nat_lt, eq-eqb, nat_tests, append-nil, fault_number, Program, EndMark, Fault, Quiet, Asks, step, Faulted, fault_row, Interval, Position, Replayed, Outcome, Logged, taken_from, left_over, ended, finish, found, fault_end, Done, Refused, RecordsLeft, EndDiffers, mark}
 use Rattle.bn_base.specs.declared.fault.Fault.TheVariants as faults
-use Rattle.rv_meaning.specs.Execute.{Quiet, Asks, step}
-use Rattle.rv_meaning.specs.declared.asks.Want.TheVariants.{Faulted}
-use Rattle.rv_meaning.specs.Rows.{fault_row}
-use Rattle.hart_replay.specs.Replay.{Interval, Position, Replayed, Outcome, Logged, taken_from, left_over, ended, finish, found, fault_end}
-use Rattle.hart_replay.specs.Replay.{Done, Refused}
-use Rattle.hart_replay.specs.declared.error.ReplayError.TheVariants.{RecordsLeft, EndDiffers}
-use Rattle.run_model.specs.Turn.{mark}
 use Rattle.replay_laws.proofs.Places.{taken_all}
 use Rattle.replay_laws.proofs.Step.{StillHolds}
 

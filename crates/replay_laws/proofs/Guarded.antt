@@ -1,23 +1,5 @@
 -- The moves of a list of turns: a guarded one is two.
-use Rattle.std.proofs.Common.{◌≡◌, ℕ, zero, suc, ◌+◌, ◌<◌, ◌≤◌, Bool, true, false, ◌&&◌, List, [], ◌∷◌, ◌++◌, refl, sym, ◌∙◌, ap, arith, subst, inl, inr}
-use Rattle.std.specs.Prelude.{◌==◌}
-use Rattle.std.proofs.lemmas.Bool.{false≢true, eq-eqb}
-use Rattle.std.proofs.lemmas.Bool.Decides.{eqb_tells}
-use Rattle.std.proofs.lemmas.List.{append_assoc}
-use Rattle.bn_base.specs.Programs.{Program}
-use Rattle.bn_base.specs.declared.row.Row.{Row}
-use Rattle.bn_base.specs.declared.settings.RawSettings.{RawSettings}
-use Rattle.bn_base.specs.declared.state.HartState.{HartState}
-use Rattle.rv_meaning.specs.Execute.{Step, Quiet, Asks, step}
-use Rattle.rv_meaning.specs.Orderly.{is_cut}
-use Rattle.rv_meaning.specs.declared.asks.Ask.{Ask}
-use Rattle.rv_meaning.specs.declared.asks.Want.{Want}
-use Rattle.rv_meaning.specs.Rows.{row_of}
-use Rattle.std.specs.Prelude.{None}
-use Rattle.run_model.specs.declared.hart.Hart.{Hart}
-use Rattle.run_model.specs.Machine.{answer, call_of}
-use Rattle.run_model.specs.Rows.{quiet_rows, ask_rows, quiet_part, ask_part, turn_rows, turn_rows_in, rows_if as rows_of_part}
-use Rattle.run_model.specs.Turn.{Run, turn, ask_at, budget, is_guarded, by_guard}
+use Rattle.replay_laws.proofs.Common.{◌≡◌, ℕ, zero, suc, ◌+◌, ◌<◌, ◌≤◌, Bool, true, false, ◌&&◌, List, [], ◌∷◌, ◌++◌, refl, sym, ◌∙◌, ap, arith, subst, inl, inr, ◌==◌, false≢true, eq-eqb, eqb_tells, append_assoc, Program, Row, RawSettings, HartState, Step, Quiet, Asks, step, is_cut, Ask, Want, row_of, None, Hart, answer, call_of, quiet_rows, ask_rows, quiet_part, ask_part, turn_rows, turn_rows_in, rows_if as rows_of_part, Run, turn, ask_at, budget, is_guarded, by_guard}
 use Rattle.replay_laws.proofs.Asked.{served_turn}
 use Rattle.replay_laws.proofs.Counts.{Fit, Move, Moves, moved_run, asked_at, own_harts, own_came}
 use Rattle.replay_laws.proofs.ServedRows.{rows_if, false_and}

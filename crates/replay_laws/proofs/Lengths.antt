@@ -1,27 +1,6 @@
 -- How many rows a turn has.
-use Rattle.std.proofs.Common.{◌≡◌, ℕ, zero, suc, ◌+◌, ◌<◌, ◌^◌, Bool, true, false, List, [], ◌∷◌, length, length-append, refl, sym, ◌∙◌, ap, arith, inl, inr}
-use Rattle.std.specs.Prelude.{None, ◌-◌, ◌⊎◌, nat_le, if◌then◌else◌}
-use Rattle.std.proofs.lemmas.Bool.{false≢true}
-use Rattle.bn_base.specs.Faults.{fault_number}
-use Rattle.bn_base.specs.Programs.{Program}
-use Rattle.bn_base.specs.declared.row.Row.{Row}
-use Rattle.bn_base.specs.declared.settings.RawSettings.{RawSettings}
-use Rattle.bn_base.specs.declared.state.HartState.{HartState}
-use Rattle.rv_meaning.specs.Execute.{Step, Quiet, Asks, step, ask_of, count_up}
-use Rattle.rv_meaning.specs.declared.asks.Ask.{Ask}
-use Rattle.rv_meaning.specs.declared.asks.Want.{Want}
-use Rattle.rv_meaning.specs.declared.asks.Want.TheVariants.{Load, Store, LoadReserved, StoreConditional, Amo, System, Cut, Faulted}
-use Rattle.system_calls.specs.Laws.{ExitsAloneEnd}
-use Rattle.system_calls.specs.declared.effect.Plan.{Plan}
+use Rattle.replay_laws.proofs.Common.{◌≡◌, ℕ, zero, suc, ◌+◌, ◌<◌, ◌^◌, Bool, true, false, List, [], ◌∷◌, length, length-append, refl, sym, ◌∙◌, ap, arith, inl, inr, None, ◌-◌, ◌⊎◌, nat_le, if◌then◌else◌, false≢true, fault_number, Program, Row, RawSettings, HartState, Step, Quiet, Asks, step, ask_of, count_up, Ask, Want, Load, Store, LoadReserved, StoreConditional, Amo, System, Cut, Faulted, ExitsAloneEnd, Plan, row_of, Hart, TurnEnd, GoesOn, NewInterval, HartOver, RunOver, Machine, answer_call, planned, Run, ask_at, budget, after_call, counted, quiet_rows, want_rows, quiet_part, turn_rows, rows_at_end}
 use Rattle.system_calls.specs.declared.effect.Plan.TheVariants as plans
-use Rattle.rv_meaning.specs.Rows.{row_of}
-use Rattle.run_model.specs.declared.hart.Hart.{Hart}
-use Rattle.run_model.specs.declared.turn_end.TurnEnd.{TurnEnd}
-use Rattle.run_model.specs.declared.turn_end.TurnEnd.TheVariants.{GoesOn, NewInterval, HartOver, RunOver}
-use Rattle.run_model.specs.Machine.{Machine, answer_call, planned}
-use Rattle.run_model.specs.Turn.{Run, ask_at, budget, after_call, counted}
-use Rattle.run_model.specs.Rows.{quiet_rows, want_rows, quiet_part, turn_rows}
-use Rattle.replay_laws.specs.Law.{rows_at_end}
 use Rattle.replay_laws.proofs.Asked.{asking, reply_to, state_after, next_to, next_at}
 use Rattle.replay_laws.proofs.Calls.{plan_counts}
 use Rattle.replay_laws.proofs.Counts.{Fit, want_at, asked_at, next_state, next_by, state_by, memory_counts, cut_state, own_came}

@@ -1,32 +1,5 @@
 -- The replay of an interval that is open in a run is done, with the interval's rows from there on.
-use Rattle.std.proofs.Common.{◌≡◌, ℕ, ◌+◌, ◌-◌, ◌<◌, ◌≤◌, ◌^◌, Bool, true, false, List, [], ◌∷◌, ◌++◌, refl, sym, ◌∙◌, ap, arith, subst, inl, inr}
-use Rattle.std.specs.Prelude.{◌==◌, ◌⊎◌, Option}
-use Rattle.std.proofs.lemmas.Bool.{false≢true}
-use Rattle.std.proofs.lemmas.Bool.Decides.{eqb_tells}
-use Rattle.std.proofs.lemmas.List.{append-nil}
-use Rattle.bn_base.specs.Faults.{fault_number}
-use Rattle.bn_base.specs.Programs.{Program}
-use Rattle.bn_base.specs.declared.end_mark.EndMark.{EndMark}
-use Rattle.bn_base.specs.declared.fault.Fault.{Fault}
-use Rattle.bn_base.specs.declared.row.Row.{Row}
-use Rattle.bn_base.specs.declared.settings.RawSettings.{RawSettings}
-use Rattle.bn_base.specs.declared.state.HartState.{HartState}
-use Rattle.rv_meaning.specs.Execute.{Asks, step}
-use Rattle.rv_meaning.specs.Orderly.{passes}
-use Rattle.rv_meaning.specs.declared.asks.Ask.{Ask}
-use Rattle.rv_meaning.specs.declared.asks.Want.{Want}
-use Rattle.rv_meaning.specs.declared.asks.Want.TheVariants.{Load, Store, LoadReserved, StoreConditional, Amo, System, Cut, Faulted}
-use Rattle.first_load_bits.specs.Events.{Event}
-use Rattle.first_load_bits.specs.Represents.{geometry_of}
-use Rattle.first_load_bits.specs.Warm.{warm}
-use Rattle.rv_meaning.specs.Rows.{known, fault_row}
-use Rattle.hart_replay.specs.Replay.{Interval, Position, Logged, Replayed, puts, steps, onto}
-use Rattle.hart_replay.specs.Replay.{Done}
-use Rattle.run_model.specs.declared.hart.Hart.{Hart}
-use Rattle.run_model.specs.declared.turn_end.TurnEnd.{TurnEnd}
-use Rattle.run_model.specs.declared.turn_end.TurnEnd.TheVariants.{GoesOn, NewInterval, HartOver, RunOver}
-use Rattle.run_model.specs.Turn.{Run, ask_at, by_guard, cleared, budget, loading, warmth, word_before, load_record, sc_record, hart_after}
-use Rattle.run_model.specs.Rows.{turn_rows, quiet_rows, want_rows, reply_at}
+use Rattle.replay_laws.proofs.Common.{◌≡◌, ℕ, ◌+◌, ◌-◌, ◌<◌, ◌≤◌, ◌^◌, Bool, true, false, List, [], ◌∷◌, ◌++◌, refl, sym, ◌∙◌, ap, arith, subst, inl, inr, ◌==◌, ◌⊎◌, Option, false≢true, eqb_tells, append-nil, fault_number, Program, EndMark, Fault, Row, RawSettings, HartState, Asks, step, passes, Ask, Want, Load, Store, LoadReserved, StoreConditional, Amo, System, Cut, Faulted, Event, geometry_of, warm, known, fault_row, Interval, Position, Logged, Replayed, puts, steps, onto, Done, Hart, TurnEnd, GoesOn, NewInterval, HartOver, RunOver, Run, ask_at, by_guard, cleared, budget, loading, warmth, word_before, load_record, sc_record, hart_after, turn_rows, quiet_rows, want_rows, reply_at}
 use Rattle.replay_laws.proofs.Agree.{Agrees, agrees_other}
 use Rattle.replay_laws.proofs.Asked.{reply_to, next_to, touched_to, next_at, served_turn}
 use Rattle.replay_laws.proofs.Coming.{IsServed, Coming, coming, no_live, equal_flip}

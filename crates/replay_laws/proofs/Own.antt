@@ -1,30 +1,7 @@
 -- What a hart's own turn leaves of the agreement between its warm words and what its rows know.
-use Rattle.std.proofs.Common.{◌≡◌, ℕ, ◌*◌, ◌%◌, Bool, true, false, cond, ◌&&◌, List, Option, Some, None, refl, sym, ◌∙◌, ap, arith, subst, inl, inr}
-use Rattle.std.specs.Prelude.{◌==◌, ◌≢◌}
-use Rattle.std.proofs.lemmas.Bool.{false≢true, eqb-true, eq-eqb}
-use Rattle.std.proofs.lemmas.Bool.Decides.{eqb_tells}
-use Rattle.bn_base.specs.Programs.{Program, may_load, may_store}
-use Rattle.bn_base.specs.declared.settings.RawSettings.{RawSettings}
-use Rattle.bn_base.specs.declared.state.HartState.{HartState}
-use Rattle.rv_meaning.specs.Words.{aligned}
-use Rattle.rv_meaning.specs.Orderly.{passes}
-use Rattle.rv_meaning.specs.declared.asks.Ask.{Ask}
-use Rattle.rv_meaning.specs.declared.asks.Want.{Want}
-use Rattle.rv_meaning.specs.declared.asks.Want.TheVariants.{Load, Store, LoadReserved, StoreConditional, Amo, System, Cut, Faulted}
-use Rattle.system_calls.specs.declared.effect.Plan.{Plan}
-use Rattle.race_log.specs.declared.mode.Mode.{Mode}
-use Rattle.race_log.specs.declared.mode.Mode.TheVariants.{Read, Write}
-use Rattle.first_load_bits.specs.Events.{Geometry, Event, word_of}
-use Rattle.first_load_bits.specs.Represents.{geometry_of}
-use Rattle.first_load_bits.specs.Warm.{warm}
-use Rattle.run_model.specs.declared.span.Span.{Span}
-use Rattle.run_model.specs.declared.turn_end.TurnEnd.{TurnEnd}
-use Rattle.run_model.specs.declared.turn_end.TurnEnd.TheVariants.{GoesOn}
-use Rattle.run_model.specs.Machine.{Machine, answer_sc, call_of, is_reserved}
-use Rattle.run_model.specs.Turn.{Run, ask_at, own_events, other_events, events_after, sc_span}
+use Rattle.replay_laws.proofs.Common.{◌≡◌, ℕ, ◌*◌, ◌%◌, Bool, true, false, cond, ◌&&◌, List, Option, Some, None, refl, sym, ◌∙◌, ap, arith, subst, inl, inr, ◌==◌, ◌≢◌, false≢true, eqb-true, eq-eqb, eqb_tells, Program, may_load, may_store, RawSettings, HartState, aligned, passes, Ask, Want, Load, Store, LoadReserved, StoreConditional, Amo, System, Cut, Faulted, Plan, Mode, Read, Write, Geometry, Event, word_of, geometry_of, warm, Span, TurnEnd, GoesOn, Machine, answer_sc, call_of, is_reserved, Run, ask_at, own_events, other_events, events_after, sc_span, touched, learned}
 use Rattle.replay_laws.proofs.Agree.{Agrees, Spared, Unwritten, Outside, warm_touch, warm_dropped, not_equal, spared}
 use Rattle.replay_laws.proofs.Asked.{span_to, next_to, next_at, served_ask, served_turn, touched_to}
-use Rattle.replay_laws.specs.Known.{touched, learned}
 
 -- b isn't the touched word
 abbrev Apart : Option ℕ → ℕ → Type 0

@@ -1,19 +1,5 @@
 -- An interval's rows stand together in the rows of its hart, from its Header's count to its End's.
-use Rattle.std.proofs.Common.{◌≡◌, ℕ, ◌+◌, ◌-◌, ◌<◌, ◌≤◌, Bool, true, false, List, [], ◌∷◌, ◌++◌, length, length-append, take, drop, refl, sym, ◌∙◌, ap, arith, subst, inl, inr}
-use Rattle.std.specs.Prelude.{◌==◌, ◌≢◌}
-use Rattle.std.proofs.lemmas.Bool.{false≢true}
-use Rattle.std.proofs.lemmas.Bool.Decides.{eqb_tells}
-use Rattle.std.proofs.lemmas.List.{append_assoc}
-use Rattle.bn_base.specs.Programs.{Program}
-use Rattle.bn_base.specs.declared.end_mark.EndMark.{EndMark}
-use Rattle.bn_base.specs.declared.row.Row.{Row}
-use Rattle.bn_base.specs.declared.settings.RawSettings.{RawSettings}
-use Rattle.hart_replay.specs.Replay.{Interval, Logged}
-use Rattle.run_model.specs.declared.hart.Hart.{Hart}
-use Rattle.run_model.specs.declared.turn_end.TurnEnd.{TurnEnd}
-use Rattle.run_model.specs.declared.turn_end.TurnEnd.TheVariants.{GoesOn, NewInterval, HartOver, RunOver}
-use Rattle.run_model.specs.Turn.{Run}
-use Rattle.replay_laws.specs.Law.{rows_at_end, end_of}
+use Rattle.replay_laws.proofs.Common.{◌≡◌, ℕ, ◌+◌, ◌-◌, ◌<◌, ◌≤◌, Bool, true, false, List, [], ◌∷◌, ◌++◌, length, length-append, take, drop, refl, sym, ◌∙◌, ap, arith, subst, inl, inr, ◌==◌, ◌≢◌, false≢true, eqb_tells, append_assoc, Program, EndMark, Row, RawSettings, Interval, Logged, Hart, TurnEnd, GoesOn, NewInterval, HartOver, RunOver, Run, rows_at_end, end_of}
 use Rattle.replay_laws.proofs.Begins.{Begins}
 use Rattle.replay_laws.proofs.Coming.{IsServed, equal_flip, no_live, own_mark}
 use Rattle.replay_laws.proofs.Counts.{Fit, Move, Moves, moved_run, next_by, state_by, log_from, other_turn_log, own_harts, other_harts, own_fit}

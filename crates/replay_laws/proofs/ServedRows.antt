@@ -1,15 +1,5 @@
 -- The rows of an interval over a list of moves whose asks are orderly, until there are none any more.
-use Rattle.std.proofs.Common.{◌≡◌, ℕ, ◌<◌, ◌≤◌, Bool, true, false, ◌&&◌, List, [], ◌∷◌, ◌++◌, refl, sym, ◌∙◌, ap, arith, subst, inl, inr}
-use Rattle.std.specs.Prelude.{◌==◌, Some}
-use Rattle.std.proofs.lemmas.Bool.{false≢true, eq-eqb}
-use Rattle.std.proofs.lemmas.Bool.Decides.{eqb_tells}
-use Rattle.bn_base.specs.Programs.{Program}
-use Rattle.bn_base.specs.declared.row.Row.{Row}
-use Rattle.bn_base.specs.declared.settings.RawSettings.{RawSettings}
-use Rattle.run_model.specs.declared.hart.Hart.{Hart}
-use Rattle.run_model.specs.declared.turn_end.TurnEnd.{TurnEnd}
-use Rattle.run_model.specs.declared.turn_end.TurnEnd.TheVariants.{GoesOn, NewInterval, HartOver, RunOver}
-use Rattle.run_model.specs.Turn.{Run, other_after}
+use Rattle.replay_laws.proofs.Common.{◌≡◌, ℕ, ◌<◌, ◌≤◌, Bool, true, false, ◌&&◌, List, [], ◌∷◌, ◌++◌, refl, sym, ◌∙◌, ap, arith, subst, inl, inr, ◌==◌, Some, false≢true, eq-eqb, eqb_tells, Program, Row, RawSettings, Hart, TurnEnd, GoesOn, NewInterval, HartOver, RunOver, Run, other_after}
 use Rattle.replay_laws.proofs.Agree.{not_equal}
 use Rattle.replay_laws.proofs.Coming.{IsServed, equal_flip}
 use Rattle.replay_laws.proofs.Counts.{Move, Moves, moved_run, next_by, own_harts, other_harts}

@@ -1,17 +1,6 @@
 -- The reason for which a hart begins a new interval is that of no fault.
-use Rattle.std.proofs.Common.{◌≡◌, ℕ, Bool, true, false, refl, subst}
-use Rattle.std.specs.Prelude.{nat_lt, nat_le, ◌-◌}
-use Rattle.bn_base.specs.Programs.{Program}
-use Rattle.bn_base.specs.declared.settings.RawSettings.{RawSettings}
-use Rattle.rv_meaning.specs.declared.asks.Want.{Want}
-use Rattle.rv_meaning.specs.declared.asks.Want.TheVariants.{Load, Store, LoadReserved, StoreConditional, Amo, System, Cut, Faulted}
-use Rattle.system_calls.specs.declared.effect.Plan.{Plan}
+use Rattle.replay_laws.proofs.Common.{◌≡◌, ℕ, Bool, true, false, refl, subst, nat_lt, nat_le, ◌-◌, Program, RawSettings, Want, Load, Store, LoadReserved, StoreConditional, Amo, System, Cut, Faulted, Plan, Hart, TurnEnd, GoesOn, NewInterval, HartOver, RunOver, Machine, answer_call, planned, Run, after_call, counted}
 use Rattle.system_calls.specs.declared.effect.Plan.TheVariants as plans
-use Rattle.run_model.specs.declared.hart.Hart.{Hart}
-use Rattle.run_model.specs.declared.turn_end.TurnEnd.{TurnEnd}
-use Rattle.run_model.specs.declared.turn_end.TurnEnd.TheVariants.{GoesOn, NewInterval, HartOver, RunOver}
-use Rattle.run_model.specs.Machine.{Machine, answer_call, planned}
-use Rattle.run_model.specs.Turn.{Run, after_call, counted}
 use Rattle.replay_laws.proofs.Asked.{next_to}
 use Rattle.replay_laws.proofs.Counts.{want_at, asked_at, next_by}
 

@@ -1,18 +1,8 @@
 -- A guarded turn as two moves.
-use Rattle.std.proofs.Common.{◌≡◌, ℕ, zero, suc, ◌+◌, ◌<◌, Bool, true, false, not, ◌&&◌, ◌==◌, refl, sym, ◌∙◌, ap, arith}
+use Rattle.replay_laws.proofs.Common.{◌≡◌, ℕ, zero, suc, ◌+◌, ◌<◌, Bool, true, false, not, ◌&&◌, ◌==◌, refl, sym, ◌∙◌, ap, arith, Program, HartState, RawSettings, Step, Quiet, Asks, step, ask_of, is_cut, Ask, Want, Hart, call_of, Run, serve, served_if, serve_call, turn, ask_at, budget, is_guarded, is_orderly, begun_anew, guard_records}
 use Rattle.std.proofs.lemmas.Grind.{common_steps}
-use Rattle.bn_base.specs.Programs.{Program}
-use Rattle.bn_base.specs.declared.state.HartState.{HartState}
-use Rattle.bn_base.specs.declared.settings.RawSettings.{RawSettings}
-use Rattle.rv_meaning.specs.Execute.{Step, Quiet, Asks, step, ask_of}
-use Rattle.rv_meaning.specs.Orderly.{is_cut}
-use Rattle.rv_meaning.specs.declared.asks.Ask.{Ask}
-use Rattle.rv_meaning.specs.declared.asks.Want.{Want}
-use Rattle.run_model.specs.declared.hart.Hart.{Hart}
 use Rattle.run_model.specs.Counts.{anew}
-use Rattle.run_model.specs.Machine.{call_of}
 use Rattle.log_record.specs.Spelling.{total}
-use Rattle.run_model.specs.Turn.{Run, serve, served_if, serve_call, turn, ask_at, budget, is_guarded, is_orderly, begun_anew, guard_records}
 use Rattle.replay_laws.specs.Splits.{GuardedTurnsSplit}
 
 -- a hart that asks, and not by a cut, asks the same again

@@ -1,39 +1,9 @@
 -- One access in the replay of an interval.
-use Rattle.std.proofs.Common.{◌≡◌, ℕ, suc, ◌+◌, Bool, true, false, cond, ◌&&◌, List, [], ◌∷◌, ◌++◌, length, Option, Some, None, refl, sym, ◌∙◌, ap, arith, subst, inl, inr}
-use Rattle.std.specs.Prelude.{◌==◌, ◌≢◌, if◌then◌else◌}
-use Rattle.std.proofs.lemmas.Bool.{false≢true, eqb-true, eq-eqb}
-use Rattle.std.proofs.lemmas.Bool.Decides.{eqb_tells}
-use Rattle.std.proofs.lemmas.List.{append_assoc}
-use Rattle.bn_base.specs.Programs.{Program, may_load, may_store}
-use Rattle.bn_base.specs.declared.row.Row.{Row}
-use Rattle.bn_base.specs.declared.settings.RawSettings.{RawSettings}
-use Rattle.bn_base.specs.declared.state.HartState.{HartState}
-use Rattle.rv_meaning.specs.Access.{stored_word, amo_result}
-use Rattle.rv_meaning.specs.Execute.{Step, Quiet, Asks, step, absorbed}
-use Rattle.rv_meaning.specs.Orderly.{passes}
-use Rattle.rv_meaning.specs.Words.{aligned}
+use Rattle.replay_laws.proofs.Common.{◌≡◌, ℕ, suc, ◌+◌, Bool, true, false, cond, ◌&&◌, List, [], ◌∷◌, ◌++◌, length, Option, Some, None, refl, sym, ◌∙◌, ap, arith, subst, inl, inr, ◌==◌, ◌≢◌, if◌then◌else◌, false≢true, eqb-true, eq-eqb, eqb_tells, append_assoc, Program, may_load, may_store, Row, RawSettings, HartState, stored_word, amo_result, Step, Quiet, Asks, step, absorbed, passes, aligned, Ask, Want, Load, Store, LoadReserved, StoreConditional, Amo, System, Cut, Faulted, Reply, updated, Event, geometry_of, warm, Warm, FirstLoad, row_of, known, at_address, Interval, Position, Logged, Replayed, Next, put, puts, logged, logged_from, or_else, steps, ask_step, finish, onto, missing, after_ask, word_for, slot, after_sc, On, Stop, Refused, ScMissing, Machine, answer_sc, is_reserved, load_record, skipped_after, sc_record, warmth, word_before, loading, sc_span, want_rows, touched, learned}
 use Rattle.rv_meaning.specs.declared.amo.AmoOp.{AmoOp}
-use Rattle.rv_meaning.specs.declared.asks.Ask.{Ask}
-use Rattle.rv_meaning.specs.declared.asks.Want.{Want}
-use Rattle.rv_meaning.specs.declared.asks.Want.TheVariants.{Load, Store, LoadReserved, StoreConditional, Amo, System, Cut, Faulted}
-use Rattle.rv_meaning.specs.declared.asks.Reply.{Reply}
 use Rattle.rv_meaning.specs.declared.asks.Reply.TheVariants as replies
-use Rattle.bus_memory.specs.Contents.{updated}
-use Rattle.first_load_bits.specs.Events.{Event}
-use Rattle.first_load_bits.specs.Represents.{geometry_of}
-use Rattle.first_load_bits.specs.Warm.{warm}
-use Rattle.first_load_bits.specs.declared.warm.Warm.{Warm}
 use Rattle.first_load_bits.specs.declared.warm.Warm.TheVariants as answers
-use Rattle.log_record.specs.declared.record.Record.TheVariants.{FirstLoad}
-use Rattle.rv_meaning.specs.Rows.{row_of, known, at_address}
-use Rattle.hart_replay.specs.Replay.{Interval, Position, Logged, Replayed, Next, put, puts, logged, logged_from, or_else, steps, ask_step, finish, onto, missing, after_ask, word_for, slot, after_sc}
-use Rattle.hart_replay.specs.Replay.{On, Stop, Refused}
-use Rattle.hart_replay.specs.declared.error.ReplayError.TheVariants.{ScMissing}
-use Rattle.run_model.specs.Machine.{Machine, answer_sc, is_reserved}
-use Rattle.run_model.specs.Turn.{load_record, skipped_after, sc_record, warmth, word_before, loading, sc_span}
-use Rattle.run_model.specs.Rows.{want_rows}
 use Rattle.replay_laws.proofs.Asked.{asking, reply_to, memory_after, touched_to}
-use Rattle.replay_laws.specs.Known.{touched, learned}
 use Rattle.replay_laws.proofs.Own.{aligned_own, aligned_twice}
 use Rattle.replay_laws.proofs.Places.{span, Ahead, span_push, logged_zero, logged_here, logged_ahead, length_push, slot_here}
 

@@ -1,40 +1,9 @@
 -- A whole turn of a hart in the replay of its interval.
-use Rattle.std.proofs.Common.{◌≡◌, ℕ, suc, ◌+◌, ◌-◌, ◌<◌, ◌^◌, Bool, true, false, cond, List, [], ◌∷◌, ◌++◌, Option, Some, None, refl, sym, ◌∙◌, ap, arith, subst, inl, inr}
-use Rattle.std.specs.Prelude.{◌==◌, ◌⊎◌, nat_le, if◌then◌else◌}
-use Rattle.std.proofs.lemmas.Bool.{false≢true}
-use Rattle.std.proofs.lemmas.List.{append_assoc, append-nil}
-use Rattle.bn_base.specs.Faults.{fault_number}
-use Rattle.bn_base.specs.Programs.{Program}
-use Rattle.bn_base.specs.declared.end_mark.EndMark.{EndMark}
-use Rattle.bn_base.specs.declared.fault.Fault.{Fault}
-use Rattle.bn_base.specs.declared.row.Row.{Row}
-use Rattle.bn_base.specs.declared.settings.RawSettings.{RawSettings}
-use Rattle.bn_base.specs.declared.state.HartState.{HartState}
-use Rattle.rv_meaning.specs.Execute.{Asks, step, absorbed, count_up}
-use Rattle.rv_meaning.specs.Orderly.{is_cut}
-use Rattle.rv_meaning.specs.Words.{aligned}
-use Rattle.rv_meaning.specs.declared.asks.Want.{Want}
-use Rattle.rv_meaning.specs.declared.asks.Want.TheVariants.{Load, Store, LoadReserved, StoreConditional, Amo, System, Cut, Faulted}
-use Rattle.rv_meaning.specs.declared.asks.Reply.{Reply}
-use Rattle.rv_meaning.specs.declared.asks.Reply.TheVariants.{Went, Over}
-use Rattle.system_calls.specs.declared.effect.Plan.{Plan}
-use Rattle.first_load_bits.specs.Events.{Event}
-use Rattle.first_load_bits.specs.Represents.{geometry_of}
-use Rattle.first_load_bits.specs.Warm.{warm}
-use Rattle.rv_meaning.specs.Rows.{known, fault_row}
-use Rattle.hart_replay.specs.Replay.{Interval, Position, Logged, puts, steps, onto}
-use Rattle.hart_replay.specs.Replay.{Done}
-use Rattle.run_model.specs.declared.hart.Hart.{Hart}
-use Rattle.run_model.specs.declared.turn_end.TurnEnd.{TurnEnd}
-use Rattle.run_model.specs.declared.turn_end.TurnEnd.TheVariants.{GoesOn, NewInterval, HartOver}
-use Rattle.run_model.specs.Machine.{Machine, answer_call, call_of, planned}
-use Rattle.run_model.specs.Turn.{counted, next_of, after_call, warmth, word_before, load_record, loading, sc_record, skipped_after}
-use Rattle.run_model.specs.Rows.{want_rows}
+use Rattle.replay_laws.proofs.Common.{◌≡◌, ℕ, suc, ◌+◌, ◌-◌, ◌<◌, ◌^◌, Bool, true, false, cond, List, [], ◌∷◌, ◌++◌, Option, Some, None, refl, sym, ◌∙◌, ap, arith, subst, inl, inr, ◌==◌, ◌⊎◌, nat_le, if◌then◌else◌, false≢true, append_assoc, append-nil, fault_number, Program, EndMark, Fault, Row, RawSettings, HartState, Asks, step, absorbed, count_up, is_cut, aligned, Want, Load, Store, LoadReserved, StoreConditional, Amo, System, Cut, Faulted, Reply, Went, Over, Plan, Event, geometry_of, warm, known, fault_row, Interval, Position, Logged, puts, steps, onto, Done, Hart, TurnEnd, GoesOn, NewInterval, HartOver, Machine, answer_call, call_of, planned, counted, next_of, after_call, warmth, word_before, load_record, loading, sc_record, skipped_after, want_rows, learned}
 use Rattle.replay_laws.proofs.Asked.{asking, reply_to, state_after, memory_after, next_to, touched_to}
 use Rattle.replay_laws.proofs.Calls.{Fine, Plain, call_step, plan_kind, plan_counts}
 use Rattle.replay_laws.proofs.Counts.{memory_counts}
 use Rattle.replay_laws.proofs.Ends.{none_left, plain_marked, fault_marked}
-use Rattle.replay_laws.specs.Known.{learned}
 use Rattle.replay_laws.proofs.Places.{Ahead}
 use Rattle.replay_laws.proofs.Step.{StillHolds, Stepped, Before, memory_step, of_memory}
 use Rattle.replay_laws.proofs.Turns.{ended_at, end_log}

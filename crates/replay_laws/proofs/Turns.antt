@@ -1,23 +1,7 @@
 -- What a turn's records say to a hart's replay, and what the turn leaves of the harts.
-use Rattle.std.proofs.Common.{◌≡◌, ℕ, zero, suc, ◌+◌, ◌<◌, ◌≤◌, Bool, true, false, not, ◌&&◌, List, [], ◌∷◌, ◌++◌, length, Option, Some, None, refl, sym, ◌∙◌, ap, arith, subst, inl, inr}
-use Rattle.std.specs.Prelude.{◌==◌, ◌≢◌}
-use Rattle.std.proofs.lemmas.Bool.{eq-eqb}
-use Rattle.std.proofs.lemmas.Bool.Decides.{eqb_tells}
-use Rattle.bn_base.specs.declared.state.HartState.{HartState}
-use Rattle.rv_meaning.specs.declared.asks.Reply.{Reply}
+use Rattle.replay_laws.proofs.Common.{◌≡◌, ℕ, zero, suc, ◌+◌, ◌<◌, ◌≤◌, Bool, true, false, not, ◌&&◌, List, [], ◌∷◌, ◌++◌, length, Option, Some, None, refl, sym, ◌∙◌, ap, arith, subst, inl, inr, ◌==◌, ◌≢◌, eq-eqb, eqb_tells, HartState, Reply, Warm, Point, after, sources_into, Record, End, Logged, put, puts, Hart, TurnEnd, GoesOn, NewInterval, HartOver, RunOver, edges_from, edge_records, load_record, sc_record, next_records, stopped_records, run_over_records, harts_after, other_after, mark}
 use Rattle.rv_meaning.specs.declared.asks.Reply.TheVariants as replies
-use Rattle.first_load_bits.specs.declared.warm.Warm.{Warm}
 use Rattle.first_load_bits.specs.declared.warm.Warm.TheVariants as answers
-use Rattle.race_log.specs.Points.{Point}
-use Rattle.race_log.specs.Kept.{after}
-use Rattle.race_log.specs.Tests.{sources_into}
-use Rattle.log_record.specs.declared.record.Record.{Record}
-use Rattle.log_record.specs.declared.record.Record.TheVariants.{End}
-use Rattle.hart_replay.specs.Replay.{Logged, put, puts}
-use Rattle.run_model.specs.declared.hart.Hart.{Hart}
-use Rattle.run_model.specs.declared.turn_end.TurnEnd.{TurnEnd}
-use Rattle.run_model.specs.declared.turn_end.TurnEnd.TheVariants.{GoesOn, NewInterval, HartOver, RunOver}
-use Rattle.run_model.specs.Turn.{edges_from, edge_records, load_record, sc_record, next_records, stopped_records, run_over_records, harts_after, other_after, mark}
 use Rattle.replay_laws.proofs.Step.{with_load, with_sc}
 
 pub puts_append : (h : ℕ) (rs bs : List Record) (l : Logged) → puts h (rs ++ bs) l ≡ puts h rs (puts h bs l)

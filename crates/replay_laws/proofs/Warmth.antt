@@ -1,18 +1,5 @@
 -- Warm words stay known, over turns.
-use Rattle.std.proofs.Common.{◌∙◌, ◌≡◌, ℕ, Bool, true, false, ◌&&◌, ◌==◌, List, ◌∷◌, refl, sym, ap, subst}
-use Rattle.std.specs.Prelude.{Option}
-use Rattle.std.proofs.lemmas.Bool.{false≢true, eq-eqb}
-use Rattle.bn_base.specs.Programs.{Program}
-use Rattle.bn_base.specs.declared.settings.RawSettings.{RawSettings}
-use Rattle.bn_base.specs.declared.state.HartState.{HartState}
-use Rattle.rv_meaning.specs.Orderly.{is_counted, passes}
-use Rattle.first_load_bits.specs.Events.{Event}
-use Rattle.first_load_bits.specs.Events.{Clear}
-use Rattle.first_load_bits.specs.Represents.{geometry_of}
-use Rattle.first_load_bits.specs.Warm.{warm}
-use Rattle.run_model.specs.declared.turn_end.TurnEnd.TheVariants.{GoesOn}
-use Rattle.run_model.specs.Turn.{Run, turn, ask_at, is_guarded, is_orderly, guarded_run, budget}
-use Rattle.replay_laws.specs.Known.{Agrees, learned, touched_at, next_at, WarmWordsStayKnown}
+use Rattle.replay_laws.proofs.Common.{◌∙◌, ◌≡◌, ℕ, Bool, true, false, ◌&&◌, ◌==◌, List, ◌∷◌, refl, sym, ap, subst, Option, false≢true, eq-eqb, Program, RawSettings, HartState, is_counted, passes, Event, Clear, geometry_of, warm, GoesOn, Run, turn, ask_at, is_guarded, is_orderly, guarded_run, budget, Agrees, learned, touched_at, next_at, WarmWordsStayKnown}
 use Rattle.replay_laws.proofs.Agree.{agrees_past}
 use Rattle.replay_laws.proofs.Asked.{served_ask}
 use Rattle.replay_laws.proofs.Own.{agrees_asked}

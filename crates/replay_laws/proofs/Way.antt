@@ -1,20 +1,5 @@
 -- The replay of an interval goes through a turn's quiet instructions, and gives their rows.
-use Rattle.std.proofs.Common.{◌≡◌, ℕ, zero, suc, ◌+◌, ◌-◌, ◌<◌, ◌≤◌, ◌^◌, Bool, true, false, List, [], ◌∷◌, ◌++◌, None, refl, ◌∙◌, ap, arith, inl, inr}
-use Rattle.std.specs.Prelude.{◌⊎◌}
-use Rattle.bn_base.specs.Programs.{Program}
-use Rattle.bn_base.specs.declared.row.Row.{Row}
-use Rattle.bn_base.specs.declared.settings.RawSettings.{RawSettings}
-use Rattle.bn_base.specs.declared.state.HartState.{HartState}
-use Rattle.rv_meaning.specs.Execute.{Step, Quiet, Asks, ask_of, step, count_up}
-use Rattle.rv_meaning.specs.Orderly.{is_cut, passes, orderly}
-use Rattle.rv_meaning.specs.declared.asks.Ask.{Ask}
-use Rattle.rv_meaning.specs.declared.asks.Want.{Want}
-use Rattle.rv_meaning.specs.declared.asks.Want.TheVariants.{Cut}
-use Rattle.system_calls.specs.Laws.{ExitsAloneEnd}
-use Rattle.rv_meaning.specs.Rows.{row_of, known}
-use Rattle.hart_replay.specs.Replay.{Interval, Position, Replayed, Next, steps, finish, ask_step, onto}
-use Rattle.hart_replay.specs.Replay.{On, Stop}
-use Rattle.run_model.specs.Rows.{quiet_rows}
+use Rattle.replay_laws.proofs.Common.{◌≡◌, ℕ, zero, suc, ◌+◌, ◌-◌, ◌<◌, ◌≤◌, ◌^◌, Bool, true, false, List, [], ◌∷◌, ◌++◌, None, refl, ◌∙◌, ap, arith, inl, inr, ◌⊎◌, Program, Row, RawSettings, HartState, Step, Quiet, Asks, ask_of, step, count_up, is_cut, passes, orderly, Ask, Want, Cut, ExitsAloneEnd, row_of, known, Interval, Position, Replayed, Next, steps, finish, ask_step, onto, On, Stop, quiet_rows}
 
 -- what is known of the program's steps and of the settings
 pub record Sound (c : RawSettings) (i : Program) : Type 0 where

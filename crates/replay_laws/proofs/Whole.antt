@@ -1,28 +1,7 @@
 -- Log sufficiency, over the runs of lists of turns.
-use Rattle.std.proofs.Common.{◌≡◌, ℕ, zero, suc, ◌+◌, ◌-◌, ◌<◌, ◌≤◌, ◌^◌, Bool, true, false, ◌&&◌, List, [], ◌∷◌, ◌++◌, take, drop, length, map, Some, refl, sym, ◌∙◌, ap, arith, subst, inl, inr}
-use Rattle.std.specs.Prelude.{◌==◌, ◌⊎◌, nat_lt}
-use Rattle.std.specs.List.{range_with_len}
-use Rattle.std.proofs.lemmas.Bool.{false≢true}
-use Rattle.std.proofs.lemmas.Bool.Decides.{eqb_tells, nat_tests}
-use Rattle.bn_base.specs.Programs.{Program}
-use Rattle.bn_base.specs.declared.row.Row.{Row}
-use Rattle.bn_base.specs.declared.settings.RawSettings.{RawSettings}
-use Rattle.bn_base.specs.declared.state.HartState.{HartState}
-use Rattle.rv_meaning.specs.Execute.{Quiet, Asks, step, ask_of, count_up}
-use Rattle.rv_meaning.specs.Orderly.{is_cut, passes, orderly}
-use Rattle.rv_meaning.specs.declared.asks.Want.{Want}
-use Rattle.system_calls.specs.Laws.{ExitsAloneEnd}
-use Rattle.log_record.specs.declared.record.Record.{Record}
+use Rattle.replay_laws.proofs.Common.{◌≡◌, ℕ, zero, suc, ◌+◌, ◌-◌, ◌<◌, ◌≤◌, ◌^◌, Bool, true, false, ◌&&◌, List, [], ◌∷◌, ◌++◌, take, drop, length, map, Some, refl, sym, ◌∙◌, ap, arith, subst, inl, inr, ◌==◌, ◌⊎◌, nat_lt, range_with_len, false≢true, eqb_tells, nat_tests, Program, Row, RawSettings, HartState, Quiet, Asks, step, ask_of, count_up, is_cut, passes, orderly, Want, ExitsAloneEnd, Record, Interval, interval_of, interval_from, replayed_in, Hart, TurnEnd, GoesOn, NewInterval, HartOver, RunOver, Run, other_after, turn, by_guard, start, run_of, run_from, legal_from, any_live, rows_in, rows_of, quiet_part, turn_rows, LogSuffices, EndsSuffice, RowsStandTogether, IntervalsBegin, RowsAreCounted, IsWhole, IsBeforeTurn, IsAtGuard, end_of}
 use Rattle.log_ring.specs.Kept.{kept}
-use Rattle.hart_replay.specs.Replay.{Interval, interval_of, interval_from, replayed_in}
-use Rattle.run_model.specs.declared.hart.Hart.{Hart}
-use Rattle.run_model.specs.declared.turn_end.TurnEnd.{TurnEnd}
-use Rattle.run_model.specs.declared.turn_end.TurnEnd.TheVariants.{GoesOn, NewInterval, HartOver, RunOver}
-use Rattle.run_model.specs.Turn.{Run, other_after, turn, by_guard}
 use Rattle.run_model.specs.KeptRecords.{kept_of, IsEndOf}
-use Rattle.run_model.specs.Runs.{start, run_of, run_from, legal_from, any_live}
-use Rattle.run_model.specs.Rows.{rows_in, rows_of, quiet_part, turn_rows}
-use Rattle.replay_laws.specs.Law.{LogSuffices, EndsSuffice, RowsStandTogether, IntervalsBegin, RowsAreCounted, IsWhole, IsBeforeTurn, IsAtGuard, end_of}
 use Rattle.replay_laws.proofs.Asked.{served_turn}
 use Rattle.replay_laws.proofs.Coming.{IsServed, equal_flip}
 use Rattle.replay_laws.proofs.Counts.{Fit, Move, Moves, moved_run, next_by, asked_at, log_from, own_harts, other_harts, own_fit, begun_fit}

@@ -1,13 +1,8 @@
 -- Small recordings, replayed.
-use Rattle.std.proofs.Common.{◌≡◌, [], ◌∷◌, map, Some, None, refl}
+use Rattle.replay_laws.proofs.Common.{◌≡◌, [], ◌∷◌, map, Some, None, refl, at_places, leads, any_below, before, edge, greatest_first, edges_into, Done, Refused, replayed, NoInterval, LoadMissing, ScMissing, RecordsLeft, EndDiffers, FirstLoad, serve, mark}
 use Rattle.le_numbers.specs.Numbers.{number_bytes}
-use Rattle.race_log.specs.Tests.{at_places, leads, any_below, before, edge, greatest_first, edges_into}
 use Rattle.log_ring.specs.Kept.{kept}
-use Rattle.hart_replay.specs.Replay.{Done, Refused, replayed}
-use Rattle.hart_replay.specs.declared.error.ReplayError.TheVariants.{NoInterval, LoadMissing, ScMissing, RecordsLeft, EndDiffers}
-use Rattle.log_record.specs.declared.record.Record.TheVariants.{FirstLoad}
 use Rattle.run_model.specs.Examples.{recorded, program_of, first_header, end, an_exit, two_loads_of_a_word, a_conditional_store, a_fault, a_filled_word, a_guarded_load, a_late_fault, a_late_fault_unguarded, row_of_a_fault}
-use Rattle.run_model.specs.Turn.{serve, mark}
 use Rattle.replay_laws.specs.Examples.{replay_of, a_short_log, without, another_exit}
 
 pub a_fault_is_replayed : replay_of a_fault 0 0 ≡ record { rows = row_of_a_fault ∷ []; outcome = Done }

@@ -1,10 +1,7 @@
 -- The replays of small recordings.
 use Rattle.std.specs.Prelude.{ℕ, ◌==◌, ◌∷◌, [], not, filter, List}
-use Rattle.log_record.specs.declared.record.Record.{Record}
+use Rattle.replay_laws.specs.Common.{Record, Replayed, replayed, Recording, program_of, recorded, an_exit, a_call_at_full_length, kept_of}
 use Rattle.log_record.specs.Spelling.{tag_of}
-use Rattle.hart_replay.specs.Replay.{Replayed, replayed}
-use Rattle.run_model.specs.Examples.{Recording, program_of, recorded, an_exit, a_call_at_full_length}
-use Rattle.run_model.specs.KeptRecords.{kept_of}
 
 -- the replay of interval n of hart h from what is kept of a recording
 abbrev pub replay_of : Recording → (h n : ℕ) → Replayed

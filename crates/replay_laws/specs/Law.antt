@@ -2,17 +2,11 @@
 -- The limit is below 2^63; the format is either.
 use Rattle.std.specs.Prelude.{ℕ, ◌≡◌, ◌⊎◌, ◌+◌, ◌-◌, ◌<◌, ◌^◌, nat_lt, true, List, [], ◌∷◌, ◌++◌, length, map, take, drop, Some, if◌then◌else◌}
 use Rattle.std.specs.List.{range_with_len}
-use Rattle.bn_base.specs.Programs.{Program}
+use Rattle.replay_laws.specs.Common.{Program, RawSettings, Record, kept_of, IsEndOf, Run, ask_at, is_guarded, Interval, interval_of, replayed, Done}
 use Rattle.bn_base.specs.declared.row.Row.{Row}
-use Rattle.bn_base.specs.declared.settings.RawSettings.{RawSettings}
 use Rattle.bn_base.specs.declared.state.HartState.{HartState}
-use Rattle.log_record.specs.declared.record.Record.{Record}
-use Rattle.run_model.specs.KeptRecords.{kept_of, IsEndOf}
 use Rattle.run_model.specs.Rows.{rows_of, rows_in, quiet_part}
 use Rattle.run_model.specs.Runs.{start, run_of, legal_from, has_finished}
-use Rattle.run_model.specs.Turn.{Run, ask_at, is_guarded}
-use Rattle.hart_replay.specs.Replay.{Interval, interval_of, replayed}
-use Rattle.hart_replay.specs.Replay.{Done}
 
 -- the list of turns is legal, and finished
 pub record IsWhole (c : RawSettings) (i : Program) (input b : List ℕ) : Type 0 where

@@ -1,10 +1,7 @@
 //! Small recordings, replayed.
 ghost use Rattle.std.specs.Prelude.{◌≡◌, ◌∷◌, [], map, Some, None};
-ghost use Rattle.hart_replay.specs.Replay.{Done, Refused, replayed};
-ghost use Rattle.hart_replay.specs.declared.error.ReplayError.TheVariants.{NoInterval, LoadMissing, ScMissing, RecordsLeft, EndDiffers};
+ghost use Rattle.replay_laws.specs.Common.{Done, Refused, replayed, NoInterval, LoadMissing, ScMissing, RecordsLeft, EndDiffers, mark, recorded, program_of, first_header, end, an_exit, two_loads_of_a_word, a_conditional_store, a_fault, a_filled_word, a_guarded_load, a_late_fault, a_late_fault_unguarded, row_of_a_fault};
 ghost use Rattle.log_record.specs.declared.record.Record.TheVariants.{FirstLoad};
-ghost use Rattle.run_model.specs.Turn.{mark};
-ghost use Rattle.run_model.specs.Examples.{recorded, program_of, first_header, end, an_exit, two_loads_of_a_word, a_conditional_store, a_fault, a_filled_word, a_guarded_load, a_late_fault, a_late_fault_unguarded, row_of_a_fault};
 ghost use Rattle.replay_laws.specs.Examples.{replay_of, a_short_log, without, another_exit};
 
 /// A load that faults: its row, at the End's count.

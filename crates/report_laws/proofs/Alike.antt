@@ -1,33 +1,8 @@
 -- The points of the joint replay and the recorded points.
-use Rattle.std.proofs.Common.{◌≡◌, ◌⊎◌, inl, inr, ℕ, ◌+◌, ◌<◌, true, refl, sym, ap, ◌∙◌, subst, arith, List, [], ◌∷◌, ◌++◌, Any, slice_get, Option, Some, None}
-use Rattle.bn_base.specs.declared.fault.Fault.{Fault}
-use Rattle.bn_base.specs.declared.row.Row.{Row}
-use Rattle.bn_base.specs.declared.state.HartState.{HartState}
-use Rattle.elf_loader.specs.Laws.{LoadedProgramsAreImages}
-use Rattle.log_record.specs.declared.record.Record.{Record}
-use Rattle.race_log.specs.ByCount.{IsInOrder, StandByCounts}
-use Rattle.race_log.specs.Kept.{In}
+use Rattle.report_laws.proofs.Common.{◌≡◌, ◌⊎◌, inl, inr, ℕ, ◌+◌, ◌<◌, true, refl, sym, ap, ◌∙◌, subst, arith, List, [], ◌∷◌, ◌++◌, Any, slice_get, Option, Some, None, Fault, Row, HartState, LoadedProgramsAreImages, Record, IsInOrder, StandByCounts, In, Point, Access, MeetAt, IsConflict, start, legal_from, RowsAreCounted, HasOrder, OfLists, PointsAreOfTurns, RunRowsTellWords, RunCallsAccess, TurnRowsAreRows, IsRowOfTurn, Taken, Walk, Ran, run_all, Item, Doing, Touched as Touch, AreAlike, Accessing, accessing, touch_of, or_else, word_with, is_atomic, loaded_touch, accesses_of, whole_point, SaysTheRun, JointReplaysSayTheRun, DoesRetained, Recording, IsLogOf, IsRetained, OfBeginnings, begin, points_of, retained_rows, DidPoint, rows_done, replayed_points, PointsAreRecorded, StandAsRecorded, ConflictsStandAsRecorded, IsPointOf, accessing_at, kept_at, recorded_points}
 use Rattle.race_log.specs.Netzer.{AtPlaces}
-use Rattle.race_log.specs.Points.{Point, Access, MeetAt, IsConflict}
-use Rattle.run_model.specs.Runs.{start, legal_from}
-use Rattle.replay_laws.specs.Law.{RowsAreCounted}
-use Rattle.race_laws.specs.Laws.{HasOrder}
-use Rattle.race_laws.specs.Runs.{OfLists}
-use Rattle.row_laws.specs.Laws.{PointsAreOfTurns, RunRowsTellWords, RunCallsAccess, TurnRowsAreRows}
-use Rattle.row_laws.specs.States.{IsRowOfTurn}
 use Rattle.joint_replay.specs.Chains.{Did, IsToDo}
-use Rattle.joint_replay.specs.Joining.{Taken, Walk, Ran, run_all}
-use Rattle.joint_replay.specs.Lanes.{Item, Doing}
 use Rattle.joint_replay.specs.Ways.{IsRowAt}
-use Rattle.race_report.proofs.Touched.{Touched as Touch}
-use Rattle.race_report.specs.Laws.{AreAlike}
-use Rattle.race_report.specs.Points.{Accessing, accessing, touch_of, or_else, word_with, is_atomic, loaded_touch, accesses_of}
-use Rattle.race_report.specs.Races.{whole_point}
-use Rattle.joint_laws.specs.Laws.{SaysTheRun, JointReplaysSayTheRun, DoesRetained}
-use Rattle.joint_laws.specs.Recordings.{Recording, IsLogOf, IsRetained, OfBeginnings, begin, points_of, retained_rows}
-use Rattle.joint_laws.specs.Steps.{DidPoint, rows_done}
-use Rattle.report_laws.specs.Laws.{replayed_points, PointsAreRecorded, StandAsRecorded, ConflictsStandAsRecorded}
-use Rattle.report_laws.specs.Recorded.{IsPointOf, accessing_at, kept_at, recorded_points}
 use Rattle.report_laws.proofs.Lists.{some_is, order_of, ComesFrom, ComeFrom, comes_from, come_from, given}
 use Rattle.report_laws.proofs.Recorded.{one_kept, at_row, kept_point, IsKept, is_kept_row, given_point, same_place}
 use Rattle.report_laws.proofs.Rows.{row_at, hart_below, IsRowAt as IsAtCount}

@@ -1,17 +1,5 @@
 -- The recorded points.
-use Rattle.std.proofs.Common.{◌≡◌, ◌⊎◌, inl, inr, ℕ, zero, suc, ◌+◌, ◌<◌, ◌==◌, Bool, true, false, cond, refl, sym, ap, ◌∙◌, subst, arith, List, [], ◌∷◌, slice_get, take, Option, Some, None}
-use Rattle.std.specs.List.{list_any, flat_map}
-use Rattle.bn_base.specs.declared.row.Row.{Row}
-use Rattle.bn_base.specs.declared.state.HartState.{HartState}
-use Rattle.log_record.specs.declared.record.Record.{Record}
-use Rattle.race_log.specs.ByCount.{IsInOrder, StandByCounts}
-use Rattle.race_log.specs.Kept.{In}
-use Rattle.race_log.specs.Points.{Point}
-use Rattle.race_report.proofs.Touched.{Touched as Touch}
-use Rattle.race_report.specs.Points.{Accessing, accessing, touch_of}
-use Rattle.row_laws.specs.States.{state_after, IsRowOfTurn}
-use Rattle.joint_laws.specs.Recordings.{Recording, points_of, rows_of_hart, first_state, retained_rows}
-use Rattle.report_laws.specs.Recorded.{accessing_at, is_kept, kept_at, recorded_points}
+use Rattle.report_laws.proofs.Common.{◌≡◌, ◌⊎◌, inl, inr, ℕ, zero, suc, ◌+◌, ◌<◌, ◌==◌, Bool, true, false, cond, refl, sym, ap, ◌∙◌, subst, arith, List, [], ◌∷◌, slice_get, take, Option, Some, None, list_any, flat_map, Row, HartState, Record, IsInOrder, StandByCounts, In, Point, Touched as Touch, Accessing, accessing, touch_of, state_after, IsRowOfTurn, Recording, points_of, rows_of_hart, first_state, retained_rows, accessing_at, is_kept, kept_at, recorded_points}
 use Rattle.report_laws.proofs.Lists.{some_is, order_of, same_number, is_number, any_in, in_any, GivesOneAtMost, ComesFrom, ComeFrom, comes_from, come_from, given}
 use Rattle.report_laws.proofs.Rows.{IsRowAt}
 

@@ -1,19 +1,9 @@
 -- The rows of the run by their counts.
-use Rattle.std.proofs.Common.{◌≡◌, ℕ, zero, suc, ◌+◌, ◌<◌, Bool, true, false, ◌&&◌, nat_lt, refl, sym, ap, ◌∙◌, subst, arith, List, [], ◌∷◌, ◌++◌, length, map, slice_get, take, Option, Some, None}
-use Rattle.std.specs.List.{range_with_len}
-use Rattle.std.proofs.lemmas.Bool.{false≢true}
+use Rattle.report_laws.proofs.Common.{◌≡◌, ℕ, zero, suc, ◌+◌, ◌<◌, Bool, true, false, ◌&&◌, nat_lt, refl, sym, ap, ◌∙◌, subst, arith, List, [], ◌∷◌, ◌++◌, length, map, slice_get, take, Option, Some, None, range_with_len, false≢true, Row, RawSettings, HartState, start, legal_from, is_live, RowsAreCounted, TurnRowsAreRows, RowsTellRuns, state_after, AreRowsFrom, HasRow, RunHasRow, IsRowOfTurn, Recording, IsRecorded, rows_of_hart, first_state}
 use Rattle.bn_base.specs.Programs.{Program}
-use Rattle.bn_base.specs.declared.row.Row.{Row}
-use Rattle.bn_base.specs.declared.settings.RawSettings.{RawSettings}
-use Rattle.bn_base.specs.declared.state.HartState.{HartState}
 use Rattle.hart_replay.specs.Coming.{after_row}
 use Rattle.run_model.specs.Rows.{rows_of}
-use Rattle.run_model.specs.Runs.{start, legal_from, is_live}
 use Rattle.run_model.specs.Turn.{Run, turn}
-use Rattle.replay_laws.specs.Law.{RowsAreCounted}
-use Rattle.row_laws.specs.Laws.{TurnRowsAreRows, RowsTellRuns}
-use Rattle.row_laws.specs.States.{state_after, AreRowsFrom, HasRow, RunHasRow, IsRowOfTurn}
-use Rattle.joint_laws.specs.Recordings.{Recording, IsRecorded, rows_of_hart, first_state}
 use Rattle.report_laws.proofs.Lists.{get_middle, take_front}
 
 head_or : {X : Type 0} → X → List X → X

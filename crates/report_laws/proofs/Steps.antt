@@ -1,13 +1,6 @@
 -- The points of steps.
-use Rattle.std.proofs.Common.{◌≡◌, ◌⊎◌, inl, inr, ℕ, zero, suc, ◌+◌, ◌<◌, ◌==◌, Bool, true, false, refl, sym, ap, ◌∙◌, subst, arith, List, [], ◌∷◌, ◌++◌, length, slice_get, Option, Some, None}
-use Rattle.bn_base.specs.declared.row.Row.{Row}
-use Rattle.bn_base.specs.declared.state.HartState.{HartState}
-use Rattle.race_log.specs.Kept.{In}
-use Rattle.joint_replay.specs.Lanes.{Item, Passing, Doing, Ending}
-use Rattle.joint_replay.specs.Joining.{Taken}
-use Rattle.joint_laws.specs.Steps.{row_in, rows_done}
-use Rattle.race_report.proofs.Touched.{Touched as Touch}
-use Rattle.race_report.specs.Points.{Accessing, accessing, touch_of, point_in, points_of}
+use Rattle.report_laws.proofs.Common.{◌≡◌, ◌⊎◌, inl, inr, ℕ, zero, suc, ◌+◌, ◌<◌, ◌==◌, Bool, true, false, refl, sym, ap, ◌∙◌, subst, arith, List, [], ◌∷◌, ◌++◌, length, slice_get, Option, Some, None, Row, HartState, In, Item, Passing, Doing, Ending, Taken, row_in, rows_done, Touched as Touch, Accessing, accessing, touch_of, point_in}
+use Rattle.race_report.specs.Points.{points_of}
 use Rattle.report_laws.proofs.Lists.{some_is, not_some, same_number, is_number, IsBehind, get_cases, get_left, get_right, in_left, in_right, in_cases}
 
 -- a step of hart h did the row of a point

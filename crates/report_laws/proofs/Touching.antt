@@ -1,28 +1,14 @@
 -- The point of the run that a row with its accesses is.
-use Rattle.std.proofs.Common.{◌≡◌, ◌⊎◌, inl, inr, ℕ, zero, suc, ◌+◌, ◌*◌, ◌/◌, ◌%◌, ◌-◌, ◌^◌, ◌<◌, ◌≤◌, Bool, true, false, ◌&&◌, ◌||◌, refl, sym, ap, ◌∙◌, subst, arith, List, [], ◌∷◌, map, Option, Some, None}
-use Rattle.std.specs.Prelude.{◌==◌, nat_lt, nat_le, slice_index, is_some}
-use Rattle.std.proofs.lemmas.Bool.{false≢true, eq-eqb, eqb-true}
-use Rattle.bn_base.specs.declared.fault.Fault.{Fault}
-use Rattle.bn_base.specs.declared.row.Row.{Row}
-use Rattle.bn_base.specs.declared.state.HartState.{HartState}
-use Rattle.elf_loader.specs.Laws.{LoadedProgramsAreImages}
+use Rattle.report_laws.proofs.Common.{◌≡◌, ◌⊎◌, inl, inr, ℕ, zero, suc, ◌+◌, ◌*◌, ◌/◌, ◌%◌, ◌-◌, ◌^◌, ◌<◌, ◌≤◌, Bool, true, false, ◌&&◌, ◌||◌, refl, sym, ap, ◌∙◌, subst, arith, List, [], ◌∷◌, map, Option, Some, None, ◌==◌, nat_lt, nat_le, slice_index, is_some, false≢true, eq-eqb, eqb-true, Fault, Row, HartState, LoadedProgramsAreImages, accesses_from, access_point, is_write, Point, Access, Touched as Touch, Accessing, sent, words_with, or_else, is_atomic, word_with, call_touch, loaded_touch, touch_of, words_from, accesses_of, RunRowsTellWords, RunCallsAccess, IsRowOfTurn, Recording, IsRecorded, IsPointOf}
 use Rattle.rv_meaning.specs.Rows.{at_address}
-use Rattle.race_log.specs.Kept.{accesses_from, access_point, is_write}
-use Rattle.race_log.specs.Points.{Point, Access}
 use Rattle.race_log.specs.declared.mode.Mode.{Mode}
 use Rattle.race_log.specs.declared.mode.Mode.TheVariants.{Read, Write}
 use Rattle.rv_meaning.specs.Words.{aligned}
 use Rattle.run_model.specs.Machine.{word_count}
 use Rattle.joint_replay.specs.Memory.{Bytes, call_result, filled}
-use Rattle.race_report.proofs.Touched.{Touched as Touch}
-use Rattle.race_report.specs.Points.{Accessing, sent, words_with, or_else, is_atomic, word_with, call_touch, loaded_touch, touch_of, words_from, accesses_of}
 use Rattle.row_laws.specs.Calls.{IsSendRow, HasCall}
 use Rattle.row_laws.specs.Fills.{IsFillRow, result_of}
-use Rattle.row_laws.specs.Laws.{RunRowsTellWords, RunCallsAccess}
-use Rattle.row_laws.specs.States.{IsRowOfTurn}
 use Rattle.row_laws.specs.Words.{word_told, word_point, HasWord}
-use Rattle.joint_laws.specs.Recordings.{Recording, IsRecorded}
-use Rattle.report_laws.specs.Recorded.{IsPointOf}
 use Rattle.report_laws.proofs.Lists.{some_is, not_some}
 
 -- ---- tests

@@ -1,27 +1,12 @@
 -- The races of a recording's log.
-use Rattle.std.proofs.Common.{◌≡◌, ◌↔◌, ℕ, ◌+◌, ◌<◌, ◌^◌, refl, sym, ap, ◌∙◌, subst, arith, List, ◌++◌, length, slice_get, Some, None}
+use Rattle.report_laws.proofs.Common.{◌≡◌, ◌↔◌, ℕ, ◌+◌, ◌<◌, ◌^◌, refl, sym, ap, ◌∙◌, subst, arith, List, ◌++◌, length, slice_get, Some, None, RawSettings, Record, StandByCounts, In, HasOrder, OfLists, TurnRowsAreRows, RowsTellRuns, run_all, AreCounted, HaveOwnRows, IsRaceOf, PointsAreCounted, RacesAreListed, RacesAscend, RacesGoByConflicts, Accessing, races_of, OwnLogsAreLogs, JointReplaysSayTheRun, Recording, IsLogOf, begin, kept, points_of, recorded, replayed_points, StandAsRecorded, ConflictsStandAsRecorded, SayTheRun, RacesSayTheRun, ReportsSayTheRun, recorded_points}
 use Rattle.sha2.specs.Sha256.{sha256}
-use Rattle.bn_base.specs.declared.settings.RawSettings.{RawSettings}
 use Rattle.log_order.specs.Content.{Content}
 use Rattle.log_order.specs.Order.{broken_by}
-use Rattle.log_record.specs.declared.record.Record.{Record}
 use Rattle.file_laws.specs.Laws.{FilesSayTheRun, StreamsAreInOrder}
-use Rattle.race_log.specs.ByCount.{StandByCounts}
-use Rattle.race_log.specs.Kept.{In}
-use Rattle.race_laws.specs.Laws.{HasOrder}
-use Rattle.race_laws.specs.Runs.{OfLists}
-use Rattle.row_laws.specs.Laws.{TurnRowsAreRows, RowsTellRuns}
 use Rattle.run_model.specs.KeptRecords.{content_of}
-use Rattle.joint_replay.specs.Joining.{run_all}
 use Rattle.race_report.specs.declared.race.Race.{Race}
-use Rattle.race_report.specs.Laws.{AreCounted, HaveOwnRows, IsRaceOf, PointsAreCounted, RacesAreListed, RacesAscend, RacesGoByConflicts}
-use Rattle.race_report.specs.Points.{Accessing}
-use Rattle.race_report.specs.Races.{races_of}
 use Rattle.race_report.specs.Reports.{joint_of, points_in}
-use Rattle.joint_laws.specs.Laws.{OwnLogsAreLogs, JointReplaysSayTheRun}
-use Rattle.joint_laws.specs.Recordings.{Recording, IsLogOf, begin, kept, points_of, recorded}
-use Rattle.report_laws.specs.Laws.{replayed_points, StandAsRecorded, ConflictsStandAsRecorded, SayTheRun, RacesSayTheRun, ReportsSayTheRun}
-use Rattle.report_laws.specs.Recorded.{recorded_points}
 use Rattle.report_laws.proofs.Alike.{of_turn}
 use Rattle.report_laws.proofs.Rows.{row_hart}
 use Rattle.report_laws.proofs.Steps.{step_of}

@@ -1,13 +1,11 @@
 -- The examples, by computation.
-use Rattle.std.proofs.Common.{◌≡◌, [], ◌∷◌, refl}
+use Rattle.report_laws.proofs.Common.{◌≡◌, [], ◌∷◌, refl, race_at, meetings_below, recorded_points}
 use Rattle.le_numbers.specs.Numbers.{number_bytes}
 use Rattle.race_log.specs.Tests.{at_places, leads, any_below, before, edge, greatest_first, edges_into}
 use Rattle.run_model.specs.Examples.{a_relay, a_line_lost}
 use Rattle.run_model.specs.Turn.{serve}
-use Rattle.race_report.specs.Races.{race_at, meetings_below}
 use Rattle.joint_laws.specs.Examples.{a_short_relay}
 use Rattle.report_laws.specs.Examples.{recorded_names, replayed_names, recorded_races}
-use Rattle.report_laws.specs.Recorded.{recorded_points}
 
 pub relay_names : recorded_names 0 a_relay ≡ (0, 4) ∷ (1, 3) ∷ (1, 4) ∷ (2, 4) ∷ (2, 5) ∷ []
 unfolding serve at_places leads any_below before edge greatest_first edges_into number_bytes recorded_points

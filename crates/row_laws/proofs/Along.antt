@@ -1,26 +1,6 @@
 -- The states along the rows of a turn.
-use Rattle.std.proofs.Common.{◌≡◌, ℕ, zero, suc, Bool, true, false, List, [], ◌∷◌, ◌++◌, Some, None, refl, sym, ◌∙◌, ap, subst, inl, inr}
-use Rattle.std.specs.Prelude.{◌⊎◌, nat_le}
-use Rattle.bn_base.specs.Programs.{Program}
-use Rattle.bn_base.specs.declared.row.Row.{Row}
-use Rattle.bn_base.specs.declared.settings.RawSettings.{RawSettings}
-use Rattle.bn_base.specs.declared.state.HartState.{HartState}
-use Rattle.rv_meaning.specs.Access.{stored_word, amo_result}
-use Rattle.rv_meaning.specs.Words.{aligned}
-use Rattle.rv_meaning.specs.Execute.{Step, Quiet, Asks, ask_of, step, absorbed}
-use Rattle.rv_meaning.specs.declared.asks.Ask.{Ask}
-use Rattle.rv_meaning.specs.declared.asks.Want.{Want}
-use Rattle.rv_meaning.specs.declared.asks.Want.TheVariants.{Load, Store, LoadReserved, StoreConditional, Amo, System, Cut, Faulted}
-use Rattle.system_calls.specs.declared.effect.Plan.{Plan}
+use Rattle.row_laws.proofs.Common.{◌≡◌, ℕ, zero, suc, Bool, true, false, List, [], ◌∷◌, ◌++◌, Some, None, refl, sym, ◌∙◌, ap, subst, inl, inr, ◌⊎◌, nat_le, Program, Row, RawSettings, HartState, stored_word, amo_result, aligned, Step, Quiet, Asks, ask_of, step, absorbed, Ask, Want, Load, Store, LoadReserved, StoreConditional, Amo, System, Cut, Faulted, Plan, row_of, call_row, after_row, reply_in, Machine, answer_call, answer_sc, is_reserved, planned, quiet_rows, want_rows, turn_rows, sc_store, answered_reg, Run, turn, budget, TurnsMoveTheirHart, state_after, AreRowsFrom, RowsTellStates}
 use Rattle.system_calls.specs.declared.effect.Plan.TheVariants as plans
-use Rattle.rv_meaning.specs.Rows.{row_of, call_row}
-use Rattle.hart_replay.specs.Coming.{after_row, reply_in}
-use Rattle.run_model.specs.Machine.{Machine, answer_call, answer_sc, is_reserved, planned}
-use Rattle.run_model.specs.Rows.{quiet_rows, want_rows, turn_rows, sc_store, answered_reg}
-use Rattle.run_model.specs.Turn.{Run, turn, budget}
-use Rattle.run_laws.specs.Laws.{TurnsMoveTheirHart}
-use Rattle.row_laws.specs.States.{state_after, AreRowsFrom}
-use Rattle.row_laws.specs.Laws.{RowsTellStates}
 use Rattle.row_laws.proofs.Asked.{asking, answered_state, reply_to, cut_state, want_at, asked_at, not_cut, Moves, moves}
 
 -- ---- one row

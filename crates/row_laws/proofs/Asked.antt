@@ -1,25 +1,6 @@
 -- Names for what a hart's turn asks and what it gets, and how the turn moves its hart.
-use Rattle.std.proofs.Common.{◌≡◌, ℕ, ◌%◌, Bool, true, false, ◌&&◌, Option, refl, sym, ◌∙◌, ap, inl, inr, arith}
-use Rattle.std.specs.Prelude.{◌==◌, ◌≢◌, ◌⊎◌, if◌then◌else◌}
-use Rattle.std.proofs.lemmas.Bool.{false≢true, eqb-true}
-use Rattle.std.proofs.lemmas.Bool.Decides.{eqb_tells}
-use Rattle.bn_base.specs.Programs.{Program}
-use Rattle.bn_base.specs.declared.settings.RawSettings.{RawSettings}
-use Rattle.bn_base.specs.declared.state.HartState.{HartState}
-use Rattle.rv_meaning.specs.Execute.{Asks, step, absorbed}
-use Rattle.rv_meaning.specs.Orderly.{is_cut}
-use Rattle.rv_meaning.specs.Words.{aligned}
-use Rattle.rv_meaning.specs.declared.asks.Ask.{Ask}
-use Rattle.rv_meaning.specs.declared.asks.Want.{Want}
-use Rattle.rv_meaning.specs.declared.asks.Want.TheVariants.{Cut}
-use Rattle.rv_meaning.specs.declared.asks.Reply.{Reply}
+use Rattle.row_laws.proofs.Common.{◌≡◌, ℕ, ◌%◌, Bool, true, false, ◌&&◌, Option, refl, sym, ◌∙◌, ap, inl, inr, arith, ◌==◌, ◌≢◌, ◌⊎◌, if◌then◌else◌, false≢true, eqb-true, eqb_tells, Program, RawSettings, HartState, Asks, step, absorbed, is_cut, aligned, Ask, Want, Cut, Reply, Point, Span, Machine, Answered, answer, call_of, Run, serve, served_if, serve_call, is_guarded, turn, ask_at, span_of, point_of, TurnsMoveTheirHart, AsksOrderly}
 use Rattle.rv_meaning.specs.declared.asks.Reply.TheVariants.{Went, Over}
-use Rattle.race_log.specs.Points.{Point}
-use Rattle.run_model.specs.declared.span.Span.{Span}
-use Rattle.run_model.specs.Machine.{Machine, Answered, answer, call_of}
-use Rattle.run_model.specs.Turn.{Run, serve, served_if, serve_call, is_guarded, turn, ask_at, span_of, point_of}
-use Rattle.run_laws.specs.Laws.{TurnsMoveTheirHart}
-use Rattle.row_laws.specs.States.{AsksOrderly}
 
 -- ---- an ask
 

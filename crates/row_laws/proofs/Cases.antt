@@ -1,21 +1,5 @@
 -- A row of a turn is that of a quiet instruction, or that of the ask.
-use Rattle.std.proofs.Common.{◌≡◌, ℕ, zero, suc, ◌≤◌, List, [], ◌∷◌, ◌++◌, length, None, refl, sym, ◌∙◌, ap, subst, inl, inr, arith}
-use Rattle.std.specs.Prelude.{◌⊎◌}
-use Rattle.std.proofs.lemmas.List.{length-append}
-use Rattle.bn_base.specs.Programs.{Program}
-use Rattle.bn_base.specs.declared.row.Row.{Row}
-use Rattle.bn_base.specs.declared.settings.RawSettings.{RawSettings}
-use Rattle.bn_base.specs.declared.state.HartState.{HartState}
-use Rattle.rv_meaning.specs.Execute.{Step, Quiet, Asks, ask_of, step}
-use Rattle.rv_meaning.specs.declared.asks.Ask.{Ask}
-use Rattle.rv_meaning.specs.declared.asks.Want.{Want}
-use Rattle.rv_meaning.specs.declared.asks.Want.TheVariants.{Load, Store, LoadReserved, StoreConditional, Amo, System, Cut, Faulted}
-use Rattle.rv_meaning.specs.declared.asks.Reply.{Reply}
-use Rattle.rv_meaning.specs.Rows.{row_of}
-use Rattle.hart_replay.specs.Coming.{after_row}
-use Rattle.run_model.specs.Rows.{quiet_rows, want_rows}
-use Rattle.run_model.specs.Turn.{Run, budget}
-use Rattle.row_laws.specs.States.{state_after, TurnHasRow}
+use Rattle.row_laws.proofs.Common.{◌≡◌, ℕ, zero, suc, ◌≤◌, List, [], ◌∷◌, ◌++◌, length, None, refl, sym, ◌∙◌, ap, subst, inl, inr, arith, ◌⊎◌, length-append, Program, Row, RawSettings, HartState, Step, Quiet, Asks, ask_of, step, Ask, Want, Load, Store, LoadReserved, StoreConditional, Amo, System, Cut, Faulted, Reply, row_of, after_row, quiet_rows, want_rows, Run, budget, state_after, TurnHasRow}
 use Rattle.row_laws.proofs.Along.{by_step, ask_by, quiet_row, asked_rows}
 use Rattle.row_laws.proofs.Asked.{want_at, asked_at}
 

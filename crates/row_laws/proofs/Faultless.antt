@@ -1,15 +1,5 @@
 -- A row that tells a word is of no fault.
-use Rattle.std.proofs.Common.{◌≡◌, ℕ, [], ◌∷◌, Some, None, refl, sym, ◌∙◌, ap, inl, inr}
-use Rattle.bn_base.specs.Programs.{Program}
-use Rattle.bn_base.specs.declared.row.Row.{Row}
-use Rattle.bn_base.specs.declared.settings.RawSettings.{RawSettings}
-use Rattle.bn_base.specs.declared.state.HartState.{HartState}
-use Rattle.rv_meaning.specs.declared.asks.Want.{Want}
-use Rattle.rv_meaning.specs.declared.asks.Want.TheVariants.{Load, Store, LoadReserved, StoreConditional, Amo, System, Cut, Faulted}
-use Rattle.rv_meaning.specs.Rows.{fault_row}
-use Rattle.run_model.specs.Machine.{Machine}
-use Rattle.row_laws.specs.Laws.{RowsThatTellHaveNoFault}
-use Rattle.row_laws.specs.Words.{word_told}
+use Rattle.row_laws.proofs.Common.{◌≡◌, ℕ, [], ◌∷◌, Some, None, refl, sym, ◌∙◌, ap, inl, inr, Program, Row, RawSettings, HartState, Want, Load, Store, LoadReserved, StoreConditional, Amo, System, Cut, Faulted, fault_row, Machine, RowsThatTellHaveNoFault, word_told}
 use Rattle.row_laws.proofs.Along.{asked_rows}
 use Rattle.row_laws.proofs.Asked.{want_at, asked_at}
 use Rattle.row_laws.proofs.Cases.{heads, turn_row}

@@ -1,28 +1,6 @@
 -- The rows of read calls that give bytes.
-use Rattle.std.proofs.Common.{◌≡◌, ℕ, zero, suc, ◌+◌, ◌*◌, ◌/◌, ◌-◌, ◌<◌, ◌≤◌, Bool, true, false, ◌&&◌, [], ◌∷◌, Some, sym, ◌∙◌, ap, subst, inl, inr, arith}
-use Rattle.std.specs.Prelude.{◌==◌, ◌⊎◌, take, slice_index}
-use Rattle.std.specs.List.{list_any}
-use Rattle.std.proofs.lemmas.Bool.{false≢true, eq-eqb}
-use Rattle.bn_base.specs.Programs.{Program, code_at}
-use Rattle.bn_base.specs.declared.row.Row.{Row}
-use Rattle.bn_base.specs.declared.settings.RawSettings.{RawSettings}
-use Rattle.bn_base.specs.declared.state.HartState.{HartState}
-use Rattle.rv_meaning.specs.Execute.{Step, Quiet, Asks, step, reg}
-use Rattle.rv_meaning.specs.Words.{aligned}
-use Rattle.rv_meaning.specs.declared.asks.Want.{Want}
-use Rattle.rv_meaning.specs.declared.asks.Want.TheVariants.{System, Cut}
-use Rattle.system_calls.specs.declared.effect.Plan.{Plan}
+use Rattle.row_laws.proofs.Common.{◌≡◌, ℕ, zero, suc, ◌+◌, ◌*◌, ◌/◌, ◌-◌, ◌<◌, ◌≤◌, Bool, true, false, ◌&&◌, [], ◌∷◌, Some, sym, ◌∙◌, ap, subst, inl, inr, arith, ◌==◌, ◌⊎◌, take, slice_index, list_any, false≢true, eq-eqb, Program, code_at, Row, RawSettings, HartState, Step, Quiet, Asks, step, reg, aligned, Want, System, Cut, Plan, call_row, access_point, accesses_from, Access, Writes, Write, Machine, answer_call, call_of, filled, planned, word_count, answered_reg, Run, point_of, call_span, budget, IsFillRow, IsFill, HasByte, result_of, FillRowsFill, AreRowsFrom, AsksOrderly}
 use Rattle.system_calls.specs.declared.effect.Plan.TheVariants as plans
-use Rattle.rv_meaning.specs.Rows.{call_row}
-use Rattle.race_log.specs.Kept.{access_point, accesses_from}
-use Rattle.race_log.specs.Points.{Access, Writes}
-use Rattle.race_log.specs.declared.mode.Mode.TheVariants.{Write}
-use Rattle.run_model.specs.Machine.{Machine, answer_call, call_of, filled, planned, word_count}
-use Rattle.run_model.specs.Rows.{answered_reg}
-use Rattle.run_model.specs.Turn.{Run, point_of, call_span, budget}
-use Rattle.row_laws.specs.Fills.{IsFillRow, IsFill, HasByte, result_of}
-use Rattle.row_laws.specs.Laws.{FillRowsFill}
-use Rattle.row_laws.specs.States.{AreRowsFrom, AsksOrderly}
 use Rattle.row_laws.proofs.Along.{asked_rows, want_each, came}
 use Rattle.row_laws.proofs.Cases.{heads, turn_row}
 use Rattle.row_laws.proofs.Ecalls.{ecall_asks}

@@ -1,17 +1,6 @@
 -- The rows of an interval whose Header is kept.
-use Rattle.std.proofs.Common.{◌≡◌, ℕ, List, ◌++◌, [], ◌∷◌, sym, ◌∙◌, ap, subst, arith, inl, inr}
-use Rattle.std.specs.Prelude.{◌⊎◌}
-use Rattle.std.proofs.lemmas.List.{append_assoc}
-use Rattle.bn_base.specs.Programs.{Program}
-use Rattle.bn_base.specs.declared.row.Row.{Row}
-use Rattle.bn_base.specs.declared.settings.RawSettings.{RawSettings}
-use Rattle.bn_base.specs.declared.state.HartState.{HartState}
-use Rattle.run_model.specs.Rows.{rows_of}
-use Rattle.run_model.specs.Runs.{start, run_of}
-use Rattle.run_model.specs.Turn.{Run, budget}
+use Rattle.row_laws.proofs.Common.{◌≡◌, ℕ, List, ◌++◌, [], ◌∷◌, sym, ◌∙◌, ap, subst, arith, inl, inr, ◌⊎◌, append_assoc, Program, Row, RawSettings, HartState, rows_of, start, run_of, Run, budget, state_after, HasRow, TurnHasRow, IntervalRowsAreOfTurns, BeginningsTellStates}
 use Rattle.replay_laws.specs.Law.{IntervalsBegin, IsBeforeTurn, IsAtGuard}
-use Rattle.row_laws.specs.States.{state_after, HasRow, TurnHasRow}
-use Rattle.row_laws.specs.Laws.{IntervalRowsAreOfTurns, BeginningsTellStates}
 use Rattle.row_laws.proofs.Along.{quiet_states, after_append}
 use Rattle.row_laws.proofs.Lists.{Known, AreMoves, all_move, both_move, run_append}
 use Rattle.row_laws.proofs.Places.{Found, found}

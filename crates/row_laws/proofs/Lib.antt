@@ -1,3 +1,4 @@
+mod Common
 pub mod Asked
 pub mod Points
 pub mod Along

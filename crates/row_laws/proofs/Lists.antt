@@ -1,20 +1,5 @@
 -- Over the turns of a legal list.
-use Rattle.std.proofs.Common.{◌≡◌, ℕ, Bool, true, false, List, [], ◌∷◌, ◌++◌, refl, sym, ◌∙◌, ap, subst, inl, inr}
-use Rattle.std.specs.Prelude.{◌==◌}
-use Rattle.std.proofs.lemmas.Bool.{false≢true}
-use Rattle.std.proofs.lemmas.Bool.Decides.{eqb_tells}
-use Rattle.std.proofs.lemmas.List.{append_assoc}
-use Rattle.bn_base.specs.Programs.{Program}
-use Rattle.bn_base.specs.Ranges.{IsSetting}
-use Rattle.bn_base.specs.declared.row.Row.{Row}
-use Rattle.bn_base.specs.declared.settings.RawSettings.{RawSettings}
-use Rattle.bn_base.specs.declared.state.HartState.{HartState}
-use Rattle.run_model.specs.Rows.{rows_of, turn_rows}
-use Rattle.run_model.specs.Runs.{start, run_of, run_from, legal_from, is_live}
-use Rattle.run_model.specs.Turn.{Run, turn}
-use Rattle.run_laws.specs.Laws.{OwnAsksAreOrderly, TurnsMoveTheirHart}
-use Rattle.row_laws.specs.States.{state_after, AreRowsFrom, AsksOrderly}
-use Rattle.row_laws.specs.Laws.{RowsTellRuns}
+use Rattle.row_laws.proofs.Common.{◌≡◌, ℕ, Bool, true, false, List, [], ◌∷◌, ◌++◌, refl, sym, ◌∙◌, ap, subst, inl, inr, ◌==◌, false≢true, eqb_tells, append_assoc, Program, IsSetting, Row, RawSettings, HartState, rows_of, turn_rows, start, run_of, run_from, legal_from, is_live, Run, turn, OwnAsksAreOrderly, TurnsMoveTheirHart, state_after, AreRowsFrom, AsksOrderly, RowsTellRuns}
 use Rattle.row_laws.proofs.Along.{turn_each, turn_last, each_append, after_append}
 use Rattle.row_laws.proofs.Asked.{Moves, moves, equal_flip}
 

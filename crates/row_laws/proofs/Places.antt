@@ -1,19 +1,5 @@
 -- The turns of rows and points.
-use Rattle.std.proofs.Common.{◌≡◌, ℕ, ◌+◌, true, false, List, [], ◌∷◌, ◌++◌, length, Option, Some, None, refl, sym, ◌∙◌, ap, subst, inl, inr, arith}
-use Rattle.std.specs.Prelude.{◌==◌, ◌⊎◌, slice_get}
-use Rattle.std.proofs.lemmas.Bool.Decides.{eqb_tells}
-use Rattle.std.proofs.lemmas.List.{length-append}
-use Rattle.bn_base.specs.Programs.{Program}
-use Rattle.bn_base.specs.declared.row.Row.{Row}
-use Rattle.bn_base.specs.declared.settings.RawSettings.{RawSettings}
-use Rattle.bn_base.specs.declared.state.HartState.{HartState}
-use Rattle.race_log.specs.Points.{Point}
-use Rattle.run_model.specs.Rows.{rows_of, turn_rows}
-use Rattle.run_model.specs.Runs.{start, run_from}
-use Rattle.run_model.specs.Turn.{Run, turn, points_after}
-use Rattle.row_laws.specs.States.{state_after, HasRow, TurnHasRow, AsksOrderly}
-use Rattle.row_laws.specs.Words.{Adds}
-use Rattle.row_laws.specs.Laws.{RowsAreOfTurns, PointsAreOfTurns}
+use Rattle.row_laws.proofs.Common.{◌≡◌, ℕ, ◌+◌, true, false, List, [], ◌∷◌, ◌++◌, length, Option, Some, None, refl, sym, ◌∙◌, ap, subst, inl, inr, arith, ◌==◌, ◌⊎◌, slice_get, eqb_tells, length-append, Program, Row, RawSettings, HartState, Point, rows_of, turn_rows, start, run_from, Run, turn, points_after, state_after, HasRow, TurnHasRow, AsksOrderly, Adds, RowsAreOfTurns, PointsAreOfTurns}
 use Rattle.row_laws.proofs.Along.{turn_last, after_append}
 use Rattle.row_laws.proofs.Cases.{heads, rests}
 use Rattle.row_laws.proofs.Lists.{Known, AreMoves, all_move, rows_by}

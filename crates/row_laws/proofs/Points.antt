@@ -1,7 +1,5 @@
 -- One point more, and the words that a point writes.
-use Rattle.std.proofs.Common.{◌≡◌, ℕ, zero, suc, Bool, true, false, ◌||◌, List, [], ◌∷◌, ◌++◌, length, Some, refl, inl, inr, ap}
-use Rattle.std.specs.Prelude.{◌⊎◌, ◌↔◌, IsTrue, slice_get}
-use Rattle.race_log.specs.Points.{Point, Writes}
+use Rattle.row_laws.proofs.Common.{◌≡◌, ℕ, zero, suc, Bool, true, false, ◌||◌, List, [], ◌∷◌, ◌++◌, length, Some, refl, inl, inr, ap, ◌⊎◌, ◌↔◌, IsTrue, slice_get, Point, Writes}
 use Rattle.race_log.specs.Tests.{writes_word}
 
 -- the law of race_log that is used here

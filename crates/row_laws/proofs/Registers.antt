@@ -1,26 +1,7 @@
 -- The registers that rows tell.
-use Rattle.std.proofs.Common.{◌≡◌, ℕ, ◌<◌, Bool, true, false, List, [], ◌∷◌, length, Option, Some, None, refl, sym, ◌∙◌, ap, subst, inl, inr}
-use Rattle.std.specs.Prelude.{◌==◌, set, slice_index}
-use Rattle.std.proofs.lemmas.List.{get_or-set_same}
-use Rattle.bn_base.specs.Programs.{Program}
-use Rattle.bn_base.specs.declared.row.Row.{Row}
-use Rattle.bn_base.specs.declared.settings.RawSettings.{RawSettings}
-use Rattle.bn_base.specs.declared.state.HartState.{HartState}
+use Rattle.row_laws.proofs.Common.{◌≡◌, ℕ, ◌<◌, Bool, true, false, List, [], ◌∷◌, length, Option, Some, None, refl, sym, ◌∙◌, ap, subst, inl, inr, ◌==◌, set, slice_index, get_or-set_same, Program, Row, RawSettings, HartState, absorbed, stored_word, amo_result, aligned, Want, Load, Store, LoadReserved, StoreConditional, Amo, System, Cut, Faulted, Plan, row_of, call_row, fault_row, written, instruction_at, after_row, Machine, answer_call, planned, sc_store, answered_reg, budget, RowsTellRegisters, state_after}
 use Rattle.rv_decode.specs.Table.{Instruction}
-use Rattle.rv_meaning.specs.Execute.{absorbed}
-use Rattle.rv_meaning.specs.Access.{stored_word, amo_result}
-use Rattle.rv_meaning.specs.Words.{aligned}
-use Rattle.rv_meaning.specs.declared.asks.Want.{Want}
-use Rattle.rv_meaning.specs.declared.asks.Want.TheVariants.{Load, Store, LoadReserved, StoreConditional, Amo, System, Cut, Faulted}
-use Rattle.system_calls.specs.declared.effect.Plan.{Plan}
 use Rattle.system_calls.specs.declared.effect.Plan.TheVariants as plans
-use Rattle.rv_meaning.specs.Rows.{row_of, call_row, fault_row, written, instruction_at}
-use Rattle.hart_replay.specs.Coming.{after_row}
-use Rattle.run_model.specs.Machine.{Machine, answer_call, planned}
-use Rattle.run_model.specs.Rows.{sc_store, answered_reg}
-use Rattle.run_model.specs.Turn.{budget}
-use Rattle.row_laws.specs.Laws.{RowsTellRegisters}
-use Rattle.row_laws.specs.States.{state_after}
 use Rattle.row_laws.proofs.Along.{asked_rows, want_states, quiet_row, came}
 use Rattle.row_laws.proofs.Cases.{heads, turn_row}
 use Rattle.row_laws.proofs.Telling.{some_is, not_some, no_row}

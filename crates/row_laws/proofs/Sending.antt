@@ -1,30 +1,6 @@
 -- The rows of write calls that take bytes, and the words in which the bytes of calls lie.
-use Rattle.std.proofs.Common.{◌≡◌, ℕ, zero, suc, ◌+◌, ◌-◌, ◌<◌, ◌≤◌, ◌^◌, min, Bool, true, false, ◌&&◌, List, [], ◌∷◌, Option, Some, None, refl, sym, ◌∙◌, ap, subst, inl, inr, arith}
-use Rattle.std.specs.Prelude.{◌==◌, ◌||◌, ◌⊎◌, nat_le, nat_lt, slice_index}
-use Rattle.std.specs.List.{list_all, range_with_len}
-use Rattle.std.proofs.lemmas.Bool.{false≢true}
-use Rattle.bn_base.specs.Programs.{Program, code_at, may_load, may_store, is_writable, part_at, heap_start, heap_limit}
-use Rattle.bn_base.specs.declared.row.Row.{Row}
-use Rattle.bn_base.specs.declared.settings.RawSettings.{RawSettings}
-use Rattle.bn_base.specs.declared.state.HartState.{HartState}
-use Rattle.rv_meaning.specs.Execute.{Asks, step, reg}
-use Rattle.rv_meaning.specs.Words.{aligned}
-use Rattle.rv_meaning.specs.declared.asks.Want.{Want}
-use Rattle.rv_meaning.specs.declared.asks.Want.TheVariants.{Load, Store, LoadReserved, StoreConditional, Amo, System, Cut, Faulted}
-use Rattle.system_calls.specs.Calls.{read_plan, write_plan, plan_of, all_bytes, stream_size, stream_len}
-use Rattle.system_calls.specs.declared.effect.Plan.{Plan}
+use Rattle.row_laws.proofs.Common.{◌≡◌, ℕ, zero, suc, ◌+◌, ◌-◌, ◌<◌, ◌≤◌, ◌^◌, min, Bool, true, false, ◌&&◌, List, [], ◌∷◌, Option, Some, None, refl, sym, ◌∙◌, ap, subst, inl, inr, arith, ◌==◌, ◌||◌, ◌⊎◌, nat_le, nat_lt, slice_index, list_all, range_with_len, false≢true, Program, code_at, may_load, may_store, is_writable, part_at, heap_start, heap_limit, Row, RawSettings, HartState, Asks, step, reg, aligned, Want, Load, Store, LoadReserved, StoreConditional, Amo, System, Cut, Faulted, read_plan, write_plan, plan_of, all_bytes, stream_size, stream_len, Plan, Kernel, call_row, access_point, Read, Machine, answer_call, call_of, planned, kernel_of, word_count, answered_reg, Run, point_of, call_span, budget, IsSendRow, AddsCall, result_of, SendRowsSend, AreRowsFrom, AsksOrderly}
 use Rattle.system_calls.specs.declared.effect.Plan.TheVariants as plans
-use Rattle.system_calls.specs.declared.kernel.Kernel.{Kernel}
-use Rattle.rv_meaning.specs.Rows.{call_row}
-use Rattle.race_log.specs.Kept.{access_point}
-use Rattle.race_log.specs.declared.mode.Mode.TheVariants.{Read}
-use Rattle.run_model.specs.Machine.{Machine, answer_call, call_of, planned, kernel_of, word_count}
-use Rattle.run_model.specs.Rows.{answered_reg}
-use Rattle.run_model.specs.Turn.{Run, point_of, call_span, budget}
-use Rattle.row_laws.specs.Calls.{IsSendRow, AddsCall}
-use Rattle.row_laws.specs.Fills.{result_of}
-use Rattle.row_laws.specs.Laws.{SendRowsSend}
-use Rattle.row_laws.specs.States.{AreRowsFrom, AsksOrderly}
 use Rattle.row_laws.proofs.Along.{asked_rows, want_each, came}
 use Rattle.row_laws.proofs.Asked.{span_to, want_at, asked_at}
 use Rattle.row_laws.proofs.Cases.{heads, turn_row}

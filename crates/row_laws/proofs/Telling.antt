@@ -1,26 +1,6 @@
 -- The words that the row of an ask tells.
-use Rattle.std.proofs.Common.{◌≡◌, ℕ, Bool, true, false, ◌&&◌, cond, List, [], ◌∷◌, Option, Some, None, sym, ◌∙◌, ap, subst, inl, inr}
-use Rattle.std.specs.Prelude.{◌==◌, is_some}
-use Rattle.std.proofs.lemmas.Bool.{false≢true, eq-eqb}
-use Rattle.std.proofs.lemmas.Bool.Decides.{eqb_tells}
-use Rattle.bn_base.specs.Programs.{Program, may_load, may_store}
-use Rattle.bn_base.specs.declared.row.Row.{Row}
-use Rattle.bn_base.specs.declared.settings.RawSettings.{RawSettings}
-use Rattle.bn_base.specs.declared.state.HartState.{HartState}
-use Rattle.rv_meaning.specs.Access.{stored_word, amo_result}
-use Rattle.rv_meaning.specs.Orderly.{passes, is_counted}
-use Rattle.rv_meaning.specs.Words.{aligned}
-use Rattle.rv_meaning.specs.declared.asks.Want.{Want}
-use Rattle.rv_meaning.specs.declared.asks.Want.TheVariants.{Load, Store, LoadReserved, StoreConditional, Amo, System, Cut, Faulted}
+use Rattle.row_laws.proofs.Common.{◌≡◌, ℕ, Bool, true, false, ◌&&◌, cond, List, [], ◌∷◌, Option, Some, None, sym, ◌∙◌, ap, subst, inl, inr, ◌==◌, is_some, false≢true, eq-eqb, eqb_tells, Program, may_load, may_store, Row, RawSettings, HartState, stored_word, amo_result, passes, is_counted, aligned, Want, Load, Store, LoadReserved, StoreConditional, Amo, System, Cut, Faulted, row_of, call_row, fault_row, at_address, Point, Machine, answer_sc, is_reserved, sc_store, answered_reg, Run, point_of, points_after, sc_span, budget, AsksOrderly, word_told, word_point, Adds, RowsTellWords}
 use Rattle.bus_memory.specs.Contents.{updated}
-use Rattle.rv_meaning.specs.Rows.{row_of, call_row, fault_row, at_address}
-use Rattle.race_log.specs.Points.{Point}
-use Rattle.run_model.specs.Machine.{Machine, answer_sc, is_reserved}
-use Rattle.run_model.specs.Rows.{sc_store, answered_reg}
-use Rattle.run_model.specs.Turn.{Run, point_of, points_after, sc_span, budget}
-use Rattle.row_laws.specs.States.{AsksOrderly}
-use Rattle.row_laws.specs.Words.{word_told, word_point, Adds}
-use Rattle.row_laws.specs.Laws.{RowsTellWords}
 use Rattle.row_laws.proofs.Along.{asked_rows}
 use Rattle.row_laws.proofs.Cases.{heads, turn_row}
 use Rattle.row_laws.proofs.Asked.{answered_state, reply_to, answered_memory, span_to, want_at, asked_at, point_at, aligned_own, turn_served}

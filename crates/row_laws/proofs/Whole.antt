@@ -1,27 +1,6 @@
 -- The rows and points of whole runs.
-use Rattle.std.proofs.Common.{◌≡◌, ℕ, suc, ◌+◌, Bool, true, false, List, [], ◌∷◌, ◌++◌, take, length, Option, Some, None, refl, sym, ◌∙◌, ap, subst, inl, inr, arith}
-use Rattle.std.specs.Prelude.{◌==◌, slice_get, slice_index}
-use Rattle.std.proofs.lemmas.Bool.{eq-eqb}
-use Rattle.std.proofs.lemmas.List.{append_assoc}
-use Rattle.bn_base.specs.Programs.{Program}
-use Rattle.bn_base.specs.Ranges.{IsSetting}
-use Rattle.bn_base.specs.declared.row.Row.{Row}
-use Rattle.bn_base.specs.declared.settings.RawSettings.{RawSettings}
-use Rattle.bn_base.specs.declared.state.HartState.{HartState}
-use Rattle.race_log.specs.Kept.{access_point}
-use Rattle.race_log.specs.Points.{Point}
-use Rattle.race_log.specs.declared.mode.Mode.TheVariants.{Read, Write}
-use Rattle.rv_meaning.specs.Words.{aligned}
-use Rattle.run_model.specs.Machine.{word_count}
+use Rattle.row_laws.proofs.Common.{◌≡◌, ℕ, suc, ◌+◌, Bool, true, false, List, [], ◌∷◌, ◌++◌, take, length, Option, Some, None, refl, sym, ◌∙◌, ap, subst, inl, inr, arith, ◌==◌, slice_get, slice_index, eq-eqb, append_assoc, Program, IsSetting, Row, RawSettings, HartState, access_point, Point, Read, Write, aligned, word_count, rows_of, turn_rows, start, run_of, run_from, legal_from, Run, turn, points_after, AddsCall, IsFill, TurnRowsAreRows, RunRowsTellWords, RunWritersHaveRows, RunFillRowsFill, RunCallsAccess, state_after, word_point, Adds, memory_after}
 use Rattle.system_calls.specs.declared.effect.Plan.TheVariants as plans
-use Rattle.run_model.specs.Rows.{rows_of, turn_rows}
-use Rattle.run_model.specs.Runs.{start, run_of, run_from, legal_from}
-use Rattle.run_model.specs.Turn.{Run, turn, points_after}
-use Rattle.row_laws.specs.Calls.{AddsCall}
-use Rattle.row_laws.specs.Fills.{IsFill}
-use Rattle.row_laws.specs.Laws.{TurnRowsAreRows, RunRowsTellWords, RunWritersHaveRows, RunFillRowsFill, RunCallsAccess}
-use Rattle.row_laws.specs.States.{state_after}
-use Rattle.row_laws.specs.Words.{word_point, Adds, memory_after}
 use Rattle.row_laws.proofs.Along.{after_append}
 use Rattle.row_laws.proofs.Filling.{fill_rows_fill}
 use Rattle.row_laws.proofs.Sending.{send_rows_send, call_inside}

@@ -1,13 +1,7 @@
 -- The examples, by computation.
-use Rattle.std.proofs.Common.{◌≡◌, [], ◌∷◌, Some, None, refl, arith}
-use Rattle.std.specs.Prelude.{drop, map, take}
+use Rattle.row_laws.proofs.Common.{◌≡◌, [], ◌∷◌, Some, None, refl, arith, drop, map, take, start_state, serve, Fills, state_after, word_told}
 use Rattle.run_model.specs.Examples.{a_filled_word, program_of, rows}
-use Rattle.run_model.specs.Runs.{start_state}
-use Rattle.run_model.specs.Turn.{serve}
 use Rattle.row_laws.specs.Examples.{read_row, read_state}
-use Rattle.row_laws.specs.Fills.{Fills}
-use Rattle.row_laws.specs.States.{state_after}
-use Rattle.row_laws.specs.Words.{word_told}
 
 pub read_is : take 1 (drop 6 (rows a_filled_word 1)) ≡ read_row ∷ []
 unfolding serve

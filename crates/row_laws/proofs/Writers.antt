@@ -1,33 +1,6 @@
 -- The rows of the points that write.
-use Rattle.std.proofs.Common.{◌≡◌, ℕ, zero, suc, ◌+◌, ◌*◌, ◌<◌, Bool, true, false, ◌&&◌, List, [], ◌∷◌, ◌++◌, length, Option, Some, None, refl, sym, ◌∙◌, ap, subst, inl, inr, arith}
-use Rattle.std.specs.Prelude.{◌==◌, ◌⊎◌, slice_get, slice_index}
-use Rattle.std.specs.List.{list_any}
-use Rattle.std.proofs.lemmas.Bool.{false≢true, eq-eqb, eqb-true}
-use Rattle.std.proofs.lemmas.List.{length-append}
-use Rattle.bn_base.specs.Programs.{Program, may_load, may_store}
-use Rattle.bn_base.specs.declared.row.Row.{Row}
-use Rattle.bn_base.specs.declared.settings.RawSettings.{RawSettings}
-use Rattle.bn_base.specs.declared.state.HartState.{HartState}
-use Rattle.rv_meaning.specs.Access.{stored_word, amo_result}
-use Rattle.rv_meaning.specs.Execute.{Asks, step}
-use Rattle.rv_meaning.specs.Orderly.{passes}
-use Rattle.rv_meaning.specs.Words.{aligned}
-use Rattle.rv_meaning.specs.declared.asks.Want.{Want}
-use Rattle.rv_meaning.specs.declared.asks.Want.TheVariants.{Load, Store, LoadReserved, StoreConditional, Amo, System, Cut, Faulted}
-use Rattle.system_calls.specs.declared.effect.Plan.{Plan}
+use Rattle.row_laws.proofs.Common.{◌≡◌, ℕ, zero, suc, ◌+◌, ◌*◌, ◌<◌, Bool, true, false, ◌&&◌, List, [], ◌∷◌, ◌++◌, length, Option, Some, None, refl, sym, ◌∙◌, ap, subst, inl, inr, arith, ◌==◌, ◌⊎◌, slice_get, slice_index, list_any, false≢true, eq-eqb, eqb-true, length-append, Program, may_load, may_store, Row, RawSettings, HartState, stored_word, amo_result, Asks, step, passes, aligned, Want, Load, Store, LoadReserved, StoreConditional, Amo, System, Cut, Faulted, Plan, row_of, call_row, at_address, access_point, accesses_from, is_write, Point, Access, Writes, Read, Write, Span, Machine, answer_sc, answer_call, is_reserved, planned, word_count, sc_store, answered_reg, Run, point_of, points_after, sc_span, call_span, span, budget, HasCodeWords, Fills, WritersHaveRows, AsksOrderly, Adds}
 use Rattle.system_calls.specs.declared.effect.Plan.TheVariants as plans
-use Rattle.rv_meaning.specs.Rows.{row_of, call_row, at_address}
-use Rattle.race_log.specs.Kept.{access_point, accesses_from, is_write}
-use Rattle.race_log.specs.Points.{Point, Access, Writes}
-use Rattle.race_log.specs.declared.mode.Mode.TheVariants.{Read, Write}
-use Rattle.run_model.specs.declared.span.Span.{Span}
-use Rattle.run_model.specs.Machine.{Machine, answer_sc, answer_call, is_reserved, planned, word_count}
-use Rattle.run_model.specs.Rows.{sc_store, answered_reg}
-use Rattle.run_model.specs.Turn.{Run, point_of, points_after, sc_span, call_span, span, budget}
-use Rattle.row_laws.specs.Fills.{HasCodeWords, Fills}
-use Rattle.row_laws.specs.Laws.{WritersHaveRows}
-use Rattle.row_laws.specs.States.{AsksOrderly}
-use Rattle.row_laws.specs.Words.{Adds}
 use Rattle.row_laws.proofs.Along.{asked_rows, quiet_states, came}
 use Rattle.row_laws.proofs.Cases.{ask_row}
 use Rattle.row_laws.proofs.Ecalls.{step_calls}

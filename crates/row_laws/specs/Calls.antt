@@ -1,16 +1,7 @@
 -- The rows of write calls, and the words that read and write calls access.
 use Rattle.std.specs.Prelude.{◌≡◌, ℕ, ◌+◌, ◌≤◌, ◌⊎◌, List, slice_get, slice_index, Some}
-use Rattle.bn_base.specs.Programs.{Program}
-use Rattle.bn_base.specs.declared.row.Row.{Row}
-use Rattle.bn_base.specs.declared.settings.RawSettings.{RawSettings}
-use Rattle.bn_base.specs.declared.state.HartState.{HartState}
-use Rattle.race_log.specs.Kept.{access_point}
-use Rattle.race_log.specs.Points.{Point}
+use Rattle.row_laws.specs.Common.{Program, Row, RawSettings, HartState, access_point, Point, aligned, word_count, run_of, Run}
 use Rattle.race_log.specs.declared.mode.Mode.{Mode}
-use Rattle.rv_meaning.specs.Words.{aligned}
-use Rattle.run_model.specs.Machine.{word_count}
-use Rattle.run_model.specs.Runs.{run_of}
-use Rattle.run_model.specs.Turn.{Run}
 use Rattle.row_laws.specs.Fills.{result_of}
 use Rattle.row_laws.specs.Words.{Adds}
 

@@ -1,18 +1,7 @@
 -- The rows of system calls that fill bytes, and the rows of points that write.
 use Rattle.std.specs.Prelude.{◌≡◌, ℕ, ◌+◌, ◌<◌, ◌≤◌, ◌^◌, ◌⊎◌, List, take, slice_get, slice_index, Option, Some, None}
-use Rattle.bn_base.specs.Programs.{Program, code_at}
-use Rattle.bn_base.specs.declared.row.Row.{Row}
-use Rattle.bn_base.specs.declared.settings.RawSettings.{RawSettings}
-use Rattle.bn_base.specs.declared.state.HartState.{HartState}
-use Rattle.rv_meaning.specs.Rows.{at_address}
-use Rattle.race_log.specs.Kept.{access_point}
-use Rattle.race_log.specs.Points.{Point, Writes}
-use Rattle.race_log.specs.declared.mode.Mode.TheVariants.{Write}
-use Rattle.rv_meaning.specs.Words.{aligned}
+use Rattle.row_laws.specs.Common.{Program, code_at, Row, RawSettings, HartState, at_address, access_point, Point, Writes, Write, aligned, call_of, filled, word_count, run_of, Run, turn, ask_at}
 use Rattle.system_calls.specs.declared.effect.Plan.TheVariants as plans
-use Rattle.run_model.specs.Machine.{call_of, filled, word_count}
-use Rattle.run_model.specs.Runs.{run_of}
-use Rattle.run_model.specs.Turn.{Run, turn, ask_at}
 use Rattle.row_laws.specs.States.{TurnHasRow, RunHasRow}
 use Rattle.row_laws.specs.Words.{Adds, memory_after}
 

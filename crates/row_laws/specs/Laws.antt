@@ -2,20 +2,11 @@
 -- there is before it; what is said of a list of turns, of every legal one.
 use Rattle.std.specs.Prelude.{◌≡◌, ℕ, ◌<◌, ◌^◌, true, List, ◌++◌, length, slice_get, slice_index, Some, None}
 use Rattle.std.specs.List.{AllByRecursion}
-use Rattle.bn_base.specs.Programs.{Program}
+use Rattle.row_laws.specs.Common.{Program, Row, RawSettings, HartState, Point, Writes, Read, Write, after_row, rows_of, rows_in, turn_rows, start, run_of, legal_from, Run, turn}
 use Rattle.bn_base.specs.Ranges.{IsSetting}
-use Rattle.bn_base.specs.declared.row.Row.{Row}
-use Rattle.bn_base.specs.declared.settings.RawSettings.{RawSettings}
-use Rattle.bn_base.specs.declared.state.HartState.{HartState}
 use Rattle.log_record.specs.declared.record.Record.{Record}
-use Rattle.race_log.specs.Points.{Point, Writes}
-use Rattle.race_log.specs.declared.mode.Mode.TheVariants.{Read, Write}
-use Rattle.hart_replay.specs.Coming.{after_row}
 use Rattle.hart_replay.specs.Replay.{Interval, interval_of}
 use Rattle.run_model.specs.KeptRecords.{IsEndOf}
-use Rattle.run_model.specs.Rows.{rows_of, rows_in, turn_rows}
-use Rattle.run_model.specs.Runs.{start, run_of, legal_from}
-use Rattle.run_model.specs.Turn.{Run, turn}
 use Rattle.replay_laws.specs.Law.{IsWhole, BeginsIn}
 use Rattle.row_laws.specs.States.{state_after, AreRowsFrom, HasRow, TurnHasRow, RunHasRow, IsRowOfTurn, AsksOrderly}
 use Rattle.row_laws.specs.Words.{word_told, word_point, Adds, IsPointOfTurn, HasWord}

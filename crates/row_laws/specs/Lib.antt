@@ -1,3 +1,4 @@
+pub mod Common
 pub mod States
 pub mod Words
 pub mod Fills

@@ -1,13 +1,6 @@
 -- The states along a hart's rows.
 use Rattle.std.specs.Prelude.{◌≡◌, ℕ, ⊤, true, List, [], ◌∷◌, ◌++◌}
-use Rattle.bn_base.specs.Programs.{Program, code_at}
-use Rattle.bn_base.specs.declared.row.Row.{Row}
-use Rattle.bn_base.specs.declared.settings.RawSettings.{RawSettings}
-use Rattle.bn_base.specs.declared.state.HartState.{HartState}
-use Rattle.hart_replay.specs.Coming.{after_row}
-use Rattle.run_model.specs.Rows.{rows_of, turn_rows}
-use Rattle.run_model.specs.Runs.{start, run_of}
-use Rattle.run_model.specs.Turn.{Run, ask_at, is_orderly}
+use Rattle.row_laws.specs.Common.{Program, code_at, Row, RawSettings, HartState, after_row, rows_of, turn_rows, start, run_of, Run, ask_at, is_orderly}
 
 -- the state after rows, each of them done as a replay takes it
 abbrev pub state_after : Program → HartState → List Row → HartState

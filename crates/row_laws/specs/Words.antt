@@ -1,12 +1,6 @@
 -- The words that rows tell of, and the points that access them.
 use Rattle.std.specs.Prelude.{◌≡◌, ℕ, ◌+◌, List, [], ◌∷◌, ◌++◌, is_some, length, take, slice_get, Option, Some, None}
-use Rattle.bn_base.specs.Programs.{Program}
-use Rattle.bn_base.specs.declared.row.Row.{Row}
-use Rattle.bn_base.specs.declared.settings.RawSettings.{RawSettings}
-use Rattle.rv_meaning.specs.Rows.{at_address}
-use Rattle.race_log.specs.Points.{Point}
-use Rattle.run_model.specs.Turn.{Run, turn}
-use Rattle.run_model.specs.Runs.{run_of}
+use Rattle.row_laws.specs.Common.{Program, Row, RawSettings, at_address, Point, Run, turn, run_of}
 
 -- the word that a row stores at the aligned address a, else loads there
 abbrev pub word_told : Row → ℕ → Option ℕ

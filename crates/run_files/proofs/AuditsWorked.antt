@@ -1,11 +1,7 @@
 -- Small lists and files that are audited, worked out by hand.
-use Rattle.std.proofs.Common.{◌≡◌, ◌∷◌, [], refl}
-use Rattle.std.specs.Prelude.{Some}
+use Rattle.run_files.proofs.Common.{◌≡◌, ◌∷◌, [], refl, Some, NotFinished, serve, DifferFirst, error_in}
 use Rattle.race_log.specs.Tests.{at_places, leads, any_below, before, edge, greatest_first, edges_into}
-use Rattle.run_model.specs.declared.error.TurnError.TheVariants.{NotFinished}
-use Rattle.run_model.specs.Turn.{serve}
 use Rattle.run_model.specs.Examples.{a_line_lost}
-use Rattle.run_files.specs.Audits.{DifferFirst, error_in}
 
 pub the_lowest_live_hart_is_named_both : error_in a_line_lost (0 ∷ 1 ∷ []) ≡ Some (NotFinished 0)
 unfolding serve at_places leads any_below before edge greatest_first edges_into

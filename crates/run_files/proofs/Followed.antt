@@ -1,18 +1,8 @@
 -- Lists that are followed turn by turn, and what is wrong with them.
-use Rattle.std.proofs.Common.{◌≡◌, ℕ, suc, ◌+◌, ◌-◌, ◌<◌, ◌≤◌, Bool, true, false, ◌&&◌, nat_lt, List, [], ◌∷◌, ◌++◌, length, get_or, take, drop, drop-cons, refl, sym, ◌∙◌, ap, subst, arith}
-use Rattle.std.specs.Prelude.{Option, Some, None, Result, Ok, Err, IfErr, IsErrAnd}
+use Rattle.run_files.proofs.Common.{◌≡◌, ℕ, suc, ◌+◌, ◌-◌, ◌<◌, ◌≤◌, Bool, true, false, ◌&&◌, nat_lt, List, [], ◌∷◌, ◌++◌, length, get_or, take, drop, drop-cons, refl, sym, ◌∙◌, ap, subst, arith, Option, Some, None, Result, Ok, Err, IfErr, IsErrAnd, take_all, drop_all, Program, RawSettings, IllegalTurn, NotFinished, OutOfMemory, Run, turn, run_from, is_live, live_harts, unfinished, error_from, PlainParts, StandsBefore}
 use Rattle.std.proofs.Math.Seq.{take-suc}
-use Rattle.std.proofs.lemmas.List.{take_all, drop_all}
-use Rattle.bn_base.specs.Programs.{Program}
-use Rattle.bn_base.specs.declared.settings.RawSettings.{RawSettings}
 use Rattle.run_model.specs.declared.error.TurnError.{TurnError}
-use Rattle.run_model.specs.declared.error.TurnError.TheVariants.{IllegalTurn, NotFinished, OutOfMemory}
 use Rattle.run_model.specs.declared.hart.Hart.{Hart}
-use Rattle.run_model.specs.Turn.{Run, turn}
-use Rattle.run_model.specs.Runs.{run_from, is_live, live_harts}
-use Rattle.run_model.specs.Lists.{unfinished, error_from}
-use Rattle.run_model.specs.Represents.Plain.{PlainParts}
-use Rattle.run_files.specs.Audits.{StandsBefore}
 
 -- ---- one turn more
 

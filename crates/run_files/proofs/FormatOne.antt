@@ -1,9 +1,6 @@
 -- With format 1 a log file is of version 1.
-use Rattle.std.proofs.Common.{ℕ, true, false, List, ◌==◌, ap}
-use Rattle.log_file.specs.Layout.{file_bytes, file_bytes2}
+use Rattle.run_files.proofs.Common.{ℕ, true, false, List, ◌==◌, ap, file_bytes, file_bytes2, content_of, run_of}
 use Rattle.run_files.specs.Files.{FormatOneIsVersionOne}
-use Rattle.run_model.specs.KeptRecords.{content_of}
-use Rattle.run_model.specs.Runs.{run_of}
 
 pub version_one : FormatOneIsVersionOne
 version_one c i digest input b e =

@@ -1,3 +1,4 @@
+mod Common
 mod AuditsWorked
 mod Followed
 mod FormatOne

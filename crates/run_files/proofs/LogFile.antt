@@ -1,12 +1,6 @@
 -- The log file of a run.
-use Rattle.std.proofs.Common.{◌≡◌, ℕ, List, length, ◌∙◌, ap, arith}
-use Rattle.bn_base.specs.declared.settings.RawSettings.{RawSettings}
+use Rattle.run_files.proofs.Common.{◌≡◌, ℕ, List, length, ◌∙◌, ap, arith, RawSettings, Held, HoldsLog, kept, Content, content, saved_bytes, Run, content_of, kept_of, dropped_of}
 use Rattle.log_record.specs.declared.head.Head.{Head}
-use Rattle.log_ring.specs.Kept.{Held, HoldsLog, kept}
-use Rattle.log_order.specs.Content.{Content, content}
-use Rattle.log_file.specs.Layout.{saved_bytes}
-use Rattle.run_model.specs.Turn.{Run}
-use Rattle.run_model.specs.KeptRecords.{content_of, kept_of, dropped_of}
 
 -- what a ring says that holds the log of a run
 pub content_is : (c : RawSettings) (digest : List ℕ) (ring : Held) (run : Run) → HoldsLog ring run.stream → ring.size ≡ c.log_size

@@ -1,10 +1,6 @@
 -- The number of its version stands in the bytes 8 to 11 of a log file.
-use Rattle.std.proofs.Common.{◌≡◌, ℕ, true, false, List, [], ◌++◌, append_assoc, append-nil, refl, sym, ◌∙◌, ap}
-use Rattle.bn_base.specs.declared.settings.RawSettings.{RawSettings}
+use Rattle.run_files.proofs.Common.{◌≡◌, ℕ, true, false, List, [], ◌++◌, append_assoc, append-nil, refl, sym, ◌∙◌, ap, RawSettings, Content, magic, settings_bytes, signed_bytes, head_bytes2, file_bytes, file_bytes2, is_version2, FilesNumberTheirVersion}
 use Rattle.le_numbers.specs.Numbers.{number_bytes}
-use Rattle.log_order.specs.Content.{Content}
-use Rattle.log_file.specs.Layout.{magic, settings_bytes, signed_bytes, head_bytes2, file_bytes, file_bytes2}
-use Rattle.run_files.specs.Audits.{is_version2, FilesNumberTheirVersion}
 
 -- the bytes begin with those of each log file, and the number of a version
 record Begins (version : ℕ) (bytes : List ℕ) : Type 0 where

@@ -1,17 +1,6 @@
 -- The turns of a list of a machine with one hart, many at a time.
-use Rattle.std.proofs.Common.{◌≡◌, ◌≢◌, ℕ, zero, suc, ◌+◌, ◌-◌, ◌<◌, ◌≤◌, Bool, true, false, List, ◌++◌, get_or, take, drop, refl, sym, ◌∙◌, ap, subst, arith, inl, inr}
-use Rattle.std.specs.Prelude.{replicate, nat_lt, ◌&&◌}
-use Rattle.std.proofs.lemmas.List.{take-take, take-replicate, take-append-drop, get_or-take, get_or-replicate}
+use Rattle.run_files.proofs.Common.{◌≡◌, ◌≢◌, ℕ, zero, suc, ◌+◌, ◌-◌, ◌<◌, ◌≤◌, Bool, true, false, List, ◌++◌, get_or, take, drop, refl, sym, ◌∙◌, ap, subst, arith, inl, inr, replicate, nat_lt, ◌&&◌, take-take, take-replicate, take-append-drop, get_or-take, get_or-replicate, Program, RawSettings, Start, CanTurn, HasTurned, HaveTurned, HaveStopped, run_alone, PlainParts, IsRun, Run, turn, serve, served_if, ask_at, is_orderly, run_from, is_live, error_from, BeginsWithZeros, StandsBefore}
 use Rattle.std.proofs.lemmas.Bool.Decides.{leb_tells}
-use Rattle.bn_base.specs.Programs.{Program}
-use Rattle.bn_base.specs.declared.settings.RawSettings.{RawSettings}
-use Rattle.run_model.specs.declared.start.Start.{Start}
-use Rattle.run_model.specs.Represents.Alone.{CanTurn, HasTurned, HaveTurned, HaveStopped, run_alone}
-use Rattle.run_model.specs.Represents.Plain.{PlainParts, IsRun}
-use Rattle.run_model.specs.Turn.{Run, turn, serve, served_if, ask_at, is_orderly}
-use Rattle.run_model.specs.Runs.{run_from, is_live}
-use Rattle.run_model.specs.Lists.{error_from}
-use Rattle.run_files.specs.Audits.{BeginsWithZeros, StandsBefore}
 use Rattle.run_files.proofs.Followed.{first_live}
 
 -- ---- turns after turns

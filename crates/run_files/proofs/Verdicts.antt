@@ -1,9 +1,7 @@
 -- An audit finds one thing.
-use Rattle.std.proofs.Common.{◌≡◌, ℕ, zero, suc, ◌+◌, ◌<◌, ◌==◌, ◌⊎◌, Bool, true, false, List, [], ◌∷◌, take, refl, sym, ◌∙◌, ap, subst, arith, inl, inr}
-use Rattle.std.specs.Prelude.{slice_get}
+use Rattle.run_files.proofs.Common.{◌≡◌, ℕ, zero, suc, ◌+◌, ◌<◌, ◌==◌, ◌⊎◌, Bool, true, false, List, [], ◌∷◌, take, refl, sym, ◌∙◌, ap, subst, arith, inl, inr, slice_get, DifferFirst, IsVerdict, verdict_from, VerdictsAreUnique}
 use Rattle.run_files.specs.declared.verdict.Verdict.{Verdict}
 use Rattle.run_files.specs.declared.verdict.Verdict.TheVariants.{Agree, Differ}
-use Rattle.run_files.specs.Audits.{DifferFirst, IsVerdict, verdict_from, VerdictsAreUnique}
 
 -- what stands ahead of a place stands in what is taken up to it
 taken_has : (xs : List ℕ) (at n : ℕ) → at < n → slice_get (take n xs) at ≡ slice_get xs at

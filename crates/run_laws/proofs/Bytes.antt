@@ -1,15 +1,6 @@
 -- How many bytes records have.
-use Rattle.std.proofs.Common.{◌≡◌, ℕ, zero, suc, ◌+◌, ◌*◌, List, [], ◌∷◌, ◌++◌, length, drop, refl, ap, arith, length-append}
-use Rattle.std.specs.List.{flat_map}
+use Rattle.run_laws.proofs.Common.{◌≡◌, ℕ, zero, suc, ◌+◌, ◌*◌, List, [], ◌∷◌, ◌++◌, length, drop, refl, ap, arith, length-append, flat_map, EndMark, Program, RawSettings, Record, Header, FirstLoad, Edge, End, bytes_of, total, header, header_size, start_state, first_headers}
 use Rattle.le_numbers.specs.Numbers.{number_bytes}
-use Rattle.bn_base.specs.declared.end_mark.EndMark.{EndMark}
-use Rattle.bn_base.specs.Programs.{Program}
-use Rattle.bn_base.specs.declared.settings.RawSettings.{RawSettings}
-use Rattle.log_record.specs.declared.record.Record.{Record}
-use Rattle.log_record.specs.declared.record.Record.TheVariants.{Header, FirstLoad, Edge, End}
-use Rattle.log_record.specs.Spelling.{bytes_of, total}
-use Rattle.run_model.specs.Turn.{header, header_size}
-use Rattle.run_model.specs.Runs.{start_state, first_headers}
 
 pub total_more : (r : Record) (rs : List Record) → total (r ∷ rs) ≡ length (bytes_of r) + total rs
 total_more r rs = length-append (bytes_of r) (flat_map bytes_of rs)

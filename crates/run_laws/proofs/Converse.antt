@@ -1,16 +1,5 @@
 -- Lawful rows of which each hart's are its own are those of turns.
-use Rattle.std.proofs.Common.{◌≡◌, ℕ, ◌==◌, Bool, true, false, nat_lt, List, [], ◌∷◌, ◌++◌, refl, sym, ◌∙◌, ap, subst, arith, inl, inr}
-use Rattle.std.proofs.lemmas.Bool.Decides.{eqb_tells}
-use Rattle.bn_base.specs.Programs.{Program}
-use Rattle.rv_meaning.specs.declared.asks.Ask.{Ask}
-use Rattle.bn_base.specs.Ranges.{IsSetting}
-use Rattle.bn_base.specs.declared.settings.RawSettings.{RawSettings}
-use Rattle.bn_outside.specs.declared.turn_row.TurnRow.{TurnRow}
-use Rattle.run_model.specs.Turn.{Run, serve, turn, ask_at, is_orderly}
-use Rattle.run_model.specs.Runs.{start, run_from, legal_from, is_live}
-use Rattle.run_model.specs.Counts.{IsRested}
-use Rattle.run_laws.specs.History.{after_rows, are_orderly, IsLawful, IsOwn, Place, place_of, place_after, row_at, rows_from, rows_by}
-use Rattle.run_laws.specs.Laws.{harts_of, AreOwn, AreTurns, OwnRowsGrow, ListsGoOn, AreJoined, TurnsAreLawful, TurnsAreOwn}
+use Rattle.run_laws.proofs.Common.{◌≡◌, ℕ, ◌==◌, Bool, true, false, nat_lt, List, [], ◌∷◌, ◌++◌, refl, sym, ◌∙◌, ap, subst, arith, inl, inr, eqb_tells, Program, Ask, IsSetting, RawSettings, TurnRow, Run, serve, turn, ask_at, is_orderly, start, run_from, legal_from, is_live, IsRested, after_rows, are_orderly, IsLawful, IsOwn, Place, place_of, place_after, row_at, rows_from, rows_by, harts_of, AreOwn, AreTurns, OwnRowsGrow, ListsGoOn, AreJoined, TurnsAreLawful, TurnsAreOwn}
 use Rattle.run_laws.proofs.Turns.{Laws, ranged, legal_first, ordered, both, eqb_same, below_of, differ, turn_left, own_place, other_place, other_is, next_at}
 
 -- ---- one hart's rows of a list that begins with one

@@ -1,15 +1,8 @@
 -- A point has at most one Edge from each hart.
-use Rattle.std.proofs.Common.{◌≡◌, ℕ, zero, suc, ◌<◌, Bool, true, false, ◌||◌, Option, Some, List, [], ◌∷◌, ◌++◌, length, map, refl, sym, ◌∙◌, ap, subst, arith, inl, inr}
-use Rattle.std.specs.Prelude.{◌==◌, ◌↔◌, slice_get, Contains, AllPairs}
-use Rattle.std.specs.List.{AllByRecursion, IsDistinct, list_any}
+use Rattle.run_laws.proofs.Common.{◌≡◌, ℕ, zero, suc, ◌<◌, Bool, true, false, ◌||◌, Option, Some, List, [], ◌∷◌, ◌++◌, length, map, refl, sym, ◌∙◌, ap, subst, arith, inl, inr, ◌==◌, ◌↔◌, slice_get, Contains, AllPairs, AllByRecursion, IsDistinct, list_any, eqb_tells, Point, after, edges_into, name_of, ArePointsOf, EdgesAreFew}
 use Rattle.std.proofs.lemmas.List.{length-map}
 use Rattle.std.proofs.lemmas.Map.Steps.{length-le_from_distinct_below}
-use Rattle.std.proofs.lemmas.Bool.Decides.{eqb_tells}
-use Rattle.race_log.specs.Points.{Point}
 use Rattle.race_log.specs.Netzer.{IsEdge, ProgramOrder, one}
-use Rattle.race_log.specs.Kept.{after}
-use Rattle.race_log.specs.Tests.{edges_into, name_of}
-use Rattle.run_laws.specs.Laws.{ArePointsOf, EdgesAreFew}
 
 -- the laws of listed edges that are used here
 abbrev pub ListedEdges : Type 0

@@ -1,20 +1,12 @@
 -- A hart keeps as many registers as it has.
-use Rattle.std.proofs.Common.{◌≡◌, ℕ, zero, suc, ◌/◌, ◌*◌, ◌%◌, Bool, true, false, List, length, refl, ◌∙◌}
-use Rattle.std.specs.Prelude.{◌==◌, not, nat_lt, if◌then◌else◌, Option, Some, None}
-use Rattle.std.proofs.lemmas.List.{length-set}
-use Rattle.bn_base.specs.Programs.{Program, code_at}
+use Rattle.run_laws.proofs.Common.{◌≡◌, ℕ, zero, suc, ◌/◌, ◌*◌, ◌%◌, Bool, true, false, List, length, refl, ◌∙◌, ◌==◌, not, nat_lt, if◌then◌else◌, Option, Some, None, length-set, Program, code_at, HartState, Step, Quiet, Asks, ask_of, step, fetched, executed, meaning, branch, src1, src2, near, there, next_at, absorbed, Ask, Want, Load, LoadReserved, Store, StoreConditional, Amo, System, Faulted, Reply}
 use Rattle.bn_base.specs.Registers.{put_reg}
-use Rattle.bn_base.specs.declared.state.HartState.{HartState}
 use Rattle.bn_base.specs.declared.fault.Fault.TheVariants.{TargetMisaligned}
 use Rattle.rv_decode.specs.Table.{Instruction, decoded}
 use Rattle.rv_decode.specs.declared.name.Name.{Name}
 use Rattle.rv_decode.specs.declared.name.Name.TheVariants.{Jal, Jalr, Beq, Bne, Blt, Bge, Bltu, Bgeu, Lb, Lh, Lw, Lbu, Lhu, Sb, Sh, Sw, Fence, Ecall, Ebreak, LrW, ScW, AmoswapW, AmoaddW, AmoxorW, AmoandW, AmoorW, AmominW, AmomaxW, AmominuW, AmomaxuW}
 use Rattle.rv_meaning.specs.Words.{add, less}
-use Rattle.rv_meaning.specs.Execute.{Step, Quiet, Asks, ask_of, step, fetched, executed, meaning, branch, src1, src2, near, there, next_at, after, absorbed}
-use Rattle.rv_meaning.specs.declared.asks.Ask.{Ask}
-use Rattle.rv_meaning.specs.declared.asks.Want.{Want}
-use Rattle.rv_meaning.specs.declared.asks.Want.TheVariants.{Load, LoadReserved, Store, StoreConditional, Amo, System, Faulted}
-use Rattle.rv_meaning.specs.declared.asks.Reply.{Reply}
+use Rattle.rv_meaning.specs.Execute.{after}
 use Rattle.rv_meaning.specs.declared.asks.Reply.TheVariants as replies
 
 put_count : (r v : ℕ) (x : List ℕ) → length (put_reg r v x) ≡ length x

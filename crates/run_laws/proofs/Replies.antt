@@ -1,19 +1,6 @@
 -- Replies fit the asks.
-use Rattle.std.proofs.Common.{◌≡◌, ℕ, Bool, true, false, List, refl}
-use Rattle.std.specs.Prelude.{nat_le, if◌then◌else◌, Some}
-use Rattle.bn_base.specs.Programs.{Program}
-use Rattle.bn_base.specs.declared.state.HartState.{HartState}
-use Rattle.rv_meaning.specs.Orderly.{is_reply_to}
-use Rattle.rv_meaning.specs.declared.asks.Ask.{Ask}
-use Rattle.rv_meaning.specs.declared.asks.Want.{Want}
-use Rattle.rv_meaning.specs.declared.asks.Want.TheVariants.{Load, Store, LoadReserved, StoreConditional, Amo, System, Cut, Faulted}
-use Rattle.rv_meaning.specs.declared.asks.Reply.TheVariants.{Went, Over}
-use Rattle.system_calls.specs.declared.effect.Plan.{Plan}
+use Rattle.run_laws.proofs.Common.{◌≡◌, ℕ, Bool, true, false, List, refl, nat_le, if◌then◌else◌, Some, Program, HartState, is_reply_to, Ask, Want, Load, Store, LoadReserved, StoreConditional, Amo, System, Cut, Faulted, Went, Over, Plan, RawSettings, Machine, answer, answer_sc, call_of, planned, is_reserved, Run, serve, served_if, is_orderly, RepliesFit}
 use Rattle.system_calls.specs.declared.effect.Plan.TheVariants as plans
-use Rattle.bn_base.specs.declared.settings.RawSettings.{RawSettings}
-use Rattle.run_model.specs.Machine.{Machine, answer, answer_sc, call_of, planned, is_reserved}
-use Rattle.run_model.specs.Turn.{Run, serve, served_if, is_orderly}
-use Rattle.run_laws.specs.Laws.{RepliesFit}
 
 call_fits : (p : Plan) (c : RawSettings) (m : Machine) (k number : ℕ) (args : List ℕ) (s : HartState) → let ask : Ask = record { state = s; want = System number args } in is_reply_to ask.want (answer c (Some p) m k ask).reply ≡ true
 call_fits (plans.Fill a n) c m k number args s = refl

@@ -1,42 +1,12 @@
 -- A log has room for the records from a hart's present Header on, right after each turn of the hart.
-use Rattle.std.proofs.Common.{◌≡◌, ℕ, zero, suc, ◌+◌, ◌-◌, ◌*◌, ◌<◌, ◌≤◌, ◌==◌, Bool, true, false, not, ◌&&◌, nat_le, nat_lt, Option, Some, None, List, [], ◌∷◌, ◌++◌, drop, length, refl, sym, ◌∙◌, ap, subst, arith, inl, inr}
-use Rattle.std.specs.Prelude.{◌⊎◌, if◌then◌else◌}
-use Rattle.std.specs.Option.{option_or}
-use Rattle.std.proofs.lemmas.Grind.{common_steps}
+use Rattle.run_laws.proofs.Common.{◌≡◌, ℕ, zero, suc, ◌+◌, ◌-◌, ◌*◌, ◌<◌, ◌≤◌, ◌==◌, Bool, true, false, not, ◌&&◌, nat_le, nat_lt, Option, Some, None, List, [], ◌∷◌, ◌++◌, drop, length, refl, sym, ◌∙◌, ap, subst, arith, inl, inr, ◌⊎◌, if◌then◌else◌, option_or, common_steps, Program, EndMark, RawSettings, HartState, absorbed, is_cut, Ask, Want, Load, Store, LoadReserved, StoreConditional, Amo, System, Cut, Faulted, Reply, Warm, Point, after, sources_into, Record, Header, FirstLoad, Edge, End, total, Hart, TurnEnd, GoesOn, NewInterval, HartOver, RunOver, IsFit, anew, Machine, answer, call_of, start, run_of, run_from, legal_from, Run, turn, ask_at, is_orderly, is_guarded, guarded_run, guard_records, bytes_since, budget, counted, next_of, mark, hart_after, other_after, next_records, stopped_records, run_over_records, edges_from, edge_records, load_record, sc_record, loading, warmth, skipped_after, word_before, point_of, span_of, last_end, ArePointsOf, EdgesAreFew, IsGuarding, HasHeader, HasEnded, GuardCountsFromHeaders, HeadersAreKept, FaultsAreKept}
 use Rattle.bn_base.specs.Faults.{fault_number}
-use Rattle.bn_base.specs.Programs.{Program}
-use Rattle.bn_base.specs.declared.end_mark.EndMark.{EndMark}
 use Rattle.bn_base.specs.declared.fault.Fault.{Fault}
-use Rattle.bn_base.specs.declared.settings.RawSettings.{RawSettings}
-use Rattle.bn_base.specs.declared.state.HartState.{HartState}
-use Rattle.rv_meaning.specs.Execute.{absorbed}
-use Rattle.rv_meaning.specs.Orderly.{is_cut}
-use Rattle.rv_meaning.specs.declared.asks.Ask.{Ask}
-use Rattle.rv_meaning.specs.declared.asks.Want.{Want}
-use Rattle.rv_meaning.specs.declared.asks.Want.TheVariants.{Load, Store, LoadReserved, StoreConditional, Amo, System, Cut, Faulted}
-use Rattle.rv_meaning.specs.declared.asks.Reply.{Reply}
 use Rattle.rv_meaning.specs.declared.asks.Reply.TheVariants as replies
-use Rattle.first_load_bits.specs.declared.warm.Warm.{Warm}
 use Rattle.first_load_bits.specs.declared.warm.Warm.TheVariants as answers
-use Rattle.race_log.specs.Points.{Point}
-use Rattle.race_log.specs.Kept.{after}
-use Rattle.race_log.specs.Tests.{sources_into}
-use Rattle.log_record.specs.declared.record.Record.{Record}
-use Rattle.log_record.specs.declared.record.Record.TheVariants.{Header, FirstLoad, Edge, End}
-use Rattle.log_record.specs.Spelling.{total}
 use Rattle.log_ring.specs.Kept.{kept}
-use Rattle.run_model.specs.declared.hart.Hart.{Hart}
-use Rattle.run_model.specs.declared.turn_end.TurnEnd.{TurnEnd}
-use Rattle.run_model.specs.declared.turn_end.TurnEnd.TheVariants.{GoesOn, NewInterval, HartOver, RunOver}
-use Rattle.run_model.specs.Counts.{IsFit, anew}
 use Rattle.run_model.specs.KeptRecords.{kept_of}
-use Rattle.run_model.specs.Machine.{Machine, answer, call_of}
-use Rattle.run_model.specs.Runs.{start, run_of, run_from, legal_from}
-use Rattle.run_model.specs.Turn.{Run, turn, ask_at, is_orderly, is_guarded, guarded_run, guard_records, bytes_since, budget, counted, next_of, mark, hart_after, other_after, next_records, stopped_records, run_over_records, edges_from, edge_records, load_record, sc_record, loading, warmth, skipped_after, word_before, point_of, span_of}
 use Rattle.run_laws.proofs.Bytes.{total_more, total_append, header_size_is, load_size_is, edge_size_is, end_size_is}
-use Rattle.run_laws.specs.Ends.{last_end}
-use Rattle.run_laws.specs.Laws.{ArePointsOf, EdgesAreFew}
-use Rattle.run_laws.specs.Retained.{IsGuarding, HasHeader, HasEnded, GuardCountsFromHeaders, HeadersAreKept, FaultsAreKept}
 use Rattle.run_laws.proofs.Converse.{run_append}
 use Rattle.run_laws.proofs.LastEnds.{last_of_both, own_end, stops_own}
 use Rattle.run_laws.proofs.Standing.{StandsIn, NoneBefore, none_in_point, none_in_load, none_in_conditional, over_back, Held, turn_records, own_stands, guard_stands, answered_at, turn_is, asked_size, state_size, start_held, list_held}

@@ -1,35 +1,8 @@
 -- Each hart's present Header stands among the records, and a run counts the bytes after it.
-use Rattle.std.proofs.Common.{◌≡◌, ℕ, zero, suc, ◌+◌, ◌*◌, ◌<◌, ◌≤◌, Bool, true, false, Option, Some, None, List, [], ◌∷◌, ◌++◌, length, refl, sym, ◌∙◌, ap, subst, arith, append_assoc, inl, inr}
-use Rattle.std.specs.Prelude.{◌≢◌, ◌==◌, not, ◌&&◌, slice_get, nat_lt}
-use Rattle.std.specs.List.{AllByRecursion}
-use Rattle.std.proofs.lemmas.Bool.Decides.{eqb_tells}
-use Rattle.bn_base.specs.Programs.{Program}
-use Rattle.bn_base.specs.declared.settings.RawSettings.{RawSettings}
-use Rattle.bn_base.specs.declared.state.HartState.{HartState}
-use Rattle.rv_meaning.specs.Execute.{absorbed}
-use Rattle.rv_meaning.specs.declared.asks.Ask.{Ask}
-use Rattle.system_calls.specs.declared.effect.Plan.{Plan}
-use Rattle.race_log.specs.Points.{Point}
-use Rattle.race_log.specs.Kept.{after}
-use Rattle.race_log.specs.Tests.{sources_into}
-use Rattle.first_load_bits.specs.declared.warm.Warm.{Warm}
+use Rattle.run_laws.proofs.Common.{◌≡◌, ℕ, zero, suc, ◌+◌, ◌*◌, ◌<◌, ◌≤◌, Bool, true, false, Option, Some, None, List, [], ◌∷◌, ◌++◌, length, refl, sym, ◌∙◌, ap, subst, arith, append_assoc, inl, inr, ◌≢◌, ◌==◌, not, ◌&&◌, slice_get, nat_lt, AllByRecursion, eqb_tells, Program, RawSettings, HartState, absorbed, Ask, Plan, Point, after, sources_into, Warm, Reply, Record, Header, End, total, Hart, TurnEnd, GoesOn, NewInterval, HartOver, RunOver, Span, IsRested, anew, Answered, answer, call_of, Run, Served, serve, turn, ask_at, is_orderly, after_ask, budget, by_guard, guarded_run, guard_records, header, mark, hart_after, other_after, next_records, stopped_records, run_over_records, span_of, point_of, points_after, loading, warmth, skipped_after, edges_from, edge_records, load_record, sc_record, word_before, header_size, start, start_state, first_headers, run_from, legal_from, ArePointsOf, is_header_of}
 use Rattle.first_load_bits.specs.declared.warm.Warm.TheVariants as answers
-use Rattle.rv_meaning.specs.declared.asks.Reply.{Reply}
 use Rattle.rv_meaning.specs.declared.asks.Reply.TheVariants as replies
-use Rattle.log_record.specs.declared.record.Record.{Record}
-use Rattle.log_record.specs.declared.record.Record.TheVariants.{Header, End}
-use Rattle.log_record.specs.Spelling.{total}
-use Rattle.run_model.specs.declared.hart.Hart.{Hart}
-use Rattle.run_model.specs.declared.turn_end.TurnEnd.{TurnEnd}
-use Rattle.run_model.specs.declared.turn_end.TurnEnd.TheVariants.{GoesOn, NewInterval, HartOver, RunOver}
-use Rattle.run_model.specs.declared.span.Span.{Span}
-use Rattle.run_model.specs.Counts.{IsRested, anew}
-use Rattle.run_model.specs.Machine.{Answered, answer, call_of}
-use Rattle.run_model.specs.Turn.{Run, Served, serve, turn, ask_at, is_orderly, after_ask, budget, by_guard, guarded_run, guard_records, header, mark, hart_after, other_after, next_records, stopped_records, run_over_records, span_of, point_of, points_after, loading, warmth, skipped_after, edges_from, edge_records, load_record, sc_record, word_before, header_size}
-use Rattle.run_model.specs.Runs.{start, start_state, first_headers, run_from, legal_from}
 use Rattle.run_laws.proofs.Bytes.{total_append, headers_have}
-use Rattle.run_laws.specs.Laws.{ArePointsOf}
-use Rattle.run_laws.specs.Retained.{is_header_of}
 use Rattle.run_laws.proofs.Registers.{asking_registers, absorbed_registers}
 use Rattle.run_laws.proofs.Turns.{Laws, IsRanged, ordered, both, below_of, legal_first, served, moved, stayed, turn_left, fit_start, eqb_same, guarded_at, asked_at, state_of, next_at}
 

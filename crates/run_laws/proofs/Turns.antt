@@ -1,33 +1,7 @@
 -- The turns of a legal list, one by one.
-use Rattle.std.proofs.Common.{◌≡◌, ℕ, zero, suc, ◌+◌, ◌-◌, ◌*◌, ◌<◌, ◌≤◌, ◌^◌, ◌==◌, Bool, true, false, not, ◌&&◌, nat_lt, List, [], ◌∷◌, length, refl, sym, ◌∙◌, ap, subst, arith, inl, inr}
-use Rattle.std.specs.Prelude.{Option, Some, IsTrue, ◌≢◌}
-use Rattle.std.proofs.lemmas.Bool.Decides.{eqb_tells}
-use Rattle.std.proofs.lemmas.Grind.{common_steps}
-use Rattle.bn_base.specs.Programs.{Program}
-use Rattle.bn_base.specs.Ranges.{IsSetting}
-use Rattle.bn_base.specs.declared.settings.RawSettings.{RawSettings}
-use Rattle.bn_base.specs.declared.state.HartState.{HartState}
-use Rattle.rv_meaning.specs.Execute.{ask_of, absorbed}
-use Rattle.rv_meaning.specs.Orderly.{orderly, is_cut}
-use Rattle.rv_meaning.specs.declared.asks.Ask.{Ask}
-use Rattle.rv_meaning.specs.declared.asks.Want.{Want}
-use Rattle.rv_meaning.specs.declared.asks.Want.TheVariants.{Load, Store, LoadReserved, StoreConditional, Amo, System, Cut, Faulted}
-use Rattle.rv_meaning.specs.declared.asks.Reply.{Reply}
-use Rattle.system_calls.specs.declared.effect.Plan.{Plan}
+use Rattle.run_laws.proofs.Common.{◌≡◌, ℕ, zero, suc, ◌+◌, ◌-◌, ◌*◌, ◌<◌, ◌≤◌, ◌^◌, ◌==◌, Bool, true, false, not, ◌&&◌, nat_lt, List, [], ◌∷◌, length, refl, sym, ◌∙◌, ap, subst, arith, inl, inr, Option, Some, IsTrue, ◌≢◌, eqb_tells, common_steps, Program, IsSetting, RawSettings, HartState, ask_of, absorbed, orderly, is_cut, Ask, Want, Load, Store, LoadReserved, StoreConditional, Amo, System, Cut, Faulted, Reply, Plan, TurnRow, Hart, TurnEnd, GoesOn, NewInterval, HartOver, RunOver, Machine, answer, call_of, planned, Run, Served, serve, serve_orderly, served_if, turn, ask_at, is_orderly, budget, next_of, loading, warmth, skipped_after, hart_after, other_after, harts_after, is_guarded, guarded_run, asked_run, guard_records, total, Warm, start_hart, start_state, run_from, legal_from, is_live, IsFit, IsRested, anew, GuardedAsksFit, EachTurnMovesOn, EachTurnFits, OthersStayFit, turns_left, TurnsMoveTheirHart, after_rows, IsLawful, IsOwn, Place, place_of, place_from, place_after, begun_at, row_at, rows_from, rows_by}
 use Rattle.system_calls.specs.declared.effect.Plan.TheVariants as plans
-use Rattle.bn_outside.specs.declared.turn_row.TurnRow.{TurnRow}
-use Rattle.run_model.specs.declared.hart.Hart.{Hart}
-use Rattle.run_model.specs.declared.turn_end.TurnEnd.{TurnEnd}
-use Rattle.run_model.specs.declared.turn_end.TurnEnd.TheVariants.{GoesOn, NewInterval, HartOver, RunOver}
-use Rattle.run_model.specs.Machine.{Machine, answer, call_of, planned}
-use Rattle.run_model.specs.Turn.{Run, Served, serve, serve_orderly, served_if, turn, ask_at, is_orderly, budget, next_of, loading, warmth, skipped_after, hart_after, other_after, harts_after, is_guarded, guarded_run, asked_run, guard_records}
-use Rattle.log_record.specs.Spelling.{total}
-use Rattle.first_load_bits.specs.declared.warm.Warm.{Warm}
-use Rattle.run_model.specs.Runs.{start_hart, start_state, run_from, legal_from, is_live}
-use Rattle.run_model.specs.Counts.{IsFit, IsRested, anew, GuardedAsksFit, EachTurnMovesOn, EachTurnFits, OthersStayFit, turns_left}
 use Rattle.run_model.specs.Represents.Harts.{all_left}
-use Rattle.run_laws.specs.Laws.{TurnsMoveTheirHart}
-use Rattle.run_laws.specs.History.{after_rows, IsLawful, IsOwn, Place, place_of, place_from, place_after, begun_at, row_at, rows_from, rows_by}
 
 -- ---- lawful
 

@@ -1,9 +1,7 @@
 -- The last Ends of harts among records.
 use Rattle.std.specs.Prelude.{◌≡◌, ◌<◌, ◌==◌, ℕ, true, false, List, [], ◌∷◌, length, slice_get, Option, Some, None}
 use Rattle.std.specs.Option.{option_or}
-use Rattle.bn_base.specs.declared.end_mark.EndMark.{EndMark}
-use Rattle.log_record.specs.declared.record.Record.{Record}
-use Rattle.log_record.specs.declared.record.Record.TheVariants.{Header, FirstLoad, ScOk, ScFailed, Edge, End}
+use Rattle.run_laws.specs.Common.{EndMark, Record, Header, FirstLoad, ScOk, ScFailed, Edge, End}
 
 -- the mark of a record, if it is an End of hart h
 abbrev pub end_of : ℕ → Record → Option EndMark

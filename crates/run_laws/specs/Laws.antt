@@ -1,21 +1,11 @@
 -- What holds of the turns of a legal list.
 use Rattle.std.specs.Prelude.{◌≡◌, ◌≤◌, ◌<◌, ◌==◌, ℕ, true, false, List, [], ◌∷◌, ◌++◌, length, map, IsTrue, Some, slice_get}
-use Rattle.rv_meaning.specs.Execute.{absorbed}
+use Rattle.run_laws.specs.Common.{absorbed, Ask, TurnRow, Run, serve, turn, ask_at, is_orderly, Program, IsSetting, RawSettings, EndMark, Record, kept_of, IsEndOf, start, start_hart, start_state, run_from, run_of, legal_from, most_turns}
 use Rattle.rv_meaning.specs.Orderly.{is_reply_to}
-use Rattle.rv_meaning.specs.declared.asks.Ask.{Ask}
-use Rattle.bn_outside.specs.declared.turn_row.TurnRow.{TurnRow}
 use Rattle.run_model.specs.Counts.{IsRested}
-use Rattle.run_model.specs.Turn.{Run, serve, turn, ask_at, is_orderly}
-use Rattle.bn_base.specs.Programs.{Program}
-use Rattle.bn_base.specs.Ranges.{IsSetting}
-use Rattle.bn_base.specs.declared.settings.RawSettings.{RawSettings}
-use Rattle.bn_base.specs.declared.end_mark.EndMark.{EndMark}
 use Rattle.race_log.specs.Points.{Point}
 use Rattle.race_log.specs.Kept.{after}
 use Rattle.race_log.specs.Tests.{sources_into}
-use Rattle.log_record.specs.declared.record.Record.{Record}
-use Rattle.run_model.specs.KeptRecords.{kept_of, IsEndOf}
-use Rattle.run_model.specs.Runs.{start, start_hart, start_state, run_from, run_of, legal_from, most_turns}
 use Rattle.run_laws.specs.History.{after_rows, are_orderly, IsLawful, IsOwn, Place, place_of, place_after, ask_from, rows_from, rows_by}
 use Rattle.run_laws.specs.Ends.{last_end}
 

@@ -2,19 +2,9 @@
 -- a fault.
 use Rattle.std.specs.Prelude.{◌≡◌, ◌≤◌, ◌<◌, ◌+◌, ◌^◌, ◌==◌, ℕ, Bool, true, false, List, [], ◌∷◌, ◌++◌, Some}
 use Rattle.std.specs.List.{AllByRecursion}
-use Rattle.bn_base.specs.Ranges.{IsSetting}
+use Rattle.run_laws.specs.Common.{IsSetting, Program, EndMark, RawSettings, Faulted, Record, Header, FirstLoad, ScOk, ScFailed, Edge, End, total, kept_of, start, run_of, legal_from, Run, ask_at, bytes_since, mark}
 use Rattle.bn_base.specs.Faults.{fault_number}
-use Rattle.bn_base.specs.Programs.{Program}
-use Rattle.bn_base.specs.declared.end_mark.EndMark.{EndMark}
 use Rattle.bn_base.specs.declared.fault.Fault.{Fault}
-use Rattle.bn_base.specs.declared.settings.RawSettings.{RawSettings}
-use Rattle.rv_meaning.specs.declared.asks.Want.TheVariants.{Faulted}
-use Rattle.log_record.specs.declared.record.Record.{Record}
-use Rattle.log_record.specs.declared.record.Record.TheVariants.{Header, FirstLoad, ScOk, ScFailed, Edge, End}
-use Rattle.log_record.specs.Spelling.{total}
-use Rattle.run_model.specs.KeptRecords.{kept_of}
-use Rattle.run_model.specs.Runs.{start, run_of, legal_from}
-use Rattle.run_model.specs.Turn.{Run, ask_at, bytes_since, mark}
 use Rattle.run_laws.specs.Ends.{last_end}
 
 -- format 2, and those of its ranges that say something here: at most 16 harts, an interval of 1 at least, a limit of 2^40 at

@@ -1,12 +1,5 @@
 -- The records decide nothing.
-use Rattle.std.proofs.Common.{◌≡◌, ℕ, Bool, true, false, List, refl}
-use Rattle.bn_base.specs.Programs.{Program}
-use Rattle.rv_meaning.specs.declared.asks.Ask.{Ask}
-use Rattle.log_record.specs.declared.record.Record.{Record}
-use Rattle.bn_base.specs.declared.settings.RawSettings.{RawSettings}
-use Rattle.run_model.specs.Turn.{Run, serve, served_if, serve_call, is_orderly, is_guarded}
-use Rattle.run_model.specs.Machine.{call_of}
-use Rattle.run_model.specs.Guards.{RecordsDecideNothing}
+use Rattle.run_model.proofs.Common.{◌≡◌, ℕ, Bool, true, false, List, refl, Program, Ask, Record, RawSettings, Run, serve, served_if, serve_call, is_orderly, is_guarded, call_of, RecordsDecideNothing}
 
 call_by : (g : Bool) (c : RawSettings) (i : Program) (run : Run) (stream : List Record) (k : ℕ) (ask : Ask)
     → let call = call_of i run.machine ask.want in let other = serve_call c (record run { stream = stream }) k ask g call in let one = serve_call c run k ask g call in

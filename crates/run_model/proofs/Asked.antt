@@ -1,25 +1,5 @@
 -- What is traced while a hart's orderly ask is answered, its next interval begun if the guard asks for it.
-use Rattle.std.proofs.Common.{◌≡◌, ◌≢◌, ℕ, zero, suc, ◌+◌, ◌-◌, ◌*◌, ◌^◌, ◌<◌, ◌≤◌, ◌==◌, Bool, true, false, length, sym, ◌∙◌, ap, subst, arith, refl, inl, inr}
-use Rattle.std.specs.Prelude.{IsTrue, if◌then◌else◌, Option, Some, None, []}
-use Rattle.std.proofs.lemmas.Bool.Decides.{eqb_tells}
-use Rattle.std.proofs.lemmas.Nat.{mul-le}
-use Rattle.bn_base.specs.Programs.{Program}
-use Rattle.bn_base.specs.Ranges.{IsSetting}
-use Rattle.bn_base.specs.declared.settings.RawSettings.{RawSettings}
-use Rattle.bn_base.specs.declared.settings.TheConstants.{HARTS}
-use Rattle.rv_meaning.specs.Orderly.{is_cut}
-use Rattle.rv_meaning.specs.declared.asks.Ask.{Ask}
-use Rattle.race_log.specs.declared.shadow.Shadow.{Shadow}
-use Rattle.race_log.specs.Represents.{harts_of, lasts, next_turn, next_count}
-use Rattle.run_model.specs.declared.hart.Hart.{Hart}
-use Rattle.run_model.specs.declared.trace.Trace.{Trace}
-use Rattle.run_model.specs.Turn.{is_orderly}
-use Rattle.run_model.specs.Runs.{start_machine, most_turns}
-use Rattle.run_model.specs.Counts.{IsFit, IsRested, EachTurnMovesOn, GuardedAsksFit, anew, turns_left}
-use Rattle.run_model.specs.Represents.EachCache.{steps_in, touches}
-use Rattle.run_model.specs.Represents.Harts.{hart_in, all_left}
-use Rattle.run_model.specs.Represents.Logs.{taken}
-use Rattle.run_model.specs.Represents.Plain.{IsTraceFit, IsHartFit}
+use Rattle.run_model.proofs.Common.{◌≡◌, ◌≢◌, ℕ, zero, suc, ◌+◌, ◌-◌, ◌*◌, ◌^◌, ◌<◌, ◌≤◌, ◌==◌, Bool, true, false, length, sym, ◌∙◌, ap, subst, arith, refl, inl, inr, IsTrue, if◌then◌else◌, Option, Some, None, [], eqb_tells, mul-le, Program, IsSetting, RawSettings, HARTS, is_cut, Ask, Shadow, harts_of, lasts, next_turn, next_count, Hart, Trace, is_orderly, start_machine, most_turns, IsFit, IsRested, EachTurnMovesOn, GuardedAsksFit, anew, turns_left, steps_in, touches, hart_in, all_left, taken, IsTraceFit, IsHartFit}
 use Rattle.run_model.specs.Represents.Tracing.{IsAnew}
 use Rattle.run_model.proofs.Fits.{counted_by}
 use Rattle.run_model.proofs.MoveOn.{budget_limit}

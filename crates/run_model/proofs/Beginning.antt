@@ -1,22 +1,5 @@
 -- What is traced before the first turn.
-use Rattle.std.proofs.Common.{◌≡◌, [], ℕ, zero, suc, ◌+◌, ◌-◌, ◌*◌, ◌<◌, ◌≤◌, ◌==◌, Bool, true, false, List, length, refl, sym, ◌∙◌, ap, subst, arith}
-use Rattle.std.specs.Prelude.{if◌then◌else◌, IsTrue}
-use Rattle.bn_base.specs.Programs.{Program}
-use Rattle.bn_base.specs.Ranges.{IsSetting}
-use Rattle.bn_base.specs.declared.settings.RawSettings.{RawSettings}
-use Rattle.bn_base.specs.declared.settings.TheConstants.{HARTS}
-use Rattle.log_ring.specs.Kept.{Held, HoldsLog, held, kept}
-use Rattle.run_model.specs.declared.log.Log.{Log}
-use Rattle.race_log.specs.Represents.{RepresentsAccesses, harts_of, lasts, next_turn, next_count}
-use Rattle.run_model.specs.declared.hart.Hart.{Hart}
-use Rattle.run_model.specs.declared.trace.Trace.{Trace}
-use Rattle.run_model.specs.Runs.{start, start_state, first_headers}
-use Rattle.run_model.specs.Counts.{IsRested, turns_left}
-use Rattle.run_model.specs.Represents.EachCache.{AreCaches, steps_in}
-use Rattle.run_model.specs.Represents.First.{AreFirst, first_hart}
-use Rattle.run_model.specs.Represents.Harts.{hart_in, all_left}
-use Rattle.run_model.specs.Represents.Plain.{IsTrace, IsTraceFit, everyone}
-use Rattle.run_model.specs.Represents.Logs.{IsLog}
+use Rattle.run_model.proofs.Common.{◌≡◌, [], ℕ, zero, suc, ◌+◌, ◌-◌, ◌*◌, ◌<◌, ◌≤◌, ◌==◌, Bool, true, false, List, length, refl, sym, ◌∙◌, ap, subst, arith, if◌then◌else◌, IsTrue, Program, IsSetting, RawSettings, HARTS, Held, HoldsLog, held, kept, Log, RepresentsAccesses, harts_of, lasts, next_turn, next_count, Hart, Trace, start, start_state, first_headers, IsRested, turns_left, AreCaches, steps_in, AreFirst, first_hart, hart_in, all_left, IsTrace, IsTraceFit, everyone, IsLog}
 use Rattle.run_model.proofs.Bytes.{headers_have}
 use Rattle.run_model.proofs.Fits.{fit_start}
 use Rattle.run_model.proofs.Owns.{hart_of_run}

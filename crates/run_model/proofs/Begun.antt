@@ -1,22 +1,5 @@
 -- A hart begins its next interval by the guard.
-use Rattle.std.proofs.Common.{◌≡◌, ℕ, ◌+◌, ◌<◌, ◌==◌, ◌++◌, Bool, true, false, List, ◌∷◌, length, refl, sym, ◌∙◌, ap, subst, arith}
-use Rattle.std.specs.Prelude.{slice_set}
-use Rattle.bn_base.specs.declared.settings.RawSettings.{RawSettings}
-use Rattle.bn_base.specs.declared.state.HartState.{HartState}
-use Rattle.first_load_bits.specs.Events.{Event}
-use Rattle.first_load_bits.specs.Events.{Clear}
-use Rattle.first_load_bits.specs.Represents.{Contents, RepresentsEvents}
-use Rattle.log_record.specs.Spelling.{total}
-use Rattle.race_log.specs.declared.shadow.Shadow.{Shadow}
-use Rattle.race_log.specs.Represents.{RepresentsAccesses}
-use Rattle.run_model.specs.declared.hart.Hart.{Hart}
-use Rattle.run_model.specs.declared.trace.Trace.{Trace}
-use Rattle.run_model.specs.Counts.{anew}
-use Rattle.run_model.specs.Turn.{Run, by_guard, next_records, guard_records, begun_anew, guarded_run}
-use Rattle.run_model.specs.Represents.EachCache.{AreCaches, cache_of, events_cleared}
-use Rattle.run_model.specs.Represents.Harts.{AreHarts}
-use Rattle.run_model.specs.Represents.Logs.{IsLog}
-use Rattle.run_model.specs.Represents.Plain.{IsTrace, everyone}
+use Rattle.run_model.proofs.Common.{◌≡◌, ℕ, ◌+◌, ◌<◌, ◌==◌, ◌++◌, Bool, true, false, List, ◌∷◌, length, refl, sym, ◌∙◌, ap, subst, arith, slice_set, RawSettings, HartState, Event, Clear, Contents, RepresentsEvents, total, Shadow, RepresentsAccesses, Hart, Trace, anew, Run, by_guard, next_records, guard_records, begun_anew, guarded_run, AreCaches, cache_of, events_cleared, AreHarts, IsLog, IsTrace, everyone}
 use Rattle.run_model.proofs.Bytes.{total_append}
 use Rattle.run_model.proofs.Stopping.{are_set}
 

@@ -1,8 +1,5 @@
 -- The line of a word that is the line of the word before it, too, need not be dropped again.
-use Rattle.std.proofs.Common.{◌≡◌, ◌+◌, ◌-◌, ◌*◌, ℕ, zero, suc, List, ◌∷◌, ap, ◌∙◌, arith, subst, refl}
-use Rattle.first_load_bits.specs.Events.{Event, Drop, line_of}
-use Rattle.first_load_bits.specs.Represents.{Contents, RepresentsEvents}
-use Rattle.run_model.specs.Turn.{drops}
+use Rattle.run_model.proofs.Common.{◌≡◌, ◌+◌, ◌-◌, ◌*◌, ℕ, zero, suc, List, ◌∷◌, ap, ◌∙◌, arith, subst, refl, Event, Drop, line_of, Contents, RepresentsEvents, drops}
 
 -- a second drop of a line right after the first changes nothing
 abbrev pub DropsOnce : Type 0

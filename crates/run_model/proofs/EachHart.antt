@@ -1,9 +1,5 @@
 -- A loop over the harts' reservations.
-use Rattle.std.proofs.Common.{arith, refl, subst, ◌≡◌, ◌∙◌, sym, ap, ℕ, ◌+◌, ◌<◌, ◌≤◌, ◌≢◌, ◌⊎◌, inl, inr, List, length, get_or, set, Option, None, Bool, true, false}
-use Rattle.std.proofs.lemmas.List.{get_or-set_same, get_or-set_other, length-set}
-use Rattle.std.proofs.lemmas.Bool.{cases_eq}
-use Rattle.bn_base.specs.declared.settings.TheConstants.{HARTS}
-use Rattle.run_model.specs.Represents.Parts.{AreReserved}
+use Rattle.run_model.proofs.Common.{arith, refl, subst, ◌≡◌, ◌∙◌, sym, ap, ℕ, ◌+◌, ◌<◌, ◌≤◌, ◌≢◌, ◌⊎◌, inl, inr, List, length, get_or, set, Option, None, Bool, true, false, get_or-set_same, get_or-set_other, length-set, cases_eq, HARTS, AreReserved}
 
 -- the reservations of the harts below k are changed by g, and the others are as they were
 pub record Changed (g : ℕ → Option ℕ → Option ℕ) (k : ℕ) (old now : List (Option ℕ)) : Type 0 where

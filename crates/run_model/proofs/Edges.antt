@@ -1,10 +1,5 @@
 -- The Edges of a beginning of the sources.
-use Rattle.std.proofs.Common.{◌≡◌, ◌∷◌, ◌++◌, [], ℕ, zero, suc, ◌+◌, List, take, ap, sym, subst, ◌∙◌, arith}
-use Rattle.std.proofs.lemmas.List.{append_assoc}
-use Rattle.std.specs.Prelude.{Some, slice_get}
-use Rattle.log_record.specs.declared.record.Record.{Record}
-use Rattle.log_record.specs.declared.record.Record.TheVariants.{Edge}
-use Rattle.run_model.specs.Turn.{edges_from}
+use Rattle.run_model.proofs.Common.{◌≡◌, ◌∷◌, ◌++◌, [], ℕ, zero, suc, ◌+◌, List, take, ap, sym, subst, ◌∙◌, arith, append_assoc, Some, slice_get, Record, Edge, edges_from}
 
 edges_next : (h ic : ℕ) (es : List (ℕ × ℕ)) (i : ℕ) (x : ℕ × ℕ) → slice_get es i ≡ Some x → edges_from h ic (take (suc i) es) ≡ edges_from h ic (take i es) ++ Edge h ic x.0 x.1 ∷ []
 edges_next h ic [] i x e = cc

@@ -1,19 +1,5 @@
 -- No hart is live any more.
-use Rattle.std.proofs.Common.{◌≡◌, ◌<◌, ◌≤◌, ℕ, zero, suc, ◌+◌, ◌-◌, true, false, List, length, refl, sym, ◌∙◌, ap, subst, arith, inl, inr, length-set}
-use Rattle.std.proofs.lemmas.Bool.{true≢false}
-use Rattle.std.specs.Prelude.{Vec, get_or, slice_get, slice_set, Some, ◌≢◌}
-use Rattle.std.specs.Global.{Global}
-use Rattle.std.proofs.lemmas.Bool.Decides.{eqb_tells}
-use Rattle.std.proofs.lemmas.List.{get_or-set_same, get_or-set_other}
-use Rattle.std.proofs.lemmas.Option.{slice_get-get_or, get_or_from_slice_get}
-use Rattle.bn_base.specs.declared.settings.RawSettings.{RawSettings}
-use Rattle.run_model.specs.declared.hart.Hart.{Hart}
-use Rattle.run_model.specs.declared.trace.Trace.{Trace}
-use Rattle.run_model.specs.Turn.{dead}
-use Rattle.run_model.specs.Runs.{most_turns}
-use Rattle.run_model.specs.Counts.{IsRested, turns_left}
-use Rattle.run_model.specs.Represents.Harts.{AreHarts, is_live_hart, hart_in, all_left, no_hart}
-use Rattle.run_model.specs.Represents.Plain.{IsTraceFit, IsHartFit}
+use Rattle.run_model.proofs.Common.{◌≡◌, ◌<◌, ◌≤◌, ℕ, zero, suc, ◌+◌, ◌-◌, true, false, List, length, refl, sym, ◌∙◌, ap, subst, arith, inl, inr, length-set, true≢false, Vec, get_or, slice_get, slice_set, Some, ◌≢◌, Global, eqb_tells, get_or-set_same, get_or-set_other, slice_get-get_or, get_or_from_slice_get, RawSettings, Hart, Trace, dead, most_turns, IsRested, turns_left, AreHarts, is_live_hart, hart_in, all_left, no_hart, IsTraceFit, IsHartFit}
 use Rattle.run_model.proofs.OneTurn.{live_within}
 
 -- the harts below a number were ended

@@ -1,14 +1,5 @@
 -- The harts before the first turn, one by one.
-use Rattle.std.proofs.Common.{◌≡◌, ◌∷◌, ◌++◌, [], ℕ, zero, suc, ◌+◌, ◌<◌, List, length, ◌∙◌, ap, arith, length-append}
-use Rattle.std.specs.Prelude.{Some, slice_get}
-use Rattle.std.proofs.lemmas.List.{append_assoc}
-use Rattle.bn_base.specs.Programs.{Program}
-use Rattle.bn_base.specs.declared.settings.RawSettings.{RawSettings}
-use Rattle.log_record.specs.declared.record.Record.{Record}
-use Rattle.run_model.specs.declared.hart.Hart.{Hart}
-use Rattle.run_model.specs.Turn.{header}
-use Rattle.run_model.specs.Runs.{start_state, first_headers}
-use Rattle.run_model.specs.Represents.Harts.{AreHarts}
+use Rattle.run_model.proofs.Common.{◌≡◌, ◌∷◌, ◌++◌, [], ℕ, zero, suc, ◌+◌, ◌<◌, List, length, ◌∙◌, ap, arith, length-append, Some, slice_get, append_assoc, Program, RawSettings, Record, Hart, header, start_state, first_headers, AreHarts}
 
 headers_next : (n : ℕ) (c : RawSettings) (i : Program) (k : ℕ) → first_headers c i k n ++ header (k + n) 0 (start_state c i (k + n)) ∷ [] ≡ first_headers c i k (suc n)
 headers_next zero c i k =

@@ -1,25 +1,8 @@
 -- The counts of a hart stay within the settings, and fewer turns are left after each.
-use Rattle.std.proofs.Common.{◌≡◌, ℕ, ◌+◌, ◌-◌, ◌<◌, ◌≤◌, Bool, true, false, List, Option, Some, None, refl, ap, arith, nat_le, nat_lt, ◌&&◌}
-use Rattle.std.specs.Prelude.{if◌then◌else◌}
-use Rattle.bn_base.specs.declared.settings.RawSettings.{RawSettings}
-use Rattle.bn_base.specs.declared.state.HartState.{HartState}
-use Rattle.first_load_bits.specs.Events.{Event}
-use Rattle.first_load_bits.specs.Represents.{geometry_of}
+use Rattle.run_model.proofs.Common.{◌≡◌, ℕ, ◌+◌, ◌-◌, ◌<◌, ◌≤◌, Bool, true, false, List, Option, Some, None, refl, ap, arith, nat_le, nat_lt, ◌&&◌, if◌then◌else◌, RawSettings, HartState, Event, geometry_of, Hart, TurnEnd, GoesOn, NewInterval, HartOver, RunOver, Span, budget, is_orderly, warmth, skipped_after, hart_after, stopped, other_after, mark, start_hart, IsFit, IsRested, MovesOn, turns_left, anew, GuardedAsksFit, common_steps, Program, is_cut, passes, Want, Load, Store, LoadReserved, StoreConditional, Amo, System, Cut, Faulted}
 use Rattle.first_load_bits.specs.Warm.{warm}
 use Rattle.first_load_bits.specs.declared.warm.Warm.TheVariants as answers
-use Rattle.run_model.specs.declared.hart.Hart.{Hart}
-use Rattle.run_model.specs.declared.turn_end.TurnEnd.{TurnEnd}
-use Rattle.run_model.specs.declared.turn_end.TurnEnd.TheVariants.{GoesOn, NewInterval, HartOver, RunOver}
-use Rattle.run_model.specs.declared.span.Span.{Span}
-use Rattle.run_model.specs.Turn.{budget, is_orderly, warmth, skipped_after, hart_after, stopped, other_after, mark}
-use Rattle.run_model.specs.Runs.{start_hart}
-use Rattle.run_model.specs.Counts.{IsFit, IsRested, MovesOn, turns_left, anew, GuardedAsksFit}
 use Rattle.run_model.proofs.MoveOn.{budget_interval, budget_limit, InBudget, in_budget, both}
-use Rattle.std.proofs.lemmas.Grind.{common_steps}
-use Rattle.bn_base.specs.Programs.{Program}
-use Rattle.rv_meaning.specs.Orderly.{is_cut, passes}
-use Rattle.rv_meaning.specs.declared.asks.Want.{Want}
-use Rattle.rv_meaning.specs.declared.asks.Want.TheVariants.{Load, Store, LoadReserved, StoreConditional, Amo, System, Cut, Faulted}
 
 skip_by : (b : Bool) (skipped begun low after : ℕ) → begun + skipped ≤ low → after ≡ low + 1 → begun + skipped_after (Some (if b then answers.Warm else answers.Cold)) skipped ≤ after
 skip_by true skipped begun low after e a = omega (arith, e, a)

@@ -1,12 +1,6 @@
 -- With format 1 all is as without a guard.
-use Rattle.std.proofs.Common.{◌≡◌, ℕ, Bool, true, false, List, ◌++◌, ◌==◌, ◌+◌, refl, ◌∙◌, ap}
-use Rattle.bn_base.specs.Programs.{Program}
+use Rattle.run_model.proofs.Common.{◌≡◌, ℕ, Bool, true, false, List, ◌++◌, ◌==◌, ◌+◌, refl, ◌∙◌, ap, Program, Ask, Want, RawSettings, FormatOneIsUnguarded, Run, serve, served_if, is_orderly, is_guarded, ask_at}
 use Rattle.bn_base.specs.declared.row.Row.{Row}
-use Rattle.rv_meaning.specs.declared.asks.Ask.{Ask}
-use Rattle.rv_meaning.specs.declared.asks.Want.{Want}
-use Rattle.bn_base.specs.declared.settings.RawSettings.{RawSettings}
-use Rattle.run_model.specs.Guards.{FormatOneIsUnguarded}
-use Rattle.run_model.specs.Turn.{Run, serve, served_if, is_orderly, is_guarded, ask_at}
 use Rattle.run_model.specs.Rows.{rows_if, quiet_part, ask_part, turn_rows, turn_rows_in}
 
 pub unguarded : (c : RawSettings) (run : Run) (k : ℕ) (want : Want) → c.format ≡ 1 → is_guarded c run k want ≡ false

@@ -1,12 +1,6 @@
 -- Small recordings of format 2, worked out by hand.
-use Rattle.std.proofs.Common.{◌≡◌, ◌∷◌, [], map, refl}
-use Rattle.le_numbers.specs.Numbers.{number_bytes}
-use Rattle.log_record.specs.Spelling.{total, tag_of}
-use Rattle.log_record.specs.declared.record.Record.TheVariants.{FirstLoad}
-use Rattle.log_ring.specs.Kept.{kept}
+use Rattle.run_model.proofs.Common.{◌≡◌, ◌∷◌, [], map, refl, number_bytes, total, tag_of, FirstLoad, kept, serve, recorded, is_whole, first_header, end, Begins, Ends, marked, marks_of_two_ends_a_turn, a_guarded_load, an_unguarded_load, a_late_fault, two_ends_a_turn, a_guarded_first_fault, kept_records, counts_in, bytes_after_the_load, a_write_by_hart_1}
 use Rattle.race_log.specs.Tests.{at_places, leads, any_below, before, edge, greatest_first, edges_into}
-use Rattle.run_model.specs.Turn.{serve}
-use Rattle.run_model.specs.Examples.{recorded, is_whole, first_header, end, Begins, Ends, marked, marks_of_two_ends_a_turn, a_guarded_load, an_unguarded_load, a_late_fault, two_ends_a_turn, a_guarded_first_fault, kept_records, counts_in, bytes_after_the_load, a_write_by_hart_1}
 
 pub a_load_is_guarded_marks : marked (recorded a_guarded_load).stream ≡ Begins 0 0 0 ∷ Ends 0 10 6 0 ∷ Begins 0 1 10 ∷ Ends 0 12 7 0 ∷ []
 unfolding serve at_places leads any_below before edge greatest_first edges_into number_bytes

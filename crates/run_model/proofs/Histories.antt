@@ -1,16 +1,5 @@
 -- Caches of several harts, and their histories.
-use Rattle.std.proofs.Common.{arith, refl, sym, ap, subst, ◌≡◌, ◌∙◌, ◌≢◌, ◌⊎◌, inl, inr, ℕ, ◌+◌, ◌<◌, ◌==◌, Bool, true, false, List, ◌∷◌, ◌++◌, length, get_or, set, take, drop, Option, Some, None}
-use Rattle.std.proofs.lemmas.List.{get_or-set_same, get_or-set_other, length-set, get_or_default, take-append-le, take_all}
-use Rattle.std.proofs.lemmas.Bool.{cases_eq, eq-eqb, ne_eqb}
-use Rattle.bn_base.specs.declared.settings.RawSettings.{RawSettings}
-use Rattle.first_load_bits.specs.Events.{Event}
-use Rattle.first_load_bits.specs.Events.{Touch}
-use Rattle.first_load_bits.specs.Represents.{Contents, RepresentsEvents}
-use Rattle.run_model.specs.declared.turn_end.TurnEnd.TheVariants.{GoesOn}
-use Rattle.system_calls.specs.declared.effect.Plan.{Plan}
-use Rattle.run_model.specs.declared.span.Span.{Span}
-use Rattle.run_model.specs.Turn.{dropped, events_after}
-use Rattle.run_model.specs.Represents.EachCache.{no_cache, cache_of, steps_in, AreCaches, is_spared, IsDropped, IsSetTo}
+use Rattle.run_model.proofs.Common.{arith, refl, sym, ap, subst, ◌≡◌, ◌∙◌, ◌≢◌, ◌⊎◌, inl, inr, ℕ, ◌+◌, ◌<◌, ◌==◌, Bool, true, false, List, ◌∷◌, ◌++◌, length, get_or, set, take, drop, Option, Some, None, get_or-set_same, get_or-set_other, length-set, get_or_default, take-append-le, take_all, cases_eq, eq-eqb, ne_eqb, RawSettings, Event, Touch, Contents, RepresentsEvents, GoesOn, Plan, Span, dropped, events_after, no_cache, cache_of, steps_in, AreCaches, is_spared, IsDropped, IsSetTo}
 
 -- ---- which of two histories
 

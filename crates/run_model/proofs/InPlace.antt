@@ -1,40 +1,5 @@
 -- A turn whose quiet instructions are done in the hart's own place.
-use Rattle.std.proofs.Common.{◌≡◌, ◌≢◌, ℕ, ◌+◌, ◌-◌, ◌*◌, ◌<◌, ◌≤◌, ◌^◌, ◌==◌, ◌++◌, Bool, true, false, List, [], length, sym, ◌∙◌, ap, subst, arith, refl, inl, inr}
-use Rattle.std.specs.Prelude.{IsTrue, Vec, slice_set, Some, None, nat_le, nat_lt, ◌&&◌}
-use Rattle.std.specs.Global.{Global}
-use Rattle.std.proofs.lemmas.List.{get_or-set_same, get_or-set_other, length-set, set-set, set-get_or}
-use Rattle.std.proofs.lemmas.Bool.Decides.{eqb_tells}
-use Rattle.bn_base.specs.Programs.{Program}
-use Rattle.bn_base.specs.declared.settings.RawSettings.{RawSettings}
-use Rattle.bn_base.specs.declared.state.HartState.{HartState}
-use Rattle.first_load_bits.specs.Represents.{Contents}
-use Rattle.rv_meaning.specs.Orderly.{is_cut, passes, orderly}
-use Rattle.rv_meaning.specs.Execute.{absorbed, ask_of}
-use Rattle.rv_meaning.specs.declared.asks.Ask.{Ask}
-use Rattle.rv_meaning.specs.declared.asks.Want.{Want}
-use Rattle.rv_meaning.specs.declared.asks.Reply.{Reply}
-use Rattle.rv_meaning.specs.declared.asks.Want.TheVariants.{Load, Store}
-use Rattle.race_log.specs.declared.shadow.Shadow.{Shadow}
-use Rattle.race_log.specs.Represents.{RepresentsAccesses, lasts, next_turn, next_count, harts_of}
-use Rattle.log_record.specs.declared.record.Record.{Record}
-use Rattle.log_record.specs.Spelling.{total}
-use Rattle.run_model.specs.declared.hart.Hart.{Hart}
-use Rattle.run_model.specs.declared.log.Log.{Log}
-use Rattle.run_model.specs.declared.turn_end.TurnEnd.{TurnEnd}
-use Rattle.run_model.specs.declared.turn_end.TurnEnd.TheVariants.{GoesOn, NewInterval, HartOver, RunOver}
-use Rattle.run_model.specs.declared.trace.Trace.{Trace}
-use Rattle.run_model.specs.Machine.{answer}
-use Rattle.run_model.specs.Turn.{Run, turn, ask_at, budget, is_orderly, serve_call, span_of, counted, point_of, edge_records, load_record, sc_record, next_records, run_over_records, warmth, loading, word_before, hart_after, harts_after, other_after, skipped_after, events_after, is_guarded, bytes_since}
-use Rattle.run_model.specs.Counts.{IsRested, turns_left}
-use Rattle.run_model.specs.Represents.EachCache.{steps_in, AreCaches}
-use Rattle.run_model.specs.Represents.Harts.{AreHarts, hart_in, no_hart, all_left}
-use Rattle.run_model.specs.Represents.Accessed.{AsksHere, IsTaken, IsOnlySwept}
-use Rattle.run_model.specs.Represents.Turning.{is_live}
-use Rattle.run_model.specs.Represents.InPlace.{ask_here, in_state, moved_harts, moved_run, IsMoved}
-use Rattle.run_model.specs.Represents.Logs.{taken, IsLog}
-use Rattle.run_model.specs.Represents.Plain.{IsTraceFit, IsHartFit, IsTrace, IsSwept, everyone, IsRun, PlainParts}
-use Rattle.run_model.specs.Represents.Parts.{MachineParts, IsMachine}
-use Rattle.run_model.specs.declared.start.Start.{Start}
+use Rattle.run_model.proofs.Common.{◌≡◌, ◌≢◌, ℕ, ◌+◌, ◌-◌, ◌*◌, ◌<◌, ◌≤◌, ◌^◌, ◌==◌, ◌++◌, Bool, true, false, List, [], length, sym, ◌∙◌, ap, subst, arith, refl, inl, inr, IsTrue, Vec, slice_set, Some, None, nat_le, nat_lt, ◌&&◌, Global, get_or-set_same, get_or-set_other, length-set, set-set, set-get_or, eqb_tells, Program, RawSettings, HartState, Contents, is_cut, passes, orderly, absorbed, ask_of, Ask, Want, Reply, Load, Store, Shadow, RepresentsAccesses, lasts, next_turn, next_count, harts_of, Record, total, Hart, Log, TurnEnd, GoesOn, NewInterval, HartOver, RunOver, Trace, answer, Run, turn, ask_at, budget, is_orderly, serve_call, span_of, counted, point_of, edge_records, load_record, sc_record, next_records, run_over_records, warmth, loading, word_before, hart_after, harts_after, other_after, skipped_after, events_after, is_guarded, bytes_since, IsRested, turns_left, steps_in, AreCaches, AreHarts, hart_in, no_hart, all_left, AsksHere, IsTaken, IsOnlySwept, is_live, ask_here, in_state, moved_harts, moved_run, IsMoved, taken, IsLog, IsTraceFit, IsHartFit, IsTrace, IsSwept, everyone, IsRun, PlainParts, MachineParts, IsMachine, Start}
 use Rattle.run_model.proofs.Fits.{counted_by, guarded_below, left_live, le_is, lt_is}
 use Rattle.run_model.proofs.MoveOn.{budget_interval, some_budget}
 use Rattle.run_model.proofs.OneTurn.{live_within, asked_orderly, turn_is}

@@ -1,3 +1,4 @@
+mod Common
 pub mod EachHart
 pub mod Histories
 pub mod Moved

@@ -1,10 +1,7 @@
 -- Sets of harts, one bit for each.
-use Rattle.std.proofs.Common.{◌≡◌, ◌≢◌, ℕ, zero, suc, refl, ap₂, ◌+◌, ◌*◌, ◌^◌, ◌%◌, ◌<◌, ◌==◌, Bool, true, false, ◌&&◌, bit_or, ap, arith, pow-suc, shl_exact}
+use Rattle.run_model.proofs.Common.{◌≡◌, ◌≢◌, ℕ, zero, suc, refl, ap₂, ◌+◌, ◌*◌, ◌^◌, ◌%◌, ◌<◌, ◌==◌, Bool, true, false, ◌&&◌, bit_or, ap, arith, pow-suc, shl_exact, eq-eqb, or_lt, has_bit, all_below}
 use Rattle.std.specs.Int.{bit_at}
-use Rattle.std.proofs.lemmas.Bool.{eq-eqb}
-use Rattle.std.proofs.lemmas.Nat.{or_lt}
 use Rattle.std.proofs.lemmas.Nat.Bits.{bit_at_or, bit_at-pow_same, bit_at-pow_other, bit_at-lt, bit_at_above}
-use Rattle.race_log.specs.Sweep.{has_bit, all_below}
 
 -- a set of harts below n hasn't hart n
 pub has_none : (set n : ℕ) → set < 2 ^ n → has_bit set n ≡ false

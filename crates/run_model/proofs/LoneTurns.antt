@@ -1,45 +1,6 @@
 -- Turns of a hart that is alone, in its own place.
-use Rattle.std.proofs.Common.{◌≡◌, ◌≢◌, ℕ, zero, suc, ◌+◌, ◌-◌, ◌*◌, ◌/◌, ◌<◌, ◌≤◌, ◌^◌, ◌==◌, ◌++◌, Bool, true, false, List, [], ◌∷◌, length, sym, ◌∙◌, ap, subst, arith, refl, inl, inr, length-set, min}
-use Rattle.std.specs.Prelude.{IsTrue, slice_set, Option, Some, None, slice_get, nat_le, nat_lt, ◌&&◌, if◌then◌else◌}
-use Rattle.std.proofs.lemmas.List.{append-nil}
-use Rattle.bn_base.specs.Programs.{Program}
-use Rattle.bn_base.specs.declared.settings.RawSettings.{RawSettings}
-use Rattle.bn_base.specs.declared.state.HartState.{HartState}
-use Rattle.first_load_bits.specs.Represents.{Contents}
-use Rattle.first_load_bits.specs.declared.warm.Warm.{Warm}
+use Rattle.run_model.proofs.Common.{◌≡◌, ◌≢◌, ℕ, zero, suc, ◌+◌, ◌-◌, ◌*◌, ◌/◌, ◌<◌, ◌≤◌, ◌^◌, ◌==◌, ◌++◌, Bool, true, false, List, [], ◌∷◌, length, sym, ◌∙◌, ap, subst, arith, refl, inl, inr, length-set, min, IsTrue, slice_set, Option, Some, None, slice_get, nat_le, nat_lt, ◌&&◌, if◌then◌else◌, append-nil, Program, RawSettings, HartState, Contents, Warm, Record, Shadow, Hart, Log, TurnEnd, GoesOn, NewInterval, HartOver, RunOver, Walking, LeadsTo, AsksThere, absorbed, ask_of, count_up, orderly, add, Ask, Plan, total, lasts, next_turn, next_count, harts_of, eqb_tells, Want, Reply, Trace, Run, turn, serve, served_if, ask_at, budget, counted, is_orderly, is_guarded, serve_call, guarded_run, by_guard, span_of, point_of, edge_records, load_record, sc_record, next_records, run_over_records, warmth, loading, word_before, bytes_since, header_size, hart_after, harts_after, other_after, skipped_after, events_after, next_of, EndsTurn, IsTaken, steps_in, AreCaches, hart_in, is_live_hart, no_hart, get_or-set_same, IsNoCall, IsOneOn, IsOnWay, IsMovedAlone, CanTakeAlone, IsTakenAlone, IsTurnedAlone, IsUnguarded, CanTurn, HasTurned, HaveTurned, HaveStopped, run_alone, is_live, in_state, ask_here, moved_harts, moved_run, IsMoved, IsLog, taken, IsMachine, IsSwept, is_walk_due, IsTraceFit, IsHartFit, IsTrace, IsRun, PlainParts, Start, IsRested, turns_left, answer, call_of}
 use Rattle.first_load_bits.specs.declared.warm.Warm.TheVariants as answers
-use Rattle.log_record.specs.declared.record.Record.{Record}
-use Rattle.race_log.specs.declared.shadow.Shadow.{Shadow}
-use Rattle.run_model.specs.declared.hart.Hart.{Hart}
-use Rattle.run_model.specs.declared.log.Log.{Log}
-use Rattle.run_model.specs.declared.turn_end.TurnEnd.{TurnEnd}
-use Rattle.run_model.specs.declared.turn_end.TurnEnd.TheVariants.{GoesOn, NewInterval, HartOver, RunOver}
-use Rattle.rv_meaning.specs.Ahead.{Walking, LeadsTo, AsksThere}
-use Rattle.rv_meaning.specs.Execute.{absorbed, ask_of, count_up}
-use Rattle.rv_meaning.specs.Orderly.{orderly}
-use Rattle.rv_meaning.specs.Words.{add}
-use Rattle.rv_meaning.specs.declared.asks.Ask.{Ask}
-use Rattle.system_calls.specs.declared.effect.Plan.{Plan}
-use Rattle.log_record.specs.Spelling.{total}
-use Rattle.race_log.specs.Represents.{lasts, next_turn, next_count, harts_of}
-use Rattle.std.proofs.lemmas.Bool.Decides.{eqb_tells}
-use Rattle.rv_meaning.specs.declared.asks.Want.{Want}
-use Rattle.rv_meaning.specs.declared.asks.Reply.{Reply}
-use Rattle.run_model.specs.declared.trace.Trace.{Trace}
-use Rattle.run_model.specs.Turn.{Run, turn, serve, served_if, ask_at, budget, counted, is_orderly, is_guarded, serve_call, guarded_run, by_guard, span_of, point_of, edge_records, load_record, sc_record, next_records, run_over_records, warmth, loading, word_before, bytes_since, header_size, hart_after, harts_after, other_after, skipped_after, events_after, next_of}
-use Rattle.run_model.specs.Represents.Accessed.{EndsTurn, IsTaken}
-use Rattle.run_model.specs.Represents.EachCache.{steps_in, AreCaches}
-use Rattle.run_model.specs.Represents.Harts.{hart_in, is_live_hart, no_hart}
-use Rattle.std.proofs.lemmas.List.{get_or-set_same}
-use Rattle.run_model.specs.Represents.Alone.{IsNoCall, IsOneOn, IsOnWay, IsMovedAlone, CanTakeAlone, IsTakenAlone, IsTurnedAlone, IsUnguarded, CanTurn, HasTurned, HaveTurned, HaveStopped, run_alone}
-use Rattle.run_model.specs.Represents.Turning.{is_live}
-use Rattle.run_model.specs.Represents.InPlace.{in_state, ask_here, moved_harts, moved_run, IsMoved}
-use Rattle.run_model.specs.Represents.Logs.{IsLog, taken}
-use Rattle.run_model.specs.Represents.Parts.{IsMachine}
-use Rattle.run_model.specs.Represents.Plain.{IsSwept, is_walk_due, IsTraceFit, IsHartFit, IsTrace, IsRun, PlainParts}
-use Rattle.run_model.specs.declared.start.Start.{Start}
-use Rattle.run_model.specs.Counts.{IsRested, turns_left}
-use Rattle.run_model.specs.Machine.{answer, call_of}
 use Rattle.run_model.proofs.Asked.{all_less, other_stays}
 use Rattle.run_model.proofs.Fits.{guarded_below, left_live}
 use Rattle.run_model.proofs.InPlace.{within_interval, own_moved, other_moved, moved_is, moved_on, own_same, stands_on}

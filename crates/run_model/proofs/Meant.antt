@@ -1,9 +1,5 @@
 -- Parts represent a machine.
-use Rattle.std.proofs.Common.{◌≡◌, ◌/◌, ℕ, List, refl, sym, ◌∙◌, subst}
-use Rattle.std.specs.Prelude.{Option, None, drop, get_or}
-use Rattle.bus_memory.specs.Contents.{HoldsMap}
-use Rattle.run_model.specs.Machine.{Machine}
-use Rattle.run_model.specs.Represents.Parts.{MachineParts, IsMachine, IsSameMachine, AreReserved}
+use Rattle.run_model.proofs.Common.{◌≡◌, ◌/◌, ℕ, List, refl, sym, ◌∙◌, subst, Option, None, drop, get_or, HoldsMap, Machine, MachineParts, IsMachine, IsSameMachine, AreReserved}
 
 -- one of the machines that the parts represent
 abbrev pub meant : List ℕ → MachineParts → Machine

@@ -1,31 +1,11 @@
 -- Each turn moves its hart on.
-use Rattle.std.proofs.Common.{◌≡◌, ℕ, ◌+◌, ◌-◌, ◌<◌, ◌≤◌, ◌^◌, Bool, true, false, nat_le, nat_lt, ◌&&◌, Option, Some, None, refl, sym, ap, ◌∙◌, arith, ◌==◌, List}
-use Rattle.std.specs.Prelude.{slice_index, if◌then◌else◌}
-use Rattle.std.proofs.lemmas.Grind.{common_steps}
-use Rattle.bn_base.specs.Programs.{Program}
+use Rattle.run_model.proofs.Common.{◌≡◌, ℕ, ◌+◌, ◌-◌, ◌<◌, ◌≤◌, ◌^◌, Bool, true, false, nat_le, nat_lt, ◌&&◌, Option, Some, None, refl, sym, ap, ◌∙◌, arith, ◌==◌, List, slice_index, if◌then◌else◌, common_steps, Program, RawSettings, HartState, Ask, Want, Load, Store, LoadReserved, StoreConditional, Amo, System, Cut, Faulted, Reply, absorbed, count_up, count_up_if, is_exit, has_value, Plan, Hart, TurnEnd, GoesOn, NewInterval, HartOver, RunOver, Span, Machine, answer_call, answer_sc, is_reserved, planned, kernel_of, budget, span_of, counted, after_call, is_orderly, is_marked_next, IsFit, MovesOn, AskMovesOn, EachTurnMovesOn, is_on}
 use Rattle.bn_base.specs.Faults.{fault_number}
-use Rattle.bn_base.specs.declared.settings.RawSettings.{RawSettings}
-use Rattle.bn_base.specs.declared.state.HartState.{HartState}
 use Rattle.bn_base.specs.declared.fault.Fault.{Fault}
 use Rattle.bn_base.specs.declared.fault.Fault.TheVariants.{Illegal, Breakpoint, FetchOutside, TargetMisaligned, LoadOutside, LoadMisaligned, StoreOutside, StoreMisaligned, StoreReadOnly}
-use Rattle.rv_meaning.specs.declared.asks.Ask.{Ask}
-use Rattle.rv_meaning.specs.declared.asks.Want.{Want}
-use Rattle.rv_meaning.specs.declared.asks.Want.TheVariants.{Load, Store, LoadReserved, StoreConditional, Amo, System, Cut, Faulted}
-use Rattle.rv_meaning.specs.declared.asks.Reply.{Reply}
 use Rattle.rv_meaning.specs.declared.asks.Reply.TheVariants as replies
-use Rattle.rv_meaning.specs.Execute.{absorbed, count_up, count_up_if, is_exit}
-use Rattle.rv_meaning.specs.Orderly.{has_value}
-use Rattle.system_calls.specs.declared.effect.Plan.{Plan}
 use Rattle.system_calls.specs.declared.effect.Plan.TheVariants as plans
 use Rattle.system_calls.specs.Laws.{is_end, ExitsAloneEnd}
-use Rattle.run_model.specs.declared.hart.Hart.{Hart}
-use Rattle.run_model.specs.declared.turn_end.TurnEnd.{TurnEnd}
-use Rattle.run_model.specs.declared.turn_end.TurnEnd.TheVariants.{GoesOn, NewInterval, HartOver, RunOver}
-use Rattle.run_model.specs.declared.span.Span.{Span}
-use Rattle.run_model.specs.Machine.{Machine, answer_call, answer_sc, is_reserved, planned, kernel_of}
-use Rattle.run_model.specs.Turn.{budget, span_of, counted, after_call, is_orderly}
-use Rattle.run_model.specs.Represents.Logs.{is_marked_next}
-use Rattle.run_model.specs.Counts.{IsFit, MovesOn, AskMovesOn, EachTurnMovesOn, is_on}
 
 -- both of two tests hold
 pub both : (a b : Bool) → (a && b) ≡ true → (a ≡ true) × (b ≡ true)

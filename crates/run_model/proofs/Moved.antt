@@ -1,9 +1,6 @@
 -- Bytes that are moved one after another.
-use Rattle.std.proofs.Common.{arith, append_assoc, add-one, ◌≡◌, ◌∙◌, sym, ap, subst, ℕ, zero, suc, ◌+◌, ◌-◌, ◌*◌, ◌/◌, ◌%◌, ◌<◌, true, List, [], ◌∷◌, ◌++◌, length, get_or, take, drop}
-use Rattle.std.proofs.lemmas.List.{take_more, get_or-drop, length-drop, length-take-le}
-use Rattle.rv_meaning.specs.Words.{aligned, bytes_at}
-use Rattle.bus_memory.specs.Contents.{Contents, HoldsMap, has_page, HasPages}
-use Rattle.run_model.specs.Machine.{put_byte, filled, bytes_in, word_count}
+use Rattle.run_model.proofs.Common.{arith, append_assoc, add-one, ◌≡◌, ◌∙◌, sym, ap, subst, ℕ, zero, suc, ◌+◌, ◌-◌, ◌*◌, ◌/◌, ◌%◌, ◌<◌, true, List, [], ◌∷◌, ◌++◌, length, get_or, take, drop, take_more, get_or-drop, length-drop, length-take-le, aligned, bytes_at, HoldsMap, has_page, HasPages, put_byte, filled, bytes_in, word_count}
+use Rattle.bus_memory.specs.Contents.{Contents}
 
 -- one byte more is filled
 filled_more : (a : ℕ) (xs : List ℕ) (v : ℕ) (m : ℕ → ℕ) → filled a (xs ++ v ∷ []) m ≡ put_byte (a + length xs) v (filled a xs m)

@@ -1,8 +1,5 @@
 -- The caches before the first turn, one by one.
-use Rattle.std.proofs.Common.{◌≡◌, ◌∷◌, ◌++◌, [], ℕ, zero, suc, ◌+◌, ◌<◌, List, length, refl, ◌∙◌, ap, arith, length-append}
-use Rattle.bn_base.specs.declared.settings.RawSettings.{RawSettings}
-use Rattle.first_load_bits.specs.Represents.{Contents, RepresentsEvents, geometry_of}
-use Rattle.run_model.specs.Represents.EachCache.{cache_of, steps_in}
+use Rattle.run_model.proofs.Common.{◌≡◌, ◌∷◌, ◌++◌, [], ℕ, zero, suc, ◌+◌, ◌<◌, List, length, refl, ◌∙◌, ap, arith, length-append, RawSettings, Contents, RepresentsEvents, geometry_of, cache_of, steps_in}
 
 -- so many caches, none of which lists a line
 pub record AreNew (c : RawSettings) (n : ℕ) (cs : List Contents) : Type 0 where

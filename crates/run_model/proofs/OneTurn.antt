@@ -1,21 +1,6 @@
 -- A turn of a plain machine is a turn of its run.
-use Rattle.std.proofs.Common.{◌≡◌, ℕ, zero, suc, ◌+◌, ◌<◌, ◌≤◌, ◌^◌, Bool, true, false, List, [], ◌∷◌, length, get_or, sym, ◌∙◌, ap, subst, arith, refl, inl, inr}
-use Rattle.std.specs.Prelude.{Option, IsTrue, slice_get, ◌&&◌, nat_lt}
-use Rattle.std.proofs.lemmas.Option.{slice_get-get_or}
-use Rattle.std.proofs.lemmas.Bool.Decides.{leb_tells}
-use Rattle.bn_base.specs.Programs.{Program}
-use Rattle.bn_base.specs.declared.settings.RawSettings.{RawSettings}
-use Rattle.bn_base.specs.declared.state.HartState.{HartState}
-use Rattle.rv_meaning.specs.declared.asks.Ask.{Ask}
-use Rattle.rv_meaning.specs.Execute.{ask_of}
-use Rattle.rv_meaning.specs.Orderly.{orderly, is_counted, passes}
-use Rattle.system_calls.specs.declared.effect.Plan.{Plan}
-use Rattle.run_model.specs.declared.hart.Hart.{Hart}
-use Rattle.run_model.specs.Machine.{call_of}
-use Rattle.run_model.specs.Turn.{Run, serve, serve_call, serve_orderly, served_if, turn, ask_at, is_orderly, is_guarded, budget}
-use Rattle.run_model.specs.Counts.{IsFit}
+use Rattle.run_model.proofs.Common.{◌≡◌, ℕ, zero, suc, ◌+◌, ◌<◌, ◌≤◌, ◌^◌, Bool, true, false, List, [], ◌∷◌, length, get_or, sym, ◌∙◌, ap, subst, arith, refl, inl, inr, Option, IsTrue, slice_get, ◌&&◌, nat_lt, slice_get-get_or, leb_tells, Program, RawSettings, HartState, Ask, ask_of, orderly, is_counted, passes, Plan, Hart, call_of, Run, serve, serve_call, serve_orderly, served_if, turn, ask_at, is_orderly, is_guarded, budget, IsFit, AreHarts, is_live_hart, hart_in}
 use Rattle.run_model.specs.Runs.{is_live}
-use Rattle.run_model.specs.Represents.Harts.{AreHarts, is_live_hart, hart_in}
 use Rattle.run_model.proofs.Fits.{lt_is}
 use Rattle.run_model.proofs.MoveOn.{budget_limit, both}
 

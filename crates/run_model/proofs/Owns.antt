@@ -1,19 +1,5 @@
 -- The hart whose turn it was, put together from the steps of the code.
-use Rattle.std.proofs.Common.{◌≡◌, ℕ, ◌<◌, List, length, refl, ◌∙◌, ap}
-use Rattle.std.specs.Prelude.{Option, Some, None, get_or}
-use Rattle.std.proofs.lemmas.Option.{slice_get-get_or, get_or_from_slice_get}
-use Rattle.bn_base.specs.declared.settings.RawSettings.{RawSettings}
-use Rattle.bn_base.specs.declared.state.HartState.{HartState}
-use Rattle.rv_meaning.specs.declared.asks.Want.{Want}
-use Rattle.rv_meaning.specs.declared.asks.Want.TheVariants.{Load, Store, LoadReserved, StoreConditional, Amo, System, Cut, Faulted}
-use Rattle.rv_meaning.specs.declared.asks.Reply.{Reply}
-use Rattle.system_calls.specs.declared.effect.Plan.{Plan}
-use Rattle.first_load_bits.specs.declared.warm.Warm.{Warm}
-use Rattle.run_model.specs.declared.hart.Hart.{Hart}
-use Rattle.run_model.specs.declared.turn_end.TurnEnd.{TurnEnd}
-use Rattle.run_model.specs.declared.turn_end.TurnEnd.TheVariants.{GoesOn, NewInterval, HartOver, RunOver}
-use Rattle.run_model.specs.Turn.{next_of, hart_after, skipped_after}
-use Rattle.run_model.specs.Represents.Harts.{AreHarts, hart_in}
+use Rattle.run_model.proofs.Common.{◌≡◌, ℕ, ◌<◌, List, length, refl, ◌∙◌, ap, Option, Some, None, get_or, slice_get-get_or, get_or_from_slice_get, RawSettings, HartState, Want, Load, Store, LoadReserved, StoreConditional, Amo, System, Cut, Faulted, Reply, Plan, Warm, Hart, TurnEnd, GoesOn, NewInterval, HartOver, RunOver, next_of, hart_after, skipped_after, AreHarts, hart_in}
 
 -- a hart of the list
 pub hart_at : (hs : List Hart) (k : ℕ) (x : Hart) → k < length hs → x ≡ get_or hs k x → x ≡ hart_in hs k

@@ -1,35 +1,7 @@
 -- A turn of a plain machine keeps its counts within the settings.
-use Rattle.std.proofs.Common.{◌≡◌, ℕ, zero, suc, ◌+◌, ◌<◌, ◌≤◌, ◌==◌, Bool, true, false, List, length, refl, sym, ◌∙◌, ap, subst, arith, inl, inr}
-use Rattle.std.specs.Global.{Global}
-use Rattle.first_load_bits.specs.Represents.{Contents}
-use Rattle.run_model.specs.declared.log.Log.{Log}
-use Rattle.std.specs.Prelude.{Vec, Option, Some, None, is_some, ◌≢◌, if◌then◌else◌}
-use Rattle.std.proofs.lemmas.Bool.Decides.{eqb_tells}
-use Rattle.std.proofs.lemmas.Option.{slice_get-get_or, get_or_from_slice_get}
-use Rattle.bn_base.specs.Programs.{Program}
-use Rattle.bn_base.specs.declared.settings.RawSettings.{RawSettings}
-use Rattle.bn_base.specs.declared.state.HartState.{HartState}
-use Rattle.rv_meaning.specs.Execute.{absorbed}
-use Rattle.rv_meaning.specs.declared.asks.Ask.{Ask}
-use Rattle.rv_meaning.specs.declared.asks.Reply.{Reply}
-use Rattle.system_calls.specs.declared.effect.Plan.{Plan}
-use Rattle.first_load_bits.specs.declared.warm.Warm.{Warm}
+use Rattle.run_model.proofs.Common.{◌≡◌, ℕ, zero, suc, ◌+◌, ◌<◌, ◌≤◌, ◌==◌, Bool, true, false, List, length, refl, sym, ◌∙◌, ap, subst, arith, inl, inr, Global, Contents, Log, Vec, Option, Some, None, is_some, ◌≢◌, if◌then◌else◌, eqb_tells, slice_get-get_or, get_or_from_slice_get, Program, RawSettings, HartState, absorbed, Ask, Reply, Plan, Warm, has_bit, RepresentsAccesses, KnowsSame, harts_of, lasting_of, next_turn, next_count, Hart, TurnEnd, GoesOn, NewInterval, HartOver, RunOver, Span, Trace, Machine, answer, call_of, Run, span_of, next_of, loading, hart_after, harts_after, other_after, skipped_after, IsRested, MovesOn, AskMovesOn, EachTurnMovesOn, turns_left, is_there, is_loading, AreCaches, steps_in, touched_word, touches, AreHarts, hart_in, all_left, taken, IsLog, is_marked_next, IsTrace, IsTraceFit, IsHartFit, IsSwept, everyone, count_after, clears}
 use Rattle.first_load_bits.specs.declared.warm.Warm.TheVariants as answers
-use Rattle.race_log.specs.Sweep.{has_bit}
 use Rattle.race_log.specs.Points.{Point}
-use Rattle.race_log.specs.Represents.{RepresentsAccesses, KnowsSame, harts_of, lasting_of, next_turn, next_count}
-use Rattle.run_model.specs.declared.hart.Hart.{Hart}
-use Rattle.run_model.specs.declared.turn_end.TurnEnd.{TurnEnd}
-use Rattle.run_model.specs.declared.turn_end.TurnEnd.TheVariants.{GoesOn, NewInterval, HartOver, RunOver}
-use Rattle.run_model.specs.declared.span.Span.{Span}
-use Rattle.run_model.specs.declared.trace.Trace.{Trace}
-use Rattle.run_model.specs.Machine.{Machine, answer, call_of}
-use Rattle.run_model.specs.Turn.{Run, span_of, next_of, loading, hart_after, harts_after, other_after, skipped_after}
-use Rattle.run_model.specs.Counts.{IsRested, MovesOn, AskMovesOn, EachTurnMovesOn, turns_left, is_there, is_loading}
-use Rattle.run_model.specs.Represents.EachCache.{AreCaches, steps_in, touched_word, touches}
-use Rattle.run_model.specs.Represents.Harts.{AreHarts, hart_in, all_left}
-use Rattle.run_model.specs.Represents.Logs.{taken, IsLog, is_marked_next}
-use Rattle.run_model.specs.Represents.Plain.{IsTrace, IsTraceFit, IsHartFit, IsSwept, everyone, count_after, clears}
 use Rattle.run_model.proofs.Fits.{fit_by, fewer_left, fit_other, no_more_left}
 use Rattle.run_model.proofs.Asked.{IsOwnFit, IsAsked, all_less, if_true, if_false, eqb_same}
 

@@ -1,28 +1,6 @@
 -- A turn of a plain machine, put together from the steps of the code.
-use Rattle.std.proofs.Common.{◌≡◌, ℕ, ◌+◌, ◌++◌, false, List, ◌∙◌, sym, ap, subst}
-use Rattle.std.specs.Prelude.{Option, Some, None}
-use Rattle.std.proofs.lemmas.List.{append_assoc}
-use Rattle.bn_base.specs.declared.settings.RawSettings.{RawSettings}
-use Rattle.rv_meaning.specs.Execute.{absorbed}
-use Rattle.rv_meaning.specs.declared.asks.Ask.{Ask}
-use Rattle.rv_meaning.specs.declared.asks.Want.{Want}
-use Rattle.rv_meaning.specs.declared.asks.Want.TheVariants.{Load, Store, LoadReserved, StoreConditional, Amo, System, Cut, Faulted}
-use Rattle.rv_meaning.specs.declared.asks.Reply.{Reply}
+use Rattle.run_model.proofs.Common.{◌≡◌, ℕ, ◌+◌, ◌++◌, false, List, ◌∙◌, sym, ap, subst, Option, Some, None, append_assoc, RawSettings, absorbed, Ask, Want, Load, Store, LoadReserved, StoreConditional, Amo, System, Cut, Faulted, Reply, Plan, Warm, Record, total, IsLog, Shadow, RepresentsAccesses, Hart, Trace, answer, Run, serve_call, span_of, next_of, hart_after, harts_after, events_after, skipped_after, warmth, loading, word_before, point_of, points_after, edge_records, load_record, sc_record, next_records, run_over_records, AreCaches, AreHarts, IsTrace, IsRaceReady, everyone}
 use Rattle.rv_meaning.specs.declared.asks.Reply.TheVariants as replies
-use Rattle.system_calls.specs.declared.effect.Plan.{Plan}
-use Rattle.first_load_bits.specs.declared.warm.Warm.{Warm}
-use Rattle.log_record.specs.declared.record.Record.{Record}
-use Rattle.log_record.specs.Spelling.{total}
-use Rattle.run_model.specs.Represents.Logs.{IsLog}
-use Rattle.race_log.specs.declared.shadow.Shadow.{Shadow}
-use Rattle.race_log.specs.Represents.{RepresentsAccesses}
-use Rattle.run_model.specs.declared.hart.Hart.{Hart}
-use Rattle.run_model.specs.declared.trace.Trace.{Trace}
-use Rattle.run_model.specs.Machine.{answer}
-use Rattle.run_model.specs.Turn.{Run, serve_call, span_of, next_of, hart_after, harts_after, events_after, skipped_after, warmth, loading, word_before, point_of, points_after, edge_records, load_record, sc_record, next_records, run_over_records}
-use Rattle.run_model.specs.Represents.EachCache.{AreCaches}
-use Rattle.run_model.specs.Represents.Harts.{AreHarts}
-use Rattle.run_model.specs.Represents.Plain.{IsTrace, IsRaceReady, everyone}
 use Rattle.run_model.proofs.Bytes.{total_append}
 
 -- five lists after a first one

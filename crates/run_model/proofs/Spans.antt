@@ -1,14 +1,7 @@
 -- The words of an access are addresses.
-use Rattle.std.proofs.Common.{arith, subst, ◌≡◌, ℕ, ◌*◌, ◌^◌, ◌≤◌, length, Option, Some, None}
-use Rattle.rv_meaning.specs.declared.asks.Want.{Want}
-use Rattle.rv_meaning.specs.declared.asks.Want.TheVariants.{Load, Store, LoadReserved, StoreConditional, Amo, System, Cut, Faulted}
-use Rattle.rv_meaning.specs.declared.asks.Reply.{Reply}
+use Rattle.run_model.proofs.Common.{arith, subst, ◌≡◌, ℕ, ◌*◌, ◌^◌, ◌≤◌, length, Option, Some, None, Want, Load, Store, LoadReserved, StoreConditional, Amo, System, Cut, Faulted, Reply, Plan, Span, span_of, AreWordsIn, AreAddresses}
 use Rattle.rv_meaning.specs.declared.asks.Reply.TheVariants as replies
-use Rattle.system_calls.specs.declared.effect.Plan.{Plan}
 use Rattle.bus_memory.specs.Contents.{Contents}
-use Rattle.run_model.specs.declared.span.Span.{Span}
-use Rattle.run_model.specs.Turn.{span_of}
-use Rattle.run_model.specs.Represents.Parts.{AreWordsIn, AreAddresses}
 
 inside : (c : Contents) (o : Option Span) → 4 * length c.words ≤ 2 ^ 32 → AreWordsIn c o → AreAddresses o
 inside c None size h = tt

@@ -1,23 +1,6 @@
 -- Lists of harts that are set one by one.
-use Rattle.std.proofs.Common.{◌≡◌, ℕ, zero, suc, ◌+◌, ◌<◌, ◌≤◌, Bool, true, false, not, ◌&&◌, ◌==◌, List, [], ◌∷◌, ◌++◌, length, Some, refl, sym, ◌∙◌, ap, subst, arith, inl, inr, length-set}
-use Rattle.std.specs.Prelude.{slice_get, slice_set, get_or, ◌≢◌, if◌then◌else◌}
-use Rattle.std.proofs.lemmas.Bool.Decides.{eqb_tells}
-use Rattle.std.proofs.lemmas.List.{get_or-set_same, get_or-set_other, append_assoc, append-nil}
-use Rattle.std.proofs.lemmas.Option.{slice_get-get_or, get_or_from_slice_get}
-use Rattle.log_record.specs.declared.record.Record.{Record}
-use Rattle.log_record.specs.declared.record.Record.TheVariants.{End}
-use Rattle.bn_base.specs.declared.state.HartState.{HartState}
-use Rattle.race_log.specs.declared.shadow.Shadow.{Shadow}
-use Rattle.run_model.specs.declared.hart.Hart.{Hart}
-use Rattle.run_model.specs.declared.trace.Trace.{Trace}
-use Rattle.run_model.specs.declared.turn_end.TurnEnd.{TurnEnd}
-use Rattle.run_model.specs.declared.turn_end.TurnEnd.TheVariants.{GoesOn, NewInterval, HartOver, RunOver}
-use Rattle.run_model.specs.Turn.{other_after, harts_after, stopped_records, run_over_records, next_records, mark}
-use Rattle.run_model.specs.Represents.Harts.{AreHarts, others_after, stopped_at, stopped_below, stop_record, stop_records}
-use Rattle.run_model.specs.Represents.Logs.{taken}
-use Rattle.run_model.specs.Represents.EachCache.{steps_in}
-use Rattle.run_model.specs.Represents.Plain.{IsSwept, GivesUpKnown, is_walk_due, is_end, clears}
-use Rattle.run_model.specs.Represents.Accessed.{EndsTurn}
+use Rattle.run_model.proofs.Common.{◌≡◌, ℕ, zero, suc, ◌+◌, ◌<◌, ◌≤◌, Bool, true, false, not, ◌&&◌, ◌==◌, List, [], ◌∷◌, ◌++◌, length, Some, refl, sym, ◌∙◌, ap, subst, arith, inl, inr, length-set, slice_get, slice_set, get_or, ◌≢◌, if◌then◌else◌, eqb_tells, get_or-set_same, get_or-set_other, append_assoc, append-nil, slice_get-get_or, get_or_from_slice_get, Record, End, HartState, Shadow, Hart, Trace, TurnEnd, GoesOn, NewInterval, HartOver, RunOver, other_after, harts_after, stopped_records, run_over_records, next_records, mark, AreHarts, others_after, stopped_at, stopped_below, stop_record, stop_records, taken, steps_in, IsSwept, GivesUpKnown, is_walk_due, clears, EndsTurn}
+use Rattle.run_model.specs.Represents.Plain.{is_end}
 
 -- hart k of a list in which one was set
 pub set_one : (hs : List Hart) (n k : ℕ) (t y : Hart) (g : ℕ → Hart) → AreHarts hs g → n < length hs → k < length hs → slice_get (slice_set hs n t) k ≡ Some (elim (k == n) [ true ↦ t | false ↦ g k ])

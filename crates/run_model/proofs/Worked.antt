@@ -1,9 +1,6 @@
 -- Small recordings, worked out by hand.
-use Rattle.std.proofs.Common.{◌≡◌, ◌∷◌, [], refl}
-use Rattle.log_record.specs.declared.record.Record.TheVariants.{FirstLoad, ScOk, ScFailed, Edge}
+use Rattle.run_model.proofs.Common.{◌≡◌, ◌∷◌, [], refl, FirstLoad, ScOk, ScFailed, Edge, serve, records_of_a_filled_word, records_of_a_relay, recorded, first_header, end, two_loads_of_a_word, a_skipped_load, a_byte_store, a_line_put_out, a_conditional_store, a_line_lost, a_reservation_lost, a_filled_word, a_relay}
 use Rattle.race_log.specs.Tests.{at_places, leads, any_below, before, edge, greatest_first, edges_into}
-use Rattle.run_model.specs.Turn.{serve}
-use Rattle.run_model.specs.Examples.{records_of_a_filled_word, records_of_a_relay, recorded, first_header, end, two_loads_of_a_word, a_skipped_load, a_byte_store, a_line_put_out, a_conditional_store, a_line_lost, a_reservation_lost, a_filled_word, a_relay}
 
 pub the_first_load_is_logged : (recorded two_loads_of_a_word).stream ≡ first_header two_loads_of_a_word 0 ∷ FirstLoad 0 0 0 ∷ end 0 5 3 0 ∷ []
 unfolding serve at_places leads any_below before edge greatest_first edges_into

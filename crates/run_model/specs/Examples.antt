@@ -1,19 +1,11 @@
 -- Small recordings whose streams are worked out by hand.
 use Rattle.std.specs.Prelude.{ℕ, ◌≡◌, true, false, List, [], ◌∷◌, length, filter, map, Bool, Some, None}
-use Rattle.bn_base.specs.Programs.{Program, Part}
-use Rattle.bn_base.specs.Ranges.{default_settings}
-use Rattle.bn_base.specs.declared.settings.RawSettings.{RawSettings}
-use Rattle.bn_base.specs.declared.row.Row.{Row}
+use Rattle.run_model.specs.Common.{Program, Part, default_settings, RawSettings, Row, Record, Header, FirstLoad, Edge, End, Point, access_point, Write}
 use Rattle.bn_base.specs.declared.fault.Fault.TheVariants.{LoadOutside}
-use Rattle.log_record.specs.declared.record.Record.{Record}
-use Rattle.log_record.specs.declared.record.Record.TheVariants.{Header, FirstLoad, Edge, End}
 use Rattle.run_model.specs.Turn.{Run, turn, header, mark}
 use Rattle.run_model.specs.Runs.{start, start_state, run_of, legal_from, has_finished}
 use Rattle.run_model.specs.Rows.{rows_of, rows_in}
 use Rattle.run_model.specs.KeptRecords.{kept_of}
-use Rattle.race_log.specs.Points.{Point}
-use Rattle.race_log.specs.Kept.{access_point}
-use Rattle.race_log.specs.declared.mode.Mode.TheVariants.{Write}
 
 -- what is recorded: the code words, which begin at address 0x10054, the settings, the input, and the list of turns
 pub record Recording : Type 0 where

@@ -1,10 +1,6 @@
 -- What a guard depends on, and that format 1 has none.
 use Rattle.std.specs.Prelude.{◌≡◌, ◌==◌, ℕ, false, List}
-use Rattle.bn_base.specs.Programs.{Program}
-use Rattle.bn_base.specs.declared.settings.RawSettings.{RawSettings}
-use Rattle.rv_meaning.specs.declared.asks.Ask.{Ask}
-use Rattle.rv_meaning.specs.declared.asks.Want.{Want}
-use Rattle.log_record.specs.declared.record.Record.{Record}
+use Rattle.run_model.specs.Common.{Program, RawSettings, Ask, Want, Record}
 use Rattle.run_model.specs.Turn.{Run, serve, is_guarded}
 use Rattle.run_model.specs.Rows.{rows_if, turn_rows, turn_rows_in}
 

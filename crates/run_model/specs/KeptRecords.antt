@@ -1,8 +1,6 @@
 -- What the log keeps of a run.
 use Rattle.std.specs.Prelude.{ℕ, ◌-◌, ◌≡◌, List, ◌++◌, length}
-use Rattle.bn_base.specs.declared.settings.RawSettings.{RawSettings}
-use Rattle.log_record.specs.declared.record.Record.{Record}
-use Rattle.log_ring.specs.Kept.{kept}
+use Rattle.run_model.specs.Common.{RawSettings, Record, kept}
 use Rattle.log_order.specs.Content.{Content, content}
 use Rattle.run_model.specs.Turn.{Run}
 

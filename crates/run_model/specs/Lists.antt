@@ -1,7 +1,6 @@
 -- Why a list of turns isn't a whole run.
 use Rattle.std.specs.Prelude.{ℕ, ◌+◌, true, false, List, [], ◌∷◌, Option, Some, None}
-use Rattle.bn_base.specs.Programs.{Program}
-use Rattle.bn_base.specs.declared.settings.RawSettings.{RawSettings}
+use Rattle.run_model.specs.Common.{Program, RawSettings}
 use Rattle.run_model.specs.Turn.{Run, turn}
 use Rattle.run_model.specs.Runs.{start, is_live, live_harts}
 use Rattle.run_model.specs.declared.error.TurnError.{TurnError}

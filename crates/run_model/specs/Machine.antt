@@ -2,21 +2,10 @@
 -- a hart asks. The files of this folder say what a recording is, and nothing of code. Those of `Represents` say which machines and
 -- runs the parts of the code represent.
 use Rattle.std.specs.Prelude.{ℕ, zero, suc, ◌+◌, ◌-◌, ◌*◌, ◌/◌, ◌%◌, ◌==◌, nat_lt, nat_le, Bool, true, false, ◌&&◌, List, [], ◌∷◌, ◌++◌, length, take, drop, slice_index, Option, Some, None, cond, if◌then◌else◌}
-use Rattle.bn_base.specs.Programs.{Program}
-use Rattle.bn_base.specs.declared.settings.RawSettings.{RawSettings}
-use Rattle.rv_meaning.specs.Words.{aligned, bytes_at, with_bytes}
-use Rattle.rv_meaning.specs.Access.{stored_word, amo_result}
-use Rattle.rv_meaning.specs.declared.asks.Ask.{Ask}
+use Rattle.run_model.specs.Common.{Program, RawSettings, aligned, bytes_at, with_bytes, stored_word, amo_result, Ask, Want, Load, Store, LoadReserved, StoreConditional, Amo, System, Cut, Faulted, Reply, Kernel, Plan, plan_of, updated}
 use Rattle.rv_meaning.specs.declared.amo.AmoOp.{AmoOp}
-use Rattle.rv_meaning.specs.declared.asks.Want.{Want}
-use Rattle.rv_meaning.specs.declared.asks.Want.TheVariants.{Load, Store, LoadReserved, StoreConditional, Amo, System, Cut, Faulted}
-use Rattle.rv_meaning.specs.declared.asks.Reply.{Reply}
 use Rattle.rv_meaning.specs.declared.asks.Reply.TheVariants as replies
-use Rattle.system_calls.specs.declared.kernel.Kernel.{Kernel}
-use Rattle.system_calls.specs.declared.effect.Plan.{Plan}
 use Rattle.system_calls.specs.declared.effect.Plan.TheVariants as plans
-use Rattle.system_calls.specs.Calls.{plan_of}
-use Rattle.bus_memory.specs.Contents.{updated}
 
 -- the word at each aligned address, the word that each hart has reserved, the program break, what is left of the input,
 -- and the two output streams

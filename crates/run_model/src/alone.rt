@@ -3,22 +3,9 @@
 //!
 //! The hart's way through its code, and so its pc, its count and its budget, stays in variables from turn to turn.
 ghost use Rattle.std.specs.Prelude.{◌≡◌, ◌≤◌, ◌<◌, ◌+◌, ℕ, List, [], length, IsTrue, true, false, is_some, Option, Some, None, OnOk, OnErr, ◌&&◌, ◌==◌, nat_lt, ◌*◌, ◌^◌};
-ghost use Rattle.bn_base.specs.Programs.{code_at};
-ghost use Rattle.bn_base.specs.declared.settings.RawSettings.{RawSettings};
-ghost use Rattle.rv_meaning.specs.Ahead.{AsksThere};
-ghost use Rattle.rv_meaning.specs.Execute.{ask_of, count_up};
+ghost use Rattle.run_model.specs.Common.{code_at, RawSettings, AsksThere, ask_of, count_up, is_aligned, instruction_in, aligned, Want, Load, Store, Event, Record, Point, Write, RepresentsAccesses};
 ghost use Rattle.rv_meaning.specs.Ops.{Says};
-ghost use Rattle.rv_meaning.specs.Orderly.{is_aligned};
-ghost use Rattle.rv_meaning.specs.Rows.{instruction_in};
-ghost use Rattle.rv_meaning.specs.Words.{aligned};
-ghost use Rattle.rv_meaning.specs.declared.asks.Want.{Want};
-ghost use Rattle.rv_meaning.specs.declared.asks.Want.TheVariants.{Load, Store};
 ghost use Rattle.rv_meaning.specs.declared.asks.Reply.TheVariants as replies;
-ghost use Rattle.first_load_bits.specs.Events.{Event};
-ghost use Rattle.log_record.specs.declared.record.Record.{Record};
-ghost use Rattle.race_log.specs.Points.{Point};
-ghost use Rattle.race_log.specs.declared.mode.Mode.TheVariants.{Write};
-ghost use Rattle.race_log.specs.Represents.{RepresentsAccesses};
 ghost use Rattle.run_model.specs.declared.hart.Hart.{Hart};
 ghost use Rattle.run_model.specs.declared.span.Span.{Span};
 ghost use Rattle.run_model.specs.declared.turn_end.TurnEnd.TheVariants.{GoesOn};

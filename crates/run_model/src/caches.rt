@@ -1,13 +1,6 @@
 //! The caches of the harts: they decide which loads a recording logs.
 ghost use Rattle.std.specs.Prelude.{◌≡◌, ◌≤◌, ◌<◌, ◌+◌, ◌*◌, ◌^◌, ◌==◌, ℕ, List, [], Bool, true, false, length, get_or, IfOk, Option, Some, None, if◌then◌else◌};
-ghost use Rattle.bn_base.specs.Programs.{Program};
-ghost use Rattle.bn_base.specs.declared.settings.RawSettings.{RawSettings};
-ghost use Rattle.rv_meaning.specs.declared.asks.Want.{Want};
-ghost use Rattle.rv_meaning.specs.declared.asks.Reply.{Reply};
-ghost use Rattle.system_calls.specs.declared.effect.Plan.{Plan};
-ghost use Rattle.first_load_bits.specs.Events.{Event};
-ghost use Rattle.first_load_bits.specs.Events.{Touch, Clear};
-ghost use Rattle.first_load_bits.specs.Represents.{Contents, RepresentsEvents};
+ghost use Rattle.run_model.specs.Common.{Program, RawSettings, Want, Reply, Plan, Event, Touch, Clear, Contents, RepresentsEvents};
 ghost use Rattle.run_model.specs.declared.turn_end.TurnEnd.TheVariants.{GoesOn, NewInterval};
 ghost use Rattle.run_model.specs.Machine.{Machine};
 ghost use Rattle.run_model.specs.declared.span.Span.{Span};

@@ -1,7 +1,6 @@
 //! Small recordings, worked out by hand.
 ghost use Rattle.std.specs.Prelude.{◌≡◌, ◌∷◌, [], map};
-ghost use Rattle.log_record.specs.Spelling.{tag_of};
-ghost use Rattle.log_record.specs.declared.record.Record.TheVariants.{FirstLoad, ScOk, ScFailed, Edge};
+ghost use Rattle.run_model.specs.Common.{tag_of, FirstLoad, ScOk, ScFailed, Edge};
 ghost use Rattle.run_model.specs.Examples.{recorded, is_whole, marks, first_header, end, an_exit, two_loads_of_a_word, a_skipped_load, a_byte_store, a_line_put_out, a_conditional_store, one_a_time};
 ghost use Rattle.run_model.specs.Examples.{a_call_at_full_length, a_fault, a_limit, a_line_lost, a_reservation_lost, a_filled_word, header_after_the_call, a_relay};
 ghost use Rattle.run_model.specs.Examples.{rows_of_an_exit, rows, row_of_a_fault, records_of_a_filled_word, records_of_a_relay};

@@ -1,8 +1,7 @@
 //! Small recordings of format 2, worked out by hand, in logs that are smaller than those of settings in
 //! range: these are of the definitions alone.
 ghost use Rattle.std.specs.Prelude.{◌≡◌, ◌∷◌, [], map};
-ghost use Rattle.log_record.specs.Spelling.{total, tag_of};
-ghost use Rattle.log_record.specs.declared.record.Record.TheVariants.{FirstLoad};
+ghost use Rattle.run_model.specs.Common.{total, tag_of, FirstLoad};
 ghost use Rattle.run_model.specs.Examples.{recorded, is_whole, first_header, end, Begins, Ends, marked, marks_of_two_ends_a_turn, a_guarded_load, an_unguarded_load, a_late_fault, two_ends_a_turn};
 ghost use Rattle.run_model.specs.Examples.{a_guarded_first_fault, kept_records, counts_in, bytes_after_the_load, a_write_by_hart_1};
 

@@ -1,7 +1,6 @@
 //! What a run keeps of a hart: its state, and what its records need of its present interval.
 ghost use Rattle.std.specs.Prelude.{◌≡◌, ◌<◌, ◌-◌, ◌^◌, IsTrue};
-ghost use Rattle.rv_meaning.specs.Execute.{absorbed};
-ghost use Rattle.rv_meaning.specs.Orderly.{is_reply_to};
+ghost use Rattle.run_model.specs.Common.{absorbed, is_reply_to};
 ghost use Rattle.run_model.specs.Runs.{start_hart};
 ghost use Rattle.run_model.specs.Counts.{anew};
 ghost use Rattle.run_model.specs.Turn.{budget, hart_after, mark, stopped, dead, skipped_after};

@@ -1,9 +1,8 @@
 //! What the end of a run does to all harts: it stops them, and appends their Ends.
 ghost use Rattle.std.specs.Prelude.{◌≡◌, ◌≤◌, ◌<◌, ◌+◌, ◌*◌, ◌^◌, ◌++◌, ℕ, List, length, slice_set, get_or};
-ghost use Rattle.log_record.specs.declared.record.Record.{Record};
+ghost use Rattle.run_model.specs.Common.{Record, HartState};
 ghost use Rattle.bn_base.specs.declared.settings.TheConstants.{HARTS};
 ghost use Rattle.run_model.specs.declared.hart.Hart.{Hart};
-ghost use Rattle.bn_base.specs.declared.state.HartState.{HartState};
 ghost use Rattle.run_model.specs.Turn.{harts_after, hart_after, run_over_records, dead};
 ghost use Rattle.run_model.specs.Represents.Harts.{AreHarts, others_after, stopped_below, stopped_at, stop_record, stop_records};
 ghost use Rattle.run_model.specs.Represents.Logs.{taken, IsLog};

@@ -1,18 +1,10 @@
 //! The machine that all harts share, as it runs: it answers asks. `specs/Machine.antt` pins the answers.
 ghost use Rattle.std.specs.Prelude.{◌≡◌, ◌≤◌, ◌<◌, ◌+◌, ◌*◌, ◌/◌, ◌^◌, ◌==◌, ℕ, IsTrue, true, List, length, slice_index, vec_len, IfOk, OnOk, Option, None, Some};
-ghost use Rattle.bn_base.specs.Programs.{Program};
+ghost use Rattle.run_model.specs.Common.{Program, passes, is_reply_to, aligned, stored_word, Reply, System, StoreConditional, Cut, is_aligned, Read, Write, stream_size, IsWithin, updated, has_page};
 ghost use Rattle.bn_base.specs.declared.settings.TheConstants.{HARTS};
-ghost use Rattle.rv_meaning.specs.Orderly.{passes, is_reply_to};
-ghost use Rattle.rv_meaning.specs.Words.{aligned};
-ghost use Rattle.rv_meaning.specs.Access.{stored_word};
-ghost use Rattle.rv_meaning.specs.declared.asks.Reply.{Reply};
 ghost use Rattle.rv_meaning.specs.declared.asks.Reply.TheVariants as replies;
-ghost use Rattle.rv_meaning.specs.declared.asks.Want.TheVariants.{System, StoreConditional, Cut};
-ghost use Rattle.rv_meaning.specs.Orderly.{is_aligned};
-ghost use Rattle.race_log.specs.declared.mode.Mode.TheVariants.{Read, Write};
 ghost use Rattle.system_calls.specs.declared.effect.Plan.TheVariants as plans;
-ghost use Rattle.system_calls.specs.Calls.{stream_size, IsWithin};
-ghost use Rattle.bus_memory.specs.Contents.{Contents, updated, has_page};
+ghost use Rattle.bus_memory.specs.Contents.{Contents};
 ghost use Rattle.run_model.specs.Machine.{Machine as Meant, answered, with_memory, with_reserved, reserving, others_lose, answer, answer_call, answer_access, answer_amo, answer_sc, answer_store};
 ghost use Rattle.run_model.specs.Machine.{call_of, cut_reply, is_reserved, word_count};
 ghost use Rattle.run_model.specs.Turn.{loading, word_before, span_of, call_span, span};

@@ -2,26 +2,13 @@
 //! ask is copied. A turn that would need memory for its machine, or that a guard cuts, puts the state back and is then
 //! taken as all other turns are.
 ghost use Rattle.std.specs.Prelude.{is_some, ◌&&◌, nat_lt, ◌≡◌, ◌≤◌, ◌<◌, ◌+◌, ◌-◌, ◌^◌, ◌++◌, ◌==◌, ◌≢◌, ℕ, List, length, IsTrue, true, false, Option, Some, None, ◌*◌, if◌then◌else◌};
-ghost use Rattle.bn_base.specs.declared.settings.RawSettings.{RawSettings};
+ghost use Rattle.run_model.specs.Common.{RawSettings, HartState, absorbed, is_reply_to, Event, Record, Point, RepresentsAccesses, harts_of, lasting_of, lasts, next_turn, next_count, aligned, Load, Store, is_aligned, Read, Write, may_load, Want};
 ghost use Rattle.bn_base.specs.declared.settings.TheConstants.{HARTS};
-ghost use Rattle.bn_base.specs.declared.state.HartState.{HartState};
-ghost use Rattle.rv_meaning.specs.Execute.{absorbed};
-ghost use Rattle.rv_meaning.specs.Orderly.{is_reply_to};
-ghost use Rattle.first_load_bits.specs.Events.{Event};
-ghost use Rattle.log_record.specs.declared.record.Record.{Record};
-ghost use Rattle.race_log.specs.Points.{Point};
-ghost use Rattle.race_log.specs.Represents.{RepresentsAccesses, harts_of, lasting_of, lasts, next_turn, next_count};
 ghost use Rattle.run_model.specs.declared.hart.Hart.{Hart};
 ghost use Rattle.run_model.specs.declared.turn_end.TurnEnd.TheVariants.{GoesOn};
 ghost use Rattle.run_model.specs.declared.span.Span.{Span};
-ghost use Rattle.rv_meaning.specs.Words.{aligned};
-ghost use Rattle.rv_meaning.specs.declared.asks.Want.TheVariants.{Load, Store};
-ghost use Rattle.rv_meaning.specs.Orderly.{is_aligned};
-ghost use Rattle.race_log.specs.declared.mode.Mode.TheVariants.{Read, Write};
 ghost use Rattle.run_model.specs.Represents.Plain.{IsRun, IsSwept};
 ghost use Rattle.run_model.specs.Represents.Turning.{parts};
-ghost use Rattle.bn_base.specs.Programs.{may_load};
-ghost use Rattle.rv_meaning.specs.declared.asks.Want.{Want};
 ghost use Rattle.run_model.specs.Turn.{Run, span, ask_at, is_orderly, is_guarded, bytes_since, serve_call};
 ghost use Rattle.run_model.specs.Turn.{next_of, next_records, hart_after, warmth, point_of, points_after, edge_records, load_record, events_after, skipped_after};
 ghost use Rattle.run_model.specs.Represents.Harts.{AreHarts, hart_in};

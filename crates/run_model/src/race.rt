@@ -1,9 +1,7 @@
 //! The race log's part of a turn: which Edges it records, and which accesses it may forget.
 ghost use Rattle.std.specs.Prelude.{◌≡◌, ◌≤◌, ◌<◌, ◌+◌, ◌^◌, ◌++◌, ◌&&◌, ◌≢◌, ℕ, List, IsTrue, length};
-ghost use Rattle.log_record.specs.declared.record.Record.{Record};
+ghost use Rattle.run_model.specs.Common.{Record, Point, RepresentsAccesses, harts_of, lasting_of, lasts, next_turn, next_count};
 ghost use Rattle.bn_base.specs.declared.settings.TheConstants.{HARTS};
-ghost use Rattle.race_log.specs.Points.{Point};
-ghost use Rattle.race_log.specs.Represents.{RepresentsAccesses, harts_of, lasting_of, lasts, next_turn, next_count};
 ghost use Rattle.run_model.specs.Turn.{point_of, points_after, edge_records};
 ghost use Rattle.run_model.specs.Represents.Logs.{taken, IsLog};
 ghost use Rattle.run_model.specs.Represents.Accessed.{CanNote, IsNoted};

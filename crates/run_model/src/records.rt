@@ -1,9 +1,6 @@
 //! The records of a turn, and the log that takes them.
 ghost use Rattle.std.specs.Prelude.{◌≡◌, ◌≤◌, ◌<◌, ◌+◌, ◌*◌, ◌^◌, ◌∷◌, ◌++◌, [], ℕ, List, length, take, IsTrue, IfOk};
-ghost use Rattle.log_record.specs.declared.record.Record.{Record};
-ghost use Rattle.log_record.specs.declared.record.Record.TheVariants.{End, FirstLoad};
-ghost use Rattle.log_record.specs.Spelling.{is_mark, is_marked};
-ghost use Rattle.log_ring.specs.Kept.{held};
+ghost use Rattle.run_model.specs.Common.{Record, End, FirstLoad, is_mark, is_marked, held};
 ghost use Rattle.run_model.specs.Turn.{edges_from, load_record, sc_record, header, mark, next_records};
 ghost use Rattle.run_model.specs.Represents.Logs.{taken, Took, IsLog, is_marked_next};
 

@@ -1,14 +1,7 @@
 //! What is traced of a run: its harts, their caches, the race log and the log. All records are appended here.
 //! `specs/Represents` says which runs a trace represents.
 ghost use Rattle.std.specs.Prelude.{◌≡◌, ◌≤◌, ◌<◌, ◌+◌, ◌-◌, ◌*◌, ◌^◌, ◌++◌, ◌==◌, ◌≢◌, ℕ, List, length, IsTrue, true, false, is_some, Option, OnOk, if◌then◌else◌};
-ghost use Rattle.bn_base.specs.Programs.{Program};
-ghost use Rattle.bn_base.specs.declared.settings.RawSettings.{RawSettings};
-ghost use Rattle.rv_meaning.specs.Execute.{absorbed};
-ghost use Rattle.rv_meaning.specs.Orderly.{is_reply_to};
-ghost use Rattle.first_load_bits.specs.Events.{Event};
-ghost use Rattle.log_record.specs.declared.record.Record.{Record};
-ghost use Rattle.race_log.specs.Points.{Point};
-ghost use Rattle.race_log.specs.Represents.{RepresentsAccesses, KnowsSame, lasting_of, lasts, next_turn, next_count};
+ghost use Rattle.run_model.specs.Common.{Program, RawSettings, absorbed, is_reply_to, Event, Record, Point, RepresentsAccesses, KnowsSame, lasting_of, lasts, next_turn, next_count};
 ghost use Rattle.run_model.specs.declared.hart.Hart.{Hart};
 ghost use Rattle.run_model.specs.declared.turn_end.TurnEnd.TheVariants.{GoesOn};
 ghost use Rattle.run_model.specs.declared.span.Span.{Span};

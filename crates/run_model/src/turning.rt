@@ -1,14 +1,12 @@
 //! The steps of a turn of a plain machine, as a bus takes them: it prepares an ask, then applies it.
 ghost use Rattle.std.specs.Prelude.{◌≡◌, ◌<◌, ◌≤◌, ◌*◌, ◌^◌, ℕ, true, false, length, IsTrue, IfOk, MatchOption};
-ghost use Rattle.rv_meaning.specs.Orderly.{is_cut, passes};
-ghost use Rattle.rv_meaning.specs.declared.asks.Reply.{Reply};
+ghost use Rattle.run_model.specs.Common.{is_cut, passes, Reply, HoldsLog};
 ghost use Rattle.rv_meaning.specs.declared.asks.Reply.TheVariants as replies;
 ghost use Rattle.run_model.specs.Machine.{Machine as Meant, call_of};
 ghost use Rattle.run_model.specs.Turn.{Run, span_of, is_orderly, is_guarded, bytes_since, serve_call, serve_disorderly, halted, budget};
 ghost use Rattle.run_model.specs.Represents.Parts.{HasRoom, IsMachine, AreAddresses};
 ghost use Rattle.run_model.specs.Represents.Harts.{hart_in};
 ghost use Rattle.run_model.specs.Represents.Plain.{IsRun, IsRaceReady};
-ghost use Rattle.log_ring.specs.Kept.{HoldsLog};
 ghost use Rattle.run_model.specs.Runs.{start, most_turns};
 ghost use Rattle.run_model.specs.Runs as runs;
 ghost use Rattle.run_model.specs.Represents.Turning.{parts, is_live};

@@ -1,9 +1,5 @@
 -- No two rows of the table fit one word, so the first row that fits is the only one.
-use Rattle.std.proofs.Common.{◌≡◌, ℕ, zero, suc, ◌<◌, Bool, true, false, ◌&&◌, List, [], ◌∷◌, Option, Some, None, refl, sym, ◌∙◌, ap, arith, length}
-use Rattle.std.specs.Prelude.{bit_and, ◌==◌, not, slice_index_or, All, AllPairs, IsFalse}
-use Rattle.std.proofs.lemmas.Bool.{false≢true, eqb-true, eq-eqb}
-use Rattle.std.proofs.lemmas.Nat.{and_assoc, and_comm}
-use Rattle.rv_decode.specs.Table.{Row, fits, table, row_in, NoWordFitsBoth}
+use Rattle.rv_decode.proofs.Common.{◌≡◌, ℕ, zero, suc, ◌<◌, Bool, true, false, ◌&&◌, List, [], ◌∷◌, Option, Some, None, refl, sym, ◌∙◌, ap, arith, length, bit_and, ◌==◌, not, slice_index_or, All, AllPairs, IsFalse, false≢true, eqb-true, eq-eqb, and_assoc, and_comm, Row, fits, table, row_in, NoWordFitsBoth}
 use Rattle.rv_decode.proofs.Fields.{both}
 
 -- some bit that both rows fix has two values

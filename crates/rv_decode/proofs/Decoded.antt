@@ -1,8 +1,5 @@
 -- A word decodes by the row that it fits.
-use Rattle.std.proofs.Common.{◌≡◌, ℕ, Option, Some, None, refl, ap}
-use Rattle.std.specs.Prelude.{All, IsTrue, IsFalse, ◌↔◌}
-use Rattle.rv_decode.specs.Table.{Row, fits, table, row_in, spelled, spelled_by, decoded}
-use Rattle.rv_decode.specs.Fields.{kind_by}
+use Rattle.rv_decode.proofs.Common.{◌≡◌, ℕ, Option, Some, None, refl, ap, All, IsTrue, IsFalse, ◌↔◌, Row, fits, table, row_in, spelled, spelled_by, decoded, kind_by}
 use Rattle.rv_decode.proofs.Apart.{table_row, none_fits, none_found}
 
 kind_none : (o : Option Row) → kind_by o ≡ None → o ≡ None

@@ -1,16 +1,6 @@
 -- A word fits a row if and only if its fields do.
-use Rattle.std.proofs.Common.{◌≡◌, ℕ, ◌+◌, ◌-◌, ◌*◌, ◌/◌, ◌%◌, ◌^◌, ◌<◌, Bool, true, false, ◌&&◌, eqb, List, [], ◌∷◌, Option, Some, None, refl, sym, ◌∙◌, ap, arith}
+use Rattle.rv_decode.proofs.Common.{◌≡◌, ℕ, ◌+◌, ◌-◌, ◌*◌, ◌/◌, ◌%◌, ◌^◌, ◌<◌, Bool, true, false, ◌&&◌, eqb, List, [], ◌∷◌, Option, Some, None, refl, sym, ◌∙◌, ap, arith, bit_and, ◌==◌, eqb-true, eq-eqb, Decides-eqb, Decides-and, and_block, shr_split, mod_below, and_le_l, same_from_place, shr-shr, and_mask, pow_pos, and_comm, shr_below, mod-eq_of_lt, false≢true, Name, Format, Row, fits, field, table, row_in, spelled, spelled_by, decoded, passes, fits_fields, row_by, kind_by}
 use Rattle.std.specs.Bool.{Decides, one_answer}
-use Rattle.std.specs.Prelude.{bit_and, ◌==◌}
-use Rattle.std.proofs.lemmas.Bool.{eqb-true, eq-eqb}
-use Rattle.std.proofs.lemmas.Bool.Decides.{Decides-eqb, Decides-and}
-use Rattle.std.proofs.lemmas.Nat.{and_block, shr_split, mod_below, and_le_l, same_from_place, shr-shr, and_mask, pow_pos, and_comm, shr_below}
-use Rattle.std.proofs.Math.Nat.{mod-eq_of_lt}
-use Rattle.std.proofs.lemmas.Bool.{false≢true}
-use Rattle.rv_decode.specs.declared.name.Name.{Name}
-use Rattle.rv_decode.specs.declared.format.Format.{Format}
-use Rattle.rv_decode.specs.Table.{Row, fits, field, table, row_in, spelled, spelled_by, decoded}
-use Rattle.rv_decode.specs.Fields.{passes, fits_fields, row_by, kind_by}
 
 -- two numbers of two places are equal if and only if both places are
 eqb_places : (k x y u v : ℕ) → y < 2 ^ k → v < 2 ^ k → eqb (x * 2 ^ k + y) (u * 2 ^ k + v) ≡ (eqb y v && eqb x u)

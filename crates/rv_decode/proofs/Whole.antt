@@ -1,19 +1,9 @@
 -- A word is the fixed bits of its row and the bits of its fields.
-use Rattle.std.proofs.Common.{◌≡◌, ℕ, ◌+◌, ◌-◌, ◌*◌, ◌/◌, ◌%◌, ◌^◌, ◌<◌, Bool, true, false, cond, List, [], ◌∷◌, Option, Some, None, refl, sym, ◌∙◌, ap, arith, subst, inl, inr, lit<, pos, negsuc}
-use Rattle.std.specs.Prelude.{◌==◌, ◌≢◌, nat_lt, ◌⊎◌}
+use Rattle.rv_decode.proofs.Common.{◌≡◌, ℕ, ◌+◌, ◌-◌, ◌*◌, ◌/◌, ◌%◌, ◌^◌, ◌<◌, Bool, true, false, cond, List, [], ◌∷◌, Option, Some, None, refl, sym, ◌∙◌, ap, arith, subst, inl, inr, lit<, pos, negsuc, ◌==◌, ◌≢◌, nat_lt, ◌⊎◌, eqb-true, shr_split, mod_below, shr-shr, pow_pos, mod-pow-add, shr_below, mod-eq_of_lt, nat_tests, Name, Format, Row, fits, field, table, row_in, row, spelled, spelled_by, decoded, signed, Instruction, imm_i, imm_s, imm_b, imm_j, imm_u, is_one, passes, encoded, laid, laid_s, laid_b, laid_j, fixed_of, format_of}
 use Rattle.std.specs.Int.{cast_unsigned, w32}
-use Rattle.std.proofs.lemmas.Bool.{eqb-true}
-use Rattle.std.proofs.lemmas.Nat.{shr_split, mod_below, shr-shr, pow_pos, mod-pow-add, shr_below}
-use Rattle.std.proofs.Math.Nat.{mod-eq_of_lt}
 use Rattle.std.proofs.lemmas.Int.{of_z-to_z}
-use Rattle.std.proofs.lemmas.Bool.Decides.{nat_tests}
-use Rattle.rv_decode.specs.declared.name.Name.{Name}
 use Rattle.rv_decode.specs.declared.name.Name.TheVariants.{Lui, Auipc, Jal, Jalr, Beq, Bne, Blt, Bge, Bltu, Bgeu, Lb, Lh, Lw, Lbu, Lhu, Sb, Sh, Sw, Addi, Slti, Sltiu, Xori, Ori, Andi, Slli, Srli, Srai, Add, Sll, Slt, Sltu, Xor, Srl, Or, And, Sub, Sra, Mul, Mulh, Mulhsu, Mulhu, Div, Divu, Rem, Remu, Fence, Ecall, Ebreak, LrW, ScW, AmoswapW, AmoaddW, AmoxorW, AmoandW, AmoorW, AmominW, AmomaxW, AmominuW, AmomaxuW}
-use Rattle.rv_decode.specs.declared.format.Format.{Format}
 use Rattle.rv_decode.specs.declared.format.Format.TheVariants.{U, J, I, B, S, Shift, R, Bare, Atomic}
-use Rattle.rv_decode.specs.Table.{Row, fits, field, table, row_in, row, spelled, spelled_by, decoded, signed, Instruction, imm_i, imm_s, imm_b, imm_j, imm_u, is_one}
-use Rattle.rv_decode.specs.Fields.{passes}
-use Rattle.rv_decode.specs.Encode.{encoded, laid, laid_s, laid_b, laid_j, fixed_of, format_of}
 use Rattle.rv_decode.proofs.Fields.{fits_by, plain_row, all_plain, both}
 
 -- one step of the division of a word into fields

@@ -1,18 +1,6 @@
 -- Lists of what code words decode to, and the quiet instructions that are done by them.
-use Rattle.std.proofs.Common.{◌≡◌, ◌≤◌, ℕ, zero, suc, ◌+◌, ◌-◌, ◌*◌, ◌/◌, ◌%◌, ◌<◌, ◌^◌, ◌==◌, min, refl, mod-lt, Bool, true, false, is_some, List, [], ◌∷◌, ◌++◌, length, length-append, sym, ◌∙◌, ap, subst, arith}
-use Rattle.std.specs.Prelude.{Option, Some, None, slice_index_or, Result, Ok, Err, OnErr}
-use Rattle.std.specs.Int.{w32, rotate_right}
+use Rattle.rv_meaning.proofs.Common.{◌≡◌, ◌≤◌, ℕ, zero, suc, ◌+◌, ◌-◌, ◌*◌, ◌/◌, ◌%◌, ◌<◌, ◌^◌, ◌==◌, min, refl, mod-lt, Bool, true, false, is_some, List, [], ◌∷◌, ◌++◌, length, length-append, sym, ◌∙◌, ap, subst, arith, Option, Some, None, slice_index_or, Result, Ok, Err, OnErr, w32, rotate_right, or_comm, or_shifted, Program, code_at, code_in, part_at, HartState, Instruction, decoded, LeadsTo, Says, IsAhead, IsBelowEnd, Quietly, Asking, pc_of, instruction_in, instruction_at, Quiet, ask_of, count_up, fetched, executed, step, meaning, Want, Op}
 use Rattle.std.specs.Int.Bits.{bit_or}
-use Rattle.std.proofs.lemmas.Nat.{or_comm, or_shifted}
-use Rattle.bn_base.specs.Programs.{Program, code_at, code_in, part_at}
-use Rattle.bn_base.specs.declared.state.HartState.{HartState}
-use Rattle.rv_decode.specs.Table.{Instruction, decoded}
-use Rattle.rv_meaning.specs.Ahead.{LeadsTo}
-use Rattle.rv_meaning.specs.Ops.{Says, IsAhead, IsBelowEnd, Quietly, Asking, pc_of}
-use Rattle.rv_meaning.specs.Rows.{instruction_in, instruction_at}
-use Rattle.rv_meaning.specs.Execute.{Quiet, ask_of, count_up, fetched, executed, step, meaning}
-use Rattle.rv_meaning.specs.declared.asks.Want.{Want}
-use Rattle.rv_meaning.specs.declared.ops.Op.{Op}
 use Rattle.rv_meaning.proofs.OneStep.{quiet_more, ask_at}
 
 -- the same list of the same program

@@ -1,8 +1,5 @@
 -- All addresses of a part of a program are in that part alone.
-use Rattle.std.proofs.Common.{◌≡◌, ◌≤◌, ℕ, Bool, true, false, List, [], ◌∷◌, ◌∙◌, ap, subst, arith}
-use Rattle.std.specs.Prelude.{Some}
-use Rattle.bn_base.specs.Programs.{Program, Part, AreApart, end_of, is_in, part_or, part_at}
-use Rattle.rv_meaning.specs.Held.{IsCode}
+use Rattle.rv_meaning.proofs.Common.{◌≡◌, ◌≤◌, ℕ, Bool, true, false, List, [], ◌∷◌, ◌∙◌, ap, subst, arith, Some, Program, Part, AreApart, end_of, is_in, part_or, part_at, IsCode}
 
 -- a part that is found begins at the low bound or later
 found_from : (low high : ℕ) (ps : List Part) (p : Part) (a : ℕ) → AreApart low high ps → part_at ps a ≡ Some p → low ≤ p.first

@@ -1,3 +1,4 @@
+mod Common
 pub mod OneStep
 pub mod Orderly
 pub mod WordsKept

@@ -1,13 +1,7 @@
 -- A word with some of its bits replaced, by masks and shifts.
-use Rattle.std.proofs.Common.{◌≡◌, ℕ, ◌+◌, ◌-◌, ◌*◌, ◌/◌, ◌%◌, ◌<◌, ◌≤◌, ◌^◌, Bool, true, false, refl, ap, ◌∙◌, subst, arith, mod-lt}
-use Rattle.std.specs.Prelude.{◌==◌, ◌&&◌, ◌||◌, if◌then◌else◌, bit_and, bit_or}
-use Rattle.std.specs.Int.Bits.{or_zero_r}
-use Rattle.std.proofs.Math.Nat.{mul_comm, mul-sub, pow-le-pow_right}
-use Rattle.std.proofs.lemmas.Nat.{and_comm, and_mask, and-not, mod-pow-add, or_block, or_comm, or_shifted, pow-add, pow_pos, shl_below, shl_whole, shr_split}
+use Rattle.rv_meaning.proofs.Common.{◌≡◌, ℕ, ◌+◌, ◌-◌, ◌*◌, ◌/◌, ◌%◌, ◌<◌, ◌≤◌, ◌^◌, Bool, true, false, refl, ap, ◌∙◌, subst, arith, mod-lt, ◌==◌, ◌&&◌, ◌||◌, if◌then◌else◌, bit_and, bit_or, or_zero_r, mul_comm, mul-sub, pow-le-pow_right, and_comm, and_mask, and-not, mod-pow-add, or_block, or_comm, or_shifted, pow-add, pow_pos, shl_below, shl_whole, shr_split, is_aligned, with_bytes}
 use Rattle.std.proofs.lemmas.Nat.Bits.{and_high, ones_shr}
 use Rattle.rv_meaning.specs.Access.{stored_word}
-use Rattle.rv_meaning.specs.Orderly.{is_aligned}
-use Rattle.rv_meaning.specs.Words.{with_bytes}
 
 -- k ones, and p zeros below them
 ones_at : (k p : ℕ) → (2 ^ k - 1) * 2 ^ p ≡ 2 ^ (k + p) - 2 ^ p

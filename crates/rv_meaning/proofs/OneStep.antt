@@ -1,13 +1,5 @@
 -- One instruction of a hart, and what is left of its budget.
-use Rattle.std.proofs.Common.{◌≡◌, ℕ, false, suc, ◌+◌, ◌-◌, ◌<◌, ◌^◌, min, arith, ap, ◌∙◌, sym}
-use Rattle.std.specs.Prelude.{Option, Some}
-use Rattle.bn_base.specs.Programs.{Program, code_at}
-use Rattle.bn_base.specs.declared.state.HartState.{HartState}
-use Rattle.rv_decode.specs.Table.{Instruction, decoded}
-use Rattle.rv_meaning.specs.declared.asks.Ask.{Ask}
-use Rattle.rv_meaning.specs.declared.asks.Want.{Want}
-use Rattle.rv_meaning.specs.Execute.{Step, Quiet, Asks, ask_of, step, count_up, fetched, executed}
-use Rattle.rv_meaning.specs.Told.{Told}
+use Rattle.rv_meaning.proofs.Common.{◌≡◌, ℕ, false, suc, ◌+◌, ◌-◌, ◌<◌, ◌^◌, min, arith, ap, ◌∙◌, sym, Option, Some, Program, code_at, HartState, Instruction, decoded, Ask, Want, Step, Quiet, Asks, ask_of, step, count_up, fetched, executed, Told}
 
 -- after a quiet instruction, what is left gives the same ask
 pub quiet_more : (i : Program) (b k : ℕ) (s t : HartState) → k < b → Quiet t ≡ step i s → ask_of i (b - (k + 1)) t ≡ ask_of i (b - k) s

@@ -1,18 +1,5 @@
 -- What a hart asks passes the program's tests, and comes within the budget.
-use Rattle.std.proofs.Common.{◌≡◌, ℕ, zero, suc, ◌+◌, ◌*◌, ◌/◌, ◌%◌, ◌<◌, ◌≤◌, ◌^◌, ◌⊎◌, inl, inr, Bool, true, false, refl, sym, subst, arith}
-use Rattle.std.specs.Prelude.{◌==◌, ◌&&◌, not, nat_lt, nat_le, if◌then◌else◌, Option, Some, None}
-use Rattle.bn_base.specs.Programs.{Program, code_at, may_load, may_store}
-use Rattle.bn_base.specs.declared.state.HartState.{HartState}
-use Rattle.bn_base.specs.declared.fault.Fault.TheVariants.{LoadOutside, LoadMisaligned, StoreOutside, StoreMisaligned, StoreReadOnly, TargetMisaligned}
-use Rattle.rv_decode.specs.Table.{Instruction, decoded}
-use Rattle.rv_decode.specs.declared.name.Name.{Name}
-use Rattle.rv_decode.specs.declared.name.Name.TheVariants.{Jal, Jalr, Beq, Bne, Blt, Bge, Bltu, Bgeu, Lb, Lh, Lw, Lbu, Lhu, Sb, Sh, Sw, Ecall, Ebreak, LrW, ScW, AmoswapW, AmoaddW, AmoxorW, AmoandW, AmoorW, AmominW, AmomaxW, AmominuW, AmomaxuW}
-use Rattle.rv_meaning.specs.Words.{less}
-use Rattle.rv_meaning.specs.Execute.{Step, Quiet, Asks, ask_of, step, fetched, executed, meaning, branch, load_or, store_or, amo, count_up, src1, src2, near, there}
-use Rattle.rv_meaning.specs.Orderly.{passes, is_counted, orderly, is_cut}
-use Rattle.rv_meaning.specs.declared.asks.Ask.{Ask}
-use Rattle.rv_meaning.specs.declared.asks.Want.{Want}
-use Rattle.rv_meaning.specs.declared.asks.Want.TheVariants.{Load, Store, LoadReserved, StoreConditional, Amo, Cut, Faulted}
+use Rattle.rv_meaning.proofs.Common.{◌≡◌, ℕ, zero, suc, ◌+◌, ◌*◌, ◌/◌, ◌%◌, ◌<◌, ◌≤◌, ◌^◌, ◌⊎◌, inl, inr, Bool, true, false, refl, sym, subst, arith, ◌==◌, ◌&&◌, not, nat_lt, nat_le, if◌then◌else◌, Option, Some, None, Program, code_at, may_load, may_store, HartState, LoadOutside, LoadMisaligned, StoreOutside, StoreMisaligned, StoreReadOnly, TargetMisaligned, Instruction, decoded, Name, Jal, Jalr, Beq, Bne, Blt, Bge, Bltu, Bgeu, Lb, Lh, Lw, Lbu, Lhu, Sb, Sh, Sw, Ecall, Ebreak, LrW, ScW, AmoswapW, AmoaddW, AmoxorW, AmoandW, AmoorW, AmominW, AmomaxW, AmominuW, AmomaxuW, less, Step, Quiet, Asks, ask_of, step, fetched, executed, meaning, branch, load_or, store_or, amo, count_up, src1, src2, near, there, passes, is_counted, orderly, is_cut, Ask, Want, Load, Store, LoadReserved, StoreConditional, Amo, Cut, Faulted}
 use Rattle.rv_meaning.specs.declared.amo.AmoOp.{AmoOp}
 use Rattle.rv_meaning.specs.declared.amo.AmoOp.TheVariants as ops
 

@@ -1,17 +1,6 @@
 -- What an arm of the match of quiet instructions says, by what its call does.
-use Rattle.std.proofs.Common.{◌≡◌, ◌∙◌, ◌<◌, ◌+◌, ◌-◌, ◌/◌, ◌%◌, ◌^◌, ℕ, Bool, true, false, List, refl, sym, ap, subst, arith}
-use Rattle.std.specs.Prelude.{Option, Some, None}
-use Rattle.bn_base.specs.Programs.{Program}
-use Rattle.bn_base.specs.Registers.{put_reg}
-use Rattle.bn_base.specs.declared.state.HartState.{HartState}
-use Rattle.rv_decode.specs.Table.{Instruction}
-use Rattle.rv_decode.specs.declared.name.Name.{Name}
+use Rattle.rv_meaning.proofs.Common.{◌≡◌, ◌∙◌, ◌<◌, ◌+◌, ◌-◌, ◌/◌, ◌%◌, ◌^◌, ℕ, Bool, true, false, List, refl, sym, ap, subst, arith, Option, Some, None, Program, put_reg, HartState, Instruction, Name, Step, Quiet, Asks, meaning, jump, branch, count_up, IsOp, is_known, Says, Done, Quietly, Asking, pc_of, add, Want, Op}
 use Rattle.rv_decode.specs.declared.name.Name.TheVariants as ns
-use Rattle.rv_meaning.specs.Execute.{Step, Quiet, Asks, meaning, jump, branch, count_up}
-use Rattle.rv_meaning.specs.Ops.{IsOp, is_known, Says, Done, Quietly, Asking, pc_of}
-use Rattle.rv_meaning.specs.Words.{add}
-use Rattle.rv_meaning.specs.declared.asks.Want.{Want}
-use Rattle.rv_meaning.specs.declared.ops.Op.{Op}
 
 -- ---- equal values
 

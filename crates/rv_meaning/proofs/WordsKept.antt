@@ -1,27 +1,11 @@
 -- Registers that hold words hold words after each instruction, and when a hart asks.
-use Rattle.std.proofs.Common.{◌≡◌, ℕ, zero, suc, ◌+◌, ◌-◌, ◌*◌, ◌/◌, ◌%◌, ◌<◌, ◌≤◌, ◌^◌, Bool, true, false, cond, List, [], ◌∷◌, set, slice_index, ℤ, pos, negsuc, neg_ℤ, ◌*ℤ◌, unsigned_abs, int_div, int_rem, sym, subst, arith, refl, mod-lt, pow_pos, div-le_self, mul-le-mul, w32, w64}
-use Rattle.std.specs.Prelude.{◌==◌, not, nat_lt, if◌then◌else◌, Option, Some, None}
-use Rattle.std.specs.Int.{cast_unsigned, int_shr}
-use Rattle.std.specs.Int.Bits.{and_lt}
+use Rattle.rv_meaning.proofs.Common.{◌≡◌, ℕ, zero, suc, ◌+◌, ◌-◌, ◌*◌, ◌/◌, ◌%◌, ◌<◌, ◌≤◌, ◌^◌, Bool, true, false, cond, List, [], ◌∷◌, set, slice_index, ℤ, pos, negsuc, neg_ℤ, ◌*ℤ◌, unsigned_abs, int_div, int_rem, sym, subst, arith, refl, mod-lt, pow_pos, div-le_self, mul-le-mul, w64, ◌==◌, not, nat_lt, if◌then◌else◌, Option, Some, None, cast_unsigned, int_shr, and_lt, mod-le, of_z-to_z, unsigned_abs-mul, or_of_32, xor_of_32, shr_below, Program, code_at, put_reg, HartState, TargetMisaligned, Row, Instruction, decoded, spelled, spelled_by, row_in, table, field, signed, Name, Lui, Auipc, Jal, Jalr, Beq, Bne, Blt, Bge, Bltu, Bgeu, Addi, Slti, Sltiu, Xori, Ori, Andi, Slli, Srli, Srai, Add, Sll, Slt, Sltu, Xor, Srl, Or, And, Sub, Sra, Mul, Mulh, Mulhsu, Mulhu, Div, Divu, Rem, Remu, Fence, wrap, signed_of, bits_of, flag, less, shift_right, shift_right_signed, high_of, high_signed, high_mixed, high_unsigned, div_signed, div_unsigned, rem_signed, rem_unsigned, Step, Quiet, Asks, ask_of, step, fetched, executed, meaning, branch, src1, src2, imm, near, there, Ask, Faulted}
+use Rattle.std.proofs.Common.{w32}
 use Rattle.std.specs.Int.Signed.{mag, mag_rem, mag_shr, nat_abs-le}
 use Rattle.std.proofs.Math.Facts.{sfits_to_z}
-use Rattle.std.proofs.Math.Nat.{mod-le}
-use Rattle.std.proofs.lemmas.Int.{of_z-to_z, unsigned_abs-mul}
-use Rattle.std.proofs.lemmas.Nat.{or_of_32, xor_of_32, shr_below}
-use Rattle.bn_base.specs.Programs.{Program, code_at}
-use Rattle.bn_base.specs.Registers.{put_reg}
-use Rattle.bn_base.specs.declared.state.HartState.{HartState}
-use Rattle.bn_base.specs.declared.fault.Fault.TheVariants.{TargetMisaligned}
-use Rattle.rv_decode.specs.Table.{Row, Instruction, decoded, spelled, spelled_by, row_in, table, field, signed}
 use Rattle.rv_decode.specs.declared.format.Format.{Format}
 use Rattle.rv_decode.specs.declared.format.Format.TheVariants.{U, J, I, B, S, Shift, R, Bare, Atomic}
-use Rattle.rv_decode.specs.declared.name.Name.{Name}
-use Rattle.rv_decode.specs.declared.name.Name.TheVariants.{Lui, Auipc, Jal, Jalr, Beq, Bne, Blt, Bge, Bltu, Bgeu, Addi, Slti, Sltiu, Xori, Ori, Andi, Slli, Srli, Srai, Add, Sll, Slt, Sltu, Xor, Srl, Or, And, Sub, Sra, Mul, Mulh, Mulhsu, Mulhu, Div, Divu, Rem, Remu, Fence}
-use Rattle.rv_meaning.specs.Words.{wrap, signed_of, bits_of, flag, less, shift_right, shift_right_signed, high_of, high_signed, high_mixed, high_unsigned, div_signed, div_unsigned, rem_signed, rem_unsigned}
 use Rattle.rv_meaning.specs.WordStates.{AreWords}
-use Rattle.rv_meaning.specs.Execute.{Step, Quiet, Asks, ask_of, step, fetched, executed, meaning, branch, src1, src2, imm, near, there}
-use Rattle.rv_meaning.specs.declared.asks.Ask.{Ask}
-use Rattle.rv_meaning.specs.declared.asks.Want.TheVariants.{Faulted}
 
 -- ---- signed numbers as words. The bits of a number are a word if its size is below 2 ^ 32
 

@@ -1,10 +1,6 @@
 -- Rows that are made in two parts: what is looked up before an instruction is done, and what is known after it.
 use Rattle.std.specs.Prelude.{ℕ, ◌==◌, true, false, List, slice_index, Option, Some, None}
-use Rattle.bn_base.specs.Programs.{Program, code_at}
-use Rattle.bn_base.specs.declared.fault.Fault.{Fault}
-use Rattle.bn_base.specs.declared.row.Row.{Row}
-use Rattle.bn_base.specs.declared.state.HartState.{HartState}
-use Rattle.rv_decode.specs.Table.{Instruction}
+use Rattle.rv_meaning.specs.Common.{Program, code_at, Fault, Row, HartState, Instruction}
 use Rattle.rv_meaning.specs.Rows.{instruction_at}
 use Rattle.rv_meaning.specs.declared.fetched.Fetched.{Fetched}
 

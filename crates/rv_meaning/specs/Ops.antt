@@ -1,10 +1,6 @@
 -- Code that is decoded ahead, and what its ops do.
 use Rattle.std.specs.Prelude.{◌≡◌, ◌<◌, ℕ, ◌+◌, ◌*◌, ◌^◌, Bool, true, false, List, [], ◌∷◌, length, Option, Some, None, ⊤}
-use Rattle.bn_base.specs.Programs.{Program, code_at}
-use Rattle.bn_base.specs.declared.state.HartState.{HartState}
-use Rattle.rv_decode.specs.Table.{Instruction}
-use Rattle.rv_decode.specs.declared.name.Name.{Name}
-use Rattle.rv_decode.specs.declared.name.Name.TheVariants.{Ebreak}
+use Rattle.rv_meaning.specs.Common.{Program, code_at, HartState, Instruction, Name, Ebreak}
 use Rattle.rv_meaning.specs.Execute.{Step, Quiet, Asks, meaning, count_up}
 use Rattle.rv_meaning.specs.Rows.{instruction_in}
 use Rattle.rv_meaning.specs.Words.{add, mul, bits_of}

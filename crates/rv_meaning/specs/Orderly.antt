@@ -1,8 +1,6 @@
 -- Which asks are those of a hart, and which replies fit them.
 use Rattle.std.specs.Prelude.{ℕ, ◌+◌, ◌%◌, ◌==◌, nat_lt, nat_le, Bool, true, false, ◌&&◌, ◌||◌, if◌then◌else◌}
-use Rattle.bn_base.specs.Programs.{Program, may_load, may_store}
-use Rattle.bn_base.specs.declared.fault.Fault.{Fault}
-use Rattle.bn_base.specs.declared.fault.Fault.TheVariants.{Breakpoint}
+use Rattle.rv_meaning.specs.Common.{Program, may_load, may_store, Fault, Breakpoint}
 use Rattle.rv_meaning.specs.declared.asks.Ask.{Ask}
 use Rattle.rv_meaning.specs.declared.asks.Want.{Want}
 use Rattle.rv_meaning.specs.declared.asks.Want.TheVariants.{Load, Store, LoadReserved, StoreConditional, Amo, System, Cut, Faulted}

@@ -1,10 +1,6 @@
 -- The rows of instructions, and the words that rows tell of.
 use Rattle.std.specs.Prelude.{ℕ, ◌==◌, true, false, List, [], ◌∷◌, slice_index, Option, Some, None}
-use Rattle.bn_base.specs.Programs.{Program, code_at}
-use Rattle.bn_base.specs.declared.fault.Fault.{Fault}
-use Rattle.bn_base.specs.declared.row.Row.{Row}
-use Rattle.bn_base.specs.declared.state.HartState.{HartState}
-use Rattle.rv_decode.specs.Table.{Instruction, decoded}
+use Rattle.rv_meaning.specs.Common.{Program, code_at, Fault, Row, HartState, Instruction, decoded}
 use Rattle.rv_meaning.specs.Words.{aligned}
 
 -- what a word decodes to, if there is one and it is an instruction

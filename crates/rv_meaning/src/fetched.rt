@@ -1,7 +1,6 @@
 //! The instruction at a pc, and the row that it gets.
 ghost use Rattle.std.specs.Prelude.{◌≡◌, ℕ};
-ghost use Rattle.bn_base.specs.Programs.{Program};
-ghost use Rattle.bn_base.specs.declared.state.HartState.{HartState};
+ghost use Rattle.rv_meaning.specs.Common.{Program, HartState};
 ghost use Rattle.rv_meaning.specs.Rows.{instruction_in, row_of, call_row, fault_row};
 ghost use Rattle.rv_meaning.specs.Lookups.{destination, written_to, fetched, done_row, called_row, faulted_row};
 

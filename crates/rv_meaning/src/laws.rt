@@ -1,8 +1,7 @@
 //! What holds of the meaning of instructions. These functions do nothing: their contracts are
 //! theorems.
 ghost use Rattle.std.specs.Prelude.{◌≡◌, ◌<◌, ◌≤◌, ◌+◌, ◌^◌, ℕ, false, IsTrue};
-ghost use Rattle.bn_base.specs.Programs.{Program};
-ghost use Rattle.bn_base.specs.declared.state.HartState.{HartState};
+ghost use Rattle.rv_meaning.specs.Common.{Program, HartState};
 ghost use Rattle.rv_meaning.specs.Execute.{Quiet, Asks, step, ask_of, count_up};
 ghost use Rattle.rv_meaning.specs.Orderly.{is_cut, passes, orderly};
 ghost use Rattle.rv_meaning.specs.WordStates.{AreWords};

@@ -1,9 +1,6 @@
 //! Decoded instructions in the form in which the loop of quiet instructions reads them: eight bytes each.
 ghost use Rattle.std.specs.Prelude.{◌≡◌, ◌%◌, ◌<◌, ◌^◌, ℕ, true, false, List, Option, option_map, slice_index, IfSome};
-ghost use Rattle.bn_base.specs.Programs.{Program};
-ghost use Rattle.bn_base.specs.Registers.{put_reg};
-ghost use Rattle.rv_decode.specs.Seen.{seen};
-ghost use Rattle.rv_decode.specs.Table.{Instruction};
+ghost use Rattle.rv_meaning.specs.Common.{Program, put_reg, seen, Instruction};
 ghost use Rattle.rv_meaning.specs.Execute.{branch, jump};
 ghost use Rattle.rv_meaning.specs.Ops.{Says, Done, Quietly, Asking, pc_of};
 ghost use Rattle.rv_meaning.specs.declared.asks.Want.{Want};

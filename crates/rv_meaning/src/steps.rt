@@ -1,7 +1,6 @@
 //! One instruction of a hart: what it does if it is quiet, else what it asks.
 ghost use Rattle.std.specs.Prelude.{◌≡◌, ℕ, true, List};
-ghost use Rattle.bn_base.specs.Registers.{put_reg};
-ghost use Rattle.rv_decode.specs.Seen.{seen};
+ghost use Rattle.rv_meaning.specs.Common.{put_reg, seen};
 ghost use Rattle.rv_meaning.specs.Execute.{meaning, jump, branch};
 ghost use Rattle.rv_meaning.specs.Told.{ToldParts};
 ghost use Rattle.rv_meaning.specs.Words.{add};

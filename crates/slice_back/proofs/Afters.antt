@@ -1,24 +1,5 @@
 -- Registers and words after a row of a replay.
-use Rattle.std.proofs.Common.{◌≡◌, ℕ, ◌+◌, ◌<◌, ◌==◌, ◌⊎◌, Bool, true, false, not, cond, List, length, Option, Some, None, refl, sym, ◌∙◌, ap, subst, inl, inr, arith}
-use Rattle.std.specs.Prelude.{slice_index}
-use Rattle.bn_base.specs.Programs.{Program, code_at}
-use Rattle.bn_base.specs.declared.end_mark.EndMark.{EndMark}
-use Rattle.bn_base.specs.declared.row.Row.{Row}
-use Rattle.bn_base.specs.declared.state.HartState.{HartState}
-use Rattle.rv_decode.specs.Table.{Instruction}
-use Rattle.rv_meaning.specs.Words.{aligned}
-use Rattle.rv_meaning.specs.Execute.{Step, Asks, step, after}
-use Rattle.rv_meaning.specs.declared.asks.Reply.{Reply}
-use Rattle.rv_meaning.specs.declared.asks.Reply.TheVariants.{Answer, Over}
-use Rattle.rv_meaning.specs.declared.asks.Want.{Want}
-use Rattle.rv_meaning.specs.declared.asks.Want.TheVariants.{Load, Store, LoadReserved, StoreConditional, Amo, System, Cut, Faulted}
-use Rattle.std.proofs.lemmas.Bool.Decides.{eqb_tells}
-use Rattle.rv_meaning.specs.Rows.{instruction_in, row_of, known}
-use Rattle.hart_replay.specs.Replay.{Interval, Position, logged, or_else, word_for}
-use Rattle.hart_replay.specs.Sides.{call_reg, call_answer}
-use Rattle.hart_replay.specs.Scans.{Pending, due}
-use Rattle.slice_back.specs.Uses.{is_call, stores_part, part_stored, word_of, used_word}
-use Rattle.slice_back.specs.Slices.{note}
+use Rattle.slice_back.proofs.Common.{◌≡◌, ℕ, ◌+◌, ◌<◌, ◌==◌, ◌⊎◌, Bool, true, false, not, cond, List, length, Option, Some, None, refl, sym, ◌∙◌, ap, subst, inl, inr, arith, slice_index, Program, code_at, EndMark, Row, HartState, Instruction, aligned, Step, Asks, step, after, Reply, Answer, Over, Want, Load, Store, LoadReserved, StoreConditional, Amo, System, Cut, Faulted, eqb_tells, instruction_in, row_of, known, Interval, Position, logged, or_else, word_for, call_reg, call_answer, Pending, due, is_call, stores_part, part_stored, word_of, used_word, note}
 use Rattle.slice_back.proofs.Meanings.{Changed, AskShape, Shape}
 use Rattle.slice_back.proofs.Turns.{IsAsk, reply_for, asked_row, count_of, Turn}
 use Rattle.slice_back.proofs.Turns.Turn.{quiet, asked}

@@ -1,15 +1,6 @@
 -- The pass back, row by row.
-use Rattle.std.proofs.Common.{◌≡◌, ℕ, zero, suc, ◌+◌, ◌-◌, ◌<◌, ◌≤◌, ◌==◌, ◌++◌, Bool, List, [], ◌∷◌, length, drop, get_or, refl, sym, ◌∙◌, ap, subst, arith, inl, inr, append-nil, length-drop}
-use Rattle.std.specs.Prelude.{slice_index, reverse}
-use Rattle.bn_base.specs.declared.row.Row.{Row}
-use Rattle.std.proofs.Math.Seq.{drop-cons}
-use Rattle.std.proofs.lemmas.Bool.Decides.{eqb_tells}
-use Rattle.slice_back.specs.declared.noted.Noted.{Noted}
+use Rattle.slice_back.proofs.Common.{◌≡◌, ℕ, zero, suc, ◌+◌, ◌-◌, ◌<◌, ◌≤◌, ◌==◌, ◌++◌, Bool, List, [], ◌∷◌, length, drop, get_or, refl, sym, ◌∙◌, ap, subst, arith, inl, inr, append-nil, length-drop, slice_index, reverse, Row, drop-cons, eqb_tells, Noted, Slice, is_last, live, register_if, registers_from, slice_rows, slice_regs, slice_words, slice_of, has_register, TellsLive}
 use Rattle.slice_back.specs.declared.slicing.Slicing.{Slicing}
-use Rattle.slice_back.specs.declared.lists.Slice.{Slice}
-use Rattle.slice_back.specs.Slices.{is_last, live, register_if, registers_from, slice_rows, slice_regs, slice_words, slice_of}
-use Rattle.slice_back.specs.Sets.{has_register}
-use Rattle.slice_back.specs.Passes.{TellsLive}
 
 last_is : (es : List Noted) → is_last es ≡ (length es == 0)
 last_is [] = refl

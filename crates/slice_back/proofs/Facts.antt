@@ -1,22 +1,5 @@
 -- What a row of a replay tells of the instruction and its states.
-use Rattle.std.proofs.Common.{◌≡◌, ◌≢◌, ℕ, zero, suc, ◌<◌, ◌==◌, ◌⊎◌, Bool, true, false, List, [], ◌∷◌, length, Option, Some, None, refl, sym, ◌∙◌, ap, subst, inl, inr, arith}
-use Rattle.std.specs.Prelude.{set, slice_index}
-use Rattle.std.proofs.lemmas.Bool.Decides.{eqb_tells}
-use Rattle.bn_base.specs.Programs.{Program, code_at}
-use Rattle.bn_base.specs.Registers.{put_reg}
-use Rattle.bn_base.specs.declared.end_mark.EndMark.{EndMark}
-use Rattle.bn_base.specs.declared.row.Row.{Row}
-use Rattle.bn_base.specs.declared.state.HartState.{HartState}
-use Rattle.bn_base.specs.declared.fault.Fault.{Fault}
-use Rattle.rv_decode.specs.Table.{Instruction, decoded}
-use Rattle.rv_meaning.specs.Access.{loaded_value}
-use Rattle.rv_meaning.specs.Execute.{Step, Quiet, Asks, step, fetched, executed, after}
-use Rattle.rv_meaning.specs.declared.asks.Want.{Want}
-use Rattle.rv_meaning.specs.declared.asks.Want.TheVariants.{Load, Store, LoadReserved, StoreConditional, Amo, System, Cut, Faulted}
-use Rattle.rv_meaning.specs.Rows.{instruction_in, written}
-use Rattle.hart_replay.specs.Replay.{Interval, Position}
-use Rattle.hart_replay.specs.Sides.{call_reg}
-use Rattle.slice_back.specs.Uses.{is_call, is_of}
+use Rattle.slice_back.proofs.Common.{◌≡◌, ◌≢◌, ℕ, zero, suc, ◌<◌, ◌==◌, ◌⊎◌, Bool, true, false, List, [], ◌∷◌, length, Option, Some, None, refl, sym, ◌∙◌, ap, subst, inl, inr, arith, set, slice_index, eqb_tells, Program, code_at, put_reg, EndMark, Row, HartState, Fault, Instruction, decoded, loaded_value, Step, Quiet, Asks, step, fetched, executed, after, Want, Load, Store, LoadReserved, StoreConditional, Amo, System, Cut, Faulted, instruction_in, written, Interval, Position, call_reg, is_call, is_of}
 use Rattle.slice_back.proofs.Bools.{same_number}
 use Rattle.slice_back.proofs.Fields.{no_rd}
 use Rattle.slice_back.proofs.Meanings.{writes_none, Changed, AskShape, Shape, shape}

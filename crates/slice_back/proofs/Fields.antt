@@ -1,7 +1,6 @@
 -- Instructions whose format has no rd.
-use Rattle.std.proofs.Common.{◌≡◌, ℕ, ◌==◌, Bool, true, false, not, ◌&&◌, ◌||◌, List, [], ◌∷◌, Option, Some, None, refl, sym, ◌∙◌, ap, subst}
-use Rattle.rv_decode.specs.Table.{Row, table, fits, row_in, Instruction, spelled, spelled_by, decoded}
-use Rattle.rv_decode.specs.declared.name.Name.{Name}
+use Rattle.slice_back.proofs.Common.{◌≡◌, ℕ, ◌==◌, Bool, true, false, not, ◌&&◌, ◌||◌, List, [], ◌∷◌, Option, Some, None, refl, sym, ◌∙◌, ap, subst, table, fits, row_in, Instruction, spelled, spelled_by, decoded, Name}
+use Rattle.rv_decode.specs.Table.{Row}
 use Rattle.rv_decode.specs.declared.format.Format.{Format}
 use Rattle.rv_decode.specs.declared.format.Format.TheVariants.{U, J, I, B, S, Shift, R, Bare, Atomic}
 use Rattle.slice_back.proofs.Bools.{and_left, and_right}

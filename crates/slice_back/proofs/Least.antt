@@ -1,10 +1,6 @@
 -- What is live before rows, and which rows are in the slice, by the definition of the least set.
-use Rattle.std.proofs.Common.{◌≡◌, ℕ, ◌+◌, ◌<◌, ◌≤◌, Bool, true, false, ◌⊎◌, List, [], ◌∷◌, length, slice_get, Option, Some, None, refl, sym, ◌∙◌, ap, subst, inl, inr, arith}
-use Rattle.slice_back.specs.declared.noted.Noted.{Noted}
-use Rattle.slice_back.specs.Uses.{uses_register, writes_register, uses_word, stores_word, takes_word, is_of, is_word, word_of}
-use Rattle.slice_back.specs.Needs.{passes, at, Needs, InSlice}
+use Rattle.slice_back.proofs.Common.{◌≡◌, ℕ, ◌+◌, ◌<◌, ◌≤◌, Bool, true, false, ◌⊎◌, List, [], ◌∷◌, length, slice_get, Option, Some, None, refl, sym, ◌∙◌, ap, subst, inl, inr, arith, Noted, uses_register, writes_register, uses_word, stores_word, takes_word, is_of, is_word, word_of, passes, at, Needs, InSlice, Live, live, writes_live, stores_live, gives, is_last, in_slice}
 use Rattle.slice_back.specs.Needs.InSlice.{itself, needed}
-use Rattle.slice_back.specs.Slices.{Live, live, writes_live, stores_live, gives, is_last, in_slice}
 use Rattle.slice_back.proofs.Bools.{or_split, or_first, or_second, same_number, equal_numbers}
 
 -- ---- the least set

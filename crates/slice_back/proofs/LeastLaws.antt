@@ -1,9 +1,5 @@
 -- The tests of a slice are those of the least set.
-use Rattle.std.proofs.Common.{◌≡◌, ℕ, suc, ◌+◌, ◌≤◌, ◌==◌, ◌↔◌, Bool, true, false, not, ◌&&◌, ◌||◌, List, [], ◌∷◌, length, drop, Option, Some, None, refl, sym, ◌∙◌, ap, subst, inl, inr, arith, length-drop}
-use Rattle.slice_back.specs.declared.noted.Noted.{Noted}
-use Rattle.slice_back.specs.Uses.{uses_word, stores_word, takes_word, used_word, took, is_word}
-use Rattle.slice_back.specs.Needs.{at, InSlice, TakenBy}
-use Rattle.slice_back.specs.Slices.{Live, live, in_slice, taken, wanted}
+use Rattle.slice_back.proofs.Common.{◌≡◌, ℕ, suc, ◌+◌, ◌≤◌, ◌==◌, ◌↔◌, Bool, true, false, not, ◌&&◌, ◌||◌, List, [], ◌∷◌, length, drop, Option, Some, None, refl, sym, ◌∙◌, ap, subst, inl, inr, arith, length-drop, Noted, uses_word, stores_word, takes_word, used_word, took, is_word, at, InSlice, TakenBy, Live, live, in_slice, taken, wanted}
 use Rattle.slice_back.specs.Laws.{chosen, taken_first, Took, RowsAreLeast, RegistersAreFromBefore, WordsAreTaken}
 use Rattle.slice_back.proofs.Bools.{and_left, and_right, both, or_split, or_first, or_second, not_false, false_not, same_number, equal_numbers}
 use Rattle.slice_back.proofs.Least.{Known, Row_at, test_here, here_test, chosen_is, is_chosen, inside}

@@ -1,10 +1,6 @@
 -- What is live before a row, by what is live after it, and so of all rows.
-use Rattle.std.proofs.Common.{◌≡◌, ℕ, zero, suc, ◌+◌, ◌≤◌, true, false, not, ◌&&◌, ◌||◌, ◌⊎◌, List, [], ◌∷◌, length, drop, slice_get, Some, sym, ◌∙◌, ap, subst, inl, inr, arith}
+use Rattle.slice_back.proofs.Common.{◌≡◌, ℕ, zero, suc, ◌+◌, ◌≤◌, true, false, not, ◌&&◌, ◌||◌, ◌⊎◌, List, [], ◌∷◌, length, drop, slice_get, Some, sym, ◌∙◌, ap, subst, inl, inr, arith, Noted, uses_register, writes_register, uses_word, stores_word, takes_word, at, InSlice, live, live_before, in_slice}
 use Rattle.std.proofs.Math.Nat.{eq-or-lt_of_le}
-use Rattle.slice_back.specs.declared.noted.Noted.{Noted}
-use Rattle.slice_back.specs.Uses.{uses_register, writes_register, uses_word, stores_word, takes_word}
-use Rattle.slice_back.specs.Needs.{at, InSlice}
-use Rattle.slice_back.specs.Slices.{live, live_before, in_slice}
 use Rattle.slice_back.proofs.Bools.{and_left, and_right, both, or_split, or_first, or_second, not_false, false_not}
 use Rattle.slice_back.proofs.Least.{LiveRegister, LiveWord, Known, Row_at, test_here, here_test, chosen_is, is_chosen, inside}
 

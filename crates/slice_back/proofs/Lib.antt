@@ -1,3 +1,4 @@
+mod Common
 mod Told
 mod Worked
 mod Traces

@@ -1,21 +1,5 @@
 -- Row by row, two replays that agree give rows that are told alike.
-use Rattle.std.proofs.Common.{◌≡◌, ℕ, ◌==◌, ◌&&◌, ◌++◌, true, false, not, List, [], ◌∷◌, length, Option, Some, None, refl, sym, ◌∙◌, ap, subst}
-use Rattle.bn_base.specs.Programs.{Program, code_at}
-use Rattle.bn_base.specs.declared.fault.Fault.{Fault}
-use Rattle.bn_base.specs.declared.fault.Fault.TheVariants.{FetchOutside}
-use Rattle.bn_base.specs.declared.row.Row.{Row}
-use Rattle.bn_base.specs.declared.state.HartState.{HartState}
-use Rattle.rv_decode.specs.Table.{Instruction, decoded}
-use Rattle.rv_meaning.specs.Execute.{Step, Quiet, Asks, step, fetched, executed}
-use Rattle.rv_meaning.specs.declared.asks.Want.{Want}
-use Rattle.rv_meaning.specs.declared.asks.Want.TheVariants.{Faulted}
-use Rattle.rv_meaning.specs.Rows.{instruction_in, fault_row}
-use Rattle.hart_replay.specs.Replay.{Interval, Position}
-use Rattle.hart_replay.specs.Scans.{Pending}
-use Rattle.slice_back.specs.declared.noted.Noted.{Noted}
-use Rattle.slice_back.specs.Uses.{used_word, uses_register, writes_register, stores_word, takes_word, reads}
-use Rattle.slice_back.specs.Slices.{Live, note, passed, noted_from, live, live_before, gives, is_last, in_slice}
-use Rattle.slice_back.specs.Agreeing.{bare, AllAlike, WordsAgree}
+use Rattle.slice_back.proofs.Common.{◌≡◌, ℕ, ◌==◌, ◌&&◌, ◌++◌, true, false, not, List, [], ◌∷◌, length, Option, Some, None, refl, sym, ◌∙◌, ap, subst, Program, code_at, Fault, FetchOutside, Row, HartState, Instruction, decoded, Step, Quiet, Asks, step, fetched, executed, Want, Faulted, instruction_in, fault_row, Interval, Position, Pending, Noted, used_word, uses_register, writes_register, stores_word, takes_word, reads, Live, note, passed, noted_from, live, live_before, gives, is_last, in_slice, bare, AllAlike, WordsAgree}
 use Rattle.slice_back.proofs.Bools.{both, or_first, or_second, not_false}
 use Rattle.slice_back.proofs.Meanings.{AlikeSteps}
 use Rattle.slice_back.proofs.Turns.{IsAsk, Turn}

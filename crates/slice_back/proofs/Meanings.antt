@@ -1,21 +1,9 @@
 -- What an instruction depends on, and what it changes.
-use Rattle.std.proofs.Common.{◌≡◌, ℕ, zero, suc, ◌*◌, ◌/◌, ◌%◌, ◌==◌, ◌⊎◌, nat_lt, Bool, true, false, not, List, [], ◌∷◌, length, Option, Some, None, refl, sym, ◌∙◌, ap, subst, inl, inr, arith, bit_and, bit_or}
-use Rattle.std.specs.Prelude.{set, slice_index, bit_xor, if◌then◌else◌}
-use Rattle.bn_base.specs.Programs.{Program, may_load, may_store}
-use Rattle.bn_base.specs.Registers.{put_reg}
-use Rattle.bn_base.specs.declared.state.HartState.{HartState}
-use Rattle.bn_base.specs.declared.fault.Fault.TheVariants.{LoadOutside, LoadMisaligned, StoreOutside, StoreMisaligned, StoreReadOnly, TargetMisaligned}
-use Rattle.rv_decode.specs.Table.{Instruction}
-use Rattle.rv_decode.specs.declared.name.Name.{Name}
+use Rattle.slice_back.proofs.Common.{◌≡◌, ℕ, zero, suc, ◌*◌, ◌/◌, ◌%◌, ◌==◌, ◌⊎◌, nat_lt, Bool, true, false, not, List, [], ◌∷◌, length, Option, Some, None, refl, sym, ◌∙◌, ap, subst, inl, inr, arith, bit_and, bit_or, set, slice_index, bit_xor, if◌then◌else◌, Program, may_load, may_store, put_reg, HartState, LoadOutside, LoadMisaligned, StoreOutside, StoreMisaligned, StoreReadOnly, TargetMisaligned, Instruction, Name, add, sub, mul, flag, less, shift_left, shift_right, shift_right_signed, high_signed, high_mixed, high_unsigned, div_signed, div_unsigned, rem_signed, rem_unsigned, Step, Quiet, Asks, reg, src1, src2, imm, near, there, next_at, next_with, count_up, jump, branch, load_or, store_or, load, store, amo, meaning, Want, Load, Store, LoadReserved, StoreConditional, Amo, System, Cut, Faulted, written, is_call, is_part_store}
 use Rattle.rv_decode.specs.declared.name.Name.TheVariants.{Lui, Auipc, Jal, Jalr, Beq, Bne, Blt, Bge, Bltu, Bgeu, Lb, Lh, Lw, Lbu, Lhu, Sb, Sh, Sw, Addi, Slti, Sltiu, Xori, Ori, Andi, Slli, Srli, Srai, Add, Sll, Slt, Sltu, Xor, Srl, Or, And, Sub, Sra, Mul, Mulh, Mulhsu, Mulhu, Div, Divu, Rem, Remu, Fence, Ecall, Ebreak, LrW, ScW, AmoswapW, AmoaddW, AmoxorW, AmoandW, AmoorW, AmominW, AmomaxW, AmominuW, AmomaxuW}
-use Rattle.rv_meaning.specs.Words.{add, sub, mul, flag, less, shift_left, shift_right, shift_right_signed, high_signed, high_mixed, high_unsigned, div_signed, div_unsigned, rem_signed, rem_unsigned}
-use Rattle.rv_meaning.specs.Execute.{Step, Quiet, Asks, reg, src1, src2, imm, near, there, next_at, next_with, count_up, gives, jump, branch, load_or, store_or, load, store, amo, meaning}
-use Rattle.rv_meaning.specs.declared.asks.Want.{Want}
-use Rattle.rv_meaning.specs.declared.asks.Want.TheVariants.{Load, Store, LoadReserved, StoreConditional, Amo, System, Cut, Faulted}
+use Rattle.rv_meaning.specs.Execute.{gives}
 use Rattle.rv_meaning.specs.declared.amo.AmoOp.{AmoOp}
 use Rattle.rv_meaning.specs.declared.amo.AmoOp.TheVariants as ops
-use Rattle.rv_meaning.specs.Rows.{written}
-use Rattle.slice_back.specs.Uses.{is_call, is_part_store}
 
 -- ---- what an instruction is, by its name
 

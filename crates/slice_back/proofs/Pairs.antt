@@ -1,22 +1,5 @@
 -- The same row of two replays.
-use Rattle.std.proofs.Common.{◌≡◌, ℕ, ◌==◌, ◌||◌, Bool, true, false, cond, length, Option, Some, None, refl, sym, ◌∙◌, ap, subst}
-use Rattle.std.specs.Prelude.{slice_index}
-use Rattle.bn_base.specs.Programs.{Program, code_at}
-use Rattle.bn_base.specs.Registers.{put_reg}
-use Rattle.bn_base.specs.declared.end_mark.EndMark.{EndMark}
-use Rattle.bn_base.specs.declared.fault.Fault.{Fault}
-use Rattle.bn_base.specs.declared.row.Row.{Row}
-use Rattle.bn_base.specs.declared.state.HartState.{HartState}
-use Rattle.rv_decode.specs.Table.{Instruction}
-use Rattle.rv_meaning.specs.Words.{aligned}
-use Rattle.rv_meaning.specs.Access.{loaded_value, stored_word, amo_result}
-use Rattle.rv_meaning.specs.Execute.{Step, step, executed, fetched, meaning, after, reg}
-use Rattle.rv_meaning.specs.declared.asks.Want.{Want}
-use Rattle.rv_meaning.specs.declared.asks.Want.TheVariants.{Load, Store, LoadReserved, StoreConditional, Amo, System, Cut, Faulted}
-use Rattle.rv_meaning.specs.Rows.{instruction_in, written}
-use Rattle.hart_replay.specs.Sides.{call_reg}
-use Rattle.slice_back.specs.Uses.{is_call, reads}
-use Rattle.slice_back.specs.Agreeing.{bare, address_of}
+use Rattle.slice_back.proofs.Common.{◌≡◌, ℕ, ◌==◌, ◌||◌, Bool, true, false, cond, length, Option, Some, None, refl, sym, ◌∙◌, ap, subst, slice_index, Program, code_at, put_reg, EndMark, Fault, Row, HartState, Instruction, aligned, loaded_value, stored_word, amo_result, Step, step, executed, fetched, meaning, after, reg, Want, Load, Store, LoadReserved, StoreConditional, Amo, System, Cut, Faulted, instruction_in, written, call_reg, is_call, reads, bare, address_of}
 use Rattle.slice_back.proofs.Bools.{same_number, equal_numbers, or_first, or_second}
 use Rattle.slice_back.proofs.Meanings.{AskShape, AlikeSteps, SameOperands, SameArguments, alike, written_put, written_none}
 use Rattle.slice_back.proofs.Turns.{IsAsk, reply_for, asked_row, whole}

@@ -1,12 +1,5 @@
 -- The first loads that are still to be met, by their places.
-use Rattle.std.proofs.Common.{◌≡◌, ◌≢◌, ℕ, ◌+◌, ◌≤◌, Bool, true, false, List, [], ◌∷◌, Option, Some, None, refl, sym, ◌∙◌, ap, subst, inl, inr, arith}
-use Rattle.std.proofs.lemmas.Bool.Decides.{eqb_tells}
-use Rattle.bn_base.specs.declared.row.Row.{Row}
-use Rattle.hart_replay.specs.Laws.{AreMetByPlace}
-use Rattle.hart_replay.specs.Replay.{Interval, logged}
-use Rattle.hart_replay.specs.Scans.{Pending, due, met, IsWaiting}
-use Rattle.slice_back.specs.Uses.{used_word}
-use Rattle.slice_back.specs.Slices.{passed}
+use Rattle.slice_back.proofs.Common.{◌≡◌, ◌≢◌, ℕ, ◌+◌, ◌≤◌, Bool, true, false, List, [], ◌∷◌, Option, Some, None, refl, sym, ◌∙◌, ap, subst, inl, inr, arith, eqb_tells, Row, AreMetByPlace, Interval, logged, Pending, due, met, IsWaiting, used_word, passed}
 
 met_by : ℕ → (ℕ × ℕ) → List (ℕ × ℕ) → Bool → Pending
 met_by skipped r rs x = elim x as (λ y. Pending) [ true ↦ record { loads = rs; skipped = 0 } | false ↦ record { loads = r ∷ rs; skipped = skipped + 1 } ]

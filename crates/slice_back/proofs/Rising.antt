@@ -1,27 +1,5 @@
 -- The lists of a slice ascend.
-use Rattle.std.proofs.Common.{◌≡◌, ℕ, zero, suc, ◌+◌, ◌-◌, ◌<◌, ◌≤◌, ◌^◌, ◌==◌, ◌&&◌, ◌||◌, ◌++◌, nat_lt, Bool, true, false, not, List, [], ◌∷◌, map, take, Option, Some, None, Result, Ok, Err, refl, sym, ◌∙◌, ap, subst, arith}
-use Rattle.std.specs.Prelude.{slice_index}
-use Rattle.std.proofs.lemmas.Grind.{common_steps}
-use Rattle.bn_base.specs.Programs.{Program}
-use Rattle.bn_base.specs.Faults.{fault_number}
-use Rattle.bn_base.specs.declared.row.Row.{Row}
-use Rattle.bn_base.specs.declared.state.HartState.{HartState}
-use Rattle.rv_meaning.specs.Access.{stored_word, amo_result}
-use Rattle.rv_meaning.specs.Execute.{Step, Quiet, Asks, step, count_up, count_up_if, is_exit, absorbed}
-use Rattle.rv_meaning.specs.declared.asks.Ask.{Ask}
-use Rattle.rv_meaning.specs.declared.asks.Want.{Want}
-use Rattle.rv_meaning.specs.declared.asks.Want.TheVariants.{Load, Store, LoadReserved, StoreConditional, Amo, System, Cut, Faulted}
-use Rattle.rv_meaning.specs.declared.asks.Reply.TheVariants.{Word, Stored, Answer, Over}
-use Rattle.rv_meaning.specs.Rows.{row_of, call_row, fault_row}
-use Rattle.hart_replay.specs.Replay.{Outcome, Done, Refused, Interval, Position, Next, On, Stop, word_for, missing, after_ask, after_sc, slot, call_reason, found, ask_step, one_step, steps, interval_of, replayed_in, first}
-use Rattle.hart_replay.specs.Scans.{Pending}
-use Rattle.hart_replay.specs.declared.error.ReplayError.TheVariants.{EndDiffers, ScMissing}
-use Rattle.slice_back.specs.declared.error.SliceError.{SliceError}
-use Rattle.slice_back.specs.declared.error.SliceError.TheVariants.{Replay}
-use Rattle.slice_back.specs.declared.lists.Slice.{Slice}
-use Rattle.slice_back.specs.declared.noted.Noted.{Noted}
-use Rattle.slice_back.specs.Uses.{is_branch}
-use Rattle.slice_back.specs.Slices.{passed, noted, noted_from, up_to, in_slice, live, row_if, slice_rows, slice_branches, taken, word_if, slice_words, register_if, registers_from, slice_of, slice_in, slice_or}
+use Rattle.slice_back.proofs.Common.{◌≡◌, ℕ, zero, suc, ◌+◌, ◌-◌, ◌<◌, ◌≤◌, ◌^◌, ◌==◌, ◌&&◌, ◌||◌, ◌++◌, nat_lt, Bool, true, false, not, List, [], ◌∷◌, map, take, Option, Some, None, Result, Ok, Err, refl, sym, ◌∙◌, ap, subst, arith, slice_index, common_steps, Program, fault_number, Row, HartState, stored_word, amo_result, Step, Quiet, Asks, step, count_up, count_up_if, is_exit, absorbed, Ask, Want, Load, Store, LoadReserved, StoreConditional, Amo, System, Cut, Faulted, Word, Stored, Answer, Over, row_of, call_row, fault_row, Outcome, Done, Refused, Interval, Position, Next, On, Stop, word_for, missing, after_ask, after_sc, slot, call_reason, found, ask_step, one_step, steps, interval_of, replayed_in, first, Pending, EndDiffers, ScMissing, SliceError, Replay, Slice, Noted, is_branch, passed, noted, noted_from, up_to, in_slice, live, row_if, slice_rows, slice_branches, taken, word_if, slice_words, register_if, registers_from, slice_of, slice_in, slice_or}
 use Rattle.slice_back.specs.Ascending.{AreRising, Ascends, SlicesAscend}
 use Rattle.slice_back.proofs.RowsOn.{fault_rows, end_rows, rows_on, steps_rows, up_to_front}
 

@@ -1,18 +1,5 @@
 -- The rows that a replay still gives.
-use Rattle.std.proofs.Common.{◌≡◌, ℕ, zero, suc, ◌+◌, ◌==◌, ◌&&◌, ◌||◌, ◌++◌, nat_lt, Bool, true, false, not, List, [], ◌∷◌, take, Option, Some, None, refl, sym, ◌∙◌, ap}
-use Rattle.bn_base.specs.Programs.{Program}
-use Rattle.bn_base.specs.Faults.{fault_number}
-use Rattle.bn_base.specs.declared.fault.Fault.{Fault}
-use Rattle.bn_base.specs.declared.row.Row.{Row}
-use Rattle.rv_meaning.specs.Execute.{Step, Quiet, Asks, step}
-use Rattle.rv_meaning.specs.declared.asks.Want.{Want}
-use Rattle.rv_meaning.specs.declared.asks.Want.TheVariants.{Load, Store, LoadReserved, StoreConditional, Amo, System, Cut, Faulted}
-use Rattle.rv_meaning.specs.Rows.{fault_row}
-use Rattle.hart_replay.specs.Replay.{Refused, Replayed, Interval, Position, Next, On, Stop, one_step, steps, finish, onto, left_over, found, fault_end, ended}
-use Rattle.hart_replay.specs.Scans.{Pending}
-use Rattle.hart_replay.specs.declared.error.ReplayError.TheVariants.{EndDiffers}
-use Rattle.slice_back.specs.declared.noted.Noted.{Noted}
-use Rattle.slice_back.specs.Slices.{note, passed, noted_from, up_to, before}
+use Rattle.slice_back.proofs.Common.{◌≡◌, ℕ, zero, suc, ◌+◌, ◌==◌, ◌&&◌, ◌||◌, ◌++◌, nat_lt, Bool, true, false, not, List, [], ◌∷◌, take, Option, Some, None, refl, sym, ◌∙◌, ap, Program, fault_number, Fault, Row, Step, Quiet, Asks, step, Want, Load, Store, LoadReserved, StoreConditional, Amo, System, Cut, Faulted, fault_row, Refused, Replayed, Interval, Position, Next, On, Stop, one_step, steps, finish, onto, left_over, found, fault_end, ended, Pending, EndDiffers, Noted, note, passed, noted_from, up_to, before}
 use Rattle.slice_back.proofs.Turns.{Turn, TurnTo, turned}
 
 abbrev pub fault_rows : Program → ℕ → Interval → Position → Want → List Row

@@ -1,17 +1,7 @@
 -- Slices of rows that are matched have the same rows, hart and counts aside.
-use Rattle.std.proofs.Common.{◌≡◌, ℕ, suc, ◌-◌, ◌&&◌, ◌||◌, ◌++◌, Bool, true, false, not, List, [], ◌∷◌, length, map, Option, Some, None, refl, sym, ◌∙◌, ap}
-use Rattle.std.specs.Prelude.{slice_index}
-use Rattle.bn_base.specs.Programs.{Program}
-use Rattle.bn_base.specs.declared.row.Row.{Row}
+use Rattle.slice_back.proofs.Common.{◌≡◌, ℕ, suc, ◌-◌, ◌&&◌, ◌||◌, ◌++◌, Bool, true, false, not, List, [], ◌∷◌, length, map, Option, Some, None, refl, sym, ◌∙◌, ap, slice_index, Program, Row, Record, Interval, first, replayed_in, replayed, Noted, is_of, is_word, word_of, uses_register, writes_register, uses_word, stores_word, takes_word, Live, noted, noted_from, live, writes_live, stores_live, gives, is_last, in_slice, row_if, slice_rows, bare, RowsUpTo, SliceSuffices, AreMetByPlace}
 use Rattle.log_record.specs.Spelling.{AreRegisters}
-use Rattle.log_record.specs.declared.record.Record.{Record}
-use Rattle.hart_replay.specs.Replay.{Interval, first, replayed_in, replayed}
-use Rattle.slice_back.specs.declared.noted.Noted.{Noted}
-use Rattle.slice_back.specs.Uses.{is_of, is_word, word_of, uses_register, writes_register, uses_word, stores_word, takes_word}
-use Rattle.slice_back.specs.Slices.{Live, noted, noted_from, live, writes_live, stores_live, gives, is_last, in_slice, row_if, slice_rows}
-use Rattle.slice_back.specs.Agreeing.{bare, RowsUpTo, SliceSuffices}
 use Rattle.slice_back.proofs.Bools.{same_number, equal_numbers}
-use Rattle.hart_replay.specs.Laws.{AreMetByPlace}
 use Rattle.slice_back.proofs.Places.{linked_first}
 use Rattle.slice_back.proofs.RowsOn.{rows_on, steps_rows, up_to_front}
 use Rattle.slice_back.proofs.Matching.{Match, Matched, matched}

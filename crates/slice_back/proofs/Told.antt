@@ -1,15 +1,6 @@
 -- A slice as its text.
-use Rattle.std.proofs.Common.{◌≡◌, ℕ, List, Option, Some, None, ◌∙◌, ap, sym, refl, inl, inr, arith}
-use Rattle.std.specs.Prelude.{IsSome, Result, Ok, Err}
-use Rattle.bn_base.specs.Programs.{Program}
-use Rattle.log_record.specs.declared.record.Record.{Record}
-use Rattle.hart_replay.specs.Replay.{Interval, interval_of, replayed_in}
+use Rattle.slice_back.proofs.Common.{◌≡◌, ℕ, List, Option, Some, None, ◌∙◌, ap, sym, refl, inl, inr, arith, IsSome, Result, Ok, Err, Program, Record, Interval, interval_of, replayed_in, slice_in, slice_text, text_of, IsTextAnswer, SliceError, OutOfMemory, Slice}
 use Rattle.slice_back.specs.Answers.{IsAnswer}
-use Rattle.slice_back.specs.Slices.{slice_in}
-use Rattle.slice_back.specs.Texts.{slice_text, text_of, IsTextAnswer}
-use Rattle.slice_back.specs.declared.error.SliceError.{SliceError}
-use Rattle.slice_back.specs.declared.error.SliceError.TheVariants.{OutOfMemory}
-use Rattle.slice_back.specs.declared.lists.Slice.{Slice}
 
 not-both : (e : SliceError) (s : Slice) → ◌≡◌ {A = Result Slice SliceError} (Err e) (Ok s) → ⊥
 not-both e s h = grind arith

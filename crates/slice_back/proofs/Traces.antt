@@ -1,13 +1,8 @@
 -- A replay that is gone through to its end.
-use Rattle.std.proofs.Common.{arith, ◌≡◌, ◌≤◌, ◌<◌, ℕ, suc, length, true, ◌⊎◌, List, [], ◌∷◌, Option, Some, None, refl, sym, ◌∙◌, ap, inl, inr, subst}
-use Rattle.bn_base.specs.declared.row.Row.{Row}
-use Rattle.hart_replay.specs.Replay.{Replayed, Done, Refused}
+use Rattle.slice_back.proofs.Common.{arith, ◌≡◌, ◌≤◌, ◌<◌, ℕ, suc, length, true, ◌⊎◌, List, [], ◌∷◌, Option, Some, None, refl, sym, ◌∙◌, ap, inl, inr, subst, Row, Replayed, Done, Refused, NoInterval, LoadMissing, ScMissing, RecordsLeft, EndDiffers, Noted, noted, up_to, SliceError}
 use Rattle.hart_replay.specs.Coming.{outcome_only, with_rows, a_word_comes}
 use Rattle.hart_replay.specs.declared.error.ReplayError.{ReplayError}
-use Rattle.hart_replay.specs.declared.error.ReplayError.TheVariants.{NoInterval, LoadMissing, ScMissing, RecordsLeft, EndDiffers, OutOfMemory}
-use Rattle.slice_back.specs.declared.noted.Noted.{Noted}
-use Rattle.slice_back.specs.Slices.{noted, up_to}
-use Rattle.slice_back.specs.declared.error.SliceError.{SliceError}
+use Rattle.hart_replay.specs.declared.error.ReplayError.TheVariants.{OutOfMemory}
 use Rattle.slice_back.specs.declared.error.SliceError.TheVariants as ends
 use Rattle.slice_back.specs.Tracing.{Tracing, behind, reached, error_of, IsStop, EndsUnnoted, IsTraced}
 

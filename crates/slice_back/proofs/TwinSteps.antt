@@ -1,22 +1,5 @@
 -- Two replays continue alike: their rows of a slice are the same, and they agree on what is live after them.
-use Rattle.std.proofs.Common.{◌≡◌, ℕ, ◌==◌, ◌&&◌, ◌||◌, Bool, true, false, not, List, Option, Some, None, refl, sym, ◌∙◌, ap, subst, inl, inr, arith}
-use Rattle.std.specs.Prelude.{slice_index}
-use Rattle.bn_base.specs.Programs.{Program, code_at}
-use Rattle.bn_base.specs.declared.end_mark.EndMark.{EndMark}
-use Rattle.bn_base.specs.declared.row.Row.{Row}
-use Rattle.bn_base.specs.declared.state.HartState.{HartState}
-use Rattle.rv_decode.specs.Table.{Instruction}
-use Rattle.rv_meaning.specs.Words.{aligned}
-use Rattle.rv_meaning.specs.Execute.{Step, Quiet, Asks, step, after}
-use Rattle.rv_meaning.specs.declared.asks.Want.{Want}
-use Rattle.rv_meaning.specs.declared.asks.Want.TheVariants.{Load, Store, LoadReserved, StoreConditional, Amo, System, Cut, Faulted}
-use Rattle.rv_meaning.specs.Rows.{instruction_in, written, known, at_address}
-use Rattle.hart_replay.specs.Replay.{Interval, Position, word_for}
-use Rattle.hart_replay.specs.Scans.{Pending}
-use Rattle.slice_back.specs.declared.noted.Noted.{Noted}
-use Rattle.slice_back.specs.Uses.{is_call, reads, is_of, is_word, word_of, used_word, uses_register, writes_register, uses_word, stores_word, takes_word, took}
-use Rattle.slice_back.specs.Slices.{Live, note, live_before, writes_live, stores_live, gives, taken}
-use Rattle.slice_back.specs.Agreeing.{bare, address_of, took_word, AreAlike}
+use Rattle.slice_back.proofs.Common.{◌≡◌, ℕ, ◌==◌, ◌&&◌, ◌||◌, Bool, true, false, not, List, Option, Some, None, refl, sym, ◌∙◌, ap, subst, inl, inr, arith, slice_index, Program, code_at, EndMark, Row, HartState, Instruction, aligned, Step, Quiet, Asks, step, after, Want, Load, Store, LoadReserved, StoreConditional, Amo, System, Cut, Faulted, instruction_in, written, known, at_address, Interval, Position, word_for, Pending, Noted, is_call, reads, is_of, is_word, word_of, used_word, uses_register, writes_register, uses_word, stores_word, takes_word, took, Live, note, live_before, writes_live, stores_live, gives, taken, bare, address_of, took_word, AreAlike}
 use Rattle.slice_back.proofs.Bools.{and_left, and_right, both, or_first, or_second, not_false, same_number, equal_numbers}
 use Rattle.slice_back.proofs.LeastLaws.{says_taken}
 use Rattle.slice_back.proofs.Meanings.{Shape, AlikeSteps}

@@ -1,18 +1,5 @@
 -- The same row of two replays that agree on what is live: what it tells, and what is live after it.
-use Rattle.std.proofs.Common.{◌≡◌, ℕ, ◌==◌, ◌&&◌, Bool, true, false, ◌∷◌, length, Option, Some, None, refl, sym, ◌∙◌, ap, subst, inl, inr}
-use Rattle.std.specs.Prelude.{slice_index}
-use Rattle.bn_base.specs.Programs.{Program}
-use Rattle.bn_base.specs.declared.row.Row.{Row}
-use Rattle.rv_meaning.specs.Words.{aligned}
-use Rattle.rv_meaning.specs.declared.asks.Want.{Want}
-use Rattle.rv_meaning.specs.declared.asks.Want.TheVariants.{Load, Store, LoadReserved, StoreConditional, Amo, System, Cut, Faulted}
-use Rattle.rv_meaning.specs.Rows.{instruction_in, known, at_address}
-use Rattle.hart_replay.specs.Replay.{Interval, Position, word_for}
-use Rattle.hart_replay.specs.Scans.{Pending}
-use Rattle.slice_back.specs.declared.noted.Noted.{Noted}
-use Rattle.slice_back.specs.Uses.{is_word, word_of, used_word, uses_word, stores_word, takes_word, took, stores_part}
-use Rattle.slice_back.specs.Slices.{Live, note}
-use Rattle.slice_back.specs.Agreeing.{address_of, took_word, AreAlike}
+use Rattle.slice_back.proofs.Common.{◌≡◌, ℕ, ◌==◌, ◌&&◌, Bool, true, false, ◌∷◌, length, Option, Some, None, refl, sym, ◌∙◌, ap, subst, inl, inr, slice_index, Program, Row, aligned, Want, Load, Store, LoadReserved, StoreConditional, Amo, System, Cut, Faulted, instruction_in, known, at_address, Interval, Position, word_for, Pending, Noted, is_word, word_of, used_word, uses_word, stores_word, takes_word, took, stores_part, Live, note, address_of, took_word, AreAlike}
 use Rattle.slice_back.proofs.Bools.{and_right, both, same_number, equal_numbers}
 use Rattle.slice_back.proofs.Turns.{IsAsk, asked_row, WordOf, Turn}
 use Rattle.slice_back.proofs.Turns.Turn.{quiet, asked}

@@ -1,16 +1,10 @@
 -- Slices of small logs.
-use Rattle.std.proofs.Common.{◌≡◌, ℕ, [], ◌∷◌, Option, Some, None, refl, ap}
-use Rattle.std.specs.Prelude.{Err}
+use Rattle.slice_back.proofs.Common.{◌≡◌, ℕ, [], ◌∷◌, Option, Some, None, refl, ap, Err, fault_name, NoRow, registers_from, head_text, register_line, word_line, branch_line, AllAlike, WordsAgree}
 use Rattle.std.specs.Fmt.{digits}
 use Rattle.hex.specs.Hex.{encode_with}
-use Rattle.bn_base.specs.Faults.{fault_name}
 use Rattle.rv_text.specs.Names.{register_name, mnemonic, ordering}
 use Rattle.rv_text.specs.Instructions.{hex8, first_operand, register_operand, number_operand, offset_operand, memory_operand, target_operand, upper_operand, instruction_text}
 use Rattle.rv_text.specs.Rows.{point_text, word_text, register_text, labelled, changes_text, fault_text, row_text}
-use Rattle.slice_back.specs.declared.error.SliceError.TheVariants.{NoRow}
-use Rattle.slice_back.specs.Slices.{registers_from}
-use Rattle.slice_back.specs.Texts.{head_text, register_line, word_line, branch_line}
-use Rattle.slice_back.specs.Agreeing.{AllAlike, WordsAgree}
 use Rattle.slice_back.specs.Examples.{shown, text_of, byte_store, byte_store_text, fault, word_store, byte_over_word, load_after_store, loaded_twice, branch_before, call, apart_rows, apart_slice, apart_loads}
 use Rattle.slice_back.specs.Examples as examples
 

@@ -1,10 +1,7 @@
 -- Two intervals that agree on what a slice says it took.
 use Rattle.std.specs.Prelude.{◌≡◌, ℕ, List, [], ◌∷◌, map, slice_index, Option, Some, None, IsTrue}
-use Rattle.bn_base.specs.Programs.{Program}
-use Rattle.bn_base.specs.declared.row.Row.{Row}
+use Rattle.slice_back.specs.Common.{Program, Row, Record, Interval, interval_of, replayed}
 use Rattle.log_record.specs.Spelling.{AreRegisters}
-use Rattle.log_record.specs.declared.record.Record.{Record}
-use Rattle.hart_replay.specs.Replay.{Interval, interval_of, replayed}
 use Rattle.slice_back.specs.declared.noted.Noted.{Noted}
 use Rattle.slice_back.specs.Uses.{used_word}
 use Rattle.slice_back.specs.Slices.{noted, up_to, live, slice_rows}

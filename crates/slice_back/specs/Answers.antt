@@ -1,8 +1,6 @@
 -- What a slice answers.
 use Rattle.std.specs.Prelude.{◌≡◌, ℕ, ◌⊎◌, List, IsSome, Result, Err}
-use Rattle.bn_base.specs.Programs.{Program}
-use Rattle.log_record.specs.declared.record.Record.{Record}
-use Rattle.hart_replay.specs.Replay.{interval_of}
+use Rattle.slice_back.specs.Common.{Program, Record, interval_of}
 use Rattle.slice_back.specs.declared.lists.Slice.{Slice}
 use Rattle.slice_back.specs.declared.error.SliceError.{SliceError}
 use Rattle.slice_back.specs.declared.error.SliceError.TheVariants.{OutOfMemory}

@@ -1,8 +1,6 @@
 -- The lists of a slice ascend.
 use Rattle.std.specs.Prelude.{◌≡◌, ℕ, ◌+◌, ◌<◌, ◌≤◌, ◌^◌, List, [], ◌∷◌, map, Some, Ok}
-use Rattle.bn_base.specs.Programs.{Program}
-use Rattle.log_record.specs.declared.record.Record.{Record}
-use Rattle.hart_replay.specs.Replay.{Interval, interval_of}
+use Rattle.slice_back.specs.Common.{Program, Record, Interval, interval_of}
 use Rattle.slice_back.specs.declared.lists.Slice.{Slice}
 use Rattle.slice_back.specs.Slices.{sliced}
 

@@ -1,9 +1,6 @@
 -- Slices of small logs, written by hand.
 use Rattle.std.specs.Prelude.{ℕ, ◌+◌, true, false, List, [], ◌∷◌, ◌++◌, length, map, take, codes, Option, Some, None, Result, Ok, Err}
-use Rattle.bn_base.specs.Programs.{Program}
-use Rattle.bn_base.specs.declared.row.Row.{Row}
-use Rattle.hart_replay.specs.Replay.{replayed}
-use Rattle.log_record.specs.declared.record.Record.{Record}
+use Rattle.slice_back.specs.Common.{Program, Row, replayed, Record}
 use Rattle.log_record.specs.declared.record.Record.TheVariants.{Header, FirstLoad, End}
 use Rattle.slice_back.specs.declared.lists.Slice.{Slice}
 use Rattle.slice_back.specs.declared.error.SliceError.{SliceError}

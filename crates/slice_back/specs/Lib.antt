@@ -1,3 +1,4 @@
+pub mod Common
 pub mod Uses
 pub mod Needs
 pub mod FirstLoads

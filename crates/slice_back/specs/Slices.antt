@@ -1,11 +1,7 @@
 -- The backward slice of a row of an interval, by tests that compute. It is of the rows of the interval's replay, whatever its
 -- log says.
 use Rattle.std.specs.Prelude.{ℕ, zero, suc, ◌+◌, ◌==◌, Bool, true, false, not, ◌&&◌, ◌||◌, List, [], ◌∷◌, slice_index, Option, Some, None, Result, Ok, Err}
-use Rattle.bn_base.specs.Programs.{Program}
-use Rattle.bn_base.specs.declared.row.Row.{Row}
-use Rattle.log_record.specs.declared.record.Record.{Record}
-use Rattle.hart_replay.specs.Replay.{Replayed, Done, Refused, Interval, interval_of, replayed}
-use Rattle.hart_replay.specs.Scans.{Pending, due, met}
+use Rattle.slice_back.specs.Common.{Program, Row, Record, Replayed, Done, Refused, Interval, interval_of, replayed, Pending, due, met}
 use Rattle.slice_back.specs.declared.noted.Noted.{Noted}
 use Rattle.slice_back.specs.declared.lists.Slice.{Slice}
 use Rattle.slice_back.specs.declared.error.SliceError.{SliceError}

@@ -1,13 +1,8 @@
 -- The text of a slice.
 use Rattle.std.specs.Prelude.{◌≡◌, ◌⊎◌, ℕ, List, ◌++◌, IsSome, Result, Ok, Err, codes, decimal}
-use Rattle.std.specs.List.{flat_map}
-use Rattle.bn_base.specs.Programs.{Program}
-use Rattle.bn_base.specs.declared.row.Row.{Row}
-use Rattle.log_record.specs.declared.record.Record.{Record}
-use Rattle.hart_replay.specs.Replay.{interval_of}
+use Rattle.slice_back.specs.Common.{flat_map, Program, Row, Record, interval_of, row_text}
 use Rattle.rv_text.specs.Names.{register_name}
 use Rattle.rv_text.specs.Instructions.{hex8}
-use Rattle.rv_text.specs.Rows.{row_text}
 use Rattle.slice_back.specs.declared.error.SliceError.{SliceError}
 use Rattle.slice_back.specs.declared.error.SliceError.TheVariants.{OutOfMemory}
 use Rattle.slice_back.specs.declared.lists.Slice.{Slice}

@@ -1,9 +1,6 @@
 -- Rows as they are noted up to the one with a count.
 use Rattle.std.specs.Prelude.{◌≡◌, ◌⊎◌, ℕ, ◌<◌, ◌++◌, Bool, true, false, List, length, Option, Some, None}
-use Rattle.bn_base.specs.declared.row.Row.{Row}
-use Rattle.hart_replay.specs.Replay.{Replayed, Done, Refused}
-use Rattle.hart_replay.specs.Coming.{outcome_only}
-use Rattle.hart_replay.specs.Scans.{Pending}
+use Rattle.slice_back.specs.Common.{Row, Replayed, Done, Refused, outcome_only, Pending}
 use Rattle.hart_replay.specs.declared.error.ReplayError.{ReplayError}
 use Rattle.hart_replay.specs.declared.error.ReplayError.TheVariants.{NoInterval, LoadMissing, ScMissing, RecordsLeft, EndDiffers, OutOfMemory}
 use Rattle.slice_back.specs.declared.noted.Noted.{Noted}

@@ -1,12 +1,11 @@
 -- What a row uses and what it gives: registers, and aligned words of memory. The formats are those of the RISC-V
 -- unprivileged specification, version 20191213.
 use Rattle.std.specs.Prelude.{ℕ, ◌==◌, Bool, true, false, not, ◌&&◌, ◌||◌, Option, Some, None}
-use Rattle.bn_base.specs.declared.row.Row.{Row}
+use Rattle.slice_back.specs.Common.{Row, instruction_in}
 use Rattle.rv_decode.specs.Table.{Instruction}
 use Rattle.rv_decode.specs.declared.name.Name.{Name}
 use Rattle.rv_decode.specs.declared.name.Name.TheVariants.{Beq, Bne, Blt, Bge, Bltu, Bgeu, Jalr, Sb, Sh, Ecall}
 use Rattle.rv_meaning.specs.Words.{aligned}
-use Rattle.rv_meaning.specs.Rows.{instruction_in}
 use Rattle.slice_back.specs.declared.noted.Noted.{Noted}
 
 -- ---- registers

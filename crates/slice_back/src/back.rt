@@ -1,9 +1,6 @@
 //! `slice`: the interval is replayed, and its rows are gone over from the last back.
 ghost use Rattle.std.specs.Prelude.{◌≡◌, ℕ, List};
-ghost use Rattle.bn_base.specs.Programs.{Program};
-ghost use Rattle.log_record.specs.declared.record.Record.{Record};
-ghost use Rattle.hart_replay.specs.Coming.{Begins};
-ghost use Rattle.hart_replay.specs.Replay.{interval_of};
+ghost use Rattle.slice_back.specs.Common.{Program, Record, Begins, interval_of};
 ghost use Rattle.slice_back.specs.FirstLoads.{AreLoadsOf};
 ghost use Rattle.slice_back.specs.Answers.{IsAnswer};
 

@@ -1,7 +1,6 @@
 //! The first loads of an interval.
 ghost use Rattle.std.specs.Prelude.{◌≡◌, drop, IfOk};
-ghost use Rattle.hart_replay.specs.Replay.{interval_of};
-ghost use Rattle.hart_replay.specs.Scans.{loads_in, due, met};
+ghost use Rattle.slice_back.specs.Common.{interval_of, loads_in, due, met};
 ghost use Rattle.slice_back.specs.FirstLoads.{AreLoadsOf};
 
 use bn_base::HartId;

@@ -1,7 +1,6 @@
 //! The rows of a replay up to the one that is asked for.
 ghost use Rattle.std.specs.Prelude.{◌≡◌, ◌∷◌, [], List, false, OnOk, IfOk, IfErr};
-ghost use Rattle.std.specs.Option.{option_map};
-ghost use Rattle.bn_base.specs.declared.row.Row.{Row as RowOf};
+ghost use Rattle.slice_back.specs.Common.{option_map, Row as RowOf};
 ghost use Rattle.slice_back.specs.Slices.{note, passed};
 ghost use Rattle.slice_back.specs.Tracing.{reached, error_of, IsStop, EndsUnnoted, IsTraced};
 

@@ -1,7 +1,6 @@
 //! A slice as its text.
 ghost use Rattle.std.specs.Prelude.{◌≡◌, ◌++◌, OnOk, IfOk};
-ghost use Rattle.std.specs.List.{flat_map};
-ghost use Rattle.rv_text.specs.Rows.{row_text};
+ghost use Rattle.slice_back.specs.Common.{flat_map, row_text};
 ghost use Rattle.slice_back.specs.Texts.{register_line, word_line, branch_line, slice_text, IsTextAnswer};
 
 use crate::back::slice;

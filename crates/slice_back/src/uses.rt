@@ -1,8 +1,7 @@
 //! What a row uses: registers and words, read off its instruction.
 ghost use Rattle.std.specs.Prelude.{◌≡◌, ◌%◌, IfSome};
-ghost use Rattle.std.specs.Option.{option_map};
+ghost use Rattle.slice_back.specs.Common.{option_map, instruction_in};
 ghost use Rattle.rv_decode.specs.Seen.{seen};
-ghost use Rattle.rv_meaning.specs.Rows.{instruction_in};
 ghost use Rattle.slice_back.specs.Uses.{is_call, is_part_store, stores_part, word_of, part_stored, used_word, is_choice, chooses, is_branch};
 
 use bn_base::{Addr, Row};

@@ -1,10 +1,5 @@
 -- A refusal and out of memory are told apart.
-use Rattle.std.specs.Prelude.{Err}
-use Rattle.back_step.specs.Traces.{Trace}
-use Rattle.step_debugger.specs.declared.error.DebugError.{DebugError}
-use Rattle.step_debugger.specs.declared.error.DebugError.TheVariants.{ReadFault, WriteFault, LineTooLong, TooMuch, Joint, OutOfMemory}
-use Rattle.step_debugger.specs.Goings.{StaysUnrefused, StopsApart}
-use Rattle.step_debugger.specs.Turns.{LineApart}
+use Rattle.step_debugger.proofs.Common.{Err, Trace, DebugError, ReadFault, WriteFault, LineTooLong, TooMuch, Joint, OutOfMemory, StaysUnrefused, StopsApart, LineApart}
 
 -- one after another
 pub then : (a b c : Trace) → StaysUnrefused a b → StaysUnrefused b c → StaysUnrefused a c

@@ -1,13 +1,5 @@
 -- Lines read byte after byte.
-use Rattle.std.proofs.Common.{◌≡◌, ℕ, ◌<◌, ◌≤◌, true, false, refl, sym, ap, subst, ◌∙◌, arith, inl, inr, List, [], ◌∷◌, ◌++◌, append_assoc, append-nil, length, map, take, Option, Some, None}
-use Rattle.std.specs.Prelude.{Ok, Err}
-use Rattle.std.specs.Io.KnownBytes.{Consumes}
-use Rattle.std.proofs.KnownBytes.{Consumes-trans}
-use Rattle.bn_outside.specs.Counts.{Rose}
-use Rattle.bn_outside.specs.Streams.{ConsumesAll, EndsExactly, ReadNote, Stream, Supply, noted_after}
-use Rattle.step_debugger.specs.declared.error.DebugError.{DebugError}
-use Rattle.step_debugger.specs.declared.error.DebugError.TheVariants.{ReadFault, WriteFault, LineTooLong, TooMuch, Joint, OutOfMemory}
-use Rattle.step_debugger.specs.Lines.{Reading, Input, input_from, line_limit, NoLine, TakesByte, ReadsLine, EndsTooMany, StopsAt, NextLine}
+use Rattle.step_debugger.proofs.Common.{◌≡◌, ℕ, ◌<◌, ◌≤◌, true, false, refl, sym, ap, subst, ◌∙◌, arith, inl, inr, List, [], ◌∷◌, ◌++◌, append_assoc, append-nil, length, map, take, Option, Some, None, Ok, Err, Consumes, Consumes-trans, Rose, ConsumesAll, EndsExactly, ReadNote, Stream, Supply, noted_after, DebugError, ReadFault, WriteFault, LineTooLong, TooMuch, Joint, OutOfMemory, Reading, Input, input_from, line_limit, NoLine, TakesByte, ReadsLine, EndsTooMany, StopsAt, NextLine}
 use Rattle.step_debugger.proofs.InTurn.{unended_more, one_read, line_byte_read}
 use Rattle.step_debugger.proofs.ReadCounts.{byte_read, not_taken}
 

@@ -1,8 +1,7 @@
 -- Numbers read digit after digit.
-use Rattle.std.proofs.Common.{◌≡◌, ℕ, suc, ◌+◌, ◌*◌, ◌^◌, ◌<◌, ◌≤◌, refl, sym, ap, ◌∙◌, arith, List, ◌∷◌, length, Option, Some, None, pow-suc}
+use Rattle.step_debugger.proofs.Common.{◌≡◌, ℕ, suc, ◌+◌, ◌*◌, ◌^◌, ◌<◌, ◌≤◌, refl, sym, ap, ◌∙◌, arith, List, ◌∷◌, length, Option, Some, None, pow-suc, digit_in, sum_of, placed, number_in}
 use Rattle.std.proofs.lemmas.Grind.{pow_more}
 use Rattle.std.proofs.Math.Nat.{pow-le-pow_right}
-use Rattle.step_debugger.specs.Numbers.{digit_in, sum_of, placed, number_in}
 
 -- a number whose first digits spell this, and the others are these
 abbrev pub more : ℕ → ℕ → List ℕ → Option ℕ

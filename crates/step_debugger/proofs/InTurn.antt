@@ -1,12 +1,5 @@
 -- What a source notes of its reads, and what out had been given at each.
-use Rattle.std.proofs.Common.{◌≡◌, ℕ, ◌+◌, Bool, true, false, List, [], ◌∷◌, ◌++◌, append_assoc, append-nil, length, length-append, map, nat_lt, Option, refl, sym, ap, subst, ◌∙◌, arith}
-use Rattle.std.specs.Prelude.{Result}
-use Rattle.std.specs.Io.KnownBytes.{Appends}
-use Rattle.bn_outside.specs.Streams.{ReadNote, Stream, Supply, noted_after}
-use Rattle.back_step.specs.Traces.{Trace}
-use Rattle.step_debugger.specs.declared.error.DebugError.{DebugError}
-use Rattle.step_debugger.specs.Lines.{Reading, input_limit, is_line_feed, is_too_long, input_from, NoLine, NextLine, reads_for}
-use Rattle.step_debugger.specs.Transcript.{answered_in, InTurn, AnswersInTurn}
+use Rattle.step_debugger.proofs.Common.{◌≡◌, ℕ, ◌+◌, Bool, true, false, List, [], ◌∷◌, ◌++◌, append_assoc, append-nil, length, length-append, map, nat_lt, Option, refl, sym, ap, subst, ◌∙◌, arith, Result, Appends, ReadNote, Stream, Supply, noted_after, Trace, DebugError, Reading, input_limit, is_line_feed, is_too_long, input_from, NoLine, NextLine, reads_for, answered_in, InTurn, AnswersInTurn}
 use Rattle.step_debugger.proofs.Prefixes.{next}
 
 -- ---- the notes

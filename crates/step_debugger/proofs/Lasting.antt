@@ -1,22 +1,6 @@
 -- A session, line after line.
-use Rattle.std.proofs.Common.{◌≡◌, ℕ, ◌+◌, ◌≤◌, length, Bool, true, false, List, [], ◌∷◌, ◌++◌, Option, Some, None, ◌∙◌, ap, subst, sym, refl, inl, inr, ◌⊎◌, append_assoc}
-use Rattle.std.specs.Prelude.{Result, Ok, Err}
-use Rattle.std.specs.Io.KnownBytes.{Appends, Consumes}
-use Rattle.std.proofs.KnownBytes.{Appends-nil, Appends-trans, Consumes-nil, Consumes-trans}
-use Rattle.std.proofs.lemmas.List.{append-nil}
-use Rattle.bn_outside.specs.Streams.{AppendsPart, ConsumesAll, ReadNote, Stream, Supply}
-use Rattle.back_step.specs.Traces.{Trace}
+use Rattle.step_debugger.proofs.Common.{◌≡◌, ℕ, ◌+◌, ◌≤◌, length, Bool, true, false, List, [], ◌∷◌, ◌++◌, Option, Some, None, ◌∙◌, ap, subst, sym, refl, inl, inr, ◌⊎◌, append_assoc, Result, Ok, Err, Appends, Consumes, Appends-nil, Appends-trans, Consumes-nil, Consumes-trans, append-nil, AppendsPart, ConsumesAll, ReadNote, Stream, Supply, Trace, DebugError, ReadFault, WriteFault, LineTooLong, TooMuch, Joint, OutOfMemory, Ending, GoesOn, Quits, Refused, command_of, Reading, Input, input_from, input_of, with_line, ends_in, EndsTooMany, NextLine, NoLine, ReadsLine, StopsAt, reads_for, Session, Answer, says, answer, begin_at, behind, goes_on_by, answers, lines_in, Told, result_by, transcript_from, EndsWithLine, EndsThere, EndsAll, Debugs, WritesUpTo, StopsAtLine, StopsAtEnd, ReadsUpTo, answered_in, IsReadOnce, AnswersInTurn, Debugged, Stops, SendsPart, AnswersLine, TakesLine}
 use Rattle.joint_replay.specs.declared.error.JointError.{JointError}
-use Rattle.step_debugger.specs.declared.error.DebugError.{DebugError}
-use Rattle.step_debugger.specs.declared.error.DebugError.TheVariants.{ReadFault, WriteFault, LineTooLong, TooMuch, Joint, OutOfMemory}
-use Rattle.step_debugger.specs.declared.session.Ending.{Ending}
-use Rattle.step_debugger.specs.declared.session.Ending.TheVariants.{GoesOn, Quits, Refused}
-use Rattle.step_debugger.specs.Commands.{command_of}
-use Rattle.step_debugger.specs.Lines.{Reading, Input, input_from, input_of, with_line, ends_in, EndsTooMany, NextLine, NoLine, ReadsLine, StopsAt, reads_for}
-use Rattle.step_debugger.specs.Answers.{Session, Answer, says, answer, begin_at}
-use Rattle.step_debugger.specs.Transcript.{behind, goes_on_by, answers, lines_in, Told, result_by, transcript_from, EndsWithLine, EndsThere, EndsAll, Debugs, WritesUpTo, StopsAtLine, StopsAtEnd, ReadsUpTo, answered_in, IsReadOnce, AnswersInTurn, Debugged}
-use Rattle.step_debugger.specs.Goings.{Stops, SendsPart}
-use Rattle.step_debugger.specs.Turns.{AnswersLine, TakesLine}
 use Rattle.step_debugger.proofs.InTurn.{no_lines, further}
 use Rattle.step_debugger.proofs.ReadCounts.{joined_reads, joined_one, not_read_once}
 use Rattle.step_debugger.proofs.Sent.{part_longer, part_behind, part_whole, rose_later}

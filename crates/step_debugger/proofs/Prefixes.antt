@@ -1,8 +1,5 @@
 -- Commands that others begin.
-use Rattle.std.proofs.Common.{◌≡◌, ℕ, ◌+◌, Bool, true, false, List, [], ◌∷◌, ◌++◌, length, nat_lt, Option, Some, None, refl}
-use Rattle.step_debugger.specs.declared.error.DebugError.{DebugError}
-use Rattle.step_debugger.specs.declared.error.DebugError.TheVariants.{LineTooLong, TooMuch}
-use Rattle.step_debugger.specs.Lines.{Input, input_limit, is_line_feed, is_too_long, ends_in, with_line, input_from, RefusalsStay}
+use Rattle.step_debugger.proofs.Common.{◌≡◌, ℕ, ◌+◌, Bool, true, false, List, [], ◌∷◌, ◌++◌, length, nat_lt, Option, Some, None, refl, DebugError, LineTooLong, TooMuch, Input, input_limit, is_line_feed, is_too_long, ends_in, with_line, input_from, RefusalsStay}
 
 no_error : (e : DebugError) → ◌≡◌ {A = Option DebugError} (Some e) None → ⊥
 no_error e is = cc

@@ -1,12 +1,5 @@
 -- How often a source is read.
-use Rattle.std.proofs.Common.{◌≡◌, ℕ, ◌+◌, inl, List, [], ◌∷◌, ◌++◌, length, sym, arith, length-append}
-use Rattle.std.specs.Prelude.{Err}
-use Rattle.bn_outside.specs.Streams.{Supply}
-use Rattle.back_step.specs.Traces.{Trace}
-use Rattle.step_debugger.specs.declared.error.DebugError.{DebugError}
-use Rattle.step_debugger.specs.declared.error.DebugError.TheVariants.{ReadFault, WriteFault, LineTooLong, TooMuch, Joint, OutOfMemory}
-use Rattle.step_debugger.specs.Lines.{Reading, TakesByte, reads_for}
-use Rattle.step_debugger.specs.Transcript.{IsReadOnce}
+use Rattle.step_debugger.proofs.Common.{◌≡◌, ℕ, ◌+◌, inl, List, [], ◌∷◌, ◌++◌, length, sym, arith, length-append, Err, Supply, Trace, DebugError, ReadFault, WriteFault, LineTooLong, TooMuch, Joint, OutOfMemory, Reading, TakesByte, reads_for, IsReadOnce}
 
 -- bytes, and then one more
 pub byte_read : (line : List ℕ) (byte : ℕ) → length line + 1 ≡ length (line ++ byte ∷ [])

@@ -1,13 +1,6 @@
 -- Answers that are sent.
-use Rattle.std.proofs.Common.{◌≡◌, ℕ, ◌≤◌, List, [], ◌++◌, ◌∙◌, ap, subst, sym}
-use Rattle.std.specs.Prelude.{Result, Ok}
-use Rattle.bn_outside.specs.Streams.{Stream}
-use Rattle.back_step.specs.Traces.{Trace}
-use Rattle.step_debugger.specs.declared.error.DebugError.{DebugError}
-use Rattle.step_debugger.specs.declared.session.Ending.{Ending}
+use Rattle.step_debugger.proofs.Common.{◌≡◌, ℕ, ◌≤◌, List, [], ◌++◌, ◌∙◌, ap, subst, sym, Result, Ok, Stream, Trace, DebugError, Ending, Answer, Stops, SendsPart, Gathers, session_of}
 use Rattle.step_debugger.specs.declared.focus.Focus.{Focus}
-use Rattle.step_debugger.specs.Answers.{Answer}
-use Rattle.step_debugger.specs.Goings.{Stops, SendsPart, Gathers, session_of}
 use Rattle.step_debugger.proofs.Sent.{cut_behind, stops_later}
 
 -- what is asked of a command

@@ -1,19 +1,6 @@
 -- Texts that are sent one after another.
-use Rattle.std.proofs.Common.{◌≡◌, ℕ, suc, ◌+◌, ◌-◌, ◌≤◌, ◌<◌, List, [], ◌∷◌, ◌++◌, length, take, Option, Some, None, ◌∙◌, ap, subst, sym, arith, inl, inr, ◌⊎◌, append_assoc, length-append}
-use Rattle.std.specs.Prelude.{Ok}
-use Rattle.std.specs.Io.KnownBytes.{Appends}
-use Rattle.std.proofs.KnownBytes.{Appends-trans}
-use Rattle.std.proofs.lemmas.List.{take_all, take-append-le}
+use Rattle.step_debugger.proofs.Common.{◌≡◌, ℕ, suc, ◌+◌, ◌-◌, ◌≤◌, ◌<◌, List, [], ◌∷◌, ◌++◌, length, take, Option, Some, None, ◌∙◌, ap, subst, sym, arith, inl, inr, ◌⊎◌, append_assoc, length-append, Ok, Appends, Appends-trans, take_all, take-append-le, Rose, AppendsPart, AppendsShort, Stream, Joining, readiness, Trace, trace_step, DebugError, ReadFault, WriteFault, LineTooLong, TooMuch, Joint, OutOfMemory, Ending, Moves, step_by, step_up_to, hart_place, places_from, StepsOnce, Stops, SendsPart, Gathers}
 use Rattle.std.proofs.lemmas.Bool.{cases_lt}
-use Rattle.bn_outside.specs.Counts.{Rose}
-use Rattle.bn_outside.specs.Streams.{AppendsPart, AppendsShort, Stream}
-use Rattle.joint_replay.specs.Joining.{Joining, readiness}
-use Rattle.back_step.specs.Traces.{Trace, trace_step}
-use Rattle.step_debugger.specs.declared.error.DebugError.{DebugError}
-use Rattle.step_debugger.specs.declared.error.DebugError.TheVariants.{ReadFault, WriteFault, LineTooLong, TooMuch, Joint, OutOfMemory}
-use Rattle.step_debugger.specs.declared.session.Ending.{Ending}
-use Rattle.step_debugger.specs.Answers.{Moves, step_by, step_up_to, hart_place, places_from}
-use Rattle.step_debugger.specs.Goings.{StepsOnce, Stops, SendsPart, Gathers}
 
 -- the front of a longer text
 front_longer : (n : ℕ) (s t : List ℕ) → (length s < n) ⊎ (n ≤ length s) → (m : ℕ) × (take m (s ++ t) ≡ take n s)

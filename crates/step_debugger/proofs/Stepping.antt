@@ -1,6 +1,5 @@
 -- The lowest ready hart, and what its step leaves to do.
-use Rattle.std.proofs.Common.{◌≡◌, ℕ, zero, suc, ◌+◌, ◌<◌, Bool, true, false, refl, sym, ap, ap₂, ◌∙◌, subst, arith, List, [], ◌∷◌, ◌++◌, length, slice_get, slice_set, Option, Some, None}
-use Rattle.std.specs.Prelude.{Result, Ok, Err}
+use Rattle.step_debugger.proofs.Common.{◌≡◌, ℕ, zero, suc, ◌+◌, ◌<◌, Bool, true, false, refl, sym, ap, ap₂, ◌∙◌, subst, arith, List, [], ◌∷◌, ◌++◌, length, slice_get, slice_set, Option, Some, None, Result, Ok, Err, Joining, choice, choice_from, readiness, readiness_of, next_step, move, steps_left, entry_of, Trace, Trailed, with_entry, trace_step, go_by, go_past, stop_unless, GoesOnce}
 use Rattle.bn_base.specs.Programs.{Program}
 use Rattle.bn_base.specs.declared.row.Row.{Row}
 use Rattle.log_record.specs.declared.record.Record.{Record}
@@ -13,11 +12,7 @@ use Rattle.joint_replay.specs.declared.kinds.Next.TheVariants as next
 use Rattle.joint_replay.specs.declared.kinds.Stepped.{Stepped}
 use Rattle.joint_replay.specs.Lanes.{Cursor, Lane, Item, Doing, Ending, row_given, cursors_steps, lane_step, lane_steps}
 use Rattle.joint_replay.specs.Memory.{memory_after}
-use Rattle.joint_replay.specs.Joining.{Joining, choice, choice_from, readiness, readiness_of, next_step, move, steps_left}
-use Rattle.back_step.specs.Traces.{entry_of, Trace, Trailed, with_entry, trace_step}
 use Rattle.back_step.specs.Trails.{TrailSteps}
-use Rattle.step_debugger.specs.Answers.{go_by, go_past, stop_unless}
-use Rattle.step_debugger.specs.Goings.{GoesOnce}
 
 -- ---- the lowest ready hart is ready
 

@@ -1,15 +1,5 @@
 -- A line is read and answered.
-use Rattle.std.proofs.Common.{◌≡◌, ℕ, Bool, true, false, List, ◌∙◌, subst, sym, inl}
-use Rattle.std.specs.Prelude.{Ok}
-use Rattle.bn_outside.specs.Streams.{ReadNote, Stream, Supply}
-use Rattle.step_debugger.specs.declared.error.DebugError.{DebugError}
-use Rattle.step_debugger.specs.declared.session.Ending.{Ending}
-use Rattle.step_debugger.specs.declared.session.Ending.TheVariants.{GoesOn}
-use Rattle.step_debugger.specs.Lines.{Reading, NextLine}
-use Rattle.step_debugger.specs.Commands.{command_of}
-use Rattle.step_debugger.specs.Answers.{Session, answer}
-use Rattle.step_debugger.specs.Goings.{IsAnswered, SendsPart, Stops}
-use Rattle.step_debugger.specs.Turns.{AnswersLine, CutsLine, TakesLine}
+use Rattle.step_debugger.proofs.Common.{◌≡◌, ℕ, Bool, true, false, List, ◌∙◌, subst, sym, inl, Ok, ReadNote, Stream, Supply, DebugError, Ending, GoesOn, Reading, NextLine, command_of, Session, answer, IsAnswered, SendsPart, Stops, AnswersLine, CutsLine, TakesLine}
 
 module _ {s next : Session} {old new : Reading} {input now_input : Supply} {note : ReadNote} {out now_out : Stream} {whole : Bool} where
   -- the line that is read is the one that is answered

@@ -1,8 +1,7 @@
 -- Stops on the way back.
-use Rattle.std.proofs.Common.{◌≡◌, ℕ, suc, ◌+◌, ◌-◌, ◌<◌, sym, ap, ◌∙◌, arith, List, length, slice_get, Option, Some, None}
+use Rattle.step_debugger.proofs.Common.{◌≡◌, ℕ, suc, ◌+◌, ◌-◌, ◌<◌, sym, ap, ◌∙◌, arith, List, length, slice_get, Option, Some, None, stop_before, stop_below}
 use Rattle.back_step.specs.declared.entry.Entry.{Entry}
 use Rattle.step_debugger.specs.declared.stop.Stop.{Stop}
-use Rattle.step_debugger.specs.Answers.{stop_before, stop_below}
 
 module _ (breaks : List ℕ) (entries : List Entry) (passed at : ℕ) (low : passed < length entries) (is : at ≡ length entries - 1 - passed) (so_far : stop_below breaks entries (length entries) ≡ stop_below breaks entries (length entries - passed))
     (entry : Option Entry) (there : entry ≡ slice_get entries at) (stop : Option Stop) (told : stop ≡ stop_before breaks at entry) where

@@ -1,5 +1,5 @@
 -- Small examples.
-use Rattle.std.proofs.Common.{◌≡◌, ◌+◌, ◌^◌, ℕ, List, [], ◌∷◌, ◌++◌, Some, None, length, replicate, codes, refl, ap, arith}
+use Rattle.step_debugger.proofs.Common.{◌≡◌, ◌+◌, ◌^◌, ℕ, List, [], ◌∷◌, ◌++◌, Some, None, length, replicate, codes, refl, ap, arith, LineTooLong, TooMuch, ends_in, with_line, point_text, hart_text, waits_text, stop_text, at_text, address_text, word_text, register_text, two_text, four_text, half_text, place_text, hart_done_text}
 use Rattle.std.specs.Fmt.{digits}
 use Rattle.hex.specs.Hex.{encode_with}
 use Rattle.bn_base.specs.EndMarks.{reason_word}
@@ -9,9 +9,6 @@ use Rattle.rv_text.specs.Rows as rows
 use Rattle.rv_text.specs.Marks.{mark_text, end_text}
 use Rattle.joint_replay.specs.Texts.{pass_text}
 use Rattle.step_debugger.specs.declared.command.DebugCommand.TheVariants.{Other}
-use Rattle.step_debugger.specs.declared.error.DebugError.TheVariants.{LineTooLong, TooMuch}
-use Rattle.step_debugger.specs.Lines.{ends_in, with_line}
-use Rattle.step_debugger.specs.Answers.{point_text, hart_text, waits_text, stop_text, at_text, address_text, word_text, register_text, two_text, four_text, half_text, place_text, hart_done_text}
 use Rattle.step_debugger.specs.Examples.{commands_of, command_lines, their_commands, other_lines, refusal_of, long_line, last_bytes, leaving_session, leaving_told, returning_session, returning_told, starting_session, starting_told, breaking_session, breaking_told, relay_session, relay_told, crossed_session, crossed_told, IsInTurn, prompt_reads, late_reads, early_reads}
 
 pub commands_read : commands_of command_lines ≡ their_commands

@@ -1,23 +1,18 @@
 -- What each command does, and what it prints.
 use Rattle.std.specs.Prelude.{ℕ, zero, suc, ◌+◌, ◌-◌, ◌==◌, nat_lt, Bool, true, false, not, List, [], ◌∷◌, ◌++◌, length, slice_get, slice_index, codes, decimal, Option, Some, None, Result, Ok, Err}
-use Rattle.std.specs.List.{list_any, filter}
+use Rattle.step_debugger.specs.Common.{list_any, filter, ReplayError, Stuck, Joining, readiness, coming, choice, error_of, positions_from, steps_left, state_at, Trace, at_start, trace_step, refusing, cut}
 use Rattle.bn_base.specs.declared.state.HartState.{HartState}
 use Rattle.rv_text.specs.Instructions.{hex8}
 use Rattle.rv_text.specs.Names.{register_name}
-use Rattle.hart_replay.specs.declared.error.ReplayError.{ReplayError}
-use Rattle.joint_replay.specs.declared.error.JointError.TheVariants.{Stuck}
 use Rattle.joint_replay.specs.declared.kinds.Coming.TheVariants.{PassAt, RowAt, EndAt}
 use Rattle.joint_replay.specs.declared.kinds.Readiness.{Readiness}
 use Rattle.joint_replay.specs.declared.kinds.Readiness.TheVariants as is
 use Rattle.joint_replay.specs.declared.kinds.Next.{Next}
 use Rattle.joint_replay.specs.declared.kinds.Next.TheVariants as next
 use Rattle.joint_replay.specs.Lanes.{Item, count_of}
-use Rattle.joint_replay.specs.Joining.{Joining, readiness, coming, choice, error_of, positions_from, steps_left}
 use Rattle.joint_replay.specs.Memory.{word_in}
-use Rattle.joint_replay.specs.Calls.{state_at}
 use Rattle.joint_replay.specs.Texts.{item_text}
 use Rattle.back_step.specs.declared.entry.Entry.{Entry}
-use Rattle.back_step.specs.Traces.{Trace, at_start, trace_step, refusing, cut}
 use Rattle.step_debugger.specs.declared.command.DebugCommand.{DebugCommand}
 use Rattle.step_debugger.specs.declared.command.DebugCommand.TheVariants as to
 use Rattle.step_debugger.specs.declared.stop.Stop.{Stop}

@@ -1,10 +1,8 @@
 -- Small examples.
 use Rattle.std.specs.Prelude.{ℕ, ◌-◌, ◌^◌, List, [], ◌∷◌, ◌++◌, codes, map, replicate, Option, Some, Ok, Err}
 use Rattle.log_record.specs.declared.record.Record.TheVariants.{Header}
-use Rattle.joint_replay.specs.declared.error.JointError.TheVariants.{Stuck}
-use Rattle.joint_replay.specs.Joining.{Joining, fresh}
+use Rattle.step_debugger.specs.Common.{Stuck, Joining, fresh, at_start}
 use Rattle.joint_replay.specs.Examples.{code, end, crossed, relay}
-use Rattle.back_step.specs.Traces.{at_start}
 use Rattle.step_debugger.specs.declared.error.DebugError.{DebugError}
 use Rattle.step_debugger.specs.declared.error.DebugError.TheVariants.{Joint}
 use Rattle.step_debugger.specs.declared.command.DebugCommand.{DebugCommand}

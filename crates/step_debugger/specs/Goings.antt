@@ -1,14 +1,8 @@
 -- What single steps of a command do, and what is sent of a text.
 use Rattle.std.specs.Prelude.{◌≡◌, ℕ, ◌+◌, Bool, true, List, ◌++◌, Option, Some, None, Result, Ok, Err}
-use Rattle.std.specs.Io.KnownBytes.{Appends}
-use Rattle.bn_outside.specs.Counts.{Rose}
-use Rattle.bn_outside.specs.Streams.{AppendsPart, AppendsShort, Stream}
-use Rattle.hart_replay.specs.declared.error.ReplayError.{ReplayError}
+use Rattle.step_debugger.specs.Common.{Appends, Rose, AppendsPart, AppendsShort, Stream, ReplayError, JointError, readiness, choice, steps_left, Trace, trace_step}
 use Rattle.hart_replay.specs.declared.error.ReplayError.TheVariants as replay
-use Rattle.joint_replay.specs.declared.error.JointError.{JointError}
 use Rattle.joint_replay.specs.declared.error.JointError.TheVariants as joint
-use Rattle.joint_replay.specs.Joining.{readiness, choice, steps_left}
-use Rattle.back_step.specs.Traces.{Trace, trace_step}
 use Rattle.step_debugger.specs.declared.error.DebugError.{DebugError}
 use Rattle.step_debugger.specs.declared.error.DebugError.TheVariants.{WriteFault, Joint, OutOfMemory}
 use Rattle.step_debugger.specs.declared.session.Ending.{Ending}

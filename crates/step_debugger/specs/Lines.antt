@@ -1,9 +1,6 @@
 -- The lines of the commands.
 use Rattle.std.specs.Prelude.{◌≡◌, ℕ, ◌+◌, ◌^◌, ◌<◌, ◌≤◌, ◌==◌, nat_lt, Bool, true, false, not, ◌&&◌, List, [], ◌∷◌, ◌++◌, length, map, Option, Some, None, Result, Ok, Err}
-use Rattle.std.specs.List.{AllByRecursion}
-use Rattle.std.specs.Io.KnownBytes.{Consumes}
-use Rattle.bn_outside.specs.Counts.{Rose}
-use Rattle.bn_outside.specs.Streams.{ConsumesAll, ReadNote, Stream, Supply, noted_after}
+use Rattle.step_debugger.specs.Common.{AllByRecursion, Consumes, Rose, ConsumesAll, ReadNote, Stream, Supply, noted_after}
 use Rattle.bn_outside.specs.declared.Failed.{Failed}
 use Rattle.step_debugger.specs.declared.error.DebugError.{DebugError}
 use Rattle.step_debugger.specs.declared.error.DebugError.TheVariants.{ReadFault, LineTooLong, TooMuch, OutOfMemory}

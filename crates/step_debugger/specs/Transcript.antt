@@ -1,10 +1,6 @@
 -- The transcript of a session.
 use Rattle.std.specs.Prelude.{◌≡◌, ◌⊎◌, ℕ, ◌+◌, List, [], ◌∷◌, ◌++◌, length, Option, Some, None, Result, Ok, Err}
-use Rattle.std.specs.Io.KnownBytes.{Appends, Consumes}
-use Rattle.bn_outside.specs.Counts.{Rose}
-use Rattle.bn_outside.specs.Streams.{AppendsPart, ConsumesAll, ReadNote, Stream, Supply, noted_after}
-use Rattle.joint_replay.specs.Joining.{Joining}
-use Rattle.back_step.specs.Traces.{Trace, at_start}
+use Rattle.step_debugger.specs.Common.{Appends, Consumes, Rose, AppendsPart, ConsumesAll, ReadNote, Stream, Supply, noted_after, Joining, Trace, at_start}
 use Rattle.step_debugger.specs.declared.error.DebugError.{DebugError}
 use Rattle.step_debugger.specs.declared.error.DebugError.TheVariants.{ReadFault, WriteFault, LineTooLong, TooMuch, OutOfMemory}
 use Rattle.step_debugger.specs.declared.error.DebugError.TheVariants as why

@@ -1,9 +1,6 @@
 -- One line of a session: it is read, and its answer is sent.
 use Rattle.std.specs.Prelude.{◌≡◌, ◌⊎◌, Bool, true, false, Result, Ok, Err}
-use Rattle.std.specs.Io.KnownBytes.{Appends}
-use Rattle.bn_outside.specs.Streams.{ReadNote, Stream, Supply}
-use Rattle.joint_replay.specs.declared.error.JointError.{JointError}
-use Rattle.back_step.specs.Traces.{Trace}
+use Rattle.step_debugger.specs.Common.{Appends, ReadNote, Stream, Supply, JointError, Trace}
 use Rattle.step_debugger.specs.declared.error.DebugError.{DebugError}
 use Rattle.step_debugger.specs.declared.error.DebugError.TheVariants.{Joint, OutOfMemory}
 use Rattle.step_debugger.specs.declared.session.Ending.{Ending}

@@ -2,8 +2,7 @@
 ghost use Rattle.std.specs.Prelude.{◌≡◌, ◌<◌, true, false, length, Some, None, MatchOption, IfOk};
 ghost use Rattle.joint_replay.specs.declared.kinds.Readiness.TheVariants.{Ready};
 ghost use Rattle.joint_replay.specs.declared.kinds.Next.TheVariants.{Hart};
-ghost use Rattle.joint_replay.specs.Joining.{readiness, choice};
-ghost use Rattle.joint_replay.specs.Calls.{state_at};
+ghost use Rattle.step_debugger.specs.Common.{readiness, choice, state_at};
 ghost use Rattle.step_debugger.specs.Answers.{pc_at, is_set, stop_at, stop_unless};
 ghost use Rattle.step_debugger.specs.Goings.{refused_by, StepsOnce, GoesOnce, StepsApart};
 

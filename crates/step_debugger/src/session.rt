@@ -1,7 +1,6 @@
 //! A session of the debugger: what each command does. A new command's work goes here.
 ghost use Rattle.std.specs.Prelude.{◌≡◌, ◌≤◌, ◌<◌, ◌++◌, ◌==◌, not, length, OnOk};
-ghost use Rattle.std.specs.List.{filter};
-ghost use Rattle.joint_replay.specs.Calls.{state_at};
+ghost use Rattle.step_debugger.specs.Common.{filter, state_at};
 ghost use Rattle.step_debugger.specs.Answers.{is_set, registers_text, hart_place, places_from, choose, add_break, take_break};
 ghost use Rattle.step_debugger.specs.Goings.{session_of, Says, Goes, TellsSteps, Performs, IsAnswered, TellsApart, done_by};
 

@@ -1,18 +1,7 @@
 -- What a hart is answered is the machine's.
-use Rattle.std.proofs.Common.{◌≡◌, ℕ, ◌<◌, Bool, true, false, List, [], ◌∷◌, ◌++◌, subst}
-use Rattle.std.specs.Prelude.{Result, Ok, Err, IfOk}
-use Rattle.bn_base.specs.Programs.{Program}
-use Rattle.bn_base.specs.declared.settings.RawSettings.{RawSettings}
-use Rattle.bn_outside.specs.declared.turn_row.TurnRow.{TurnRow}
-use Rattle.rv_meaning.specs.declared.asks.Ask.{Ask}
-use Rattle.rv_meaning.specs.declared.asks.Reply.{Reply}
-use Rattle.run_model.specs.Turn.{Run, serve}
+use Rattle.whole_runs.proofs.Common.{◌≡◌, ℕ, ◌<◌, Bool, true, false, List, [], ◌∷◌, ◌++◌, subst, Result, Ok, Err, IfOk, Program, RawSettings, TurnRow, Ask, Reply, Run, serve, after_rows, IsLawful, Seen, IsState, IsTold, first_run, run_after, HasTaken, list_run, AnswersTurn, AnswersAsk, row_of}
 use Rattle.run_model.specs.Runs as runs
-use Rattle.run_laws.specs.History.{after_rows, IsLawful}
-use Rattle.bus_core.specs.Bus.{Seen, IsState, IsTold, is_live, first_run, run_after}
-use Rattle.whole_runs.specs.Lists.{HasTaken, list_run}
-use Rattle.whole_runs.specs.Taking.{AnswersTurn}
-use Rattle.whole_runs.specs.HartTurns.{AnswersAsk, row_of}
+use Rattle.bus_core.specs.Bus.{is_live}
 use Rattle.whole_runs.proofs.OwnTurns.{Replies, Flags, Asks, row_is}
 use Rattle.whole_runs.proofs.Rows.{legal_snoc}
 use Rattle.whole_runs.proofs.Taken.{live_is}

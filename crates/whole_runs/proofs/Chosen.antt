@@ -1,12 +1,5 @@
 -- The turns that a chooser takes one by one.
-use Rattle.std.proofs.Common.{◌≡◌, ℕ, Bool, true, false, List, [], ◌∷◌, ◌++◌, refl, sym, ◌∙◌, ap, subst, arith}
-use Rattle.std.specs.Prelude.{Option, Some, None}
-use Rattle.std.proofs.lemmas.List.{append_assoc, append-nil}
-use Rattle.bn_outside.specs.declared.turn_row.TurnRow.{TurnRow}
-use Rattle.bus_core.specs.Bus.{Began, Seen}
-use Rattle.whole_runs.specs.Chosen.{kept_after, kept_with, AreAdded, IsCounted, IsFirst, IsListed}
-use Rattle.whole_runs.specs.Closed.{IsClosed}
-use Rattle.whole_runs.specs.Lists.{HasTaken, is_finished}
+use Rattle.whole_runs.proofs.Common.{◌≡◌, ℕ, Bool, true, false, List, [], ◌∷◌, ◌++◌, refl, sym, ◌∙◌, ap, subst, arith, Option, Some, None, append_assoc, append-nil, TurnRow, Began, Seen, kept_after, kept_with, AreAdded, IsCounted, IsFirst, IsListed, IsClosed, HasTaken, is_finished}
 use Rattle.whole_runs.specs.declared.listed.Listed.{Listed}
 
 kept_none : (keeps : Bool) (before : List ℕ) → kept_with keeps before [] ≡ before

@@ -1,21 +1,11 @@
 -- How many harts are live, and how many after a turn.
-use Rattle.std.proofs.Common.{◌≡◌, ℕ, zero, suc, ◌+◌, ◌==◌, ◌<◌, ◌≤◌, Bool, true, false, List, [], ◌∷◌, ◌++◌, length, refl, sym, ◌∙◌, ap, subst, arith, inl, inr}
-use Rattle.std.specs.Prelude.{Option, Some, slice_get}
-use Rattle.bn_base.specs.Programs.{Program}
-use Rattle.bn_base.specs.declared.settings.RawSettings.{RawSettings}
+use Rattle.whole_runs.proofs.Common.{◌≡◌, ℕ, zero, suc, ◌+◌, ◌==◌, ◌<◌, ◌≤◌, Bool, true, false, List, [], ◌∷◌, ◌++◌, length, refl, sym, ◌∙◌, ap, subst, arith, inl, inr, Option, Some, slice_get, Program, RawSettings, Ask, Hart, Run, ask_at, is_orderly, is_guarded, guarded_run, by_guard, hart_after, harts_after, other_after, next_of, serve, serve_answered, served_if, turn, live_harts, Began, first_run, IsCounted, list_run, live_harts_of, IsLiveCount}
 use Rattle.bn_base.specs.declared.state.HartState.{HartState}
 use Rattle.rv_meaning.specs.Execute.{absorbed}
-use Rattle.rv_meaning.specs.declared.asks.Ask.{Ask}
 use Rattle.system_calls.specs.declared.effect.Plan.{Plan}
-use Rattle.run_model.specs.declared.hart.Hart.{Hart}
 use Rattle.run_model.specs.declared.turn_end.TurnEnd.{TurnEnd}
 use Rattle.run_model.specs.declared.turn_end.TurnEnd.TheVariants.{GoesOn, NewInterval, HartOver, RunOver}
 use Rattle.run_model.specs.Machine.{Answered, answer, call_of}
-use Rattle.run_model.specs.Turn.{Run, ask_at, is_orderly, is_guarded, guarded_run, by_guard, hart_after, harts_after, other_after, next_of, serve, serve_answered, served_if, turn}
-use Rattle.run_model.specs.Runs.{live_harts}
-use Rattle.bus_core.specs.Bus.{Began, first_run}
-use Rattle.whole_runs.specs.Chosen.{IsCounted}
-use Rattle.whole_runs.specs.Lists.{list_run, live_harts_of, IsLiveCount}
 use Rattle.whole_runs.proofs.Live.{decide, live_first, over_first, live_of}
 use Rattle.whole_runs.proofs.Rows.{run_snoc}
 

@@ -1,13 +1,5 @@
 -- The lists that numbers draw.
-use Rattle.std.proofs.Common.{◌≡◌, ℕ, zero, suc, ◌-◌, ◌<◌, Bool, true, false, ◌&&◌, nat_lt, List, [], ◌∷◌, ◌++◌, length, length-append, refl, sym, ◌∙◌, ap, arith}
-use Rattle.bn_base.specs.Programs.{Program}
-use Rattle.bn_base.specs.declared.settings.RawSettings.{RawSettings}
-use Rattle.run_model.specs.Turn.{Run, turn}
-use Rattle.run_model.specs.Runs.{is_live, any_live, live_harts, most_turns}
-use Rattle.bus_core.specs.Bus.{Began, first_run}
-use Rattle.whole_runs.specs.Lists.{list_run}
-use Rattle.whole_runs.specs.Drawn.{drawn, current, taker, after, drawn_from, drawn_of, drawn_after}
-use Rattle.whole_runs.specs.declared.drawing.Drawing.{Drawing}
+use Rattle.whole_runs.proofs.Common.{◌≡◌, ℕ, zero, suc, ◌-◌, ◌<◌, Bool, true, false, ◌&&◌, nat_lt, List, [], ◌∷◌, ◌++◌, length, length-append, refl, sym, ◌∙◌, ap, arith, Program, RawSettings, Run, turn, is_live, any_live, live_harts, most_turns, Began, first_run, list_run, drawn, current, taker, after, drawn_from, drawn_of, drawn_after, Drawing}
 use Rattle.bn_outside.specs.declared.schedule.Manner.{Manner}
 use Rattle.whole_runs.proofs.Live.{any_one, live_of}
 use Rattle.whole_runs.proofs.Rows.{run_snoc}

@@ -1,14 +1,7 @@
 -- What is wrong with a list of turns.
-use Rattle.std.proofs.Common.{◌≡◌, ℕ, ◌+◌, Bool, true, false, List, [], ◌∷◌, ◌++◌, length, refl, sym, ◌∙◌, ap, arith, inl, inr}
-use Rattle.std.specs.Prelude.{Option, Some, None, slice_get}
-use Rattle.bn_base.specs.Programs.{Program}
-use Rattle.bn_base.specs.declared.settings.RawSettings.{RawSettings}
-use Rattle.run_model.specs.Turn.{Run, turn}
-use Rattle.run_model.specs.Runs.{run_from, legal_from, is_live, has_finished, live_harts}
+use Rattle.whole_runs.proofs.Common.{◌≡◌, ℕ, ◌+◌, Bool, true, false, List, [], ◌∷◌, ◌++◌, length, refl, sym, ◌∙◌, ap, arith, inl, inr, Option, Some, None, slice_get, Program, RawSettings, Run, turn, run_from, legal_from, is_live, has_finished, live_harts, WholeRunsHaveNoError, IllegalTurn, NotFinished}
 use Rattle.run_model.specs.Lists.{unfinished, error_from}
-use Rattle.whole_runs.specs.Laws.{WholeRunsHaveNoError}
 use Rattle.run_model.specs.declared.error.TurnError.{TurnError}
-use Rattle.run_model.specs.declared.error.TurnError.TheVariants.{IllegalTurn, NotFinished}
 use Rattle.whole_runs.proofs.Rows.{legal_first, legal_cons}
 use Rattle.whole_runs.proofs.Live.{decide, any_false, over_none, over_any}
 

@@ -1,15 +1,5 @@
 -- The list of a run that follows a list.
-use Rattle.std.proofs.Common.{◌≡◌, ℕ, ◌-◌, ◌<◌, ◌≤◌, Bool, true, false, List, [], ◌∷◌, ◌++◌, length, get_or, take, refl, sym, ◌∙◌, ap, subst, arith, inl, inr}
-use Rattle.std.specs.Prelude.{Some}
-use Rattle.std.proofs.lemmas.List.{append-nil, take_all}
-use Rattle.bn_base.specs.Programs.{Program}
-use Rattle.bn_base.specs.declared.settings.RawSettings.{RawSettings}
-use Rattle.run_model.specs.Turn.{Run, turn}
-use Rattle.run_model.specs.Runs.{run_from, legal_from, is_live, has_finished, any_live, most_turns}
-use Rattle.run_model.specs.declared.error.TurnError.TheVariants.{IllegalTurn}
-use Rattle.bus_core.specs.Bus.{Began, Seen, first_run}
-use Rattle.whole_runs.specs.Lists.{HasTaken, error_of, list_run, seeded_after}
-use Rattle.whole_runs.specs.Followed.{legal_prefix_from, legal_prefix, WholeListsAreFollowed}
+use Rattle.whole_runs.proofs.Common.{◌≡◌, ℕ, ◌-◌, ◌<◌, ◌≤◌, Bool, true, false, List, [], ◌∷◌, ◌++◌, length, get_or, take, refl, sym, ◌∙◌, ap, subst, arith, inl, inr, Some, append-nil, take_all, Program, RawSettings, Run, turn, run_from, legal_from, is_live, has_finished, any_live, most_turns, IllegalTurn, Began, Seen, first_run, HasTaken, error_of, list_run, seeded_after, legal_prefix_from, legal_prefix, WholeListsAreFollowed}
 use Rattle.whole_runs.proofs.Rows.{legal_first, run_snoc}
 use Rattle.whole_runs.proofs.Live.{decide}
 use Rattle.whole_runs.proofs.Seeds.{seeded_none}

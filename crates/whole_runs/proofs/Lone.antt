@@ -1,17 +1,6 @@
 -- The turns of a hart that is alone.
-use Rattle.std.proofs.Common.{◌≡◌, ℕ, zero, suc, ◌+◌, ◌-◌, ◌≤◌, ◌<◌, Bool, true, false, List, [], ◌∷◌, ◌++◌, refl, sym, ◌∙◌, ap, subst, arith}
-use Rattle.std.specs.Prelude.{replicate}
+use Rattle.whole_runs.proofs.Common.{◌≡◌, ℕ, zero, suc, ◌+◌, ◌-◌, ◌≤◌, ◌<◌, Bool, true, false, List, [], ◌∷◌, ◌++◌, refl, sym, ◌∙◌, ap, subst, arith, replicate, Program, IsSetting, RawSettings, TurnRow, Run, turn, run_from, legal_from, any_live, draw, seeded_from, most_turns, row_at, rows_from, RunsEnd, Began, Seen, IsState, HasTurnedAlone, first_run, HasTaken, list_run, list_rows, is_legal, seeded_after}
 use Rattle.std.proofs.lemmas.List.{replicate-append-replicate, length-replicate}
-use Rattle.bn_base.specs.Programs.{Program}
-use Rattle.bn_base.specs.Ranges.{IsSetting}
-use Rattle.bn_base.specs.declared.settings.RawSettings.{RawSettings}
-use Rattle.bn_outside.specs.declared.turn_row.TurnRow.{TurnRow}
-use Rattle.run_model.specs.Turn.{Run, turn}
-use Rattle.run_model.specs.Runs.{run_from, legal_from, any_live, draw, seeded_from, most_turns}
-use Rattle.run_laws.specs.History.{row_at, rows_from}
-use Rattle.run_laws.specs.Laws.{RunsEnd}
-use Rattle.bus_core.specs.Bus.{Began, Seen, IsState, HasTurnedAlone, first_run}
-use Rattle.whole_runs.specs.Lists.{HasTaken, list_run, list_rows, is_legal, seeded_after}
 use Rattle.whole_runs.proofs.Live.{one_alone, live_of}
 use Rattle.whole_runs.proofs.Rows.{legal_first, legal_cons}
 use Rattle.whole_runs.proofs.Seeds.{seeded_first, seeded_none}

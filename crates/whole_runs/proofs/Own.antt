@@ -1,15 +1,5 @@
 -- One hart's turns.
-use Rattle.std.proofs.Common.{◌≡◌, ℕ, List, [], ◌∷◌, ◌++◌, Bool, true, false, refl, sym, ap, subst, ◌∙◌}
-use Rattle.std.specs.Prelude.{Some, None}
-use Rattle.std.specs.List.{AllByRecursion}
-use Rattle.bn_base.specs.Programs.{Program}
-use Rattle.bn_base.specs.declared.settings.RawSettings.{RawSettings}
-use Rattle.rv_meaning.specs.declared.asks.Ask.{Ask}
-use Rattle.rv_meaning.specs.declared.asks.Reply.{Reply}
-use Rattle.bn_outside.specs.declared.turn_row.TurnRow.{TurnRow}
-use Rattle.run_laws.specs.History.{IsOwn, Place, ask_from, place_after}
-use Rattle.run_laws.specs.Laws.{OwnRowsGrow}
-use Rattle.whole_runs.specs.HartTurns.{IsDriven, IsLed, row_of, taken_after}
+use Rattle.whole_runs.proofs.Common.{◌≡◌, ℕ, List, [], ◌∷◌, ◌++◌, Bool, true, false, refl, sym, ap, subst, ◌∙◌, Some, None, AllByRecursion, Program, RawSettings, Ask, Reply, TurnRow, IsOwn, Place, ask_from, place_after, OwnRowsGrow, IsDriven, IsLed, row_of, taken_after}
 
 pub driven_first : (tells : Bool) (c : RawSettings) (i : Program) (h : ℕ) (first : Place) (rows : List TurnRow) → rows ≡ [] → IsDriven tells c i h first rows first
 driven_first tells c i h first rows none = subst (λ (rs : List TurnRow). IsDriven tells c i h first rs first) (sym none) (record { own = tt; place_is = λ t. refl; lean = λ t. refl })

@@ -1,16 +1,6 @@
 -- A bus that serves what its harts ask next takes the turns of a list.
-use Rattle.std.proofs.Common.{◌≡◌, ℕ, ◌<◌, Bool, true, false, not, ◌||◌, List, [], ◌∷◌, ◌++◌, refl, sym, ◌∙◌, ap, subst}
-use Rattle.std.specs.Prelude.{Result, Ok, Err, IfOk, OnOk}
-use Rattle.bn_base.specs.Ranges.{IsSetting}
-use Rattle.bn_outside.specs.declared.turn_row.TurnRow.{TurnRow}
-use Rattle.rv_meaning.specs.declared.asks.Ask.{Ask}
-use Rattle.rv_meaning.specs.declared.asks.Reply.{Reply}
-use Rattle.run_model.specs.Turn.{Run, ask_at, is_orderly}
-use Rattle.run_laws.specs.Laws.{OwnAsksAreOrderly}
-use Rattle.bus_core.specs.Bus.{Began, Seen, IsState, is_live, row, turn_row, served_reply, served_guarded, served_run}
-use Rattle.whole_runs.specs.Lists.{HasTaken, list_run, seeded_after}
-use Rattle.whole_runs.specs.Chosen.{kept_after, kept_with}
-use Rattle.whole_runs.specs.Taking.{StaysTaken}
+use Rattle.whole_runs.proofs.Common.{◌≡◌, ℕ, ◌<◌, Bool, true, false, not, ◌||◌, List, [], ◌∷◌, ◌++◌, refl, sym, ◌∙◌, ap, subst, Result, Ok, Err, IfOk, OnOk, IsSetting, TurnRow, Ask, Reply, Run, ask_at, is_orderly, OwnAsksAreOrderly, Began, Seen, IsState, row, turn_row, served_reply, served_guarded, served_run, HasTaken, list_run, seeded_after, kept_after, kept_with, StaysTaken}
+use Rattle.bus_core.specs.Bus.{is_live}
 use Rattle.whole_runs.proofs.Taken.{live_is, taken_more}
 
 -- the row of a turn in which a hart asks what it asks next

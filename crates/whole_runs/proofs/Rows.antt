@@ -1,13 +1,5 @@
 -- The runs and rows of lists of turns.
-use Rattle.std.proofs.Common.{◌≡◌, ℕ, ◌+◌, Bool, true, false, List, [], ◌∷◌, ◌++◌, length, refl, ap, arith}
-use Rattle.bn_base.specs.Programs.{Program}
-use Rattle.bn_base.specs.declared.settings.RawSettings.{RawSettings}
-use Rattle.rv_meaning.specs.declared.asks.Ask.{Ask}
-use Rattle.bn_outside.specs.declared.turn_row.TurnRow.{TurnRow}
-use Rattle.run_model.specs.Turn.{Run, serve, served_if, turn, is_orderly, ask_at}
-use Rattle.run_model.specs.Runs.{run_from, legal_from, is_live}
-use Rattle.run_laws.specs.History.{row_at, rows_from}
-use Rattle.whole_runs.specs.Laws.{RowsNameTheirHarts}
+use Rattle.whole_runs.proofs.Common.{◌≡◌, ℕ, ◌+◌, Bool, true, false, List, [], ◌∷◌, ◌++◌, length, refl, ap, arith, Program, RawSettings, Ask, TurnRow, Run, serve, served_if, turn, is_orderly, ask_at, run_from, legal_from, is_live, row_at, rows_from, RowsNameTheirHarts}
 
 pub rows_name : RowsNameTheirHarts
 rows_name c i run [] = refl

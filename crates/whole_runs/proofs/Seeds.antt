@@ -1,12 +1,5 @@
 -- The lists that numbers give.
-use Rattle.std.proofs.Common.{◌≡◌, ℕ, zero, suc, ◌≤◌, ◌⊎◌, Bool, true, false, List, [], ◌∷◌, ◌++◌, length, length-append, refl, sym, ap, subst, arith, inl, inr}
-use Rattle.bn_base.specs.Programs.{Program}
-use Rattle.bn_base.specs.Ranges.{IsSetting}
-use Rattle.bn_base.specs.declared.settings.RawSettings.{RawSettings}
-use Rattle.run_model.specs.Turn.{Run, turn}
-use Rattle.run_model.specs.Runs.{start, run_of, run_from, legal_from, has_finished, any_live, live_harts, draw, chosen, seeded, seeded_from, most_turns}
-use Rattle.run_laws.specs.Laws.{RunsEnd}
-use Rattle.whole_runs.specs.Laws.{SeededListsEnd}
+use Rattle.whole_runs.proofs.Common.{◌≡◌, ℕ, zero, suc, ◌≤◌, ◌⊎◌, Bool, true, false, List, [], ◌∷◌, ◌++◌, length, length-append, refl, sym, ap, subst, arith, inl, inr, Program, IsSetting, RawSettings, Run, turn, start, run_of, run_from, legal_from, has_finished, any_live, live_harts, draw, chosen, seeded, seeded_from, most_turns, RunsEnd, SeededListsEnd}
 use Rattle.whole_runs.proofs.Rows.{legal_cons, legal_snoc}
 use Rattle.whole_runs.proofs.Live.{decide, chosen_live, over_none}
 

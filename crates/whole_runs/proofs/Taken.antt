@@ -1,15 +1,8 @@
 -- A bus that takes the turns of a list.
-use Rattle.std.proofs.Common.{◌≡◌, ℕ, suc, ◌-◌, ◌<◌, Bool, true, false, ◌&&◌, nat_lt, List, [], ◌∷◌, ◌++◌, length, length-append, refl, sym, ◌∙◌, ap, subst, arith}
-use Rattle.std.specs.Prelude.{Option, Some, None, slice_get}
-use Rattle.std.proofs.lemmas.Option.{slice_get_within}
-use Rattle.bn_outside.specs.declared.turn_row.TurnRow.{TurnRow}
-use Rattle.run_model.specs.declared.hart.Hart.{Hart}
+use Rattle.whole_runs.proofs.Common.{◌≡◌, ℕ, suc, ◌-◌, ◌<◌, Bool, true, false, ◌&&◌, nat_lt, List, [], ◌∷◌, ◌++◌, length, length-append, refl, sym, ◌∙◌, ap, subst, arith, Option, Some, None, slice_get, slice_get_within, TurnRow, Hart, Run, turn, any_live, draw, chosen, seeded_from, most_turns, Began, Seen, IsState, first_run, turned_run, turn_row, HasTaken, list_run, list_rows, is_legal, live_harts_of, seeded_after}
 use Rattle.run_model.specs.Represents.Harts.{is_live_hart}
-use Rattle.run_model.specs.Turn.{Run, turn}
-use Rattle.run_model.specs.Runs.{any_live, draw, chosen, seeded_from, most_turns}
 use Rattle.run_model.specs.Runs as runs
-use Rattle.bus_core.specs.Bus.{Began, Seen, IsState, first_run, turned_run, turn_row, is_live}
-use Rattle.whole_runs.specs.Lists.{HasTaken, list_run, list_rows, is_legal, live_harts_of, seeded_after}
+use Rattle.bus_core.specs.Bus.{is_live}
 use Rattle.whole_runs.proofs.Rows.{run_snoc, rows_snoc, legal_snoc, turns_count}
 use Rattle.whole_runs.proofs.Seeds.{seeded_first}
 

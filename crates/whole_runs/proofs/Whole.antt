@@ -1,21 +1,10 @@
 -- From a bus that took the turns of a list to what is handed over, or to what is wrong with the list.
-use Rattle.std.proofs.Common.{◌≡◌, ℕ, suc, ◌+◌, ◌-◌, ◌<◌, Bool, true, false, not, ◌&&◌, List, [], ◌∷◌, ◌++◌, length, get_or, take, drop, length-take, drop-cons, refl, sym, ◌∙◌, ap, subst, arith}
-use Rattle.std.specs.Prelude.{Some, slice_get}
-use Rattle.std.specs.List.{AllByRecursion}
+use Rattle.whole_runs.proofs.Common.{◌≡◌, ℕ, suc, ◌+◌, ◌-◌, ◌<◌, Bool, true, false, not, ◌&&◌, List, [], ◌∷◌, ◌++◌, length, get_or, take, drop, length-take, drop-cons, refl, sym, ◌∙◌, ap, subst, arith, Some, slice_get, AllByRecursion, take-append-drop, is_live, has_finished, seeded, seeded_from, most_turns, TurnRow, Run, are_orderly, Began, Seen, IsState, IsLogged, first_run, run_after, marks, IsOfRows, HasTaken, list_run, is_legal, live_harts_of, seeded_after, error_of, IllegalTurn, NotFinished}
 use Rattle.std.proofs.Math.Seq.{take-suc}
-use Rattle.std.proofs.lemmas.List.{take-append-drop}
-use Rattle.run_model.specs.Runs.{is_live, has_finished, seeded, seeded_from, most_turns}
 use Rattle.log_record.specs.Spelling.{Fits}
 use Rattle.log_ring.specs.Kept.{HoldsLog}
-use Rattle.bn_outside.specs.declared.turn_row.TurnRow.{TurnRow}
-use Rattle.run_model.specs.Turn.{Run}
-use Rattle.run_laws.specs.History.{are_orderly}
 use Rattle.run_laws.specs.Ends.{AreLastMarks}
-use Rattle.bus_core.specs.Bus.{Began, Seen, IsState, IsLogged, first_run, run_after, marks}
 use Rattle.bus_core.specs.declared.closed.Closed.{Closed}
-use Rattle.whole_runs.specs.Closed.{IsOfRows}
-use Rattle.whole_runs.specs.Lists.{HasTaken, list_run, is_legal, live_harts_of, seeded_after, error_of}
-use Rattle.run_model.specs.declared.error.TurnError.TheVariants.{IllegalTurn, NotFinished}
 use Rattle.whole_runs.proofs.Errors.{error_at, error_first}
 
 -- ---- before the first turn

@@ -1,8 +1,7 @@
 -- The turns that a chooser takes one by one, and the list that is kept of them.
 use Rattle.std.specs.Prelude.{◌≡◌, ℕ, Bool, true, false, List, [], ◌∷◌, ◌++◌, Option, Some, None, ◌<◌}
-use Rattle.bn_outside.specs.declared.turn_row.TurnRow.{TurnRow}
+use Rattle.whole_runs.specs.Common.{TurnRow, Began, Seen}
 use Rattle.run_model.specs.Runs.{is_live}
-use Rattle.bus_core.specs.Bus.{Began, Seen}
 use Rattle.whole_runs.specs.Closed.{IsClosed}
 use Rattle.whole_runs.specs.Lists.{HasTaken, IsLiveCount, list_run, is_finished}
 use Rattle.whole_runs.specs.declared.listed.Listed.{Listed}

@@ -1,17 +1,11 @@
 -- What is handed over after a whole run.
 use Rattle.std.specs.Prelude.{◌≡◌, ℕ, Bool, true, false, List, length}
-use Rattle.std.specs.List.{AllByRecursion}
-use Rattle.bn_base.specs.declared.settings.RawSettings.{RawSettings}
-use Rattle.bn_outside.specs.declared.turn_row.TurnRow.{TurnRow}
+use Rattle.whole_runs.specs.Common.{AllByRecursion, RawSettings, TurnRow, has_finished, are_orderly, IsLawful, Began, marks, first_run, run_after, Closed}
 use Rattle.log_record.specs.Spelling.{Fits}
 use Rattle.log_ring.specs.Kept.{HoldsLog}
 use Rattle.log_order.specs.Content.{IsContent}
-use Rattle.run_model.specs.Runs.{has_finished}
-use Rattle.run_laws.specs.History.{are_orderly, IsLawful}
 use Rattle.run_laws.specs.Ends.{AreLastMarks}
 use Rattle.file_laws.specs.Recorded.{ring_content}
-use Rattle.bus_core.specs.Bus.{Began, marks, first_run, run_after}
-use Rattle.bus_core.specs.declared.closed.Closed.{Closed}
 use Rattle.whole_runs.specs.Lists.{list_run, list_rows, is_legal, is_finished}
 
 -- a closed bus after the turns of a legal and finished list. It has the streams, the last marks, the number of turns, the log

@@ -1,15 +1,11 @@
 -- Schedules that a number draws. In bursts one hart keeps its turns for a while. With a sleeper one hart takes none for a
 -- while, and each turn is of one of the others.
 use Rattle.std.specs.Prelude.{◌≡◌, ℕ, zero, suc, ◌+◌, ◌-◌, ◌/◌, ◌%◌, ◌^◌, nat_lt, true, false, ◌&&◌, List, [], ◌∷◌, length, Option, Some, MatchOption}
-use Rattle.bn_base.specs.Programs.{Program}
-use Rattle.bn_base.specs.declared.settings.RawSettings.{RawSettings}
-use Rattle.run_model.specs.Turn.{Run, turn}
-use Rattle.run_model.specs.Runs.{start, is_live, any_live, live_harts, draw, chosen, most_turns}
-use Rattle.bus_core.specs.Bus.{Began}
+use Rattle.whole_runs.specs.Common.{Program, RawSettings, Run, turn, start, any_live, live_harts, draw, chosen, most_turns, Began, Manner}
+use Rattle.run_model.specs.Runs.{is_live}
 use Rattle.whole_runs.specs.Lists.{without, list_run}
 use Rattle.whole_runs.specs.declared.drawing.Drawing.{Drawing}
 use Rattle.whole_runs.specs.declared.drawing.DrawnTurn.{DrawnTurn}
-use Rattle.bn_outside.specs.declared.schedule.Manner.{Manner}
 use Rattle.bn_outside.specs.declared.schedule.Manner.TheVariants.{Bursts, Sleeper}
 
 -- a burst has at most 2 ^ 6 turns, a sleep 2 ^ 9: so many powers are drawn from

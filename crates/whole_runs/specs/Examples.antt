@@ -1,7 +1,6 @@
 -- Schedules that a number draws, and lists that are followed, worked out by hand.
 use Rattle.std.specs.Prelude.{ℕ, List, [], ◌∷◌}
-use Rattle.bn_base.specs.Ranges.{default_settings}
-use Rattle.bn_outside.specs.declared.schedule.Manner.{Manner}
+use Rattle.whole_runs.specs.Common.{default_settings, Manner}
 use Rattle.run_model.specs.Examples.{Recording, program_of}
 use Rattle.whole_runs.specs.Drawn.{drawn_list}
 use Rattle.whole_runs.specs.Followed.{followed}

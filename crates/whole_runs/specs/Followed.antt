@@ -1,10 +1,7 @@
 -- The list of a run that follows a given list as far as it is legal.
 use Rattle.std.specs.Prelude.{◌≡◌, ℕ, true, false, List, [], ◌∷◌, ◌++◌}
-use Rattle.bn_base.specs.Programs.{Program}
-use Rattle.bn_base.specs.declared.settings.RawSettings.{RawSettings}
-use Rattle.run_model.specs.Turn.{Run, turn}
+use Rattle.whole_runs.specs.Common.{Program, RawSettings, Run, turn, Began, first_run}
 use Rattle.run_model.specs.Runs.{is_live}
-use Rattle.bus_core.specs.Bus.{Began, first_run}
 use Rattle.whole_runs.specs.Lists.{is_legal, is_finished, seeded_after}
 
 -- the turns of a list up to the first whose hart isn't live then

@@ -1,21 +1,10 @@
 -- What a hart in a thread knows and did by itself.
-use Rattle.std.specs.List.{AllByRecursion}
+use Rattle.whole_runs.specs.Common.{AllByRecursion, Program, RawSettings, is_reply_to, Ask, Reply, TurnRow, start_hart, start_state, IsLawful, IsOwn, Place, place_of, place_over, Run, Began, Seen, IsState, first_run, row, served_reply, served_guarded, served_run}
 use Rattle.bn_base.specs.declared.state.HartState.{HartState}
 use Rattle.std.specs.Prelude.{◌≡◌, ◌+◌, ℕ, Bool, true, false, List, [], ◌∷◌, ◌++◌, Option, Some, None, IsTrue}
-use Rattle.bn_base.specs.Programs.{Program}
-use Rattle.bn_base.specs.declared.settings.RawSettings.{RawSettings}
-use Rattle.rv_meaning.specs.Orderly.{is_reply_to}
-use Rattle.rv_meaning.specs.declared.asks.Ask.{Ask}
-use Rattle.rv_meaning.specs.declared.asks.Reply.{Reply}
 use Rattle.rv_meaning.specs.declared.asks.Reply.TheVariants.{Word, Stored, ScOk, Answer, Went, Over}
 use Rattle.rv_meaning.specs.declared.asks.Want.{Want}
 use Rattle.rv_meaning.specs.declared.asks.Want.TheVariants.{Load, Store, LoadReserved, StoreConditional, Amo, System, Cut, Faulted}
-use Rattle.bn_outside.specs.declared.turn_row.TurnRow.{TurnRow}
-use Rattle.run_model.specs.Runs.{start_hart, start_state}
-use Rattle.run_laws.specs.History.{IsLawful, IsOwn, Place, place_of}
-use Rattle.run_laws.specs.Laws.{place_over}
-use Rattle.run_model.specs.Turn.{Run}
-use Rattle.bus_core.specs.Bus.{Began, Seen, IsState, first_run, row, served_reply, served_guarded, served_run}
 use Rattle.whole_runs.specs.declared.hart_place.HartPlace.{HartPlace}
 
 -- ---- what a hart knows and did by itself

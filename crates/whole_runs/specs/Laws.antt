@@ -1,13 +1,6 @@
 -- What holds of lists of turns.
 use Rattle.std.specs.Prelude.{◌≡◌, ◌↔◌, ℕ, true, List, map, None}
-use Rattle.bn_base.specs.Programs.{Program}
-use Rattle.bn_base.specs.Ranges.{IsSetting}
-use Rattle.bn_base.specs.declared.settings.RawSettings.{RawSettings}
-use Rattle.bn_outside.specs.declared.turn_row.TurnRow.{TurnRow}
-use Rattle.run_model.specs.Turn.{Run}
-use Rattle.run_model.specs.Runs.{start, run_of, legal_from, has_finished, seeded}
-use Rattle.run_laws.specs.History.{rows_from}
-use Rattle.bus_core.specs.Bus.{Began}
+use Rattle.whole_runs.specs.Common.{Program, IsSetting, RawSettings, TurnRow, Run, start, run_of, legal_from, has_finished, seeded, rows_from, Began}
 use Rattle.whole_runs.specs.Lists.{is_legal, is_finished, error_of}
 
 -- the list that a number gives is legal and finished

@@ -1,10 +1,6 @@
 -- A bus whose turns each hart takes by itself, and the list of these turns.
 use Rattle.std.specs.Prelude.{◌≡◌, ℕ, Bool, true, false, List, [], ◌∷◌, ◌++◌}
-use Rattle.bn_outside.specs.declared.turn_row.TurnRow.{TurnRow}
-use Rattle.rv_meaning.specs.declared.asks.Ask.{Ask}
-use Rattle.rv_meaning.specs.declared.asks.Reply.{Reply}
-use Rattle.bus_core.specs.Bus.{Began, Seen, turn_row}
-use Rattle.bus_core.specs.declared.closed.Closed.{Closed}
+use Rattle.whole_runs.specs.Common.{TurnRow, Ask, Reply, Began, Seen, turn_row, Closed}
 use Rattle.whole_runs.specs.Closed.{IsClosed}
 use Rattle.whole_runs.specs.Chosen.{kept_after}
 use Rattle.whole_runs.specs.Lists.{HasTaken, list_run, is_legal, seeded_after}

@@ -1,7 +1,6 @@
 //! Who takes the next turn of a run, and the loop over it. Each run on the caller's thread is one of these loops.
 ghost use Rattle.std.specs.Prelude.{◌≡◌, ◌<◌, ◌++◌, true, List, ℕ, OnOk, OnSome, IfSome};
-ghost use Rattle.run_model.specs.Runs.{most_turns};
-ghost use Rattle.bus_core.specs.Bus.{is_live};
+ghost use Rattle.whole_runs.specs.Common.{most_turns, is_live};
 ghost use Rattle.whole_runs.specs.Chosen.{kept_after, AreAdded, IsFirst};
 ghost use Rattle.whole_runs.specs.Lists.{HasTaken, is_finished};
 

@@ -1,9 +1,7 @@
 //! Which hart takes the next turn of a run by seed: the generator's draws, over the live harts.
 ghost use Rattle.std.specs.Prelude.{◌≡◌, ◌<◌, ◌≤◌, ℕ, true, false, length, slice_get, MatchOption, IfSome, OnSome};
-ghost use Rattle.run_model.specs.Turn.{Run};
-ghost use Rattle.run_model.specs.Runs.{draw, chosen, any_live, most_turns};
+ghost use Rattle.whole_runs.specs.Common.{Run, draw, chosen, any_live, most_turns, is_live, IsState};
 ghost use Rattle.run_model.specs.Runs as runs;
-ghost use Rattle.bus_core.specs.Bus.{is_live, IsState};
 ghost use Rattle.whole_runs.specs.Lists.{without, live_without, live_harts_of, IsChosen, IsLiveCount};
 
 use bn_base::HartId;

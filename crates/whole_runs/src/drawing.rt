@@ -1,9 +1,7 @@
 //! Which hart takes the next turn of a schedule that a number draws: in bursts, or with a sleeper.
 ghost use Rattle.std.specs.Prelude.{◌≡◌, ◌<◌, ◌^◌, ◌&&◌, nat_lt, true, Some, IfSome, OnSome};
-ghost use Rattle.run_model.specs.Turn.{Run};
-ghost use Rattle.run_model.specs.Runs.{chosen, most_turns};
+ghost use Rattle.whole_runs.specs.Common.{Run, chosen, most_turns, is_live, IsState};
 ghost use Rattle.run_model.specs.Runs as runs;
-ghost use Rattle.bus_core.specs.Bus.{is_live, IsState};
 ghost use Rattle.whole_runs.specs.Lists.{live_without, live_harts_of};
 ghost use Rattle.whole_runs.specs.Drawn.{powers, length_of, drawn, current, or_else, taker, after, IsDrawing, IsTaker, IsNext};
 

@@ -1,7 +1,6 @@
 //! The place of a hart between two turns, as the hart knows it by itself.
 ghost use Rattle.std.specs.Prelude.{◌≡◌, ◌-◌, min, IsTrue};
-ghost use Rattle.rv_meaning.specs.Orderly.{is_reply_to};
-ghost use Rattle.run_laws.specs.History.{ask_from, begins, begun_at, place_after};
+ghost use Rattle.whole_runs.specs.Common.{is_reply_to, ask_from, begins, begun_at, place_after};
 ghost use Rattle.whole_runs.specs.HartTurns.{place_at, first_place};
 
 use bn_base::{HartId, HartState, Ic, Image, Settings};

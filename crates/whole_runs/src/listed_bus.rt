@@ -1,9 +1,7 @@
 //! A bus whose turns each hart takes by itself, with their list.
 //! By its invariant a legal list led to it, so that a run in threads needs no comparison at its end.
 ghost use Rattle.std.specs.Prelude.{◌≡◌, ◌∷◌, ◌++◌, [], ℕ, List, true, false, ◌⊎◌, is_some, IfOk, IfSome, IfNone, OnOk, MatchResult, OnErr, IsTrue};
-ghost use Rattle.run_model.specs.Turn.{Run, ask_at};
-ghost use Rattle.run_laws.specs.History.{ask_from, place_of};
-ghost use Rattle.bus_core.specs.Bus.{is_live, IsState};
+ghost use Rattle.whole_runs.specs.Common.{Run, ask_at, ask_from, place_of, is_live, IsState};
 ghost use Rattle.whole_runs.specs.Lists.{HasTaken};
 ghost use Rattle.whole_runs.specs.Chosen.{kept_after};
 ghost use Rattle.whole_runs.specs.Taking.{AnswersTurn, IsOwnTurn, StaysTaken};

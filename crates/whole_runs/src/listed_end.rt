@@ -1,9 +1,6 @@
 //! The end of a run whose harts ran in threads on a listed bus, once all threads have ended.
 ghost use Rattle.std.specs.Prelude.{◌≡◌, true, false, List, ℕ, length, is_err, IfOk, OnOk};
-ghost use Rattle.std.specs.List.{list_any};
-ghost use Rattle.bn_outside.specs.declared.turn_row.TurnRow.{TurnRow};
-ghost use Rattle.run_model.specs.Runs.{seeded};
-ghost use Rattle.bus_core.specs.Bus.{began_of};
+ghost use Rattle.whole_runs.specs.Common.{list_any, TurnRow, seeded, began_of};
 ghost use Rattle.whole_runs.specs.Closed.{IsOfRows};
 ghost use Rattle.whole_runs.specs.Chosen.{IsListed};
 ghost use Rattle.whole_runs.specs.Taking.{ContinuesBySeed0};

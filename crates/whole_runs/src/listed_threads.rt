@@ -1,7 +1,6 @@
 //! Runs of harts in threads, on a bus that knows its list of turns: `record` without seed and schedule.
 ghost use Rattle.std.specs.Prelude.{◌≡◌, ◌<◌, ℕ, List, vec_len, IfOk};
-ghost use Rattle.bn_outside.specs.declared.turn_row.TurnRow.{TurnRow};
-ghost use Rattle.bus_core.specs.Bus.{began_of};
+ghost use Rattle.whole_runs.specs.Common.{TurnRow, began_of};
 ghost use Rattle.whole_runs.specs.Chosen.{IsListed};
 ghost use Rattle.whole_runs.specs.Closed.{IsOfRows};
 ghost use Rattle.whole_runs.specs.HartTurns.{place_at, first_place};

@@ -1,13 +1,10 @@
 //! Whole runs on the caller's thread: by the turns that a number chooses, by a schedule, or by a list.
 ghost use Rattle.std.specs.Prelude.{◌≡◌, ◌⊎◌, [], true, Some, List, ℕ, IfOk, IfErr};
-ghost use Rattle.run_model.specs.Runs.{seeded};
-ghost use Rattle.bus_core.specs.Bus.{began_of};
+ghost use Rattle.whole_runs.specs.Common.{seeded, began_of, TurnRow, OutOfMemory};
 ghost use Rattle.whole_runs.specs.Chosen.{IsListed};
 ghost use Rattle.whole_runs.specs.Scheduled.{scheduled};
 ghost use Rattle.whole_runs.specs.Lists.{HasTaken, seeded_after, error_of};
-ghost use Rattle.bn_outside.specs.declared.turn_row.TurnRow.{TurnRow};
 ghost use Rattle.whole_runs.specs.Closed.{IsClosed, IsOfRows};
-ghost use Rattle.run_model.specs.declared.error.TurnError.TheVariants.{OutOfMemory};
 
 use crate::listed::Listed;
 use crate::turns::{close, finish, finish_lone, follow, take_scheduled, turns_alone};

@@ -1,8 +1,6 @@
 //! The port at which a hart that runs by itself takes its turns, and the loop that drives it there.
 ghost use Rattle.std.specs.Prelude.{◌≡◌, true, false, [], length, slice_get, is_none, IfOk, IfSome, OnOk, IsTrue};
-ghost use Rattle.rv_meaning.specs.Orderly.{is_reply_to};
-ghost use Rattle.run_laws.specs.History.{IsOwn, Place, ask_from};
-ghost use Rattle.run_laws.specs.Laws.{place_over};
+ghost use Rattle.whole_runs.specs.Common.{is_reply_to, IsOwn, Place, ask_from, place_over};
 ghost use Rattle.whole_runs.specs.HartTurns.{place_at, taken_after, IsDriven, IsLed, reply_with, answer_with};
 
 use crate::hart_place::HartPlace;
@@ -18,10 +16,7 @@ use std::sync::Wait;
 // once its lock is given back.
 pub trait TurnPort {
     ghost use Rattle.std.specs.Prelude.{ℕ, Bool, List};
-    ghost use Rattle.rv_meaning.specs.declared.asks.Ask.{Ask};
-    ghost use Rattle.rv_meaning.specs.declared.asks.Reply.{Reply};
-    ghost use Rattle.bn_outside.specs.declared.turn_row.TurnRow.{TurnRow};
-    ghost use Rattle.run_laws.specs.History.{Place};
+    ghost use Rattle.whole_runs.specs.Common.{Ask, Reply, TurnRow, Place};
 
     /// Which asks ports of this type take from a hart at a place.
     ghost takes: { Place → Ask → Type 0 };

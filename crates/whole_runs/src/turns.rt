@@ -3,9 +3,8 @@ ghost use Rattle.std.specs.Prelude.{◌≡◌, ◌++◌, [], ℕ, true, false, L
 ghost use Rattle.whole_runs.specs.Chosen.{AreAdded};
 ghost use Rattle.whole_runs.specs.Scheduled.{scheduled};
 ghost use Rattle.whole_runs.specs.Lists.{HasTaken, is_finished, seeded_after, error_of};
-ghost use Rattle.bn_outside.specs.declared.turn_row.TurnRow.{TurnRow};
+ghost use Rattle.whole_runs.specs.Common.{TurnRow, OutOfMemory};
 ghost use Rattle.whole_runs.specs.Closed.{IsClosed, IsOfRows};
-ghost use Rattle.run_model.specs.declared.error.TurnError.TheVariants.{OutOfMemory};
 
 use crate::chooser::take_chosen;
 use crate::choosers::{Bursts, Draws, GivenTurns};

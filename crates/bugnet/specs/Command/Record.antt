@@ -1,20 +1,9 @@
 -- What `record` has to answer: the settings are tested, then the names, then ELF and the input are loaded.
 use Rattle.std.specs.Prelude.{◌≡◌, ℕ, Bool, true, false, List, Option, Some, None, Result, Ok, Err}
-use Rattle.std.specs.Str.{bytes_eq}
-use Rattle.sha2.specs.Sha256.{sha256}
-use Rattle.bn_base.specs.Programs.{Program}
-use Rattle.bn_base.specs.Ranges.{first_bad}
-use Rattle.bn_base.specs.declared.settings.BadSetting.{BadSetting}
-use Rattle.bn_base.specs.declared.settings.RawSettings.{RawSettings}
-use Rattle.bn_outside.specs.Files.{Files}
-use Rattle.elf_loader.specs.Loaded.{image_of}
+use Rattle.bugnet.specs.Common.{bytes_eq, sha256, Program, first_bad, BadSetting, RawSettings, Files, image_of, FileNames, Told, refused, OutOfRange, SameName, ElfRefused, IsByInput, WithFile}
 use Rattle.elf_loader.specs.declared.error.ElfError.{ElfError}
-use Rattle.log_commands.specs.Names.{FileNames}
-use Rattle.log_commands.specs.Told.{Told, refused}
 use Rattle.bugnet.specs.Recordings.{Scheduling, IsRun}
 use Rattle.log_commands.specs.declared.names.Role.TheVariants as role
-use Rattle.log_commands.specs.declared.refusal.Refusal.TheVariants.{OutOfRange, SameName, ElfRefused}
-use Rattle.log_commands.specs.Commands.{IsByInput, WithFile}
 
 -- ---- the commands
 

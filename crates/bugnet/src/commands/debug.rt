@@ -1,10 +1,8 @@
 //! The command `debug`: a session of the debugger over the joint replay of all intervals that a log keeps.
 ghost use Rattle.std.specs.Prelude.{◌≡◌};
-ghost use Rattle.back_step.specs.Traces.{at_start};
-ghost use Rattle.joint_replay.specs.Joining.{Joining};
+ghost use Rattle.bugnet.specs.Common.{at_start, Joining, joined};
 ghost use Rattle.bugnet.specs.Sessions.{reading, stop_refusal};
 ghost use Rattle.bugnet.specs.Steps.{SessionTo, DebugsTo};
-ghost use Rattle.log_commands.specs.Joined.{joined};
 
 use back_step::Trail;
 use bn_outside::{Sink, Source, Store};

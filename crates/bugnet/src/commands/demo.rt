@@ -1,10 +1,6 @@
 //! The command `demo`: the demonstration of a number.
 ghost use Rattle.std.specs.Prelude.{◌≡◌};
-ghost use Rattle.demo_run.specs.Demonstration.{demo_text};
-ghost use Rattle.log_commands.specs.Answering.{Answers};
-ghost use Rattle.log_commands.specs.Names.{FileNames};
-ghost use Rattle.log_commands.specs.SaveCounts.{IsMade};
-ghost use Rattle.log_commands.specs.Told.{printed};
+ghost use Rattle.bugnet.specs.Common.{demo_text, Answers, FileNames, IsMade, printed};
 ghost use Rattle.bugnet.specs.LineCalls.{ShowsText};
 
 use demo_run::demo_lines;

@@ -1,11 +1,6 @@
 //! The command `record`: settings and names are tested, the program and its input loaded, and the run recorded.
 ghost use Rattle.std.specs.Prelude.{◌≡◌, false, [], Option, Some, None, IfOk, IfErr};
-ghost use Rattle.sha2.specs.Sha256.{sha256};
-ghost use Rattle.bn_base.specs.Ranges.{first_bad};
-ghost use Rattle.command_words.specs.Words.{RecordLine, seen_recording};
-ghost use Rattle.elf_loader.specs.Loaded.{image_of};
-ghost use Rattle.le_numbers.specs.Numbers.{AreBytes};
-ghost use Rattle.bn_outside.specs.declared.schedule.Schedule.{Schedule};
+ghost use Rattle.bugnet.specs.Common.{sha256, first_bad, RecordLine, seen_recording, image_of, AreBytes, Schedule, IsByInput, elf_roles, input_roles, record_roles, WithFiles, told_of};
 ghost use Rattle.bugnet.specs.Answers.{names_in, scheduling_by, scheduling_of, setting_refusal, IsGiven};
 ghost use Rattle.bugnet.specs.ClosedRuns.{MakesRecordings};
 ghost use Rattle.bugnet.specs.Command.Record.{is_clash, IsByProgram, IsByNames};
@@ -13,9 +8,6 @@ ghost use Rattle.bugnet.specs.LineAnswers.{AnswersLine};
 ghost use Rattle.bugnet.specs.Recordings.{IsRun};
 ghost use Rattle.bugnet.specs.Saves.{HoldsBytes};
 ghost use Rattle.bugnet.specs.Starts.{LoadsStart};
-ghost use Rattle.log_commands.specs.Commands.{IsByInput};
-ghost use Rattle.log_commands.specs.FileCalls.{elf_roles, input_roles, record_roles};
-ghost use Rattle.log_commands.specs.Outside.{WithFiles, told_of};
 
 use bn_base::{RawSettings, Settings};
 use bn_outside::Store;

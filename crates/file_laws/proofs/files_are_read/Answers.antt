@@ -1,6 +1,4 @@
-use Rattle.sha2.specs.Sha256.{sha256}
-use Rattle.run_model.specs.KeptRecords.{content_of}
-use Rattle.run_model.specs.Runs.{run_of}
+use Rattle.file_laws.proofs.Common.{sha256, content_of, run_of}
 use Rattle.file_laws.proofs.files_are_read.Goals as goal
 
 pub returns : goal.returns

@@ -1,8 +1,5 @@
-use Rattle.std.proofs.Common.{Ok}
-use Rattle.sha2.specs.Sha256.{sha256}
+use Rattle.file_laws.proofs.Common.{Ok, sha256, content_of, run_of}
 use Rattle.run_files.specs.Files.{file_of}
-use Rattle.run_model.specs.KeptRecords.{content_of}
-use Rattle.run_model.specs.Runs.{run_of}
 use Rattle.file_laws.proofs.Salvaged.{same_log}
 use Rattle.file_laws.proofs.files_say_the_run.Goals as goal
 

@@ -1,8 +1,4 @@
-use Rattle.std.proofs.Common.{◌≡◌, sym, ap, ◌∙◌, arith, Some}
-use Rattle.log_order.specs.Content.{Content}
-use Rattle.run_model.specs.KeptRecords.{kept_of}
-use Rattle.run_model.specs.Runs.{run_of}
-use Rattle.hart_replay.specs.Replay.{interval_of, replayed}
+use Rattle.file_laws.proofs.Common.{◌≡◌, sym, ap, ◌∙◌, arith, Some, Content, kept_of, run_of, interval_of, replayed}
 use Rattle.file_laws.proofs.files_suffice.Goals as goal
 
 pub returns : goal.returns

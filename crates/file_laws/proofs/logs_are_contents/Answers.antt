@@ -1,8 +1,5 @@
-use Rattle.std.proofs.Common.{refl, arith}
-use Rattle.sha2.specs.Sha256.{sha256}
+use Rattle.file_laws.proofs.Common.{refl, arith, sha256, IsImage, start, run_of}
 use Rattle.sha2.proofs.Facts256.{length-sha256}
-use Rattle.elf_loader.specs.Laws.{IsImage}
-use Rattle.run_model.specs.Runs.{start, run_of}
 use Rattle.file_laws.proofs.Views.{OrderLaws}
 use Rattle.file_laws.proofs.Turns.{Laws}
 use Rattle.file_laws.proofs.Starts.{started}

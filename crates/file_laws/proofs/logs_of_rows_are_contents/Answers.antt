@@ -1,5 +1,4 @@
-use Rattle.run_model.specs.Runs.{start}
-use Rattle.run_laws.specs.History.{after_rows}
+use Rattle.file_laws.proofs.Common.{start, after_rows}
 use Rattle.file_laws.proofs.Views.{OrderLaws}
 use Rattle.file_laws.proofs.Turns.{Laws}
 use Rattle.file_laws.proofs.Starts.{started}

@@ -1,6 +1,4 @@
-use Rattle.std.proofs.Common.{refl}
-use Rattle.elf_loader.specs.Laws.{IsImage}
-use Rattle.run_model.specs.Runs.{start, run_of}
+use Rattle.file_laws.proofs.Common.{refl, IsImage, start, run_of}
 use Rattle.file_laws.proofs.Views.{OrderLaws}
 use Rattle.file_laws.proofs.Turns.{Laws}
 use Rattle.file_laws.proofs.Starts.{started}

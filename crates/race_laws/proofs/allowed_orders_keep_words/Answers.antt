@@ -1,6 +1,4 @@
-use Rattle.run_model.specs.Runs.{start}
-use Rattle.run_laws.specs.History.{after_rows}
-use Rattle.race_laws.specs.Laws.{KeepsWords}
+use Rattle.race_laws.proofs.Common.{start, after_rows, KeepsWords}
 use Rattle.race_laws.proofs.Turns.{Laws}
 use Rattle.race_laws.proofs.Whole.{of_lists, late_kept}
 use Rattle.race_laws.proofs.Orders.{MergeLaws, words_stay}

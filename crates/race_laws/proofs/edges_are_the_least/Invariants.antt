@@ -1,5 +1,4 @@
-use Rattle.std.specs.Prelude.{List}
-use Rattle.race_log.specs.Points.{Point}
+use Rattle.race_laws.proofs.Common.{List, Point}
 use Rattle.race_laws.proofs.Counts.{ConflictingPair}
 use Rattle.race_laws.proofs.edges_are_the_least.Given as goal
 

@@ -1,5 +1,4 @@
-use Rattle.run_model.specs.Runs.{start, run_of}
-use Rattle.run_laws.specs.History.{after_rows}
+use Rattle.race_laws.proofs.Common.{start, run_of, after_rows}
 use Rattle.race_laws.proofs.Streams.{edges_are_netzers}
 use Rattle.race_laws.proofs.Alone.{edges_alone}
 use Rattle.race_laws.proofs.kept_edges_are_edges.Goals as goal

@@ -1,18 +1,7 @@
 -- An access in a hart's turn, and what comes next for the hart: what they need, and what they leave.
 use Rattle.std.specs.Prelude.{◌≡◌, ◌≢◌, ◌≤◌, ◌<◌, ◌+◌, ◌^◌, ◌-◌, ◌==◌, ◌&&◌, ◌++◌, ℕ, Bool, IsTrue, List, length, true, false, Option, Some, None, if◌then◌else◌}
-use Rattle.bn_base.specs.declared.settings.RawSettings.{RawSettings}
+use Rattle.run_model.specs.Common.{RawSettings, is_reply_to, Ask, Reply, Want, Plan, Event, Warm, Record, Point, Shadow, RepresentsAccesses, harts_of, lasting_of, lasts, next_turn, next_count}
 use Rattle.bn_base.specs.declared.settings.TheConstants.{HARTS}
-use Rattle.rv_meaning.specs.Orderly.{is_reply_to}
-use Rattle.rv_meaning.specs.declared.asks.Ask.{Ask}
-use Rattle.rv_meaning.specs.declared.asks.Reply.{Reply}
-use Rattle.rv_meaning.specs.declared.asks.Want.{Want}
-use Rattle.system_calls.specs.declared.effect.Plan.{Plan}
-use Rattle.first_load_bits.specs.Events.{Event}
-use Rattle.first_load_bits.specs.declared.warm.Warm.{Warm}
-use Rattle.log_record.specs.declared.record.Record.{Record}
-use Rattle.race_log.specs.Points.{Point}
-use Rattle.race_log.specs.declared.shadow.Shadow.{Shadow}
-use Rattle.race_log.specs.Represents.{RepresentsAccesses, harts_of, lasting_of, lasts, next_turn, next_count}
 use Rattle.run_model.specs.declared.span.Span.{Span}
 use Rattle.run_model.specs.declared.trace.Trace.{Trace}
 use Rattle.run_model.specs.declared.turn_end.TurnEnd.{TurnEnd}

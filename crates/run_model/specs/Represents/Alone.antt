@@ -1,14 +1,6 @@
 -- Turns of a hart that is alone, one after another, done in its own place.
 use Rattle.std.specs.Prelude.{◌≡◌, ◌≤◌, ◌<◌, ◌+◌, ◌-◌, ◌*◌, ◌^◌, ◌==◌, ◌&&◌, nat_lt, ℕ, Bool, IsTrue, List, length, true, false, None, replicate}
-use Rattle.bn_base.specs.Programs.{Program}
-use Rattle.bn_base.specs.declared.settings.RawSettings.{RawSettings}
-use Rattle.rv_meaning.specs.Ahead.{Walking, AsksThere}
-use Rattle.rv_meaning.specs.Execute.{count_up}
-use Rattle.rv_meaning.specs.Orderly.{is_cut}
-use Rattle.rv_meaning.specs.Words.{add}
-use Rattle.rv_meaning.specs.declared.asks.Want.{Want}
-use Rattle.race_log.specs.declared.shadow.Shadow.{Shadow}
-use Rattle.race_log.specs.Represents.{harts_of, lasts, next_turn, next_count}
+use Rattle.run_model.specs.Common.{Program, RawSettings, Walking, AsksThere, count_up, is_cut, add, Want, Shadow, harts_of, lasts, next_turn, next_count}
 use Rattle.run_model.specs.declared.hart.Hart.{Hart}
 use Rattle.run_model.specs.declared.span.Span.{Span}
 use Rattle.run_model.specs.declared.turn_end.TurnEnd.TheVariants.{GoesOn}

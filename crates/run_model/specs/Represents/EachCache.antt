@@ -1,11 +1,6 @@
 -- What the harts' caches keep together, and the histories that they represent.
 use Rattle.std.specs.Prelude.{ℕ, ◌+◌, ◌≤◌, ◌<◌, ◌==◌, ◌≡◌, ◌≢◌, Bool, true, false, List, ◌∷◌, length, get_or, Option, Some, None}
-use Rattle.bn_base.specs.declared.settings.RawSettings.{RawSettings}
-use Rattle.first_load_bits.specs.Events.{Event}
-use Rattle.first_load_bits.specs.Events.{Clear}
-use Rattle.first_load_bits.specs.Represents.{Contents, RepresentsEvents, geometry_of, no_contents}
-use Rattle.first_load_bits.specs.declared.warm.Warm.{Warm}
-use Rattle.system_calls.specs.declared.effect.Plan.{Plan}
+use Rattle.run_model.specs.Common.{RawSettings, Event, Clear, Contents, RepresentsEvents, geometry_of, no_contents, Warm, Plan}
 use Rattle.run_model.specs.declared.span.Span.{Span}
 
 -- the value that a look-up gives if there is no cache

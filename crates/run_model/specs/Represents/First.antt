@@ -1,9 +1,7 @@
 -- What is traced before the first turn.
 use Rattle.std.specs.Prelude.{◌≡◌, ℕ, List, ◌++◌, length}
-use Rattle.bn_base.specs.Programs.{Program}
-use Rattle.bn_base.specs.declared.settings.RawSettings.{RawSettings}
+use Rattle.run_model.specs.Common.{Program, RawSettings, Record}
 use Rattle.run_model.specs.declared.log.Log.{Log}
-use Rattle.log_record.specs.declared.record.Record.{Record}
 use Rattle.run_model.specs.declared.hart.Hart.{Hart}
 use Rattle.run_model.specs.Runs.{start_state, start_hart, first_headers}
 use Rattle.run_model.specs.Represents.Harts.{AreHarts}

@@ -1,8 +1,6 @@
 -- A hart whose quiet instructions are done in its own place, up to what it asks.
 use Rattle.std.specs.Prelude.{ℕ, ◌==◌, ◌≡◌, true, false, slice_set}
-use Rattle.bn_base.specs.declared.state.HartState.{HartState}
-use Rattle.rv_meaning.specs.declared.asks.Ask.{Ask}
-use Rattle.rv_meaning.specs.declared.asks.Want.{Want}
+use Rattle.run_model.specs.Common.{HartState, Ask, Want}
 use Rattle.run_model.specs.declared.hart.Hart.{Hart}
 use Rattle.run_model.specs.declared.trace.Trace.{Trace}
 use Rattle.run_model.specs.Turn.{Run}

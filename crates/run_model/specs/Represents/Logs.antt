@@ -1,8 +1,6 @@
 -- A log that takes records, and the ones that it takes.
 use Rattle.std.specs.Prelude.{◌≡◌, ℕ, ◌+◌, List, Bool, true}
-use Rattle.log_record.specs.declared.record.Record.{Record}
-use Rattle.log_record.specs.Spelling.{is_mark, total}
-use Rattle.log_ring.specs.Kept.{HoldsLog}
+use Rattle.run_model.specs.Common.{Record, is_mark, total, HoldsLog}
 pub use Rattle.run_model.specs.Represents.Taken.{taken}
 use Rattle.run_model.specs.declared.log.Log.{Log}
 use Rattle.run_model.specs.declared.turn_end.TurnEnd.{TurnEnd}

@@ -1,18 +1,10 @@
 -- What a machine that runs keeps, the machines of the definition that it represents, and what an answer needs.
 use Rattle.std.specs.Prelude.{ℕ, ◌+◌, ◌-◌, ◌*◌, ◌%◌, ◌^◌, ◌==◌, ◌≡◌, ◌≤◌, ◌<◌, ⊤, IsTrue, Bool, true, false, List, length, drop, get_or, Option, Some, None}
-use Rattle.bn_base.specs.Programs.{Program}
+use Rattle.run_model.specs.Common.{Program, is_aligned, Want, Store, System, Reply, Write, Kernel, Plan, IsWithin, stream_size, HoldsMap, HasPages}
 use Rattle.bn_base.specs.declared.settings.TheConstants.{HARTS}
-use Rattle.rv_meaning.specs.Orderly.{is_aligned}
-use Rattle.rv_meaning.specs.declared.asks.Want.{Want}
-use Rattle.rv_meaning.specs.declared.asks.Want.TheVariants.{Store, System}
-use Rattle.rv_meaning.specs.declared.asks.Reply.{Reply}
 use Rattle.rv_meaning.specs.declared.asks.Reply.TheVariants as replies
-use Rattle.race_log.specs.declared.mode.Mode.TheVariants.{Write}
-use Rattle.system_calls.specs.declared.kernel.Kernel.{Kernel}
-use Rattle.system_calls.specs.declared.effect.Plan.{Plan}
 use Rattle.system_calls.specs.declared.effect.Plan.TheVariants as plans
-use Rattle.system_calls.specs.Calls.{IsWithin, stream_size}
-use Rattle.bus_memory.specs.Contents.{Contents, HoldsMap, HasPages}
+use Rattle.bus_memory.specs.Contents.{Contents}
 use Rattle.run_model.specs.declared.span.Span.{Span}
 use Rattle.run_model.specs.Machine.{Machine, Answered}
 use Rattle.run_model.specs.Turn.{span_of}

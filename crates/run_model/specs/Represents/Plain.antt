@@ -1,11 +1,7 @@
 -- What a plain machine keeps, and the runs that it represents.
 use Rattle.std.specs.Prelude.{◌≡◌, ◌≤◌, ◌<◌, ◌^◌, ◌%◌, ℕ, ◌+◌, ◌*◌, ◌||◌, ⊤, Bool, true, false, not, nat_le, nat_lt, IsTrue, List, length, filter, Option, Some, None}
-use Rattle.bn_base.specs.Ranges.{IsSetting}
-use Rattle.bn_base.specs.declared.settings.RawSettings.{RawSettings}
+use Rattle.run_model.specs.Common.{IsSetting, RawSettings, Shadow, Point, RepresentsAccesses, harts_of, lasts, next_turn, next_count, reserved_range, times_of, kept_of, words_of, unswept_of}
 use Rattle.bn_base.specs.declared.settings.TheConstants.{HARTS}
-use Rattle.race_log.specs.declared.shadow.Shadow.{Shadow}
-use Rattle.race_log.specs.Points.{Point}
-use Rattle.race_log.specs.Represents.{RepresentsAccesses, harts_of, lasts, next_turn, next_count, reserved_range, times_of, kept_of, words_of, unswept_of}
 use Rattle.race_log.specs.Sweep.{all_below}
 use Rattle.run_model.specs.declared.hart.Hart.{Hart}
 use Rattle.run_model.specs.declared.turn_end.TurnEnd.{TurnEnd}

@@ -1,18 +1,6 @@
 -- What a turn changes in what is traced of a run.
 use Rattle.std.specs.Prelude.{ℕ, ◌+◌, ◌==◌, ◌≡◌, ◌≢◌, List, ◌++◌, length, Option, if◌then◌else◌}
-use Rattle.bn_base.specs.Programs.{Program}
-use Rattle.bn_base.specs.declared.settings.RawSettings.{RawSettings}
-use Rattle.bn_base.specs.declared.state.HartState.{HartState}
-use Rattle.rv_meaning.specs.Execute.{absorbed}
-use Rattle.rv_meaning.specs.declared.asks.Ask.{Ask}
-use Rattle.rv_meaning.specs.declared.asks.Want.{Want}
-use Rattle.rv_meaning.specs.declared.asks.Reply.{Reply}
-use Rattle.system_calls.specs.declared.effect.Plan.{Plan}
-use Rattle.first_load_bits.specs.Events.{Event}
-use Rattle.first_load_bits.specs.Represents.{Contents}
-use Rattle.first_load_bits.specs.declared.warm.Warm.{Warm}
-use Rattle.log_record.specs.declared.record.Record.{Record}
-use Rattle.race_log.specs.Points.{Point}
+use Rattle.run_model.specs.Common.{Program, RawSettings, HartState, absorbed, Ask, Want, Reply, Plan, Event, Contents, Warm, Record, Point}
 use Rattle.run_model.specs.declared.hart.Hart.{Hart}
 use Rattle.run_model.specs.declared.turn_end.TurnEnd.{TurnEnd}
 use Rattle.run_model.specs.declared.turn_end.TurnEnd.TheVariants.{GoesOn}

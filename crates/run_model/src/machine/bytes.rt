@@ -1,7 +1,6 @@
 //! The bytes of memory that system calls move.
 ghost use Rattle.std.specs.Prelude.{◌≡◌, ◌<◌, ◌≤◌, ◌+◌, ◌*◌, ◌/◌, ◌%◌, ◌^◌, ◌++◌, ℕ, true, List, take, drop, length, vec_len, vec_capacity};
-ghost use Rattle.rv_meaning.specs.Words.{aligned, bytes_at};
-ghost use Rattle.bus_memory.specs.Contents.{HoldsMap, has_page, HasPages};
+ghost use Rattle.run_model.specs.Common.{aligned, bytes_at, HoldsMap, has_page, HasPages};
 ghost use Rattle.run_model.specs.Machine.{put_byte, filled, bytes_in, word_count};
 
 use bn_base::Addr;

@@ -1,5 +1,4 @@
-use Rattle.std.proofs.Common.{slice_index_or, None}
-use Rattle.back_step.specs.declared.entry.Entry.{Entry}
+use Rattle.back_step.proofs.Common.{slice_index_or, None, Entry}
 use Rattle.back_step.proofs.Leading.{rest_after, led_after, element}
 use Rattle.back_step.proofs.steps.take_all.Goals as goal
 

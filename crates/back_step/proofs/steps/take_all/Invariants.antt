@@ -1,5 +1,4 @@
-use Rattle.std.proofs.Common.{take, drop}
-use Rattle.back_step.specs.Trails.{LeadsBy, CanTake}
+use Rattle.back_step.proofs.Common.{take, drop, LeadsBy, CanTake}
 use Rattle.back_step.proofs.steps.take_all.Given as goal
 
 -- the steps before are taken, and the others can be

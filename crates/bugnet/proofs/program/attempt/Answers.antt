@@ -1,6 +1,4 @@
-use Rattle.bugnet.proofs.Common.{Some, subst, sym, IfOk, Line, seen}
-use Rattle.log_commands.specs.Statuses.{code}
-use Rattle.bugnet.specs.Saves.{LeavesScheduled}
+use Rattle.bugnet.proofs.Common.{Some, subst, sym, IfOk, Line, seen, code, LeavesScheduled}
 use Rattle.bugnet.proofs.Scheduled.{scheduled-seeded}
 use Rattle.bugnet.proofs.program.attempt.Goals as goal
 

@@ -1,11 +1,8 @@
-use Rattle.bugnet.proofs.Common.{Option, subst, sym, Files, RecordLine, seen_recording, between, world, passed-on, RepliesTo, HasElf}
+use Rattle.bugnet.proofs.Common.{Option, subst, sym, Files, RecordLine, seen_recording, between, world, passed-on, RepliesTo, HasElf, IfOk, Some, LeavesScheduled, code}
 use Rattle.bugnet.proofs.Leaves.{call-leaves}
 use Rattle.bugnet.proofs.RecordLoads.{record-bytes}
 use Rattle.bugnet.proofs.Replied.{line-refused, line-acted}
 use Rattle.bugnet.proofs.Scheduled.{act-scheduled}
-use Rattle.std.specs.Prelude.{IfOk, Some}
-use Rattle.bugnet.specs.Saves.{LeavesScheduled}
-use Rattle.log_commands.specs.Statuses.{code}
 use Rattle.bugnet.proofs.program.keep_recording.Goals as goal
 
 pub returns-in_err-answer-clause-does : goal.returns-in_err-answer-clause-does

@@ -1,9 +1,6 @@
-use Rattle.bugnet.proofs.Common.{Option, Some, ◌∙◌, ap, sym, subst, Err, Line, command_in, seen, WordsError, call, world, FileNames, Refuses, Refusal, words_refusal, Does, reading}
-use Rattle.log_commands.specs.Statuses.{code}
+use Rattle.bugnet.proofs.Common.{Option, Some, ◌∙◌, ap, sym, subst, Err, Line, command_in, seen, WordsError, call, world, FileNames, Refuses, Refusal, words_refusal, Does, reading, code, LeavesScheduled, told-apart}
 use Rattle.bugnet.proofs.Replied.{words-answered}
 use Rattle.bugnet.proofs.Scheduled.{scheduled-none, scheduled-closed}
-use Rattle.bugnet.specs.Saves.{LeavesScheduled}
-use Rattle.log_commands.proofs.StatusesApart.{told-apart}
 use Rattle.bugnet.proofs.program.obey.Goals as goal
 
 pub returns-in-Err-clause-does : goal.returns-in-Err-clause-does

@@ -1,5 +1,4 @@
-use Rattle.bugnet.proofs.Common.{refl, seeded, Scheduling}
-use Rattle.std.specs.Prelude.{false, [], Some, None}
+use Rattle.bugnet.proofs.Common.{refl, seeded, Scheduling, false, [], Some, None}
 use Rattle.bugnet.proofs.Recorded.{recording-run}
 use Rattle.bugnet.proofs.recorder.record_by_seed.Goals as goal
 

@@ -1,5 +1,4 @@
-use Rattle.bugnet.proofs.Common.{AreTaken, Scheduling}
-use Rattle.std.specs.Prelude.{false, [], None}
+use Rattle.bugnet.proofs.Common.{AreTaken, Scheduling, false, [], None}
 use Rattle.bugnet.proofs.Recorded.{recording-run}
 use Rattle.bugnet.proofs.recorder.record_unseeded.Goals as goal
 

@@ -1,6 +1,4 @@
-use Rattle.std.proofs.Common.{◌≡◌}
-use Rattle.run_model.specs.Represents.Harts.{hart_in}
-use Rattle.run_model.specs.Runs.{any_live}
+use Rattle.bus_core.proofs.Common.{◌≡◌, hart_in, any_live}
 use Rattle.bus_core.proofs.ends.any_live.Given as goal
 
 abbrev pub invariant-loop-number : goal.invariant-loop-number

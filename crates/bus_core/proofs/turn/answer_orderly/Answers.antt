@@ -1,17 +1,6 @@
-use Rattle.std.proofs.Common.{◌≡◌, ◌<◌, true, ◌∙◌, sym, ap, subst}
-use Rattle.std.specs.Prelude.{Vec, Bool, Result, Ok}
+use Rattle.bus_core.proofs.Common.{◌≡◌, ◌<◌, true, ◌∙◌, sym, ap, subst, Vec, Bool, Result, Ok, Global, Hart, Start, hart_in, IsRun, parts, Run, Served, serve, is_orderly, is_guarded, passes, Reply, IsServed}
 use Rattle.std.specs.declared.alloc.AllocError.{AllocError}
-use Rattle.std.specs.Global.{Global}
-use Rattle.run_model.specs.declared.hart.Hart.{Hart}
-use Rattle.run_model.specs.declared.start.Start.{Start}
-use Rattle.run_model.specs.Represents.Harts.{hart_in}
-use Rattle.run_model.specs.Represents.Plain.{IsRun}
-use Rattle.run_model.specs.Represents.Turning.{parts}
-use Rattle.run_model.specs.Turn.{Run, Served, serve, is_orderly, is_guarded}
-use Rattle.rv_meaning.specs.Orderly.{passes}
-use Rattle.rv_meaning.specs.declared.asks.Reply.{Reply}
 use Rattle.bus_core.proofs.Rows.{second_of, live_within, live_there}
-use Rattle.bus_core.specs.Bus.{IsServed}
 use Rattle.bus_core.proofs.Serves.{served_orderly, kept_on_err}
 use Rattle.bus_core.proofs.turn.answer_orderly.Goals as goal
 

@@ -1,7 +1,4 @@
-use Rattle.std.proofs.Common.{ap, subst}
-use Rattle.run_model.specs.Represents.Plain.{IsRun}
-use Rattle.run_model.specs.Turn.{Served}
-use Rattle.run_model.specs.Represents.Turning.{parts}
+use Rattle.bus_core.proofs.Common.{ap, subst, IsRun, Served, parts}
 use Rattle.bus_core.proofs.Serves.{served_disorderly}
 use Rattle.bus_core.proofs.turn.take_disorderly.Goals as goal
 

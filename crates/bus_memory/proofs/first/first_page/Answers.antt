@@ -1,6 +1,4 @@
-use Rattle.std.proofs.Common.{◌≡◌, ◌∙◌, sym, ap, false, get_or}
-use Rattle.bus_memory.specs.Contents.{is_touched}
-use Rattle.bus_memory.specs.Frames.{Frame}
+use Rattle.bus_memory.proofs.Common.{◌≡◌, ◌∙◌, sym, ap, false, get_or, is_touched, Frame}
 use Rattle.bus_memory.proofs.Touched.{untouched}
 use Rattle.bus_memory.proofs.first.first_page.Goals as goal
 

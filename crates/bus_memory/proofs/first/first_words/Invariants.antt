@@ -1,5 +1,4 @@
-use Rattle.std.proofs.Common.{◌≡◌, ◌<◌, ◌+◌, ◌*◌, ℕ, get_or, vec_len}
-use Rattle.bn_base.specs.Programs.{first_at}
+use Rattle.bus_memory.proofs.Common.{◌≡◌, ◌<◌, ◌+◌, ◌*◌, ℕ, get_or, vec_len, first_at}
 use Rattle.bus_memory.proofs.first.first_words.Given as goal
 
 abbrev pub invariant-loop-place : goal.invariant-loop-place

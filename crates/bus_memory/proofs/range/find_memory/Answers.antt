@@ -1,8 +1,4 @@
-use Rattle.std.proofs.Common.{arith, ◌≡◌, ◌∙◌, sym, ap, true, false, slice_index_or}
-use Rattle.std.proofs.lemmas.Bool.{false≢true}
-use Rattle.std.proofs.lemmas.List.{get_or_default}
-use Rattle.bus_memory.specs.Contents.{Contents}
-use Rattle.bus_memory.specs.Frames.{Frame, no_frame}
+use Rattle.bus_memory.proofs.Common.{arith, ◌≡◌, ◌∙◌, sym, ap, true, false, slice_index_or, false≢true, get_or_default, Contents, Frame, no_frame}
 use Rattle.bus_memory.proofs.Laws.{set_same, made_at}
 use Rattle.bus_memory.proofs.Ranges.{have_more}
 use Rattle.bus_memory.proofs.range.find_memory.Goals as goal

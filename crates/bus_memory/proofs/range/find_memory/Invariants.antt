@@ -1,5 +1,4 @@
-use Rattle.std.proofs.Common.{◌≡◌}
-use Rattle.bus_memory.specs.Frames.{contents_of, HaveWords}
+use Rattle.bus_memory.proofs.Common.{◌≡◌, contents_of, HaveWords}
 use Rattle.bus_memory.proofs.range.find_memory.Given as goal
 
 abbrev pub invariant-loop-number : goal.invariant-loop-number

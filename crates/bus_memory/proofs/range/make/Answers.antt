@@ -1,5 +1,4 @@
-use Rattle.std.proofs.Common.{arith, ◌≡◌, ◌∙◌, ◌||◌, ◌&&◌, nat_le, nat_lt, ap, false, slice_index_or}
-use Rattle.bus_memory.specs.Frames.{Frame, contents_of}
+use Rattle.bus_memory.proofs.Common.{arith, ◌≡◌, ◌∙◌, ◌||◌, ◌&&◌, nat_le, nat_lt, ap, false, slice_index_or, Frame, contents_of}
 use Rattle.bus_memory.proofs.Laws.{set_words}
 use Rattle.bus_memory.proofs.Ranges.{made_more, have_rest}
 use Rattle.bus_memory.proofs.range.make.Goals as goal

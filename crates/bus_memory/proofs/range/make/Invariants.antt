@@ -1,5 +1,4 @@
-use Rattle.std.proofs.Common.{◌≡◌, ◌||◌, ◌&&◌, ℕ, false, nat_le, nat_lt, get_or}
-use Rattle.bus_memory.specs.Frames.{contents_of, HaveWords}
+use Rattle.bus_memory.proofs.Common.{◌≡◌, ◌||◌, ◌&&◌, ℕ, false, nat_le, nat_lt, get_or, contents_of, HaveWords}
 use Rattle.bus_memory.proofs.range.make.Given as goal
 
 abbrev pub invariant-loop-number : goal.invariant-loop-number

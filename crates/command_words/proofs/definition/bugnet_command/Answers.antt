@@ -1,5 +1,4 @@
-use Rattle.std.proofs.Common.{codes}
-use Rattle.command_words.specs.App.{audit_app, demo_app, log_app, new_log_app, pair_app, races_app, record_app, replay_app, slice_app, top_app}
+use Rattle.command_words.proofs.Common.{codes, audit_app, demo_app, log_app, new_log_app, pair_app, races_app, record_app, replay_app, slice_app, top_app}
 use Rattle.command_words.proofs.definition.bugnet_command.Goals as goal
 
 pub returns : goal.returns

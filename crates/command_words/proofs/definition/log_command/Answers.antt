@@ -1,6 +1,4 @@
-use Rattle.std.proofs.Common.{codes}
-use Rattle.clap.specs.Words.{new_app}
-use Rattle.command_words.specs.App.{word}
+use Rattle.command_words.proofs.Common.{codes, new_app, word}
 use Rattle.command_words.proofs.definition.log_command.Goals as goal
 
 pub returns : goal.returns

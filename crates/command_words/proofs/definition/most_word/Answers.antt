@@ -1,6 +1,5 @@
-use Rattle.std.proofs.Common.{◌∙◌, ap, Some}
+use Rattle.command_words.proofs.Common.{◌∙◌, ap, Some, word}
 use Rattle.clap.specs.declared.builder.value_parser.ValueParser.TheVariants.{Unsigned}
-use Rattle.command_words.specs.App.{word}
 use Rattle.command_words.proofs.Chain.{parsed}
 use Rattle.command_words.proofs.definition.most_word.Goals as goal
 

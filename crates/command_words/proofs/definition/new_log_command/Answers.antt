@@ -1,5 +1,4 @@
-use Rattle.std.proofs.Common.{codes}
-use Rattle.command_words.specs.App.{log_app, word}
+use Rattle.command_words.proofs.Common.{codes, log_app, word}
 use Rattle.command_words.proofs.definition.new_log_command.Goals as goal
 
 pub returns : goal.returns

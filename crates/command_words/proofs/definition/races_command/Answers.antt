@@ -1,5 +1,4 @@
-use Rattle.std.proofs.Common.{codes}
-use Rattle.command_words.specs.App.{most_word, pair_app}
+use Rattle.command_words.proofs.Common.{codes, most_word, pair_app}
 use Rattle.command_words.proofs.definition.races_command.Goals as goal
 
 pub returns : goal.returns

@@ -1,5 +1,4 @@
-use Rattle.std.proofs.Common.{codes}
-use Rattle.command_words.specs.App.{number_option, flag, settings_app, text_option, word}
+use Rattle.command_words.proofs.Common.{codes, number_option, flag, settings_app, text_option, word}
 use Rattle.command_words.proofs.definition.record_command.Goals as goal
 
 pub returns : goal.returns

@@ -1,5 +1,4 @@
-use Rattle.std.proofs.Common.{codes}
-use Rattle.command_words.specs.App.{number_word, pair_app}
+use Rattle.command_words.proofs.Common.{codes, number_word, pair_app}
 use Rattle.command_words.proofs.definition.replay_command.Goals as goal
 
 pub returns : goal.returns

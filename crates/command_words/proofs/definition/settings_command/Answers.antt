@@ -1,6 +1,4 @@
-use Rattle.std.proofs.Common.{codes}
-use Rattle.clap.specs.Words.{new_app}
-use Rattle.command_words.specs.App.{number_option}
+use Rattle.command_words.proofs.Common.{codes, new_app, number_option}
 use Rattle.command_words.proofs.definition.settings_command.Goals as goal
 
 pub returns : goal.returns

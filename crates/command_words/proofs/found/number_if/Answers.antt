@@ -1,5 +1,4 @@
-use Rattle.std.proofs.Common.{ap}
-use Rattle.command_words.specs.Words.{number_if_given}
+use Rattle.command_words.proofs.Common.{ap, number_if_given}
 use Rattle.command_words.proofs.found.number_if.Goals as goal
 
 pub returns-in-None : goal.returns-in-None

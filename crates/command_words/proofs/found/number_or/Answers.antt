@@ -1,5 +1,4 @@
-use Rattle.std.proofs.Common.{◌∙◌, ap}
-use Rattle.command_words.specs.Words.{number_or_default}
+use Rattle.command_words.proofs.Common.{◌∙◌, ap, number_or_default}
 use Rattle.command_words.proofs.found.number_or.Goals as goal
 
 pub returns-in-None : goal.returns-in-None

@@ -1,7 +1,4 @@
-use Rattle.std.proofs.Common.{ℕ, List, Bool, Option, ◌∙◌, ap₂, Some, codes}
-use Rattle.clap.specs.Words.{found_of, rows_of, first_of}
-use Rattle.bn_base.specs.declared.settings.RawSettings.{RawSettings}
-use Rattle.command_words.specs.Words.{RecordingLine, and_then, flag_in, number_if, settings_in}
+use Rattle.command_words.proofs.Common.{ℕ, List, Bool, Option, ◌∙◌, ap₂, Some, codes, found_of, rows_of, first_of, RawSettings, RecordingLine, and_then, flag_in, number_if, settings_in}
 use Rattle.command_words.proofs.Steps.{found}
 use Rattle.command_words.proofs.found.recording_in.Goals as goal
 

@@ -1,8 +1,5 @@
-use Rattle.std.proofs.Common.{ℕ, ◌∙◌, Some}
-use Rattle.clap.specs.Words.{found_of, rows_of}
-use Rattle.command_words.specs.Words.{and_then, run_at, sizes_at, cache_at, second_at}
+use Rattle.command_words.proofs.Common.{ℕ, ◌∙◌, Some, found_of, rows_of, and_then, run_at, sizes_at, cache_at, second_at, RawSettings}
 use Rattle.command_words.proofs.Steps.{found}
-use Rattle.bn_base.specs.declared.settings.RawSettings.{RawSettings}
 use Rattle.command_words.proofs.found.settings_in.Goals as goal
 
 -- the settings of these parts

@@ -1,7 +1,5 @@
-use Rattle.std.proofs.Common.{◌≡◌, ◌∙◌, None}
+use Rattle.command_words.proofs.Common.{◌≡◌, ◌∙◌, None, app_of, kind_of, subcommand_rows_of, command_in, line_in}
 use Rattle.std.proofs.lemmas.Result.{IfOk-weaker}
-use Rattle.clap.specs.Words.{app_of, kind_of, subcommand_rows_of}
-use Rattle.command_words.specs.Words.{command_in, line_in}
 use Rattle.command_words.specs.declared.error.WordsError.TheVariants as words_error
 use Rattle.command_words.proofs.Whole.{command-refuses, command-takes, err_says, same_err}
 use Rattle.command_words.proofs.reading.read_words.Goals as goal

@@ -1,5 +1,4 @@
-use Rattle.log_file.specs.Counts.{counts_of}
-use Rattle.demo_run.specs.Demonstration.{demo_log}
+use Rattle.demo_run.proofs.Common.{counts_of, demo_log}
 use Rattle.demo_run.proofs.Shown.{says, counted-so, never-refused}
 use Rattle.demo_run.proofs.demonstration.counts.Goals as goal
 

@@ -1,6 +1,4 @@
-use Rattle.std.proofs.Common.{◌≡◌, ℕ, List, ◌/◌, ◌∙◌, ap, arith}
-use Rattle.std.specs.List.{flat_map}
-use Rattle.demo_run.specs.Demonstration.{demo, word_bytes, known_words}
+use Rattle.demo_run.proofs.Common.{◌≡◌, ℕ, List, ◌/◌, ◌∙◌, ap, arith, flat_map, demo, word_bytes, known_words}
 use Rattle.demo_run.proofs.Shown.{all-come, goes-through, ends-there, goes-there, rows-so, words-so, count-so, with_counts, figures-so}
 use Rattle.demo_run.proofs.demonstration.replay.Goals as goal
 

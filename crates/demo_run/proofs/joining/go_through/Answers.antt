@@ -1,6 +1,4 @@
-use Rattle.std.proofs.Common.{Bool, subst}
-use Rattle.std.specs.Prelude.{Ok}
-use Rattle.joint_replay.specs.Runs.{Advances}
+use Rattle.demo_run.proofs.Common.{Bool, subst, Ok, Advances}
 use Rattle.demo_run.proofs.Joins.{walks-more}
 use Rattle.demo_run.proofs.joining.go_through.Goals as goal
 

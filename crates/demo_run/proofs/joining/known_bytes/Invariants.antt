@@ -1,5 +1,4 @@
-use Rattle.std.proofs.Common.{length}
-use Rattle.joint_replay.specs.Memory.{known_from}
+use Rattle.demo_run.proofs.Common.{length, known_from}
 use Rattle.demo_run.proofs.Joins.{Lists}
 use Rattle.demo_run.proofs.joining.known_bytes.Given as goal
 

@@ -1,6 +1,4 @@
-use Rattle.std.proofs.Common.{List, Option, ◌∙◌, ap}
-use Rattle.bn_base.specs.declared.end_mark.EndMark.{EndMark}
-use Rattle.demo_run.specs.Demonstration.{counts_in}
+use Rattle.demo_run.proofs.Common.{List, Option, ◌∙◌, ap, EndMark, counts_in}
 use Rattle.demo_run.proofs.Written.{turns-so, instructions-so, file-so}
 use Rattle.demo_run.proofs.recording.record.Goals as goal
 

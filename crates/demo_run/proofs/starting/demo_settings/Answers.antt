@@ -1,5 +1,4 @@
-use Rattle.std.proofs.Common.{sym, ◌∙◌}
-use Rattle.demo_run.specs.Demonstration.{demo_settings}
+use Rattle.demo_run.proofs.Common.{sym, ◌∙◌, demo_settings}
 use Rattle.demo_run.proofs.Whole.{never_bad}
 use Rattle.demo_run.proofs.starting.demo_settings.Goals as goal
 

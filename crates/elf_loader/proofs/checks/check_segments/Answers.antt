@@ -1,5 +1,4 @@
-use Rattle.std.proofs.Common.{Some, ap, sym, ◌∙◌}
-use Rattle.elf_loader.specs.declared.error.ElfError.TheVariants.{Truncated}
+use Rattle.elf_loader.proofs.Common.{Some, ap, sym, ◌∙◌, Truncated}
 use Rattle.elf_loader.proofs.Refused.{refusal-cut_off, refusal-outside, refusal-touching, refusal-empty, refusal-none}
 use Rattle.elf_loader.proofs.checks.check_segments.Goals as goal
 

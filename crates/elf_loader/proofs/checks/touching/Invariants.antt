@@ -1,5 +1,4 @@
-use Rattle.std.proofs.Common.{◌≡◌, drop}
-use Rattle.elf_loader.specs.Loaded.{touching}
+use Rattle.elf_loader.proofs.Common.{◌≡◌, drop, touching}
 use Rattle.elf_loader.proofs.checks.touching.Given as goal
 
 abbrev pub invariant-loop-i : goal.invariant-loop-i

@@ -1,7 +1,4 @@
-use Rattle.std.proofs.Common.{rules, List, subst}
-use Rattle.std.specs.Prelude.{IsPermutation}
-use Rattle.elf_loader.specs.declared.program_header.ProgramHeader.{ProgramHeader}
-use Rattle.std.proofs.lemmas.List.Sorted.{IsNonDecreasingBy-from_sort_by_key}
+use Rattle.elf_loader.proofs.Common.{rules, List, subst, IsPermutation, ProgramHeader, IsNonDecreasingBy-from_sort_by_key}
 use Rattle.elf_loader.proofs.Order.{sorted-by_address}
 use Rattle.elf_loader.proofs.loading.by_address.Goals as goal
 

@@ -1,12 +1,5 @@
-use Rattle.std.proofs.Common.{◌≡◌, ◌∙◌, sym, ap, Some, Ok, Err, filter, inl, inr}
-use Rattle.std.specs.Prelude.{not}
+use Rattle.elf_loader.proofs.Common.{◌≡◌, ◌∙◌, sym, ap, Some, Ok, Err, filter, inl, inr, not, Program, ElfError, EntryOutside, FileHeader, is_segment, segments, program_of, image_of}
 use Rattle.std.proofs.lemmas.Result.{err_from_is_err_and}
-use Rattle.bn_base.specs.Programs.{Program}
-use Rattle.elf_loader.specs.declared.error.ElfError.{ElfError}
-use Rattle.elf_loader.specs.declared.error.ElfError.TheVariants.{EntryOutside}
-use Rattle.elf_loader.specs.declared.file_header.FileHeader.{FileHeader}
-use Rattle.elf_loader.specs.Segments.{is_segment, segments}
-use Rattle.elf_loader.specs.Loaded.{program_of, image_of}
 use Rattle.elf_loader.proofs.Entered.{entered}
 use Rattle.elf_loader.proofs.Refused.{Reads, refused-segments, refused-entry, refused-nothing, loaded}
 use Rattle.elf_loader.proofs.loading.load.Goals as goal

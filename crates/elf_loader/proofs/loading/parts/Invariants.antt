@@ -1,5 +1,4 @@
-use Rattle.std.proofs.Common.{◌≡◌, map, take}
-use Rattle.elf_loader.specs.Segments.{part_of}
+use Rattle.elf_loader.proofs.Common.{◌≡◌, map, take, part_of}
 use Rattle.elf_loader.proofs.loading.parts.Given as goal
 
 abbrev pub invariant-loop-header : goal.invariant-loop-header

@@ -1,7 +1,4 @@
-use Rattle.std.proofs.Common.{◌≡◌, ◌∙◌, map, length, sym, subst, ap, List}
-use Rattle.std.specs.Prelude.{All}
-use Rattle.bn_base.specs.Programs.{Part, AreApart}
-use Rattle.elf_loader.specs.Segments.{IsLoadable, by_address, part_of}
+use Rattle.elf_loader.proofs.Common.{◌≡◌, ◌∙◌, map, length, sym, subst, ap, List, All, Part, AreApart, IsLoadable, by_address, part_of}
 use Rattle.elf_loader.proofs.Order.{AreSegments}
 use Rattle.elf_loader.proofs.Laid.{AreSegments-segments, all_loadable, parts_apart}
 use Rattle.elf_loader.proofs.Refused.{are_taken}

@@ -1,6 +1,4 @@
-use Rattle.std.proofs.Common.{ap, ◌∙◌, arith}
-use Rattle.elf_loader.specs.declared.file_header.FileHeader.{FileHeader}
-use Rattle.elf_loader.specs.Headers.{file_header, header}
+use Rattle.elf_loader.proofs.Common.{ap, ◌∙◌, arith, FileHeader, file_header, header}
 use Rattle.elf_loader.proofs.Grown.{grown}
 use Rattle.elf_loader.proofs.loading.read_table.Goals as goal
 

@@ -1,6 +1,4 @@
-use Rattle.std.proofs.Common.{◌≡◌, map, length}
-use Rattle.std.specs.List.{range_with_len}
-use Rattle.elf_loader.specs.Headers.{header, file_header}
+use Rattle.elf_loader.proofs.Common.{◌≡◌, map, length, range_with_len, header, file_header}
 use Rattle.elf_loader.proofs.loading.read_table.Given as goal
 
 abbrev pub invariant-loop-place : goal.invariant-loop-place

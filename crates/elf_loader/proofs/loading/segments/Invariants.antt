@@ -1,5 +1,4 @@
-use Rattle.std.proofs.Common.{◌≡◌, ◌≤◌, filter, take, length}
-use Rattle.elf_loader.specs.Segments.{is_segment}
+use Rattle.elf_loader.proofs.Common.{◌≡◌, ◌≤◌, filter, take, length, is_segment}
 use Rattle.elf_loader.proofs.loading.segments.Given as goal
 
 abbrev pub invariant-loop-header : goal.invariant-loop-header

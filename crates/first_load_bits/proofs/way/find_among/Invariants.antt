@@ -1,6 +1,4 @@
-use Rattle.std.proofs.Common.{◌≡◌, ◌<◌, ℕ, false, get_or}
-use Rattle.first_load_bits.specs.declared.way.Way.{Way}
-use Rattle.first_load_bits.specs.Ways.{has_line}
+use Rattle.first_load_bits.proofs.Common.{◌≡◌, ◌<◌, ℕ, false, get_or, Way, has_line}
 use Rattle.first_load_bits.proofs.way.find_among.Given as goal
 
 abbrev pub invariant-loop-at : goal.invariant-loop-at

@@ -1,5 +1,4 @@
-use Rattle.std.proofs.Common.{◌≡◌, ◌<◌, ◌≤◌, ℕ, length, get_or}
-use Rattle.first_load_bits.specs.declared.way.Way.{Way}
+use Rattle.first_load_bits.proofs.Common.{◌≡◌, ◌<◌, ◌≤◌, ℕ, length, get_or, Way}
 use Rattle.first_load_bits.proofs.way.oldest.Given as goal
 
 abbrev pub invariant-loop-at : goal.invariant-loop-at

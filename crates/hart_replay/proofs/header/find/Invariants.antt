@@ -1,5 +1,4 @@
-use Rattle.std.proofs.Common.{◌≡◌, drop}
-use Rattle.hart_replay.specs.Replay.{interval_of}
+use Rattle.hart_replay.proofs.Common.{◌≡◌, drop, interval_of}
 use Rattle.hart_replay.proofs.header.find.Given as goal
 
 -- the Header doesn't stand before the place

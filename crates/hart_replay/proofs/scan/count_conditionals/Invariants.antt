@@ -1,5 +1,4 @@
-use Rattle.std.proofs.Common.{◌≡◌, ◌+◌, ◌≤◌, drop, length}
-use Rattle.hart_replay.specs.Scans.{conditionals_in}
+use Rattle.hart_replay.proofs.Common.{◌≡◌, ◌+◌, ◌≤◌, drop, length, conditionals_in}
 use Rattle.hart_replay.proofs.scan.count_conditionals.Given as goal
 
 -- those counted and those after make all

@@ -1,5 +1,4 @@
-use Rattle.std.proofs.Common.{◌≡◌, drop}
-use Rattle.hart_replay.specs.Scans.{conditionals_in}
+use Rattle.hart_replay.proofs.Common.{◌≡◌, drop, conditionals_in}
 use Rattle.hart_replay.proofs.scan.next_conditional.Given as goal
 
 -- no store-conditional stands before the place

@@ -1,5 +1,4 @@
-use Rattle.std.proofs.Common.{◌≡◌, drop}
-use Rattle.hart_replay.specs.Scans.{loads_in}
+use Rattle.hart_replay.proofs.Common.{◌≡◌, drop, loads_in}
 use Rattle.hart_replay.proofs.scan.next_load.Given as goal
 
 -- no first load stands before the place

@@ -1,5 +1,4 @@
-use Rattle.std.proofs.Common.{◌≡◌, drop}
-use Rattle.hart_replay.specs.Scans.{mark_in}
+use Rattle.hart_replay.proofs.Common.{◌≡◌, drop, mark_in}
 use Rattle.hart_replay.proofs.scan.next_mark.Given as goal
 
 -- no End stands before the place

@@ -1,5 +1,4 @@
-use Rattle.std.proofs.Common.{◌≡◌, drop}
-use Rattle.run_laws.specs.History.{rows_by}
+use Rattle.hart_worker.proofs.Common.{◌≡◌, drop, rows_by}
 use Rattle.hart_worker.proofs.comparing.agrees.Given as goal
 
 abbrev pub invariant-loop-row : goal.invariant-loop-row

@@ -1,7 +1,4 @@
-use Rattle.std.proofs.Common.{List, subst}
-use Rattle.bn_outside.specs.declared.turn_row.TurnRow.{TurnRow}
-use Rattle.bus_core.specs.Bus.{began_of}
-use Rattle.hart_worker.specs.Threads.{AreAllOwn}
+use Rattle.hart_worker.proofs.Common.{List, subst, TurnRow, began_of, AreAllOwn}
 use Rattle.hart_worker.proofs.OwnRuns.{taken_of}
 use Rattle.hart_worker.proofs.comparing.compares.Goals as goal
 

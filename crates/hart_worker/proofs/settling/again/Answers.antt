@@ -1,5 +1,4 @@
-use Rattle.std.proofs.Common.{inl}
-use Rattle.bus_core.specs.Bus.{began_of}
+use Rattle.hart_worker.proofs.Common.{inl, began_of}
 use Rattle.run_model.specs.Runs.{seeded}
 use Rattle.hart_worker.proofs.OwnRuns.{threads_of}
 use Rattle.hart_worker.proofs.settling.again.Goals as goal

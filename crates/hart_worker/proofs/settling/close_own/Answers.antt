@@ -1,6 +1,4 @@
-use Rattle.std.proofs.Common.{subst}
-use Rattle.bus_core.specs.Bus.{Began, began_of}
-use Rattle.whole_runs.specs.Closed.{IsClosed, IsOfRows}
+use Rattle.hart_worker.proofs.Common.{subst, Began, began_of, IsClosed, IsOfRows}
 use Rattle.hart_worker.proofs.OwnRuns.{threads_of}
 use Rattle.hart_worker.proofs.settling.close_own.Goals as goal
 

@@ -1,7 +1,4 @@
-use Rattle.std.proofs.Common.{◌≡◌, ◌∙◌, ◌++◌, true, false, sym, subst, inr}
-use Rattle.run_laws.specs.Laws.{harts_of}
-use Rattle.bus_core.specs.Bus.{Began}
-use Rattle.whole_runs.specs.Lists.{list_rows, seeded_after}
+use Rattle.hart_worker.proofs.Common.{◌≡◌, ◌∙◌, ◌++◌, true, false, sym, subst, inr, harts_of, Began, list_rows, seeded_after}
 use Rattle.hart_worker.proofs.OwnRuns.{kept_of}
 use Rattle.hart_worker.proofs.settling.finish_own.Goals as goal
 

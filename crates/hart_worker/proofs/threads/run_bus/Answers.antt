@@ -1,6 +1,4 @@
-use Rattle.std.proofs.Common.{sym, subst}
-use Rattle.bus_core.specs.Bus.{began_of}
-use Rattle.hart_worker.specs.Threads.{AreWorked}
+use Rattle.hart_worker.proofs.Common.{sym, subst, began_of, AreWorked}
 use Rattle.hart_worker.proofs.threads.run_bus.Goals as goal
 
 pub settle-requires-clause-each : goal.settle-requires-clause-each

@@ -1,6 +1,4 @@
-use Rattle.std.proofs.Common.{◌≡◌, ◌++◌, ◌-◌, List, [], false, take, sym, ap, ◌∙◌}
-use Rattle.joint_replay.specs.declared.intervals.Retained.{Retained}
-use Rattle.joint_replay.specs.Harts.{running}
+use Rattle.joint_replay.proofs.Common.{◌≡◌, ◌++◌, ◌-◌, List, [], false, take, sym, ap, ◌∙◌, Retained, running}
 use Rattle.joint_replay.proofs.Harts.{last_there, none_left, whole_without, whole_with}
 use Rattle.joint_replay.proofs.lane.next_cursor.Goals as goal
 

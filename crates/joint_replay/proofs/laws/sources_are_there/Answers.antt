@@ -1,5 +1,4 @@
-use Rattle.std.proofs.Common.{◌≡◌, true, false}
-use Rattle.rv_meaning.specs.declared.asks.Want.TheVariants.{Cut}
+use Rattle.joint_replay.proofs.Common.{◌≡◌, true, false, Cut}
 use Rattle.joint_replay.proofs.SourcesThere.{sources_are_there}
 use Rattle.joint_replay.proofs.Onto.{replays_go_on}
 use Rattle.joint_replay.proofs.laws.sources_are_there.Goals as goal

@@ -1,5 +1,4 @@
-use Rattle.std.proofs.Common.{◌≡◌, drop}
-use Rattle.joint_replay.specs.Points.{first_count}
+use Rattle.joint_replay.proofs.Common.{◌≡◌, drop, first_count}
 use Rattle.joint_replay.proofs.points.first_count.Given as goal
 
 -- no Header of the hart stands before the place

@@ -1,5 +1,4 @@
-use Rattle.std.proofs.Common.{Bool, ap, sym, ◌∙◌}
-use Rattle.joint_replay.specs.Points.{insert_if}
+use Rattle.joint_replay.proofs.Common.{Bool, ap, sym, ◌∙◌, insert_if}
 use Rattle.joint_replay.proofs.InsertedKeys.{key_inserted}
 use Rattle.joint_replay.proofs.points.insert_if.Goals as goal
 

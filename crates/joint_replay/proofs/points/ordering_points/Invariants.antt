@@ -1,5 +1,4 @@
-use Rattle.std.proofs.Common.{◌≡◌, ◌-◌, length, drop}
-use Rattle.joint_replay.specs.Points.{points_below}
+use Rattle.joint_replay.proofs.Common.{◌≡◌, ◌-◌, length, drop, points_below}
 use Rattle.joint_replay.proofs.points.ordering_points.Given as goal
 
 -- those that the last records name

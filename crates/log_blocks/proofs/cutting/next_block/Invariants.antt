@@ -1,7 +1,4 @@
-use Rattle.std.proofs.Common.{◌≡◌, ◌-◌, ◌≤◌, ℕ, List, length}
-use Rattle.std.specs.List.{flat_map, AllByRecursion}
-use Rattle.log_record.specs.declared.record.Record.{Record}
-use Rattle.log_record.specs.Spelling.{bytes_of, Fits}
+use Rattle.log_blocks.proofs.Common.{◌≡◌, ◌-◌, ◌≤◌, ℕ, List, length, flat_map, AllByRecursion, Record, bytes_of, Fits}
 use Rattle.log_blocks.proofs.Firsts.{Begun}
 use Rattle.log_blocks.proofs.cutting.next_block.Given as goal
 

@@ -1,9 +1,4 @@
-use Rattle.std.proofs.Common.{◌≡◌, ℕ, ◌≤◌, List, length}
-use Rattle.std.specs.List.{flat_map, AllByRecursion}
-use Rattle.log_record.specs.declared.record.Record.{Record}
-use Rattle.log_record.specs.Spelling.{bytes_of, Fits}
-use Rattle.log_blocks.specs.Pieces.{Piece, gathered}
-use Rattle.log_blocks.specs.Walks.{AreLaid}
+use Rattle.log_blocks.proofs.Common.{◌≡◌, ℕ, ◌≤◌, List, length, flat_map, AllByRecursion, Record, bytes_of, Fits, Piece, gathered, AreLaid}
 use Rattle.log_blocks.proofs.Left.{AreLeft}
 use Rattle.log_blocks.proofs.Compared.{ComparedTo}
 use Rattle.log_blocks.proofs.gathering.first_wrong.Given as goal

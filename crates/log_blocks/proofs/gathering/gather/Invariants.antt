@@ -1,6 +1,4 @@
-use Rattle.std.proofs.Common.{◌≤◌, List, length}
-use Rattle.log_blocks.specs.Pieces.{Piece}
-use Rattle.log_blocks.specs.Walks.{AreLaid}
+use Rattle.log_blocks.proofs.Common.{◌≤◌, List, length, Piece, AreLaid}
 use Rattle.log_blocks.proofs.Left.{GatheredTo}
 use Rattle.log_blocks.proofs.gathering.gather.Given as goal
 

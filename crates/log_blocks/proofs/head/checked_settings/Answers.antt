@@ -1,8 +1,4 @@
-use Rattle.std.proofs.Common.{List, ℕ, sym, ap, ◌∙◌, arith}
-use Rattle.std.specs.Str.{bytes_eq}
-use Rattle.bn_base.specs.Ranges.{checked}
-use Rattle.log_file.specs.Layout.{magic}
-use Rattle.log_blocks.specs.Fields.{settings_in}
+use Rattle.log_blocks.proofs.Common.{List, ℕ, sym, ap, ◌∙◌, arith, bytes_eq, checked, magic, settings_in}
 use Rattle.log_blocks.proofs.Tested.{told, fault_behind}
 use Rattle.log_blocks.proofs.head.checked_settings.Goals as goal
 

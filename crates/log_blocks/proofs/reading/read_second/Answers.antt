@@ -1,6 +1,4 @@
-use Rattle.std.proofs.Common.{subst, sym, ap, ◌∙◌}
-use Rattle.log_order.specs.Content.{IsContent}
-use Rattle.log_file.specs.Layout.{file_bytes2}
+use Rattle.log_blocks.proofs.Common.{subst, sym, ap, ◌∙◌, IsContent, file_bytes2}
 use Rattle.log_blocks.proofs.reading.read_second.Goals as goal
 
 pub list-requires : goal.list-requires

@@ -1,6 +1,4 @@
-use Rattle.std.proofs.Common.{◌≡◌, ◌+◌, ◌-◌, length, arith, ap, ◌∙◌}
-use Rattle.std.proofs.lemmas.List.{length-take-le}
-use Rattle.le_numbers.specs.Numbers.{number_at}
+use Rattle.log_blocks.proofs.Common.{◌≡◌, ◌+◌, ◌-◌, length, arith, ap, ◌∙◌, length-take-le, number_at}
 use Rattle.log_blocks.proofs.Left.{all_left, within}
 use Rattle.log_blocks.proofs.Salvaged.{before_first, before_none}
 use Rattle.log_blocks.proofs.salvaging.dropped_before.Goals as goal

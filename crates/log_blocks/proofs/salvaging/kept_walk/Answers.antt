@@ -1,6 +1,4 @@
-use Rattle.std.proofs.Common.{◌≡◌, ℕ, List, false, not, length, subst, sym, ◌∙◌}
-use Rattle.std.specs.Prelude.{◌==◌, ◌&&◌}
-use Rattle.log_blocks.specs.Walks.{HasWalked}
+use Rattle.log_blocks.proofs.Common.{◌≡◌, ℕ, List, false, not, length, subst, sym, ◌∙◌, ◌==◌, ◌&&◌, HasWalked}
 use Rattle.log_blocks.proofs.Salvaged.{lost, unlisted_left, walked_behind}
 use Rattle.log_blocks.proofs.salvaging.kept_walk.Goals as goal
 

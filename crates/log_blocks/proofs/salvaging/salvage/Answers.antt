@@ -1,5 +1,4 @@
-use Rattle.std.proofs.Common.{subst, sym}
-use Rattle.log_blocks.specs.File.{IsSalvaged}
+use Rattle.log_blocks.proofs.Common.{subst, sym, IsSalvaged}
 use Rattle.log_blocks.proofs.salvaging.salvage.Goals as goal
 
 pub list-requires : goal.list-requires

@@ -1,8 +1,4 @@
-use Rattle.std.proofs.Common.{List, ℕ, sym, subst, refl}
-use Rattle.log_blocks.specs.Counts.{TestsSalvaged}
-use Rattle.log_blocks.specs.File.{told, IsSalvageRefusal}
-use Rattle.log_blocks.specs.Walks.{AreLaid}
-use Rattle.log_blocks.specs.declared.damage.SalvageError.{SalvageError}
+use Rattle.log_blocks.proofs.Common.{List, ℕ, sym, subst, refl, TestsSalvaged, told, IsSalvageRefusal, AreLaid, SalvageError}
 use Rattle.log_blocks.proofs.Tested.{size_bound}
 use Rattle.log_blocks.proofs.Salvaged.{behind, taken_is, damage_is, head_is}
 use Rattle.log_blocks.proofs.Tallied.{kept_ok}

@@ -1,5 +1,4 @@
-use Rattle.std.proofs.Common.{◌+◌, arith}
-use Rattle.log_file.specs.Counts.{IsTallied}
+use Rattle.log_blocks.proofs.Common.{◌+◌, arith, IsTallied}
 use Rattle.log_blocks.proofs.Tallied.{counts_blocks}
 use Rattle.log_blocks.proofs.testing.counts_along.Goals as goal
 

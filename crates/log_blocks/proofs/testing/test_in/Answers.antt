@@ -1,7 +1,4 @@
-use Rattle.std.proofs.Common.{List, ℕ, subst, sym, refl, arith}
-use Rattle.log_blocks.specs.Counts.{TestsRead}
-use Rattle.log_blocks.specs.File.{IsSecondRefusal}
-use Rattle.log_blocks.specs.Walks.{AreLaid}
+use Rattle.log_blocks.proofs.Common.{List, ℕ, subst, sym, refl, arith, TestsRead, IsSecondRefusal, AreLaid}
 use Rattle.log_blocks.proofs.Tested.{size_bound}
 use Rattle.log_blocks.proofs.Salvaged.{behind, if_ok, if_err, head_is}
 use Rattle.log_blocks.proofs.Tallied.{tests_ok}

@@ -1,5 +1,4 @@
-use Rattle.std.proofs.Common.{List, ℕ, subst, sym, arith}
-use Rattle.log_blocks.specs.Walks.{HasWalked}
+use Rattle.log_blocks.proofs.Common.{List, ℕ, subst, sym, arith, HasWalked}
 use Rattle.log_blocks.proofs.Salvaged.{bad_block, other_length, unlisted, walked_behind}
 use Rattle.log_blocks.proofs.testing.whole_walk.Goals as goal
 

@@ -1,5 +1,4 @@
-use Rattle.std.proofs.Common.{rules}
-use Rattle.log_blocks.specs.Pieces.{is_good}
+use Rattle.log_blocks.proofs.Common.{rules, is_good}
 use Rattle.log_blocks.proofs.walking.good_block.Goals as goal
 
 pub returns-then-length-lt-SEAL_SIZE-clause-good : goal.returns-then-length-lt-SEAL_SIZE-clause-good

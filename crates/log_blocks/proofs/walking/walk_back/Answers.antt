@@ -1,5 +1,4 @@
-use Rattle.std.proofs.Common.{◌+◌, ◌-◌, length, arith, refl, sym, ap, ◌∙◌}
-use Rattle.log_blocks.specs.Pieces.{is_good, len_in}
+use Rattle.log_blocks.proofs.Common.{◌+◌, ◌-◌, length, arith, refl, sym, ap, ◌∙◌, is_good, len_in}
 use Rattle.log_blocks.proofs.Backwards.{seen_none, seen_more, seen_all}
 use Rattle.log_blocks.proofs.walking.walk_back.Goals as goal
 

@@ -1,6 +1,4 @@
-use Rattle.std.proofs.Common.{◌≡◌, ◌++◌, drop}
-use Rattle.std.specs.List.{flat_map}
-use Rattle.log_record.specs.Spelling.{bytes_of}
+use Rattle.log_blocks.proofs.Common.{◌≡◌, ◌++◌, drop, flat_map, bytes_of}
 use Rattle.log_blocks.proofs.writing.push_records.Given as goal
 
 abbrev pub invariant-loop-place : goal.invariant-loop-place

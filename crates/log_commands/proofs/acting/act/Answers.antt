@@ -1,7 +1,6 @@
-use Rattle.log_commands.proofs.Common.{refl, Joined, Listed, Checked, Agreed, Shown}
+use Rattle.log_commands.proofs.Common.{refl, Joined, Listed, Checked, Agreed, Shown, Interval}
 use Rattle.log_commands.proofs.Acts.{sent-prints}
 use Rattle.log_commands.proofs.Kept.{prints-act}
-use Rattle.log_commands.specs.declared.answer.Answer.TheVariants.{Interval}
 use Rattle.log_commands.proofs.acting.act.Goals as goal
 
 pub returns-in-Recorded : goal.returns-in-Recorded

@@ -1,5 +1,4 @@
-use Rattle.log_commands.proofs.Common.{List, ap, subst, Ok, Err, option_map, not, is_some, SavesFile, SavesAll, saved_of, is_lean, Log, Book}
-use Rattle.std.specs.Prelude.{ℕ, Option}
+use Rattle.log_commands.proofs.Common.{List, ap, subst, Ok, Err, option_map, not, is_some, SavesFile, SavesAll, saved_of, is_lean, Log, Book, ℕ, Option}
 use Rattle.std.specs.declared.vec.Vec.{Vec}
 use Rattle.std.specs.declared.alloc.Global.{Global}
 use Rattle.log_commands.proofs.Answering.{passed-on}

@@ -1,4 +1,5 @@
-use Rattle.log_commands.proofs.Common.{List, ℕ, subst, row_text, Sent}
+use Rattle.log_commands.proofs.Common.{List, ℕ, subst, Sent}
+use Rattle.rv_text.specs.Rows.{row_text}
 use Rattle.log_commands.proofs.Prints.{gathered-short}
 use Rattle.log_commands.proofs.Rows.{no-memory, row-some, short-line}
 use Rattle.log_commands.proofs.replay_lines.gather_row.Goals as goal

@@ -1,6 +1,4 @@
-use Rattle.log_commands.proofs.Common.{IfErr, IsCutShort, Replaying, ◌≡◌, ℕ, Bool, ap, inr, List, sym, subst, arith, Result, Ok, Stepped, rows_text, outcome_of, SendsReplay, Sent, ReplayEnd, Refusal}
-use Rattle.std.specs.Prelude.{Some, None}
-use Rattle.hart_replay.specs.Coming.{given}
+use Rattle.log_commands.proofs.Common.{IfErr, IsCutShort, Replaying, ◌≡◌, ℕ, Bool, ap, inr, List, sym, subst, arith, Result, Ok, Stepped, rows_text, outcome_of, SendsReplay, Sent, ReplayEnd, Refusal, Some, None, given}
 use Rattle.log_commands.proofs.Answering.{passed-on}
 use Rattle.log_commands.proofs.Rows.{RowsSoFar, stands-none, stands-more, stands-stopped, stands-sent, stands-short, stands-done, stands-refused, stands-lacking, ends-without}
 use Rattle.log_commands.proofs.Prints.{not-memory}

@@ -1,6 +1,4 @@
-use Rattle.std.proofs.Common.{Err, ap, sym, ◌∙◌}
-use Rattle.log_order.specs.declared.walk.OrderBreak.{OrderBreak}
-use Rattle.log_order.specs.Rules.{number_of}
+use Rattle.log_file.proofs.Common.{Err, ap, sym, ◌∙◌, OrderBreak, number_of}
 use Rattle.log_file.proofs.Walks.{stays_broken, goes_on, breaks}
 use Rattle.log_file.proofs.counting.advance.Goals as goal
 

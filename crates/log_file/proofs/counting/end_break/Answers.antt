@@ -1,5 +1,4 @@
-use Rattle.std.proofs.Common.{Some, ap, sym, ◌∙◌, length}
-use Rattle.log_order.specs.declared.walk.OrderBreak.{OrderBreak}
+use Rattle.log_file.proofs.Common.{Some, ap, sym, ◌∙◌, length, OrderBreak}
 use Rattle.log_file.proofs.Walks.{ends_unfinished, ends_well, ends_late}
 use Rattle.log_file.proofs.counting.end_break.Goals as goal
 

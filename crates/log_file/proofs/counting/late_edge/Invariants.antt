@@ -1,7 +1,4 @@
-use Rattle.std.proofs.Common.{◌-◌, ◌≤◌, List, length, ◌≡◌}
-use Rattle.std.specs.List.{flat_map, AllByRecursion}
-use Rattle.log_record.specs.declared.record.Record.{Record}
-use Rattle.log_record.specs.Spelling.{bytes_of, Fits}
+use Rattle.log_file.proofs.Common.{◌-◌, ◌≤◌, List, length, ◌≡◌, flat_map, AllByRecursion, Record, bytes_of, Fits}
 use Rattle.log_file.proofs.Walks.{Left}
 use Rattle.log_file.proofs.counting.late_edge.Given as goal
 

@@ -1,6 +1,4 @@
-use Rattle.std.proofs.Common.{sym, ap, ◌∙◌}
-use Rattle.bn_base.specs.Ranges.{checked}
-use Rattle.log_file.specs.Layout.{magic}
+use Rattle.log_file.proofs.Common.{sym, ap, ◌∙◌, checked, magic}
 use Rattle.log_file.proofs.Heads.{fault_none}
 use Rattle.log_file.proofs.head.checked_settings.Goals as goal
 

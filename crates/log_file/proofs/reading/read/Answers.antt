@@ -1,5 +1,4 @@
-use Rattle.std.proofs.Common.{subst, sym, ap, ◌∙◌}
-use Rattle.log_file.specs.Layout.{file_bytes, IsVersion1}
+use Rattle.log_file.proofs.Common.{subst, sym, ap, ◌∙◌, file_bytes, IsVersion1}
 use Rattle.log_file.proofs.reading.read.Goals as goal
 
 pub list-requires : goal.list-requires

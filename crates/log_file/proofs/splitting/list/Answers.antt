@@ -1,5 +1,4 @@
-use Rattle.std.proofs.Common.{subst, sym, ◌∙◌}
-use Rattle.log_order.specs.Content.{IsContent}
+use Rattle.log_file.proofs.Common.{subst, sym, ◌∙◌, IsContent}
 use Rattle.log_file.proofs.Tests.{listed_is, fit_told}
 use Rattle.log_file.proofs.splitting.list.Goals as goal
 

@@ -1,5 +1,4 @@
-use Rattle.std.proofs.Common.{length}
-use Rattle.log_record.specs.Spelling.{bytes_of}
+use Rattle.log_file.proofs.Common.{length, bytes_of}
 use Rattle.log_file.proofs.Tests.{split_is}
 use Rattle.log_file.proofs.splitting.split.Goals as goal
 

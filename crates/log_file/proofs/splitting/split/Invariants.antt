@@ -1,6 +1,4 @@
-use Rattle.std.proofs.Common.{◌≡◌, ◌++◌, length}
-use Rattle.std.specs.List.{flat_map, AllByRecursion}
-use Rattle.log_record.specs.Spelling.{bytes_of, Fits}
+use Rattle.log_file.proofs.Common.{◌≡◌, ◌++◌, length, flat_map, AllByRecursion, bytes_of, Fits}
 use Rattle.log_file.proofs.splitting.split.Given as goal
 
 abbrev pub invariant-loop-entry : goal.invariant-loop-entry

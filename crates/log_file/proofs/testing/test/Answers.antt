@@ -1,5 +1,4 @@
-use Rattle.std.proofs.Common.{◌≡◌, ◌-◌, ◌++◌, ℕ, List, length, ap₂, sym, ◌∙◌, arith}
-use Rattle.std.proofs.lemmas.List.{take-append-drop}
+use Rattle.log_file.proofs.Common.{◌≡◌, ◌-◌, ◌++◌, ℕ, List, length, ap₂, sym, ◌∙◌, arith, take-append-drop}
 use Rattle.log_file.proofs.Decided.{head-named}
 use Rattle.log_file.proofs.Heads.{records_bound}
 use Rattle.log_file.proofs.Tests.{tests_file}

@@ -1,6 +1,4 @@
-use Rattle.std.proofs.Common.{rules, arith}
-use Rattle.std.proofs.lemmas.Grind.{common_steps}
-use Rattle.log_file.specs.Layout.{settings_bytes}
+use Rattle.log_file.proofs.Common.{rules, arith, common_steps, settings_bytes}
 use Rattle.log_file.proofs.writing.push_settings.Goals as goal
 
 pub returns-in_err-push_first : goal.returns-in_err-push_first

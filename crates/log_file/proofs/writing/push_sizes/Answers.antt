@@ -1,5 +1,4 @@
-use Rattle.std.proofs.Common.{rules, arith}
-use Rattle.std.proofs.lemmas.Grind.{common_steps}
+use Rattle.log_file.proofs.Common.{rules, arith, common_steps}
 use Rattle.log_file.proofs.writing.push_sizes.Goals as goal
 
 pub returns-in_err-push_u32 : goal.returns-in_err-push_u32

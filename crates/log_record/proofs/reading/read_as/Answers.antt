@@ -1,6 +1,4 @@
-use Rattle.std.proofs.Common.{◌≡◌, true, false, ap, sym, ◌∙◌, arith}
-use Rattle.std.specs.Prelude.{Some, slice_index}
-use Rattle.log_record.specs.Spelling.{size_of, is_marked}
+use Rattle.log_record.proofs.Common.{◌≡◌, true, false, ap, sym, ◌∙◌, arith, Some, slice_index, size_of, is_marked}
 use Rattle.log_record.proofs.Records.{read_none, read_only, read_found, unmarked}
 use Rattle.log_record.proofs.reading.read_as.Goals as goal
 

@@ -1,6 +1,4 @@
-use Rattle.std.proofs.Common.{◌≡◌, ◌<◌, ◌∙◌, ◌+◌, ◌*◌, ◌-◌, ◌++◌, ◌∷◌, [], List, ℕ, length, take, set, length-set, ap, sym, arith}
-use Rattle.std.proofs.lemmas.List.{take_more_set, take_all}
-use Rattle.log_record.specs.Reading.{words_at}
+use Rattle.log_record.proofs.Common.{◌≡◌, ◌<◌, ◌∙◌, ◌+◌, ◌*◌, ◌-◌, ◌++◌, ◌∷◌, [], List, ℕ, length, take, set, length-set, ap, sym, arith, take_more_set, take_all, words_at}
 use Rattle.log_record.proofs.Words.{words_at-more, words_at-done}
 use Rattle.log_record.proofs.reading.registers_in.Goals as goal
 

@@ -1,5 +1,4 @@
-use Rattle.std.proofs.Common.{◌≡◌, ◌++◌, ◌∷◌, ◌+◌, ◌-◌, ◌*◌, length, take}
-use Rattle.log_record.specs.Reading.{words_at}
+use Rattle.log_record.proofs.Common.{◌≡◌, ◌++◌, ◌∷◌, ◌+◌, ◌-◌, ◌*◌, length, take, words_at}
 use Rattle.log_record.proofs.reading.registers_in.Given as goal
 
 abbrev pub invariant-loop-number : goal.invariant-loop-number

@@ -1,7 +1,4 @@
-use Rattle.std.proofs.Common.{◌≡◌, ◌++◌, ◌∙◌, List, ℕ, ◌<◌, ◌^◌, arith, drop, take, length, length-drop, ap, subst}
-use Rattle.std.specs.List.{flat_map, AllByRecursion}
-use Rattle.std.proofs.lemmas.List.{take_all}
-use Rattle.le_numbers.specs.Numbers.{number_bytes}
+use Rattle.log_record.proofs.Common.{◌≡◌, ◌++◌, ◌∙◌, List, ℕ, ◌<◌, ◌^◌, arith, drop, take, length, length-drop, ap, subst, flat_map, AllByRecursion, take_all, number_bytes}
 use Rattle.log_record.proofs.Words.{are_registers}
 use Rattle.log_record.proofs.writing.put_registers.Goals as goal
 

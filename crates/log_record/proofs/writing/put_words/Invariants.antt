@@ -1,6 +1,4 @@
-use Rattle.std.proofs.Common.{◌≡◌, ◌++◌, ◌+◌, ◌*◌, length, drop}
-use Rattle.std.specs.List.{flat_map}
-use Rattle.le_numbers.specs.Numbers.{number_bytes}
+use Rattle.log_record.proofs.Common.{◌≡◌, ◌++◌, ◌+◌, ◌*◌, length, drop, flat_map, number_bytes}
 use Rattle.log_record.proofs.writing.put_words.Given as goal
 
 abbrev pub invariant-loop-word : goal.invariant-loop-word

@@ -1,6 +1,4 @@
-use Rattle.std.proofs.Common.{arith, ◌≡◌, ◌∙◌, ℕ, List, [], ◌∷◌, ◌++◌, length, take, drop, ap}
-use Rattle.std.proofs.lemmas.List.{append-nil}
-use Rattle.le_numbers.specs.Numbers.{number_bytes}
+use Rattle.log_record.proofs.Common.{arith, ◌≡◌, ◌∙◌, ℕ, List, [], ◌∷◌, ◌++◌, length, take, drop, ap, append-nil, number_bytes}
 use Rattle.log_record.proofs.writing.write_first_load.Goals as goal
 
 -- four bytes in the place of four, and four more in the place of those after them

@@ -1,7 +1,4 @@
-use Rattle.std.proofs.Common.{◌≡◌, ◌<◌, ◌≤◌, ◌∷◌, ap, ◌∙◌, sym, arith, length}
-use Rattle.log_ring.specs.Whole.{records_in}
-use Rattle.log_record.specs.Spelling.{total}
-use Rattle.log_ring.specs.Kept.{kept}
+use Rattle.log_ring.proofs.Common.{◌≡◌, ◌<◌, ◌≤◌, ◌∷◌, ap, ◌∙◌, sym, arith, length, records_in, total, kept}
 use Rattle.log_ring.proofs.Cuts.{total-records_in}
 use Rattle.log_ring.proofs.Fitting.{kept-over, kept-all}
 use Rattle.log_ring.proofs.ring.make_room.Goals as goal

@@ -1,6 +1,4 @@
-use Rattle.std.proofs.Common.{◌≡◌, ◌+◌, ◌*◌, ◌≤◌, length}
-use Rattle.log_ring.specs.Whole.{IsWhole, records_in}
-use Rattle.log_ring.specs.Kept.{kept}
+use Rattle.log_ring.proofs.Common.{◌≡◌, ◌+◌, ◌*◌, ◌≤◌, length, IsWhole, records_in, kept}
 use Rattle.log_ring.proofs.ring.make_room.Given as goal
 
 abbrev pub invariant-oldest : goal.invariant-oldest

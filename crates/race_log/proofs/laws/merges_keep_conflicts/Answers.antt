@@ -1,6 +1,4 @@
-use Rattle.std.proofs.Common.{arith, refl}
-use Rattle.race_log.specs.Netzer.{IsEdge}
-use Rattle.race_log.specs.Merges.{all_kept}
+use Rattle.race_log.proofs.Common.{arith, refl, IsEdge, all_kept}
 use Rattle.race_log.proofs.MergeLaws.{conflicts_stand, words_stand}
 use Rattle.race_log.proofs.laws.merges_keep_conflicts.Goals as goal
 

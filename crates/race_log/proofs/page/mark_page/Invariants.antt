@@ -1,7 +1,4 @@
-use Rattle.std.proofs.Common.{◌≡◌, ◌<◌, ◌≤◌, ◌+◌, ℕ, length, IsTrue, Some, slice_get}
-use Rattle.race_log.specs.declared.slot.Slot.{Slot}
-use Rattle.race_log.specs.Slots.{is_marked, marks_in}
-use Rattle.race_log.specs.Words.{epoch_counts}
+use Rattle.race_log.proofs.Common.{◌≡◌, ◌<◌, ◌≤◌, ◌+◌, ℕ, length, IsTrue, Some, slice_get, Slot, is_marked, marks_in, epoch_counts}
 use Rattle.race_log.proofs.page.mark_page.Given as goal
 
 abbrev pub invariant-loop-slot : goal.invariant-loop-slot

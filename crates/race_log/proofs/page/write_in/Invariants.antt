@@ -1,5 +1,4 @@
-use Rattle.std.proofs.Common.{◌≡◌, ◌<◌, ◌≤◌, ◌+◌, ℕ, Some, slice_get, length}
-use Rattle.race_log.specs.declared.slot.Slot.{Slot}
+use Rattle.race_log.proofs.Common.{◌≡◌, ◌<◌, ◌≤◌, ◌+◌, ℕ, Some, slice_get, length, Slot}
 use Rattle.race_log.proofs.page.write_in.Given as goal
 
 abbrev pub invariant-loop-hart : goal.invariant-loop-hart

@@ -1,8 +1,4 @@
-use Rattle.std.proofs.Common.{◌∙◌, sym, ap, ◌++◌, ◌≡◌, ◌-◌, ℕ, arith, append_assoc, append-nil, length-append, length}
-use Rattle.vector_time.specs.Times.{count_of}
-use Rattle.race_log.specs.Search.{gathered, merged}
-use Rattle.race_log.specs.Slots.{kept_by}
-use Rattle.race_log.specs.Words.{kept_in, epoch_counts}
+use Rattle.race_log.proofs.Common.{◌∙◌, sym, ap, ◌++◌, ◌≡◌, ◌-◌, ℕ, arith, append_assoc, append-nil, length-append, length, count_of, gathered, merged, kept_by, kept_in, epoch_counts}
 use Rattle.race_log.proofs.Rounds.{sources_step, counts_step, sources_done, counts_done, sources_zero, counts_zero}
 use Rattle.race_log.proofs.search.find_sources.Goals as goal
 

@@ -1,7 +1,4 @@
-use Rattle.std.proofs.Common.{◌≡◌, ◌≤◌, ◌-◌, ◌++◌, ℕ, length}
-use Rattle.vector_time.specs.Times.{count_of}
-use Rattle.race_log.specs.Search.{sources, counts_after, gathered}
-use Rattle.race_log.specs.Words.{kept_in}
+use Rattle.race_log.proofs.Common.{◌≡◌, ◌≤◌, ◌-◌, ◌++◌, ℕ, length, count_of, sources, counts_after, gathered, kept_in}
 use Rattle.race_log.proofs.search.find_sources.Given as goal
 
 abbrev pub invariant-loop-round : goal.invariant-loop-round

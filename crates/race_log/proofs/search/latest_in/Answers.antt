@@ -1,8 +1,4 @@
-use Rattle.std.proofs.Common.{◌+◌, ◌*◌, ◌-◌, ◌≡◌, ◌∙◌, ap, ap₂, sym, arith}
-use Rattle.vector_time.specs.Times.{count_of}
-use Rattle.race_log.specs.Search.{gathered, latest}
-use Rattle.race_log.specs.Slots.{found_as, word_in}
-use Rattle.race_log.specs.Words.{kept_in, epoch_counts}
+use Rattle.race_log.proofs.Common.{◌+◌, ◌*◌, ◌-◌, ◌≡◌, ◌∙◌, ap, ap₂, sym, arith, count_of, gathered, latest, found_as, word_in, kept_in, epoch_counts}
 use Rattle.race_log.proofs.Rounds.{latest-append, gathered_step}
 use Rattle.race_log.proofs.SlotLemmas.{kept_aligned}
 use Rattle.race_log.proofs.search.latest_in.Goals as goal

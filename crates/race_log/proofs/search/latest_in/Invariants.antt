@@ -1,8 +1,4 @@
-use Rattle.std.proofs.Common.{◌≡◌, ◌+◌, ◌*◌, ◌-◌, None}
-use Rattle.vector_time.specs.Times.{count_of}
-use Rattle.race_log.specs.Search.{latest, gathered}
-use Rattle.race_log.specs.Slots.{found_as}
-use Rattle.race_log.specs.Words.{kept_in, epoch_counts}
+use Rattle.race_log.proofs.Common.{◌≡◌, ◌+◌, ◌*◌, ◌-◌, None, count_of, latest, gathered, found_as, kept_in, epoch_counts}
 use Rattle.race_log.proofs.search.latest_in.Given as goal
 
 abbrev pub invariant-loop-i : goal.invariant-loop-i

@@ -1,7 +1,4 @@
-use Rattle.std.proofs.Common.{◌+◌, ◌∙◌, ap, sym, true, false, slice_get}
-use Rattle.vector_time.specs.Times.{count_of}
-use Rattle.race_log.specs.Search.{latest}
-use Rattle.race_log.specs.Slots.{write_in, reads_in, found_as}
+use Rattle.race_log.proofs.Common.{◌+◌, ◌∙◌, ap, sym, true, false, slice_get, count_of, latest, write_in, reads_in, found_as}
 use Rattle.race_log.proofs.Rounds.{latest-append}
 use Rattle.race_log.proofs.SlotLemmas.{reads_not_sources}
 use Rattle.race_log.proofs.search.latest_of.Goals as goal

@@ -1,7 +1,4 @@
-use Rattle.std.proofs.Common.{◌+◌, ◌-◌, ◌∙◌, ap, sym, true, slice_get}
-use Rattle.vector_time.specs.Times.{count_of}
-use Rattle.race_log.specs.Search.{latest}
-use Rattle.race_log.specs.Slots.{read_in, reads_in, found_as}
+use Rattle.race_log.proofs.Common.{◌+◌, ◌-◌, ◌∙◌, ap, sym, true, slice_get, count_of, latest, read_in, reads_in, found_as}
 use Rattle.race_log.proofs.Rounds.{latest-append}
 use Rattle.race_log.proofs.SlotLemmas.{reads_step}
 use Rattle.race_log.proofs.search.latest_read.Goals as goal

@@ -1,7 +1,4 @@
-use Rattle.std.proofs.Common.{◌≡◌, ◌-◌, ℕ, true}
-use Rattle.vector_time.specs.Times.{count_of}
-use Rattle.race_log.specs.Search.{latest}
-use Rattle.race_log.specs.Slots.{reads_in, found_as}
+use Rattle.race_log.proofs.Common.{◌≡◌, ◌-◌, ℕ, true, count_of, latest, reads_in, found_as}
 use Rattle.race_log.proofs.search.latest_read.Given as goal
 
 abbrev pub invariant-loop-other : goal.invariant-loop-other

@@ -1,7 +1,4 @@
-use Rattle.std.proofs.Common.{◌≡◌, ◌∙◌, ◌+◌, ◌*◌, ◌<◌, arith, ap, sym, subst, length, inl, inr, vec_len}
-use Rattle.std.proofs.lemmas.Bool.{cases_eq}
-use Rattle.race_log.specs.Slots.{word_in}
-use Rattle.race_log.specs.Sweep.{uncovered, sum_below}
+use Rattle.race_log.proofs.Common.{◌≡◌, ◌∙◌, ◌+◌, ◌*◌, ◌<◌, arith, ap, sym, subst, length, inl, inr, vec_len, cases_eq, word_in, uncovered, sum_below}
 use Rattle.race_log.proofs.BoolFacts.{same_number, other_number}
 use Rattle.race_log.proofs.PageLemmas.{places_apart}
 use Rattle.race_log.proofs.SweepLemmas.{none_uncovered, sum_step}

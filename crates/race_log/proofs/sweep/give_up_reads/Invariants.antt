@@ -1,6 +1,4 @@
-use Rattle.std.proofs.Common.{◌≡◌, ◌<◌, ◌≤◌, ◌+◌, ℕ, length, slice_get}
-use Rattle.race_log.specs.Slots.{reads_in, StaysSettled}
-use Rattle.race_log.specs.Sweep.{GivesUp}
+use Rattle.race_log.proofs.Common.{◌≡◌, ◌<◌, ◌≤◌, ◌+◌, ℕ, length, slice_get, reads_in, StaysSettled, GivesUp}
 use Rattle.race_log.proofs.sweep.give_up_reads.Given as goal
 
 abbrev pub invariant-loop-other : goal.invariant-loop-other

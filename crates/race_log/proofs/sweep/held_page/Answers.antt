@@ -1,6 +1,4 @@
-use Rattle.std.proofs.Common.{◌≡◌, ◌∙◌, ◌+◌, ◌*◌, arith, sym, subst, length}
-use Rattle.race_log.specs.Slots.{word_in}
-use Rattle.race_log.specs.Sweep.{sum_below}
+use Rattle.race_log.proofs.Common.{◌≡◌, ◌∙◌, ◌+◌, ◌*◌, arith, sym, subst, length, word_in, sum_below}
 use Rattle.race_log.proofs.BoolFacts.{same_number}
 use Rattle.race_log.proofs.PageLemmas.{places_apart}
 use Rattle.race_log.proofs.SweepLemmas.{sum_next, sum_none}

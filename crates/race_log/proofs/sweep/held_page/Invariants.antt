@@ -1,6 +1,4 @@
-use Rattle.std.proofs.Common.{◌≡◌, ◌≤◌, ◌+◌, ◌*◌, ℕ, length}
-use Rattle.race_log.specs.Slots.{word_in}
-use Rattle.race_log.specs.Sweep.{sum_below}
+use Rattle.race_log.proofs.Common.{◌≡◌, ◌≤◌, ◌+◌, ◌*◌, ℕ, length, word_in, sum_below}
 use Rattle.race_log.proofs.sweep.held_page.Given as goal
 
 abbrev pub invariant-loop-word : goal.invariant-loop-word

@@ -1,5 +1,4 @@
-use Rattle.std.proofs.Common.{◌+◌, length, slice_get, arith, ap, length-append}
-use Rattle.race_log.specs.Slots.{read_in, reads_in}
+use Rattle.race_log.proofs.Common.{◌+◌, length, slice_get, arith, ap, length-append, read_in, reads_in}
 use Rattle.race_log.proofs.SweepLemmas.{read_next}
 use Rattle.race_log.proofs.sweep.held_reads.Goals as goal
 

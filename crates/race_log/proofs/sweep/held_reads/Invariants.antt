@@ -1,5 +1,4 @@
-use Rattle.std.proofs.Common.{◌≡◌, ◌≤◌, ℕ, length}
-use Rattle.race_log.specs.Slots.{reads_in}
+use Rattle.race_log.proofs.Common.{◌≡◌, ◌≤◌, ℕ, length, reads_in}
 use Rattle.race_log.proofs.sweep.held_reads.Given as goal
 
 abbrev pub invariant-loop-other : goal.invariant-loop-other

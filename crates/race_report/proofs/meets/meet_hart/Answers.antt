@@ -1,5 +1,4 @@
-use Rattle.std.proofs.Common.{◌∙◌, ◌<◌, ℕ, subst, sym, length}
-use Rattle.vector_time.specs.Times.{count_of}
+use Rattle.race_report.proofs.Common.{◌∙◌, ◌<◌, ℕ, subst, sym, length, count_of}
 use Rattle.race_report.proofs.Walking.{none_left, covered_left, next_left}
 use Rattle.race_report.proofs.Tracking.{smaller, lower_some, not_covered, if_some_is}
 use Rattle.race_report.proofs.meets.meet_hart.Goals as goal

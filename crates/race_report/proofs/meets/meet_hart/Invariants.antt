@@ -1,7 +1,4 @@
-use Rattle.std.proofs.Common.{◌≡◌, ◌<◌, ℕ, List, length, IfSome}
-use Rattle.vector_time.specs.Times.{count_of}
-use Rattle.race_report.specs.Found.{met_all, uncovered}
-use Rattle.race_report.specs.Kept.{IsTracked, lists_of}
+use Rattle.race_report.proofs.Common.{◌≡◌, ◌<◌, ℕ, List, length, IfSome, count_of, met_all, uncovered, IsTracked, lists_of}
 use Rattle.race_report.proofs.Walking.{IsLeft}
 use Rattle.race_report.proofs.Tracking.{left_of}
 use Rattle.race_report.proofs.meets.meet_hart.Given as goal

@@ -1,7 +1,4 @@
-use Rattle.std.proofs.Common.{◌≡◌, ℕ, List, length}
-use Rattle.vector_time.specs.Times.{count_of}
-use Rattle.race_report.specs.Found.{met_harts}
-use Rattle.race_report.specs.Kept.{IsTracked, lists_of}
+use Rattle.race_report.proofs.Common.{◌≡◌, ℕ, List, length, count_of, met_harts, IsTracked, lists_of}
 use Rattle.race_report.proofs.meets.meet_word.Given as goal
 
 abbrev pub invariant-loop-other : goal.invariant-loop-other

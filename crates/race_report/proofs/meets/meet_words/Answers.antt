@@ -1,9 +1,4 @@
-use Rattle.std.proofs.Common.{◌∙◌, ℕ, ◌+◌, ◌-◌, ◌%◌, ap, sym, List}
-use Rattle.vector_time.specs.Times.{count_of}
-use Rattle.race_report.specs.declared.meeting.Meeting.{Meeting}
-use Rattle.race_report.specs.Points.{words_from}
-use Rattle.race_report.specs.Found.{met_words}
-use Rattle.race_report.specs.Kept.{lists_of}
+use Rattle.race_report.proofs.Common.{◌∙◌, ℕ, ◌+◌, ◌-◌, ◌%◌, ap, sym, List, count_of, Meeting, words_from, met_words, lists_of}
 use Rattle.race_report.proofs.Walking.{words_next, next_aligned}
 use Rattle.race_report.proofs.meets.meet_words.Goals as goal
 

@@ -1,8 +1,4 @@
-use Rattle.std.proofs.Common.{◌≡◌, ◌-◌, ◌%◌, ℕ, List, length}
-use Rattle.vector_time.specs.Times.{count_of}
-use Rattle.race_report.specs.Points.{words_from}
-use Rattle.race_report.specs.Found.{met_words}
-use Rattle.race_report.specs.Kept.{IsTracked, lists_of}
+use Rattle.race_report.proofs.Common.{◌≡◌, ◌-◌, ◌%◌, ℕ, List, length, count_of, words_from, met_words, IsTracked, lists_of}
 use Rattle.race_report.proofs.meets.meet_words.Given as goal
 
 abbrev pub invariant-loop : goal.invariant-loop

@@ -1,5 +1,4 @@
-use Rattle.std.proofs.Common.{◌∙◌, ℕ, ap, sym, List}
-use Rattle.race_report.specs.Tracks.{noted, noted_one}
+use Rattle.race_report.proofs.Common.{◌∙◌, ℕ, ap, sym, List, noted, noted_one}
 use Rattle.race_report.proofs.Walking.{words_next, next_aligned}
 use Rattle.race_report.proofs.meets.note_words.Goals as goal
 

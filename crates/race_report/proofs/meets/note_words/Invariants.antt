@@ -1,7 +1,4 @@
-use Rattle.std.proofs.Common.{◌≡◌, ◌-◌, ◌<◌, ◌%◌, ℕ, List, length}
-use Rattle.race_report.specs.Points.{words_from}
-use Rattle.race_report.specs.Tracks.{AreBelow, noted}
-use Rattle.race_report.specs.Kept.{IsTracked}
+use Rattle.race_report.proofs.Common.{◌≡◌, ◌-◌, ◌<◌, ◌%◌, ℕ, List, length, words_from, AreBelow, noted, IsTracked}
 use Rattle.race_report.proofs.meets.note_words.Given as goal
 
 abbrev pub invariant-loop : goal.invariant-loop

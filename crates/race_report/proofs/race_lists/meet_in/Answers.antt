@@ -1,5 +1,4 @@
-use Rattle.std.proofs.Common.{◌≡◌, ◌∙◌, ℕ, ◌-◌, sym, ap, arith, slice_set, Some}
-use Rattle.race_report.specs.Found.{meeting, last_meets}
+use Rattle.race_report.proofs.Common.{◌≡◌, ◌∙◌, ℕ, ◌-◌, sym, ap, arith, slice_set, Some, meeting, last_meets}
 use Rattle.race_report.proofs.Lists.{meet_none, meet_some, last_some}
 use Rattle.race_report.proofs.race_lists.meet_in.Goals as goal
 

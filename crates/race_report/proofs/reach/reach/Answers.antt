@@ -1,9 +1,4 @@
-use Rattle.std.proofs.Common.{subst, refl}
-use Rattle.race_log.specs.Points.{Point}
-use Rattle.race_log.specs.ByCount.{IsTimesOf}
-use Rattle.race_log.specs.Kept.{after}
-use Rattle.race_log.specs.Represents.{RepresentsAccesses, times_of}
-use Rattle.race_report.specs.Gathering.{everyone, sync_of}
+use Rattle.race_report.proofs.Common.{subst, refl, Point, IsTimesOf, after, RepresentsAccesses, times_of, everyone, sync_of}
 use Rattle.race_report.proofs.Points.{point_is, times_by}
 use Rattle.race_report.proofs.reach.reach.Goals as goal
 

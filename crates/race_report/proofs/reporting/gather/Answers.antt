@@ -1,6 +1,5 @@
-use Rattle.std.proofs.Common.{[], subst}
+use Rattle.race_report.proofs.Common.{[], subst, IsGathered}
 use Rattle.log_record.specs.declared.head.Head.{Head}
-use Rattle.race_report.specs.Gathering.{IsGathered}
 use Rattle.race_report.proofs.reporting.gather.Goals as goal
 
 pub gather_into-requires : goal.gather_into-requires

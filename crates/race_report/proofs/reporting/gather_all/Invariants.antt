@@ -1,6 +1,4 @@
-use Rattle.std.proofs.Common.{ℕ}
-use Rattle.joint_replay.specs.Joining.{Joining, steps_left}
-use Rattle.race_report.specs.Reports.{IsOnTheWay}
+use Rattle.race_report.proofs.Common.{ℕ, Joining, steps_left, IsOnTheWay}
 use Rattle.race_report.proofs.reporting.gather_all.Given as goal
 
 -- all points so far are taken in, from wherever the way began

@@ -1,5 +1,4 @@
-use Rattle.std.proofs.Common.{◌≡◌, ◌++◌, drop}
-use Rattle.std.specs.List.{flat_map}
+use Rattle.race_report.proofs.Common.{◌≡◌, ◌++◌, drop, flat_map}
 use Rattle.race_report.specs.Texts.{race_text}
 use Rattle.race_report.proofs.telling.write_races.Given as goal
 

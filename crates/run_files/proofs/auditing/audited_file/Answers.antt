@@ -1,9 +1,4 @@
-use Rattle.std.proofs.Common.{◌∙◌, sym, ap, subst}
-use Rattle.bn_base.specs.declared.settings.RawSettings.{RawSettings}
-use Rattle.log_order.specs.Content.{Content}
-use Rattle.log_ring.specs.Kept.{Held, HoldsLog}
-use Rattle.run_model.specs.Runs.{run_of}
-use Rattle.run_files.specs.Audits.{bytes_in}
+use Rattle.run_files.proofs.Common.{◌∙◌, sym, ap, subst, RawSettings, Content, Held, HoldsLog, run_of, bytes_in}
 use Rattle.run_files.proofs.LogFile.{content_is}
 use Rattle.run_files.proofs.auditing.audited_file.Goals as goal
 

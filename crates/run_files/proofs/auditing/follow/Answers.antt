@@ -1,10 +1,4 @@
-use Rattle.std.proofs.Common.{◌∙◌, ◌+◌, ℕ, List, get_or, take, drop, sym, ap, subst, inl, inr}
-use Rattle.run_model.specs.declared.start.Start.{Start}
-use Rattle.run_model.specs.Turn.{Run, turn}
-use Rattle.run_model.specs.Runs.{run_from, is_live, live_harts}
-use Rattle.run_model.specs.Lists.{unfinished, error_from}
-use Rattle.run_model.specs.Represents.Plain.{IsRun}
-use Rattle.run_model.specs.Represents.Turning.{parts}
+use Rattle.run_files.proofs.Common.{◌∙◌, ◌+◌, ℕ, List, get_or, take, drop, sym, ap, subst, inl, inr, Start, Run, turn, run_from, is_live, live_harts, unfinished, error_from, IsRun, parts}
 use Rattle.run_files.proofs.Followed.{run_more, wrong_here, wrong_later, all_taken, wrong_at_end, any_err}
 use Rattle.run_files.proofs.auditing.follow.Goals as goal
 

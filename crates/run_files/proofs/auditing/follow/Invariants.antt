@@ -1,9 +1,4 @@
-use Rattle.std.proofs.Common.{◌≡◌, take, drop}
-use Rattle.run_model.specs.Turn.{Run}
-use Rattle.run_model.specs.Runs.{run_from}
-use Rattle.run_model.specs.Lists.{error_from}
-use Rattle.run_model.specs.Represents.Plain.{IsRun}
-use Rattle.run_model.specs.Represents.Turning.{parts}
+use Rattle.run_files.proofs.Common.{◌≡◌, take, drop, Run, run_from, error_from, IsRun, parts}
 use Rattle.run_files.proofs.auditing.follow.Given as goal
 
 abbrev pub invariant-loop-at : goal.invariant-loop-at

@@ -1,10 +1,4 @@
-use Rattle.std.proofs.Common.{◌≡◌, ◌∙◌, ◌-◌, ℕ, false, get_or, sym, ap, subst, arith, inr}
-use Rattle.run_model.specs.Turn.{Run}
-use Rattle.run_model.specs.Runs.{run_from, is_live, live_harts}
-use Rattle.run_model.specs.Lists.{unfinished}
-use Rattle.run_model.specs.Represents.Alone.{run_alone}
-use Rattle.run_model.specs.Represents.Plain.{IsRun}
-use Rattle.run_model.specs.Represents.Turning.{parts}
+use Rattle.run_files.proofs.Common.{◌≡◌, ◌∙◌, ◌-◌, ℕ, false, get_or, sym, ap, subst, arith, inr, Run, run_from, is_live, live_harts, unfinished, run_alone, IsRun, parts}
 use Rattle.run_files.proofs.Followed.{all_taken, any_err, wrong_here, wrong_at_end}
 use Rattle.run_files.proofs.LoneLists.{MovesOn, moves_on, less, stands_before, other_over, zero_at, alone_run, alone_wrong}
 use Rattle.run_files.proofs.auditing.follow_alone.Goals.{then-taking-test+else-live, else-taking-test}

@@ -1,8 +1,4 @@
-use Rattle.std.proofs.Common.{◌≡◌, ◌≤◌, ◌-◌}
-use Rattle.run_model.specs.Turn.{Run}
-use Rattle.run_model.specs.Represents.Alone.{HasTurned}
-use Rattle.run_model.specs.Represents.Plain.{IsRun}
-use Rattle.run_model.specs.Represents.Turning.{parts}
+use Rattle.run_files.proofs.Common.{◌≡◌, ◌≤◌, ◌-◌, Run, HasTurned, IsRun, parts}
 use Rattle.run_files.proofs.auditing.follow_alone.Given as goal
 
 abbrev pub invariant-taking : goal.invariant-taking

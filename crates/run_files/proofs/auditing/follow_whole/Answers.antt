@@ -1,9 +1,4 @@
-use Rattle.std.proofs.Common.{None, Some, ap, inl, inr, refl}
-use Rattle.run_model.specs.declared.start.Start.{Start}
-use Rattle.run_model.specs.Turn.{Run}
-use Rattle.run_model.specs.Runs.{start}
-use Rattle.run_model.specs.Represents.Plain.{IsRun}
-use Rattle.run_model.specs.Represents.Turning.{parts}
+use Rattle.run_files.proofs.Common.{None, Some, ap, inl, inr, refl, Start, Run, start, IsRun, parts}
 use Rattle.run_files.proofs.Followed.{kept_run, kept_error, kept_stand, never_memory, any_err, that_err}
 use Rattle.run_files.proofs.auditing.follow_whole.Goals as goal
 

@@ -1,5 +1,4 @@
-use Rattle.std.proofs.Common.{◌<◌, ◌≤◌, ◌∙◌, sym, ap, arith}
-use Rattle.run_model.specs.declared.start.Start.{Start}
+use Rattle.run_files.proofs.Common.{◌<◌, ◌≤◌, ◌∙◌, sym, ap, arith, Start}
 use Rattle.run_files.proofs.Followed.{lowest_here, lowest_later, lowest_none}
 use Rattle.run_files.proofs.auditing.unfinished.Goals as goal
 

@@ -1,9 +1,4 @@
-use Rattle.std.proofs.Common.{◌≡◌, ◌-◌}
-use Rattle.run_model.specs.Turn.{Run}
-use Rattle.run_model.specs.Runs.{live_harts}
-use Rattle.run_model.specs.Lists.{unfinished}
-use Rattle.run_model.specs.Represents.Plain.{IsRun}
-use Rattle.run_model.specs.Represents.Turning.{parts}
+use Rattle.run_files.proofs.Common.{◌≡◌, ◌-◌, Run, live_harts, unfinished, IsRun, parts}
 use Rattle.run_files.proofs.auditing.unfinished.Given as goal
 
 abbrev pub invariant-loop-live : goal.invariant-loop-live

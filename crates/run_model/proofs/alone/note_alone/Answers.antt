@@ -1,6 +1,4 @@
-use Rattle.std.proofs.Common.{◌==◌, ℕ, List, refl, ap, ◌∙◌, arith, ne_eqb}
-use Rattle.run_model.specs.Turn.{edges_from}
-use Rattle.run_model.specs.Represents.Plain.{everyone}
+use Rattle.run_model.proofs.Common.{◌==◌, ℕ, List, refl, ap, ◌∙◌, arith, ne_eqb, edges_from, everyone}
 use Rattle.run_model.proofs.Asked.{if_false}
 use Rattle.run_model.proofs.alone.note_alone.Goals as goal
 

@@ -1,6 +1,4 @@
-use Rattle.std.proofs.Common.{arith, ◌≡◌, ℕ, length, subst}
-use Rattle.run_model.specs.Turn.{drops}
-use Rattle.run_model.specs.Represents.EachCache.{IsDropped}
+use Rattle.run_model.proofs.Common.{arith, ◌≡◌, ℕ, length, subst, drops, IsDropped}
 use Rattle.run_model.proofs.Histories.{dropped_more}
 use Rattle.run_model.proofs.caches.drop_from_each.Goals as goal
 

@@ -1,5 +1,4 @@
-use Rattle.run_model.specs.Turn.{drops}
-use Rattle.run_model.specs.Represents.EachCache.{IsDropped}
+use Rattle.run_model.proofs.Common.{drops, IsDropped}
 use Rattle.run_model.proofs.caches.drop_from_each.Given as goal
 
 abbrev pub invariant-loop-k : goal.invariant-loop-k

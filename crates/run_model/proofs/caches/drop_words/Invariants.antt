@@ -1,7 +1,4 @@
-use Rattle.std.proofs.Common.{◌≡◌, List}
-use Rattle.first_load_bits.specs.Events.{Event}
-use Rattle.first_load_bits.specs.Represents.{RepresentsEvents}
-use Rattle.run_model.specs.Turn.{drops}
+use Rattle.run_model.proofs.Common.{◌≡◌, List, Event, RepresentsEvents, drops}
 use Rattle.run_model.proofs.caches.drop_words.Given as goal
 
 abbrev pub invariant-loop-place : goal.invariant-loop-place

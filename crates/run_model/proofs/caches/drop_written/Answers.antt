@@ -1,7 +1,5 @@
-use Rattle.std.proofs.Common.{length, subst, sym}
+use Rattle.run_model.proofs.Common.{length, subst, sym, dropped, IsDropped}
 use Rattle.race_log.specs.declared.mode.Mode.{Mode}
-use Rattle.run_model.specs.Turn.{dropped}
-use Rattle.run_model.specs.Represents.EachCache.{IsDropped}
 use Rattle.run_model.proofs.caches.drop_written.Goals as goal
 
 pub returns-in-Write : goal.returns-in-Write

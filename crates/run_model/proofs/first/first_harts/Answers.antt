@@ -1,12 +1,4 @@
-use Rattle.std.proofs.Common.{◌+◌, ◌≡◌, ◌++◌, ◌∷◌, [], List, length, arith, sym, subst, ap, ◌∙◌, length-append}
-use Rattle.bn_base.specs.declared.state.HartState.{HartState}
-use Rattle.log_record.specs.declared.record.Record.{Record}
-use Rattle.run_model.specs.Represents.Logs.{IsLog}
-use Rattle.run_model.specs.declared.hart.Hart.{Hart}
-use Rattle.run_model.specs.Turn.{header}
-use Rattle.run_model.specs.Runs.{start_hart, first_headers}
-use Rattle.run_model.specs.Represents.First.{first_hart}
-use Rattle.run_model.specs.Represents.Harts.{AreHarts}
+use Rattle.run_model.proofs.Common.{◌+◌, ◌≡◌, ◌++◌, ◌∷◌, [], List, length, arith, sym, subst, ap, ◌∙◌, length-append, HartState, Record, IsLog, Hart, header, start_hart, first_headers, first_hart, AreHarts}
 use Rattle.run_model.proofs.Firsts.{headers_more, harts_more}
 use Rattle.run_model.proofs.first.first_harts.Goals as goal
 

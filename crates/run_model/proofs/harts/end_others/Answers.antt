@@ -1,8 +1,4 @@
-use Rattle.std.proofs.Common.{◌≡◌, ◌++◌, List, refl, sym, subst, length}
-use Rattle.log_record.specs.declared.record.Record.{Record}
-use Rattle.run_model.specs.Represents.Logs.{IsLog}
-use Rattle.run_model.specs.Turn.{hart_after}
-use Rattle.run_model.specs.declared.turn_end.TurnEnd.{TurnEnd}
+use Rattle.run_model.proofs.Common.{◌≡◌, ◌++◌, List, refl, sym, subst, length, Record, IsLog, hart_after, TurnEnd}
 use Rattle.run_model.proofs.Stopping.{all_stopped, over_harts, over_records}
 use Rattle.run_model.proofs.harts.end_others.Goals as goal
 

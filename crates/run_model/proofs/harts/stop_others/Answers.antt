@@ -1,6 +1,4 @@
-use Rattle.std.proofs.Common.{List, arith, sym, subst, ◌∙◌, length-set}
-use Rattle.log_record.specs.declared.record.Record.{Record}
-use Rattle.run_model.specs.Represents.Logs.{IsLog}
+use Rattle.run_model.proofs.Common.{List, arith, sym, subst, ◌∙◌, length-set, Record, IsLog}
 use Rattle.run_model.proofs.Stopping.{stop_more, stops_more, hart_there}
 use Rattle.run_model.proofs.harts.stop_others.Goals as goal
 

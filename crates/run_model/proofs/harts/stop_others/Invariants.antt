@@ -1,9 +1,4 @@
-use Rattle.std.proofs.Common.{◌≡◌, ◌≤◌, ◌+◌, ◌++◌, ℕ, List, length}
-use Rattle.log_record.specs.declared.record.Record.{Record}
-use Rattle.run_model.specs.declared.log.Log.{Log}
-use Rattle.run_model.specs.declared.hart.Hart.{Hart}
-use Rattle.run_model.specs.Represents.Harts.{AreHarts, stopped_below, stop_records}
-use Rattle.run_model.specs.Represents.Logs.{taken, IsLog}
+use Rattle.run_model.proofs.Common.{◌≡◌, ◌≤◌, ◌+◌, ◌++◌, ℕ, List, length, Record, Log, Hart, AreHarts, stopped_below, stop_records, taken, IsLog}
 use Rattle.run_model.proofs.harts.stop_others.Given as goal
 
 -- the harts so far were stopped

@@ -1,6 +1,4 @@
-use Rattle.std.proofs.Common.{◌≡◌, ◌<◌, ◌^◌, ℕ}
-use Rattle.race_log.specs.Sweep.{has_bit}
-use Rattle.run_model.specs.Represents.Harts.{hart_in}
+use Rattle.run_model.proofs.Common.{◌≡◌, ◌<◌, ◌^◌, ℕ, has_bit, hart_in}
 use Rattle.run_model.proofs.live.live_set.Given as goal
 
 abbrev pub invariant-loop-number : goal.invariant-loop-number

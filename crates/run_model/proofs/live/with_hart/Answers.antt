@@ -1,5 +1,4 @@
-use Rattle.std.proofs.Common.{◌∙◌, ◌+◌, ◌^◌, ◌<◌, ℕ, arith, sym, ap, subst, bit_or}
-use Rattle.race_log.specs.Sweep.{has_bit}
+use Rattle.run_model.proofs.Common.{◌∙◌, ◌+◌, ◌^◌, ◌<◌, ℕ, arith, sym, ap, subst, bit_or, has_bit}
 use Rattle.run_model.proofs.LiveSets.{has_none, has_own, has_other, one_more, set_below, bit_of}
 use Rattle.run_model.proofs.live.with_hart.Goals as goal
 

@@ -1,6 +1,4 @@
-use Rattle.std.specs.Prelude.{None}
-use Rattle.rv_meaning.specs.Execute.{absorbed}
-use Rattle.run_model.specs.Represents.InPlace.{ask_here}
+use Rattle.run_model.proofs.Common.{None, absorbed, ask_here}
 use Rattle.run_model.proofs.Owns.{next_here, own_here}
 use Rattle.run_model.proofs.quick.take_turn_here.Goals as goal
 

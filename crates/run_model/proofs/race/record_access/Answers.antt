@@ -1,10 +1,4 @@
-use Rattle.std.proofs.Common.{◌++◌, ◌==◌, ℕ, List, refl, sym, subst, ◌∙◌, arith, ne_eqb}
-use Rattle.std.specs.Prelude.{Option}
-use Rattle.run_model.specs.Represents.Logs.{IsLog}
-use Rattle.run_model.specs.declared.span.Span.{Span}
-use Rattle.run_model.specs.Turn.{edges_from, point_of, edge_records}
-use Rattle.run_model.specs.Represents.Accessed.{IsNoted}
-use Rattle.run_model.specs.Represents.Plain.{everyone}
+use Rattle.run_model.proofs.Common.{◌++◌, ◌==◌, ℕ, List, refl, sym, subst, ◌∙◌, arith, ne_eqb, Option, IsLog, Span, edges_from, point_of, edge_records, IsNoted, everyone}
 use Rattle.run_model.proofs.Asked.{if_true, if_false, eqb_same}
 use Rattle.run_model.proofs.race.record_access.Goals as goal
 

@@ -1,7 +1,4 @@
-use Rattle.std.proofs.Common.{◌≡◌, ◌∙◌, ◌||◌, ℕ, Bool, not, nat_lt, filter, arith, sym, ap, refl}
-use Rattle.std.proofs.lemmas.Bool.{false≢true}
-use Rattle.race_log.specs.Represents.{kept_of, times_of, harts_of, is_known}
-use Rattle.run_model.specs.Represents.Plain.{everyone, is_known_to_live}
+use Rattle.run_model.proofs.Common.{◌≡◌, ◌∙◌, ◌||◌, ℕ, Bool, not, nat_lt, filter, arith, sym, ap, refl, false≢true, kept_of, times_of, harts_of, is_known, everyone, is_known_to_live}
 use Rattle.run_model.proofs.LiveSets.{and_true, same_below}
 use Rattle.run_model.proofs.race.sweep_known.Goals as goal
 

@@ -1,11 +1,4 @@
-use Rattle.std.proofs.Common.{◌≡◌, ◌+◌, ◌∷◌, ◌++◌, [], List, take, subst, sym, ◌∙◌, length-append, arith}
-use Rattle.le_numbers.specs.Numbers.{number_bytes}
-use Rattle.log_record.specs.declared.record.Record.{Record}
-use Rattle.log_record.specs.declared.record.Record.TheVariants.{Edge}
-use Rattle.log_record.specs.Spelling.{bytes_of, total}
-use Rattle.run_model.specs.declared.log.Log.{Log}
-use Rattle.run_model.specs.Turn.{edges_from}
-use Rattle.run_model.specs.Represents.Logs.{IsLog}
+use Rattle.run_model.proofs.Common.{◌≡◌, ◌+◌, ◌∷◌, ◌++◌, [], List, take, subst, sym, ◌∙◌, length-append, arith, number_bytes, Record, Edge, bytes_of, total, Log, edges_from, IsLog}
 use Rattle.run_model.proofs.Bytes.{total_append}
 use Rattle.run_model.proofs.Edges.{edges_more}
 use Rattle.run_model.proofs.records.append_edge.Goals as goal

@@ -1,7 +1,4 @@
-use Rattle.std.proofs.Common.{◌++◌, List, take}
-use Rattle.log_record.specs.declared.record.Record.{Record}
-use Rattle.run_model.specs.Turn.{edges_from}
-use Rattle.run_model.specs.Represents.Logs.{Took, IsLog}
+use Rattle.run_model.proofs.Common.{◌++◌, List, take, Record, edges_from, Took, IsLog}
 use Rattle.run_model.proofs.records.append_edges.Given as goal
 
 -- the Edges of the sources so far were appended

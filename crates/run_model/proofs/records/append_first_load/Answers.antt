@@ -1,8 +1,4 @@
-use Rattle.std.proofs.Common.{◌≡◌, ◌∷◌, [], length-append, arith}
-use Rattle.le_numbers.specs.Numbers.{number_bytes}
-use Rattle.log_record.specs.declared.record.Record.{Record}
-use Rattle.log_record.specs.declared.record.Record.TheVariants.{FirstLoad}
-use Rattle.log_record.specs.Spelling.{bytes_of, total}
+use Rattle.run_model.proofs.Common.{◌≡◌, ◌∷◌, [], length-append, arith, number_bytes, Record, FirstLoad, bytes_of, total}
 use Rattle.run_model.proofs.Bytes.{total_append}
 use Rattle.run_model.proofs.records.append_first_load.Goals as goal
 

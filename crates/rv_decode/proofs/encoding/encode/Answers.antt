@@ -1,7 +1,5 @@
-use Rattle.std.proofs.Common.{◌≡◌, ◌∙◌, ap, sym, subst, Some, ℕ, ◌+◌}
-use Rattle.rv_decode.specs.Table.{decoded}
+use Rattle.rv_decode.proofs.Common.{◌≡◌, ◌∙◌, ap, sym, subst, Some, ℕ, ◌+◌, decoded, encoded, fixed_of, laid}
 use Rattle.rv_decode.specs.Seen.{seen}
-use Rattle.rv_decode.specs.Encode.{encoded, fixed_of, laid}
 use Rattle.rv_decode.proofs.Whole.{encoded_word, encoded_again}
 use Rattle.rv_decode.proofs.encoding.encode.Goals as goal
 use Rattle.rv_decode.proofs.encoding.encode.Goals.{After-laid}

@@ -1,7 +1,5 @@
 -- The three rows of the table that need more than the operation and one field: by rewriting the operation.
-use Rattle.std.proofs.Common.{◌≡◌, ℕ, subst, sym, rules}
-use Rattle.rv_decode.specs.Table.{table}
-use Rattle.rv_decode.specs.Fields.{row_by, kind_by}
+use Rattle.rv_decode.proofs.Common.{◌≡◌, ℕ, subst, sym, rules, table, row_by, kind_by}
 use Rattle.rv_decode.proofs.kinds.field_kind.Goals as goal
 
 pub returns-in-19 : goal.returns-in-19

@@ -1,9 +1,4 @@
-use Rattle.std.proofs.Common.{◌∙◌, List, length, ap, sym, subst, arith, rules}
-use Rattle.std.specs.Prelude.{Option}
-use Rattle.rv_decode.specs.Table.{Instruction}
-use Rattle.rv_meaning.specs.Ops.{Says, IsAhead}
-use Rattle.rv_meaning.specs.Rows.{instruction_in}
-use Rattle.rv_meaning.specs.declared.ops.Op.{Op}
+use Rattle.rv_meaning.proofs.Common.{◌∙◌, List, length, ap, sym, subst, arith, rules, Option, Instruction, Says, IsAhead, instruction_in, Op}
 use Rattle.rv_meaning.proofs.DecodedAhead.{ahead_more, place_more, one_longer, below_end, below_end_more, first_code, code_aligned, on_err}
 use Rattle.rv_meaning.proofs.ahead.decoded_from.Goals as goal
 

@@ -1,6 +1,4 @@
-use Rattle.std.proofs.Common.{◌≡◌, ◌≤◌, ◌<◌, ◌+◌, ◌*◌, ◌^◌, true, is_some, length}
-use Rattle.bn_base.specs.Programs.{code_at}
-use Rattle.rv_meaning.specs.Ops.{IsAhead}
+use Rattle.rv_meaning.proofs.Common.{◌≡◌, ◌≤◌, ◌<◌, ◌+◌, ◌*◌, ◌^◌, true, is_some, length, code_at, IsAhead}
 use Rattle.rv_meaning.proofs.ahead.decoded_from.Given as goal
 
 -- the words up to the address, which is below 2 ^ 32, are decoded; if there are some, the first is code

@@ -1,7 +1,4 @@
-use Rattle.std.proofs.Common.{ℕ, ◌+◌, arith, sym, subst}
-use Rattle.bn_base.specs.Programs.{code_at}
-use Rattle.rv_meaning.specs.Ops.{Says, pc_of}
-use Rattle.rv_meaning.specs.Rows.{instruction_in}
+use Rattle.rv_meaning.proofs.Common.{ℕ, ◌+◌, arith, sym, subst, code_at, Says, pc_of, instruction_in}
 use Rattle.rv_meaning.proofs.DecodedAhead.{says_here, leads_more, leads_still}
 use Rattle.rv_meaning.proofs.ahead.run_quiet.Goals as goal
 

@@ -1,8 +1,4 @@
-use Rattle.std.proofs.Common.{◌≡◌, ◌≤◌, ◌+◌, ℕ}
-use Rattle.std.specs.Prelude.{None}
-use Rattle.bn_base.specs.Programs.{Program}
-use Rattle.rv_meaning.specs.Ahead.{LeadsTo}
-use Rattle.rv_meaning.specs.Ops.{IsAhead, pc_of}
+use Rattle.rv_meaning.proofs.Common.{◌≡◌, ◌≤◌, ◌+◌, ℕ, None, Program, LeadsTo, IsAhead, pc_of}
 use Rattle.rv_meaning.proofs.ahead.run_quiet.Given as goal
 
 -- what was done was quiet, and no op stopped it

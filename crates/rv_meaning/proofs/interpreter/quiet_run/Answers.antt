@@ -1,6 +1,4 @@
-use Rattle.std.proofs.Common.{◌≡◌, ◌≤◌, ◌+◌, subst, sym, true}
-use Rattle.rv_meaning.specs.Orderly.{orderly}
-use Rattle.rv_meaning.specs.declared.asks.Ask.{Ask}
+use Rattle.rv_meaning.proofs.Common.{◌≡◌, ◌≤◌, ◌+◌, subst, sym, true, orderly, Ask}
 use Rattle.rv_meaning.proofs.Orderly.{ask_count, ask_orderly}
 use Rattle.rv_meaning.proofs.interpreter.quiet_run.Goals as goal
 

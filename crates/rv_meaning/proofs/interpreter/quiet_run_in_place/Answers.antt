@@ -1,8 +1,4 @@
-use Rattle.std.proofs.Common.{◌∙◌, ◌-◌, ◌+◌, ℕ, ap}
-use Rattle.std.specs.Prelude.{Some, None}
-use Rattle.bn_base.specs.declared.state.HartState.{HartState}
-use Rattle.rv_decode.specs.Seen.{seen}
-use Rattle.rv_meaning.specs.Execute.{ask_of, count_up}
+use Rattle.rv_meaning.proofs.Common.{◌∙◌, ◌-◌, ◌+◌, ℕ, ap, Some, None, HartState, seen, ask_of, count_up}
 use Rattle.rv_meaning.proofs.OneStep.{quiet_more, ask_at, code_step, word_step, ask_after}
 use Rattle.rv_meaning.proofs.interpreter.quiet_run_in_place.Goals as goal
 

@@ -1,7 +1,4 @@
-use Rattle.std.proofs.Common.{◌≡◌, ◌-◌}
-use Rattle.std.specs.Prelude.{IfSome}
-use Rattle.rv_meaning.specs.Execute.{ask_of}
-use Rattle.rv_meaning.specs.Held.{IsCode}
+use Rattle.rv_meaning.proofs.Common.{◌≡◌, ◌-◌, IfSome, ask_of, IsCode}
 use Rattle.rv_meaning.proofs.interpreter.quiet_run_in_place.Given as goal
 
 -- what is left to do gives what all of it gives, and the segment that is held is code

@@ -1,6 +1,4 @@
-use Rattle.std.proofs.Common.{arith}
-use Rattle.bn_base.specs.declared.state.HartState.{HartState}
-use Rattle.rv_decode.specs.Seen.{seen}
+use Rattle.rv_meaning.proofs.Common.{arith, HartState, seen}
 use Rattle.rv_meaning.proofs.OneStep.{ask_after}
 use Rattle.rv_meaning.proofs.DecodedAhead.{ahead_step}
 use Rattle.rv_meaning.proofs.interpreter.step_in_place.Goals as goal

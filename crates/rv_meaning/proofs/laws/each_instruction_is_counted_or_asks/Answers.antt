@@ -1,5 +1,4 @@
-use Rattle.std.proofs.Common.{subst}
-use Rattle.rv_meaning.specs.Execute.{Step}
+use Rattle.rv_meaning.proofs.Common.{subst, Step}
 use Rattle.rv_meaning.proofs.Orderly.{StepPasses, StepCounts, step_passes, step_counts}
 use Rattle.rv_meaning.proofs.laws.each_instruction_is_counted_or_asks.Goals as goal
 

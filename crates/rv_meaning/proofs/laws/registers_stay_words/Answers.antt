@@ -1,5 +1,4 @@
-use Rattle.std.proofs.Common.{subst}
-use Rattle.rv_meaning.specs.Execute.{Step}
+use Rattle.rv_meaning.proofs.Common.{subst, Step}
 use Rattle.rv_meaning.proofs.WordsKept.{WordsAfter, step_words, ask_words}
 use Rattle.rv_meaning.proofs.laws.registers_stay_words.Goals as goal
 

@@ -1,9 +1,5 @@
-use Rattle.std.proofs.Common.{◌∙◌, ℕ, ◌/◌, ◌*◌, ◌==◌, not, ap, refl, bit_and, bit_or}
-use Rattle.std.specs.Prelude.{nat_lt, slice_index, bit_xor}
+use Rattle.rv_meaning.proofs.Common.{◌∙◌, ℕ, ◌/◌, ◌*◌, ◌==◌, not, ap, refl, bit_and, bit_or, nat_lt, slice_index, bit_xor, meaning, pc_of, add, sub, mul, bits_of, flag, less, shift_left, shift_right, shift_right_signed, high_signed, high_mixed, high_unsigned, div_signed, div_unsigned, rem_signed, rem_unsigned}
 use Rattle.rv_decode.specs.declared.name.Name.TheVariants as ns
-use Rattle.rv_meaning.specs.Execute.{meaning}
-use Rattle.rv_meaning.specs.Ops.{pc_of}
-use Rattle.rv_meaning.specs.Words.{add, sub, mul, bits_of, flag, less, shift_left, shift_right, shift_right_signed, high_signed, high_mixed, high_unsigned, div_signed, div_unsigned, rem_signed, rem_unsigned}
 use Rattle.rv_meaning.proofs.QuietOps.{same_by, same_test, gives_says, done_says, done_branch, done_jump, fence_says}
 use Rattle.rv_meaning.proofs.ops.do_quiet.Goals as goal
 

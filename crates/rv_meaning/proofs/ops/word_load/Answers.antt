@@ -1,10 +1,5 @@
-use Rattle.std.proofs.Common.{◌∙◌, ℕ, true, false, sym, ap, refl}
-use Rattle.std.specs.Prelude.{slice_index}
+use Rattle.rv_meaning.proofs.Common.{◌∙◌, ℕ, true, false, sym, ap, refl, slice_index, load_or, add, bits_of, Want, Load}
 use Rattle.rv_decode.specs.declared.name.Name.TheVariants as ns
-use Rattle.rv_meaning.specs.Execute.{load_or}
-use Rattle.rv_meaning.specs.Words.{add, bits_of}
-use Rattle.rv_meaning.specs.declared.asks.Want.{Want}
-use Rattle.rv_meaning.specs.declared.asks.Want.TheVariants.{Load}
 use Rattle.rv_meaning.proofs.QuietOps.{same_by, same_by2, asks_says}
 use Rattle.rv_meaning.proofs.ops.word_load.Goals as goal
 

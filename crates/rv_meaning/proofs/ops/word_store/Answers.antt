@@ -1,10 +1,5 @@
-use Rattle.std.proofs.Common.{◌∙◌, ℕ, true, false, sym, ap, refl}
-use Rattle.std.specs.Prelude.{slice_index}
+use Rattle.rv_meaning.proofs.Common.{◌∙◌, ℕ, true, false, sym, ap, refl, slice_index, store_or, add, bits_of, Want, Store}
 use Rattle.rv_decode.specs.declared.name.Name.TheVariants as ns
-use Rattle.rv_meaning.specs.Execute.{store_or}
-use Rattle.rv_meaning.specs.Words.{add, bits_of}
-use Rattle.rv_meaning.specs.declared.asks.Want.{Want}
-use Rattle.rv_meaning.specs.declared.asks.Want.TheVariants.{Store}
 use Rattle.rv_meaning.proofs.QuietOps.{same_by, same_by2, asks_says}
 use Rattle.rv_meaning.proofs.ops.word_store.Goals as goal
 

@@ -1,20 +1,6 @@
-use Rattle.std.proofs.Common.{◌≡◌, ◌∙◌, ℕ, ◌/◌, ◌*◌, ◌==◌, Bool, true, false, not, List, ℤ, sym, ap, subst, refl, arith, bit_and, bit_or}
-use Rattle.std.specs.Prelude.{nat_lt, slice_index, bit_xor}
-use Rattle.std.specs.Int.{w32}
-use Rattle.std.proofs.lemmas.Int.{to_z-of_z}
+use Rattle.rv_meaning.proofs.Common.{◌≡◌, ◌∙◌, ℕ, ◌/◌, ◌*◌, ◌==◌, Bool, true, false, not, List, ℤ, sym, ap, subst, refl, arith, bit_and, bit_or, nat_lt, slice_index, bit_xor, w32, to_z-of_z, put_reg, Program, HartState, Name, seen, Instruction, Step, Quiet, Asks, meaning, jump, branch, load_or, store_or, count_up, Told, ToldParts, count_after, add, sub, mul, bits_of, flag, less, shift_left, shift_right, shift_right_signed, high_signed, high_mixed, high_unsigned, div_signed, div_unsigned, rem_signed, rem_unsigned, Want, Load, Store, LoadReserved, StoreConditional, Amo}
 use mir.Val.{SFits, of_z, to_z}
-use Rattle.bn_base.specs.Registers.{put_reg}
-use Rattle.bn_base.specs.Programs.{Program}
-use Rattle.bn_base.specs.declared.state.HartState.{HartState}
-use Rattle.rv_decode.specs.declared.name.Name.{Name}
 use Rattle.rv_decode.specs.declared.name.Name.TheVariants as ns
-use Rattle.rv_decode.specs.Seen.{seen}
-use Rattle.rv_decode.specs.Table.{Instruction}
-use Rattle.rv_meaning.specs.Execute.{Step, Quiet, Asks, meaning, jump, branch, load_or, store_or, count_up}
-use Rattle.rv_meaning.specs.Told.{Told, ToldParts, count_after}
-use Rattle.rv_meaning.specs.Words.{add, sub, mul, bits_of, flag, less, shift_left, shift_right, shift_right_signed, high_signed, high_mixed, high_unsigned, div_signed, div_unsigned, rem_signed, rem_unsigned}
-use Rattle.rv_meaning.specs.declared.asks.Want.{Want}
-use Rattle.rv_meaning.specs.declared.asks.Want.TheVariants.{Load, Store, LoadReserved, StoreConditional, Amo}
 use Rattle.rv_meaning.specs.declared.amo.AmoOp.TheVariants as ops
 use Rattle.rv_meaning.proofs.QuietOps.{same_by, same_test, same_by2}
 use Rattle.rv_meaning.proofs.steps.step.Goals as goal

@@ -1,9 +1,5 @@
-use Rattle.std.proofs.Common.{◌≡◌, ℕ, ◌+◌, ◌<◌, ◌≤◌, Option, Some, None, List, [], ◌∷◌, ◌++◌, length, get_or, drop, sym, ap, ◌∙◌, append_assoc, add-one, arith}
-use Rattle.std.proofs.Math.Seq.{drop-cons}
-use Rattle.std.proofs.lemmas.List.{drop_all, append-nil}
-use Rattle.log_record.specs.declared.record.Record.{Record}
-use Rattle.hart_replay.specs.Replay.{Logged, put, puts, nothing}
-use Rattle.hart_replay.specs.Scans.{loads_in, scanned}
+use Rattle.slice_back.proofs.Common.{◌≡◌, ℕ, ◌+◌, ◌<◌, ◌≤◌, Option, Some, None, List, [], ◌∷◌, ◌++◌, length, get_or, drop, sym, ap, ◌∙◌, append_assoc, add-one, arith, drop-cons, append-nil, Record, Logged, put, puts, nothing, loads_in, scanned}
+use Rattle.std.proofs.lemmas.List.{drop_all}
 use Rattle.slice_back.proofs.first_loads.loads_from.Goals as goal
 
 -- the loads from a place on, by those after it

@@ -1,5 +1,4 @@
-use Rattle.std.proofs.Common.{◌≡◌, ◌++◌, drop}
-use Rattle.hart_replay.specs.Scans.{loads_in}
+use Rattle.slice_back.proofs.Common.{◌≡◌, ◌++◌, drop, loads_in}
 use Rattle.slice_back.proofs.first_loads.loads_from.Given as goal
 
 -- those gathered and those after make all

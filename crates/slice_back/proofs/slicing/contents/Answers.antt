@@ -1,7 +1,4 @@
-use Rattle.std.proofs.Common.{◌∙◌, ◌++◌, ◌+◌, ◌-◌, ap, sym}
-use Rattle.std.specs.Prelude.{slice_index}
-use Rattle.slice_back.specs.Slices.{registers_from, register_if}
-use Rattle.slice_back.specs.Sets.{has_register}
+use Rattle.slice_back.proofs.Common.{◌∙◌, ◌++◌, ◌+◌, ◌-◌, ap, sym, slice_index, registers_from, register_if, has_register}
 use Rattle.slice_back.proofs.Backs.{registers-more, registers-all}
 use Rattle.slice_back.proofs.slicing.contents.Goals as goal
 

@@ -1,6 +1,4 @@
-use Rattle.std.proofs.Common.{◌≡◌, ◌++◌, ◌-◌}
-use Rattle.slice_back.specs.Slices.{registers_from}
-use Rattle.slice_back.specs.Sets.{has_register}
+use Rattle.slice_back.proofs.Common.{◌≡◌, ◌++◌, ◌-◌, registers_from, has_register}
 use Rattle.slice_back.proofs.slicing.contents.Given as goal
 
 -- those gathered and those from the number on make all

@@ -1,6 +1,4 @@
-use Rattle.std.proofs.Common.{◌≡◌, ◌++◌, drop}
-use Rattle.std.specs.List.{flat_map}
-use Rattle.slice_back.specs.Texts.{branch_line}
+use Rattle.slice_back.proofs.Common.{◌≡◌, ◌++◌, drop, flat_map, branch_line}
 use Rattle.slice_back.proofs.telling.write_branches.Given as goal
 
 abbrev pub invariant-loop-row : goal.invariant-loop-row

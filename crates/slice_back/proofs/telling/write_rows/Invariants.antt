@@ -1,5 +1,4 @@
-use Rattle.std.proofs.Common.{◌≡◌, ◌++◌, drop}
-use Rattle.std.specs.List.{flat_map}
+use Rattle.slice_back.proofs.Common.{◌≡◌, ◌++◌, drop, flat_map}
 use Rattle.rv_text.specs.Rows.{row_text}
 use Rattle.slice_back.proofs.telling.write_rows.Given as goal
 

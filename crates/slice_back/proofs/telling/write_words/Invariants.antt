@@ -1,6 +1,4 @@
-use Rattle.std.proofs.Common.{◌≡◌, ◌++◌, drop}
-use Rattle.std.specs.List.{flat_map}
-use Rattle.slice_back.specs.Texts.{word_line}
+use Rattle.slice_back.proofs.Common.{◌≡◌, ◌++◌, drop, flat_map, word_line}
 use Rattle.slice_back.proofs.telling.write_words.Given as goal
 
 abbrev pub invariant-loop-one : goal.invariant-loop-one

@@ -1,5 +1,4 @@
-use Rattle.std.proofs.Common.{List, ℕ, ap, arith}
-use Rattle.step_debugger.specs.Lines.{Reading}
+use Rattle.step_debugger.proofs.Common.{List, ℕ, ap, arith, Reading}
 use Rattle.step_debugger.proofs.Lasting.{at_begin, line_more, line_last, line_fails}
 use Rattle.step_debugger.proofs.Apart.{line_apart}
 use Rattle.step_debugger.proofs.debugger.debug.Goals as goal

@@ -1,5 +1,4 @@
-use Rattle.std.proofs.Common.{◌≤◌, ◌-◌, ◌^◌}
-use Rattle.step_debugger.specs.Goings.{session_of, StaysUnrefused}
+use Rattle.step_debugger.proofs.Common.{◌≤◌, ◌-◌, ◌^◌, session_of, StaysUnrefused}
 use Rattle.step_debugger.proofs.Lasting.{SessionAt}
 use Rattle.step_debugger.proofs.debugger.debug.Given as goal
 

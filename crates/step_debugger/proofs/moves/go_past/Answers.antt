@@ -1,6 +1,4 @@
-use Rattle.std.proofs.Common.{◌≡◌, ◌<◌, length, None, sym, subst}
-use Rattle.joint_replay.specs.Joining.{Joining}
-use Rattle.step_debugger.specs.Answers.{stop_unless}
+use Rattle.step_debugger.proofs.Common.{◌≡◌, ◌<◌, length, None, sym, subst, Joining, stop_unless}
 use Rattle.step_debugger.proofs.Stepping.{lowest_is_ready, lowest_is_there, went}
 use Rattle.step_debugger.proofs.moves.go_past.Goals as goal
 

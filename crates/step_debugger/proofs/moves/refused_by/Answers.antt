@@ -1,5 +1,4 @@
-use Rattle.std.proofs.Common.{ap, sym}
-use Rattle.step_debugger.specs.Goings.{refused_by}
+use Rattle.step_debugger.proofs.Common.{ap, sym, refused_by}
 use Rattle.step_debugger.proofs.moves.refused_by.Goals as goal
 
 pub returns-in-Replay : goal.returns-in-Replay

@@ -1,5 +1,4 @@
-use Rattle.std.proofs.Common.{arith, ◌+◌, sym, ap, ◌∙◌, drop, get_or}
-use Rattle.std.proofs.lemmas.List.{drop_more}
+use Rattle.step_debugger.proofs.Common.{arith, ◌+◌, sym, ap, ◌∙◌, drop, get_or, drop_more}
 use Rattle.step_debugger.proofs.Digits.{more, one_more, bounded, seven, eight, product_fits}
 use Rattle.step_debugger.proofs.numbers.number_in.Goals as goal
 

@@ -1,5 +1,4 @@
-use Rattle.std.proofs.Common.{◌≡◌, ◌<◌, ◌^◌, drop}
-use Rattle.step_debugger.specs.Numbers.{number_in}
+use Rattle.step_debugger.proofs.Common.{◌≡◌, ◌<◌, ◌^◌, drop, number_in}
 use Rattle.step_debugger.proofs.Digits.{more}
 use Rattle.step_debugger.proofs.numbers.number_in.Given as goal
 

@@ -1,5 +1,4 @@
-use Rattle.std.proofs.Common.{◌≡◌, ◌-◌, length}
-use Rattle.step_debugger.specs.Answers.{stop_below}
+use Rattle.step_debugger.proofs.Common.{◌≡◌, ◌-◌, length, stop_below}
 use Rattle.step_debugger.proofs.returns.stop_below.Given as goal
 
 -- those above have none

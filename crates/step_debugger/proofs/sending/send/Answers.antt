@@ -1,5 +1,4 @@
-use Rattle.std.proofs.Common.{ℕ, List, subst}
-use Rattle.std.specs.Io.KnownBytes.{Appends}
+use Rattle.step_debugger.proofs.Common.{ℕ, List, subst, Appends}
 use Rattle.step_debugger.proofs.sending.send.Goals as goal
 
 pub returns-in-Ok-clause-sent : goal.returns-in-Ok-clause-sent

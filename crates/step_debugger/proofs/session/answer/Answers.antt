@@ -1,8 +1,5 @@
-use Rattle.std.proofs.Common.{subst}
-use Rattle.bn_outside.specs.Streams.{Stream}
+use Rattle.step_debugger.proofs.Common.{subst, Stream, Session, answer, session_of, Stops, SendsPart}
 use Rattle.step_debugger.specs.declared.command.DebugCommand.{DebugCommand}
-use Rattle.step_debugger.specs.Answers.{Session, answer}
-use Rattle.step_debugger.specs.Goings.{session_of, Stops, SendsPart}
 use Rattle.step_debugger.proofs.Saying.{sent_short}
 use Rattle.step_debugger.proofs.session.answer.Goals as goal
 

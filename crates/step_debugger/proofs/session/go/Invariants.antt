@@ -1,7 +1,4 @@
-use Rattle.std.proofs.Common.{◌≡◌, true}
-use Rattle.joint_replay.specs.Joining.{steps_left}
-use Rattle.step_debugger.specs.Answers.{go_on}
-use Rattle.step_debugger.specs.Goings.{StaysUnrefused}
+use Rattle.step_debugger.proofs.Common.{◌≡◌, true, steps_left, go_on, StaysUnrefused}
 use Rattle.step_debugger.proofs.session.go.Given as goal
 
 abbrev pub invariant-steps : goal.invariant-steps

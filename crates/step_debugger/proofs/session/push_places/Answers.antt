@@ -1,5 +1,4 @@
-use Rattle.std.proofs.Common.{◌++◌, ◌<◌, arith, length}
-use Rattle.step_debugger.specs.Answers.{places_from}
+use Rattle.step_debugger.proofs.Common.{◌++◌, ◌<◌, arith, length, places_from}
 use Rattle.step_debugger.proofs.Sent.{next_place}
 use Rattle.step_debugger.proofs.session.push_places.Goals as goal
 

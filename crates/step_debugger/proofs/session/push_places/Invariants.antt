@@ -1,5 +1,4 @@
-use Rattle.std.proofs.Common.{◌≡◌, ◌++◌, ◌-◌, length}
-use Rattle.step_debugger.specs.Answers.{places_from}
+use Rattle.step_debugger.proofs.Common.{◌≡◌, ◌++◌, ◌-◌, length, places_from}
 use Rattle.step_debugger.proofs.session.push_places.Given as goal
 
 -- those of the harts before are told

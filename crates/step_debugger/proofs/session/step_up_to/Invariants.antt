@@ -1,6 +1,4 @@
-use Rattle.std.proofs.Common.{◌-◌}
-use Rattle.step_debugger.specs.Answers.{step_up_to}
-use Rattle.step_debugger.specs.Goings.{StaysUnrefused}
+use Rattle.step_debugger.proofs.Common.{◌-◌, step_up_to, StaysUnrefused}
 use Rattle.step_debugger.proofs.Sent.{SoFar}
 use Rattle.step_debugger.proofs.session.step_up_to.Given as goal
 

@@ -1,6 +1,4 @@
-use Rattle.std.proofs.Common.{◌≡◌, ◌-◌, ℕ, List}
-use Rattle.run_model.specs.Runs.{most_turns}
-use Rattle.whole_runs.specs.Lists.{HasTaken}
+use Rattle.whole_runs.proofs.Common.{◌≡◌, ◌-◌, ℕ, List, most_turns, HasTaken}
 use Rattle.whole_runs.proofs.Chosen.{IsOnWay}
 use Rattle.whole_runs.proofs.chooser.take_chosen.Given as goal
 

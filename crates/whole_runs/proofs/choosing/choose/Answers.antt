@@ -1,5 +1,4 @@
-use Rattle.std.proofs.Common.{◌≢◌, ◌/◌, ◌%◌, ◌^◌, ◌∙◌, sym, ap, arith}
-use Rattle.bus_core.specs.Bus.{Began}
+use Rattle.whole_runs.proofs.Common.{◌≢◌, ◌/◌, ◌%◌, ◌^◌, ◌∙◌, sym, ap, arith, Began}
 use Rattle.whole_runs.proofs.Live.{chosen_none, is_chosen}
 use Rattle.whole_runs.proofs.choosing.choose.Goals as goal
 

@@ -1,5 +1,4 @@
-use Rattle.std.proofs.Common.{◌∙◌, sym, ap, arith}
-use Rattle.bus_core.specs.Bus.{Began}
+use Rattle.whole_runs.proofs.Common.{◌∙◌, sym, ap, arith, Began}
 use Rattle.whole_runs.proofs.choosing.count_after.Goals as goal
 
 pub returns-then-harts-eq1 : goal.returns-then-harts-eq1

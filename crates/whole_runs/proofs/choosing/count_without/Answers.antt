@@ -1,7 +1,4 @@
-use Rattle.std.proofs.Common.{◌+◌, ◌-◌, ◌<◌, ◌∙◌, sym, ap, arith, length}
-use Rattle.bus_core.specs.Bus.{Began}
-use Rattle.run_model.specs.Runs.{live_harts}
-use Rattle.whole_runs.specs.Lists.{without}
+use Rattle.whole_runs.proofs.Common.{◌+◌, ◌-◌, ◌<◌, ◌∙◌, sym, ap, arith, length, Began, live_harts, without}
 use Rattle.whole_runs.proofs.Live.{counted_live, counted_over}
 use Rattle.whole_runs.proofs.choosing.count_without.Goals as goal
 use Rattle.whole_runs.proofs.choosing.count_without.Goals.{then-is_live_without, else-is_live_without}

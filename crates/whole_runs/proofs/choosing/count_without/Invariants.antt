@@ -1,8 +1,4 @@
-use Rattle.std.proofs.Common.{◌≡◌, ◌+◌, ◌-◌, ◌≤◌, length}
-use Rattle.run_model.specs.Turn.{Run}
-use Rattle.run_model.specs.Runs.{live_harts}
-use Rattle.bus_core.specs.Bus.{IsState}
-use Rattle.whole_runs.specs.Lists.{without, live_without}
+use Rattle.whole_runs.proofs.Common.{◌≡◌, ◌+◌, ◌-◌, ◌≤◌, length, Run, live_harts, IsState, without, live_without}
 use Rattle.whole_runs.proofs.choosing.count_without.Given as goal
 
 abbrev pub invariant-loop-hart : goal.invariant-loop-hart

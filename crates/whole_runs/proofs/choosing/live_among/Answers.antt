@@ -1,6 +1,4 @@
-use Rattle.std.proofs.Common.{ℕ, ◌∙◌, sym, ap, arith}
-use Rattle.std.specs.Prelude.{Some}
-use Rattle.bus_core.specs.Bus.{Began}
+use Rattle.whole_runs.proofs.Common.{ℕ, ◌∙◌, sym, ap, arith, Some, Began}
 use Rattle.whole_runs.proofs.Counted.{all_live}
 use Rattle.whole_runs.proofs.choosing.live_among.Goals as goal
 

@@ -1,8 +1,4 @@
-use Rattle.std.proofs.Common.{◌+◌, ◌-◌, ◌<◌, ◌∙◌, sym, ap, arith}
-use Rattle.std.specs.Prelude.{slice_get}
-use Rattle.bus_core.specs.Bus.{Began}
-use Rattle.run_model.specs.Runs.{live_harts}
-use Rattle.whole_runs.specs.Lists.{without}
+use Rattle.whole_runs.proofs.Common.{◌+◌, ◌-◌, ◌<◌, ◌∙◌, sym, ap, arith, slice_get, Began, live_harts, without}
 use Rattle.whole_runs.proofs.Live.{found_live, passed_live, passed_over}
 use Rattle.whole_runs.proofs.choosing.live_at_without.Goals as goal
 use Rattle.whole_runs.proofs.choosing.live_at_without.Goals.{then-is_live_without+else-left-eq0, else-is_live_without}

@@ -1,9 +1,4 @@
-use Rattle.std.proofs.Common.{◌≡◌, ◌-◌}
-use Rattle.std.specs.Prelude.{slice_get}
-use Rattle.run_model.specs.Turn.{Run}
-use Rattle.run_model.specs.Runs.{live_harts}
-use Rattle.bus_core.specs.Bus.{IsState}
-use Rattle.whole_runs.specs.Lists.{without, live_without}
+use Rattle.whole_runs.proofs.Common.{◌≡◌, ◌-◌, slice_get, Run, live_harts, IsState, without, live_without}
 use Rattle.whole_runs.proofs.choosing.live_at_without.Given as goal
 
 abbrev pub invariant-loop-hart : goal.invariant-loop-hart

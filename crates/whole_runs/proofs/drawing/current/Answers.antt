@@ -1,6 +1,4 @@
-use Rattle.std.proofs.Common.{◌∙◌, sym, subst}
-use Rattle.whole_runs.specs.Drawn.{IsDrawing}
-use Rattle.whole_runs.specs.declared.drawing.Drawing.{Drawing}
+use Rattle.whole_runs.proofs.Common.{◌∙◌, sym, subst, IsDrawing, Drawing}
 use Rattle.whole_runs.proofs.Draws.{goes_on_any, current_same, current_other}
 use Rattle.whole_runs.proofs.drawing.current.Goals as goal
 

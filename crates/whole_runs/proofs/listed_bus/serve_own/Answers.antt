@@ -1,6 +1,4 @@
-use Rattle.std.proofs.Common.{subst}
-use Rattle.bn_base.specs.Ranges.{IsSetting}
-use Rattle.bus_core.specs.Bus.{Began}
+use Rattle.whole_runs.proofs.Common.{subst, IsSetting, Began}
 use Rattle.whole_runs.proofs.OwnTurns.{served_taken}
 use Rattle.whole_runs.proofs.Answered.{served_answers}
 use Rattle.whole_runs.proofs.listed_bus.serve_own.Goals as goal

@@ -1,11 +1,4 @@
-use Rattle.std.proofs.Common.{◌≡◌, ◌∙◌, ◌++◌, true, false, refl, sym, ap, subst}
-use Rattle.std.proofs.lemmas.Result.{IfOk-weaker}
-use Rattle.std.specs.Prelude.{Result, Ok, Err, OnOk, is_err}
-use Rattle.std.specs.List.{list_any}
-use Rattle.bus_core.specs.Bus.{Began, Seen, began_of}
-use Rattle.whole_runs.specs.Closed.{IsClosed, IsOfRows}
-use Rattle.whole_runs.specs.Taking.{Taking}
-use Rattle.whole_runs.specs.Lists.{seeded_after, HasTaken}
+use Rattle.whole_runs.proofs.Common.{◌≡◌, ◌∙◌, ◌++◌, true, false, refl, sym, ap, subst, IfOk-weaker, Result, Ok, Err, OnOk, is_err, list_any, Began, Seen, began_of, IsClosed, IsOfRows, Taking, seeded_after, HasTaken}
 use Rattle.whole_runs.proofs.OwnTurns.{as_chosen, kept_all}
 use Rattle.whole_runs.proofs.listed_end.finish_listed.Goals as goal
 

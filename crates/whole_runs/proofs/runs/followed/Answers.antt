@@ -1,6 +1,4 @@
-use Rattle.std.proofs.Common.{subst}
-use Rattle.bus_core.specs.Bus.{Began}
-use Rattle.whole_runs.specs.Closed.{IsClosed}
+use Rattle.whole_runs.proofs.Common.{subst, Began, IsClosed}
 use Rattle.whole_runs.proofs.runs.followed.Goals as goal
 
 pub returns-in-Ok-clause-run : goal.returns-in-Ok-clause-run

@@ -1,7 +1,4 @@
-use Rattle.std.proofs.Common.{◌∙◌, ℕ, List, ap, subst}
-use Rattle.std.specs.Prelude.{replicate}
-use Rattle.bus_core.specs.Bus.{Began}
-use Rattle.whole_runs.specs.Closed.{IsClosed, IsOfRows}
+use Rattle.whole_runs.proofs.Common.{◌∙◌, ℕ, List, ap, subst, replicate, Began, IsClosed, IsOfRows}
 use Rattle.whole_runs.proofs.runs.listed_alone.Goals as goal
 
 pub returns-clause-run : goal.returns-clause-run

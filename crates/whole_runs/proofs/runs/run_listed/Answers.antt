@@ -1,11 +1,4 @@
-use Rattle.std.proofs.Common.{◌∙◌, ℕ, List, [], ap, subst, arith}
-use Rattle.std.specs.Prelude.{IfOk}
-use Rattle.std.proofs.lemmas.Result.{IfOk-weaker}
-use Rattle.bn_outside.specs.declared.turn_row.TurnRow.{TurnRow}
-use Rattle.bus_core.specs.Bus.{Began, began_of}
-use Rattle.whole_runs.specs.Chosen.{IsListed}
-use Rattle.whole_runs.specs.Closed.{IsOfRows}
-use Rattle.whole_runs.specs.Lists.{seeded_after}
+use Rattle.whole_runs.proofs.Common.{◌∙◌, ℕ, List, [], ap, subst, arith, IfOk, IfOk-weaker, TurnRow, Began, began_of, IsListed, IsOfRows, seeded_after}
 use Rattle.whole_runs.proofs.Chosen.{listed_so}
 use Rattle.whole_runs.proofs.Whole.{seeded_is, taken_none}
 use Rattle.whole_runs.proofs.runs.run_listed.Goals as goal

@@ -1,7 +1,4 @@
-use Rattle.std.proofs.Common.{◌∙◌, ap, subst}
-use Rattle.bus_core.specs.Bus.{Began, began_of}
-use Rattle.whole_runs.specs.Closed.{IsOfRows}
-use Rattle.whole_runs.specs.Scheduled.{scheduled}
+use Rattle.whole_runs.proofs.Common.{◌∙◌, ap, subst, Began, began_of, IsOfRows, scheduled}
 use Rattle.whole_runs.proofs.Chosen.{listed_so}
 use Rattle.whole_runs.proofs.Whole.{taken_none}
 use Rattle.whole_runs.proofs.runs.run_scheduled.Goals as goal

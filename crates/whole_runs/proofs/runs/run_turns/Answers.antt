@@ -1,9 +1,4 @@
-use Rattle.std.proofs.Common.{◌≡◌, subst}
-use Rattle.std.specs.Prelude.{◌⊎◌, Some, IfOk, IfErr}
-use Rattle.run_model.specs.declared.error.TurnError.TheVariants.{OutOfMemory}
-use Rattle.bus_core.specs.Bus.{Began, began_of}
-use Rattle.whole_runs.specs.Lists.{error_of}
-use Rattle.whole_runs.specs.Closed.{IsClosed}
+use Rattle.whole_runs.proofs.Common.{◌≡◌, subst, ◌⊎◌, Some, IfOk, IfErr, OutOfMemory, Began, began_of, error_of, IsClosed}
 use Rattle.whole_runs.proofs.Whole.{taken_none}
 use Rattle.whole_runs.proofs.runs.run_turns.Goals as goal
 

@@ -1,8 +1,4 @@
-use Rattle.std.proofs.Common.{◌∙◌, ap, sym, subst}
-use Rattle.std.specs.Prelude.{Option, Bool, IfSome}
-use Rattle.rv_meaning.specs.declared.asks.Ask.{Ask}
-use Rattle.rv_meaning.specs.declared.asks.Reply.{Reply}
-use Rattle.whole_runs.specs.HartTurns.{place_at, taken_after}
+use Rattle.whole_runs.proofs.Common.{◌∙◌, ap, sym, subst, Option, Bool, IfSome, Ask, Reply, place_at, taken_after}
 use Rattle.whole_runs.proofs.Own.{driven_first, driven_more, led_first, led_more}
 use Rattle.whole_runs.proofs.turn_port.drive.Goals as goal
 

@@ -1,7 +1,4 @@
-use Rattle.std.proofs.Common.{◌∙◌}
-use Rattle.run_model.specs.Runs.{has_finished}
-use Rattle.bus_core.specs.Bus.{run_after}
-use Rattle.whole_runs.specs.Lists.{list_run}
+use Rattle.whole_runs.proofs.Common.{◌∙◌, has_finished, run_after, list_run}
 use Rattle.whole_runs.proofs.Taken.{turns_are}
 use Rattle.whole_runs.proofs.Whole.{finished_is, running_of, of_rows}
 use Rattle.whole_runs.proofs.turns.close.Goals as goal

@@ -1,7 +1,4 @@
-use Rattle.std.proofs.Common.{◌≡◌, ◌++◌, true, refl, sym, subst}
-use Rattle.std.proofs.lemmas.Result.{on_ok_weaker}
-use Rattle.whole_runs.specs.Chosen.{AreAdded, IsCounted}
-use Rattle.whole_runs.specs.Lists.{is_finished, seeded_after}
+use Rattle.whole_runs.proofs.Common.{◌≡◌, ◌++◌, true, refl, sym, subst, on_ok_weaker, AreAdded, IsCounted, is_finished, seeded_after}
 use Rattle.whole_runs.specs.declared.choosers.Draws.{Draws}
 use Rattle.whole_runs.proofs.Chosen.{counted_none}
 use Rattle.whole_runs.proofs.turns.finish.Goals as goal

@@ -1,9 +1,4 @@
-use Rattle.std.proofs.Common.{[], ◌∙◌, refl, sym, ap, subst, arith}
-use Rattle.std.specs.Prelude.{replicate}
-use Rattle.bn_base.specs.Ranges.{IsSetting}
-use Rattle.run_model.specs.Turn.{Run}
-use Rattle.bus_core.specs.Bus.{Began}
-use Rattle.whole_runs.specs.Lists.{list_run, seeded_after}
+use Rattle.whole_runs.proofs.Common.{[], ◌∙◌, refl, sym, ap, subst, arith, replicate, IsSetting, Run, Began, list_run, seeded_after}
 use Rattle.whole_runs.proofs.Live.{over_of, none_alone, over_none}
 use Rattle.whole_runs.proofs.Lone.{taken_none, taken_alone, fewer_left, lone_drawn}
 use Rattle.whole_runs.proofs.turns.finish_lone.Goals as goal

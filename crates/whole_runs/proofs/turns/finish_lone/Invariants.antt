@@ -1,7 +1,4 @@
-use Rattle.std.proofs.Common.{◌≡◌, ◌-◌}
-use Rattle.std.specs.Prelude.{replicate}
-use Rattle.run_model.specs.Runs.{most_turns}
-use Rattle.whole_runs.specs.Lists.{HasTaken}
+use Rattle.whole_runs.proofs.Common.{◌≡◌, ◌-◌, replicate, most_turns, HasTaken}
 use Rattle.whole_runs.proofs.turns.finish_lone.Given as goal
 
 abbrev pub invariant-taking : goal.invariant-taking

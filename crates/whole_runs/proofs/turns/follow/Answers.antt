@@ -1,7 +1,4 @@
-use denote.Ref.{Bor}
-use Rattle.std.proofs.Common.{[], ℕ, List, ap, subst, inr}
-use Rattle.whole_runs.specs.Followed.{legal_prefix}
-use Rattle.whole_runs.specs.Lists.{HasTaken, list_run}
+use Rattle.whole_runs.proofs.Common.{Bor, [], ℕ, List, ap, subst, inr, legal_prefix, HasTaken, list_run}
 use Rattle.whole_runs.proofs.Errors.{none_over}
 use Rattle.whole_runs.proofs.Follows.{stops_so, stops_last}
 use Rattle.whole_runs.proofs.Whole.{unfinished_is}

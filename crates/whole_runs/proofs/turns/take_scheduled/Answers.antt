@@ -1,13 +1,5 @@
-use denote.Ref.{Bor}
-use Rattle.std.proofs.Common.{◌≡◌, ◌∙◌, ◌++◌, [], ℕ, List, true, refl, sym, ap, subst}
-use Rattle.std.proofs.lemmas.Result.{on_ok_weaker}
+use Rattle.whole_runs.proofs.Common.{Bor, ◌≡◌, ◌∙◌, ◌++◌, [], ℕ, List, true, refl, sym, ap, subst, on_ok_weaker, Began, AreAdded, drawn_after, legal_prefix, is_finished, seeded_after, scheduled}
 use Rattle.bn_outside.specs.declared.schedule.Schedule.{Schedule}
-use Rattle.bus_core.specs.Bus.{Began}
-use Rattle.whole_runs.specs.Chosen.{AreAdded}
-use Rattle.whole_runs.specs.Drawn.{drawn_after}
-use Rattle.whole_runs.specs.Followed.{legal_prefix}
-use Rattle.whole_runs.specs.Lists.{is_finished, seeded_after}
-use Rattle.whole_runs.specs.Scheduled.{scheduled}
 use Rattle.whole_runs.specs.declared.choosers.Bursts.{Bursts}
 use Rattle.whole_runs.proofs.Chosen.{added_again}
 use Rattle.whole_runs.proofs.Draws.{drawn_at_first}

@@ -1,6 +1,4 @@
-use Rattle.std.proofs.Common.{subst}
-use Rattle.joint_replay.specs.Joining.{fresh}
-use Rattle.back_step.specs.Traces.{Trailed, IsGoneBack}
+use Rattle.back_step.proofs.Common.{subst, fresh, Trailed, IsGoneBack}
 use Rattle.back_step.proofs.Showing.{gone_back}
 use Rattle.back_step.proofs.trail.Trail.came.Goals as goal
 

@@ -1,10 +1,5 @@
-use Rattle.std.proofs.Common.{◌≡◌, ◌/◌, ◌<◌, ◌≤◌, List, length, take, slice_get, Some, refl, sym, ap, ◌∙◌, subst, arith}
-use Rattle.std.proofs.lemmas.Bool.{false≢true}
+use Rattle.back_step.proofs.Common.{◌≡◌, ◌/◌, ◌<◌, ◌≤◌, List, length, take, slice_get, Some, refl, sym, ap, ◌∙◌, subst, arith, false≢true, Joining, fresh, Entry, Trailed, LeadsBy, CanTake, trailed, IsTrail}
 use Rattle.std.proofs.lemmas.Option.{slice_get_read}
-use Rattle.joint_replay.specs.Joining.{Joining, fresh}
-use Rattle.back_step.specs.declared.entry.Entry.{Entry}
-use Rattle.back_step.specs.Traces.{Trailed}
-use Rattle.back_step.specs.Trails.{LeadsBy, CanTake, trailed, IsTrail}
 use Rattle.back_step.proofs.Leading.{calm_after}
 use Rattle.back_step.proofs.Copying.{latest_there, steps_lent, can_take, led_there, trail_there}
 use Rattle.back_step.proofs.Trailing.{due_is, stays_there, goes_there}

@@ -1,7 +1,4 @@
-use Rattle.std.proofs.Common.{◌≡◌, ◌∷◌, ◌++◌, [], List, length, ap, refl, sym, inl, inr, ◌∙◌, arith}
-use Rattle.joint_replay.specs.Joining.{fresh, readiness}
-use Rattle.back_step.specs.declared.entry.Entry.{Entry}
-use Rattle.back_step.specs.Traces.{Trailed}
+use Rattle.back_step.proofs.Common.{◌≡◌, ◌∷◌, ◌++◌, [], List, length, ap, refl, sym, inl, inr, ◌∙◌, arith, fresh, readiness, Entry, Trailed}
 use Rattle.back_step.proofs.Trailing.{on_ok, trail_longer}
 use Rattle.back_step.proofs.trail.Trail.step.Goals as goal
 

@@ -1,4 +1,5 @@
-use Rattle.bugnet.proofs.Common.{Option, false, subst, [], Result, Ok, Err, IfOk, sha256, Files, image_of, Start, input_roles, elf_roles, record_roles, WithFiles, Elf, passed-on, only-then, load-stops, then-loads, IsByProgram, IsByNames, BeginsBy, LoadsStart}
+use Rattle.bugnet.proofs.Common.{Option, false, subst, [], Result, Ok, Err, IfOk, sha256, Files, image_of, Start, input_roles, elf_roles, record_roles, WithFiles, passed-on, only-then, load-stops, then-loads, IsByProgram, IsByNames, BeginsBy, LoadsStart}
+use Rattle.log_commands.specs.declared.names.Role.TheVariants.{Elf}
 use Rattle.bugnet.proofs.Begins.{begins-stopped, begins-loaded, holds-bytes}
 use Rattle.bugnet.proofs.commands.record.load_files.Goals as goal
 

@@ -1,17 +1,6 @@
-use Rattle.std.proofs.Common.{◌≡◌, Bool, not, ◌&&◌, None, length, subst, sym, ◌∙◌, ap, map}
-use Rattle.std.specs.Prelude.{Vec}
-use Rattle.std.specs.Global.{Global}
-use Rattle.bn_base.specs.Ranges.{IsSetting}
-use Rattle.run_model.specs.declared.hart.Hart.{Hart}
-use Rattle.run_model.specs.declared.start.Start.{Start}
-use Rattle.run_model.specs.Runs.{any_live, has_finished}
-use Rattle.run_model.specs.Represents.Harts.{hart_in}
-use Rattle.run_model.specs.Represents.Turning.{parts}
-use Rattle.log_ring.specs.Kept.{Held, HoldsLog}
-use Rattle.bus_core.specs.Bus.{Seen, seen, marks, began_of, run_after, IsState, IsLogged}
+use Rattle.bus_core.proofs.Common.{◌≡◌, Bool, not, ◌&&◌, None, length, subst, sym, ◌∙◌, ap, map, Vec, Global, IsSetting, Hart, Start, any_live, has_finished, hart_in, parts, Held, HoldsLog, Seen, seen, marks, began_of, run_after, IsState, IsLogged, broken_by}
 use Rattle.bus_core.proofs.History.{logged_is}
 use Rattle.bus_core.proofs.Marks.{marks_are, live_is, over_is}
-use Rattle.log_order.specs.Order.{broken_by}
 use Rattle.bus_core.proofs.LastMarks.{last_marks_are}
 use Rattle.bus_core.proofs.Order.{order_is}
 use Rattle.bus_core.proofs.bus.Bus.close.Goals as goal

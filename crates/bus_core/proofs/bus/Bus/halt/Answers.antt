@@ -1,7 +1,4 @@
-use Rattle.std.proofs.Common.{true, subst, sym}
-use Rattle.run_model.specs.Turn.{halted}
-use Rattle.run_model.specs.Represents.Turning.{parts}
-use Rattle.bus_core.specs.Bus.{Seen, seen, IsState}
+use Rattle.bus_core.proofs.Common.{true, subst, sym, halted, parts, Seen, seen, IsState}
 use Rattle.bus_core.proofs.History.{history_halted, run_is, state_is}
 use Rattle.bus_core.proofs.bus.Bus.halt.Goals as goal
 

@@ -1,6 +1,4 @@
-use Rattle.std.proofs.Common.{◌≡◌, true, false, subst}
-use Rattle.run_model.specs.Represents.Turning.{parts}
-use Rattle.bus_core.specs.Bus.{Seen, is_live}
+use Rattle.bus_core.proofs.Common.{◌≡◌, true, false, subst, parts, Seen, is_live}
 use Rattle.bus_core.proofs.History.{live_runs}
 use Rattle.bus_core.proofs.bus.Bus.live.Goals as goal
 

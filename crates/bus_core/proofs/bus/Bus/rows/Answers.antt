@@ -1,6 +1,4 @@
-use Rattle.std.proofs.Common.{subst}
-use Rattle.run_model.specs.Represents.Turning.{parts}
-use Rattle.bus_core.specs.Bus.{Seen, IsTold, began_of, run_after}
+use Rattle.bus_core.proofs.Common.{subst, parts, Seen, IsTold, began_of, run_after}
 use Rattle.bus_core.proofs.History.{state_is}
 use Rattle.bus_core.proofs.bus.Bus.rows.Goals as goal
 

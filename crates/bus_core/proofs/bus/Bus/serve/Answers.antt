@@ -1,11 +1,4 @@
-use Rattle.std.proofs.Common.{◌≡◌, ℕ, ◌+◌, Bool, true, not, ◌||◌, List, ◌∷◌, ◌++◌, [], subst, sym, ◌∙◌, ap}
-use Rattle.std.specs.Prelude.{IsTrue}
-use Rattle.rv_meaning.specs.Orderly.{is_reply_to}
-use Rattle.rv_meaning.specs.declared.asks.Reply.{Reply}
-use Rattle.bn_outside.specs.declared.turn_row.TurnRow.{TurnRow}
-use Rattle.run_model.specs.Turn.{is_orderly, serve}
-use Rattle.run_model.specs.Represents.Turning.{parts}
-use Rattle.bus_core.specs.Bus.{Seen, seen, IsState, IsHistory, began_of, run_after, row, is_live}
+use Rattle.bus_core.proofs.Common.{◌≡◌, ℕ, ◌+◌, Bool, true, not, ◌||◌, List, ◌∷◌, ◌++◌, [], subst, sym, ◌∙◌, ap, IsTrue, is_reply_to, Reply, TurnRow, is_orderly, serve, parts, Seen, seen, IsState, IsHistory, began_of, run_after, row, is_live}
 use Rattle.bus_core.proofs.History.{Serves, history_more, history_same, run_is, state_is}
 use Rattle.bus_core.proofs.Serves.{served_turns, on_err, or_first, or_second}
 use Rattle.bus_core.proofs.bus.Bus.serve.Goals as goal

@@ -1,7 +1,4 @@
-use Rattle.std.proofs.Common.{◌<◌, ◌∙◌, ap, subst, sym}
-use Rattle.run_model.specs.declared.hart.Hart.{Hart}
-use Rattle.run_model.specs.Represents.Turning.{parts}
-use Rattle.bus_core.specs.Bus.{Seen, seen, IsState}
+use Rattle.bus_core.proofs.Common.{◌<◌, ◌∙◌, ap, subst, sym, Hart, parts, Seen, seen, IsState}
 use Rattle.bus_core.proofs.OwnTurn.{hart_at}
 use Rattle.bus_core.proofs.bus.Bus.state.Goals as goal
 

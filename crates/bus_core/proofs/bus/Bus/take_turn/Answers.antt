@@ -1,11 +1,4 @@
-use Rattle.std.proofs.Common.{◌≡◌, ◌<◌, ℕ, ◌+◌, true, List, ◌∷◌, ◌++◌, [], subst, sym, ◌∙◌, ap}
-use Rattle.rv_meaning.specs.declared.asks.Ask.{Ask}
-use Rattle.bn_outside.specs.declared.turn_row.TurnRow.{TurnRow}
-use Rattle.run_model.specs.declared.start.Start.{Start}
-use Rattle.run_model.specs.Represents.Plain.{IsRun}
-use Rattle.run_model.specs.Represents.Turning.{parts}
-use Rattle.run_model.specs.Turn.{serve}
-use Rattle.bus_core.specs.Bus.{Seen, seen, IsState, IsHistory, began_of, run_after, row, turned_run, turn_row, is_live}
+use Rattle.bus_core.proofs.Common.{◌≡◌, ◌<◌, ℕ, ◌+◌, true, List, ◌∷◌, ◌++◌, [], subst, sym, ◌∙◌, ap, Ask, TurnRow, Start, IsRun, parts, serve, Seen, seen, IsState, IsHistory, began_of, run_after, row, turned_run, turn_row, is_live}
 use Rattle.bus_core.proofs.History.{Serves, history_more, history_same, run_is, state_is}
 use Rattle.bus_core.proofs.Rows.{live_within}
 use Rattle.bus_core.proofs.OwnTurn.{ask_is, own_orderly, row_is, or_not_true}

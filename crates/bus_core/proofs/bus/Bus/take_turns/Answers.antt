@@ -1,6 +1,4 @@
-use Rattle.std.proofs.Common.{◌≡◌, Bool, true, false, subst, sym, ◌∙◌}
-use Rattle.run_model.specs.Represents.Turning.{parts}
-use Rattle.bus_core.specs.Bus.{Seen, seen, is_live, HasTurnedAlone}
+use Rattle.bus_core.proofs.Common.{◌≡◌, Bool, true, false, subst, sym, ◌∙◌, parts, Seen, seen, is_live, HasTurnedAlone}
 use Rattle.bus_core.proofs.Lone.{history_lone, lone_seen, one_seen}
 use Rattle.bus_core.proofs.bus.Bus.take_turns.Goals as goal
 

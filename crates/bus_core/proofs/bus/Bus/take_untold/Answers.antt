@@ -1,14 +1,5 @@
-use Rattle.std.proofs.Common.{◌≡◌, ◌<◌, ◌≤◌, ◌-◌, ℕ, ◌+◌, true, false, subst, sym, ◌∙◌, ap, arith, refl, Bool}
-use Rattle.std.specs.Prelude.{IsTrue}
+use Rattle.bus_core.proofs.Common.{◌≡◌, ◌<◌, ◌≤◌, ◌-◌, ℕ, ◌+◌, true, false, subst, sym, ◌∙◌, ap, arith, refl, Bool, IsTrue, Ask, RawSettings, Start, Hart, hart_in, parts, ask_at, budget, is_orderly, Seen, seen, IsState, began_of, run_after, turned_run, is_live}
 use Rattle.std.proofs.lemmas.Grind.{common_steps}
-use Rattle.rv_meaning.specs.declared.asks.Ask.{Ask}
-use Rattle.bn_base.specs.declared.settings.RawSettings.{RawSettings}
-use Rattle.run_model.specs.declared.start.Start.{Start}
-use Rattle.run_model.specs.declared.hart.Hart.{Hart}
-use Rattle.run_model.specs.Represents.Harts.{hart_in}
-use Rattle.run_model.specs.Represents.Turning.{parts}
-use Rattle.run_model.specs.Turn.{ask_at, budget, is_orderly}
-use Rattle.bus_core.specs.Bus.{Seen, seen, IsState, began_of, run_after, turned_run, is_live}
 use Rattle.bus_core.proofs.History.{history_turned, history_same, run_is, state_is}
 use Rattle.bus_core.proofs.Rows.{live_within}
 use Rattle.bus_core.proofs.Serves.{served_turns, on_err}

@@ -1,5 +1,4 @@
-use Rattle.std.proofs.Common.{◌∙◌, ap, sym}
-use Rattle.bus_core.specs.Bus.{Seen}
+use Rattle.bus_core.proofs.Common.{◌∙◌, ap, sym, Seen}
 use Rattle.bus_core.proofs.bus.Bus.turns.Goals as goal
 
 pub returns : goal.returns

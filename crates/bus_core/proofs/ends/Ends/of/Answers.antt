@@ -1,7 +1,4 @@
-use Rattle.std.proofs.Common.{◌≤◌, ◌∙◌, ap, arith, length, map}
-use Rattle.std.proofs.lemmas.List.{take_all}
-use Rattle.bn_base.specs.declared.settings.TheConstants.{HARTS}
-use Rattle.run_model.specs.declared.hart.Hart.{Hart}
+use Rattle.bus_core.proofs.Common.{◌≤◌, ◌∙◌, ap, arith, length, map, take_all, HARTS, Hart}
 use Rattle.bus_core.proofs.Marks.{mark_more}
 use Rattle.bus_core.proofs.ends.Ends.of.Goals as goal
 

@@ -1,7 +1,4 @@
-use Rattle.std.proofs.Common.{arith, ◌≡◌, ◌<◌, ◌*◌, ◌/◌, ◌∙◌, sym, ap, subst, true, length}
-use Rattle.std.proofs.lemmas.List.{length-set}
-use Rattle.bus_memory.specs.Contents.{Contents, has_page, HoldsMap, updated}
-use Rattle.bus_memory.specs.Frames.{contents_of}
+use Rattle.bus_memory.proofs.Common.{arith, ◌≡◌, ◌<◌, ◌*◌, ◌/◌, ◌∙◌, sym, ap, subst, true, length, length-set, Contents, has_page, HoldsMap, updated, contents_of}
 use Rattle.bus_memory.proofs.Laws.{has_page_at, made_below, mapped_at, put_in, holds_put}
 use Rattle.bus_memory.proofs.memory.Memory.put.Goals as goal
 

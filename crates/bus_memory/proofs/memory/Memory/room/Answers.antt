@@ -1,7 +1,4 @@
-use Rattle.std.proofs.Common.{arith, ◌≤◌, ◌+◌, ◌*◌, sym, subst, length}
-use Rattle.std.proofs.lemmas.Bool.{false≢true}
-use Rattle.bus_memory.specs.Contents.{Contents, HasPages}
-use Rattle.bus_memory.specs.Frames.{contents_of}
+use Rattle.bus_memory.proofs.Common.{arith, ◌≤◌, ◌+◌, ◌*◌, sym, subst, length, false≢true, Contents, HasPages, contents_of}
 use Rattle.bus_memory.proofs.Laws.{length_words}
 use Rattle.bus_memory.proofs.Ranges.{made_from_words}
 use Rattle.bus_memory.proofs.memory.Memory.room.Goals as goal

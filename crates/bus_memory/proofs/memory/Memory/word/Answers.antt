@@ -1,5 +1,4 @@
-use Rattle.std.proofs.Common.{arith, ◌<◌, ◌*◌, ◌∙◌, length}
-use Rattle.bus_memory.specs.Frames.{contents_of}
+use Rattle.bus_memory.proofs.Common.{arith, ◌<◌, ◌*◌, ◌∙◌, length, contents_of}
 use Rattle.bus_memory.proofs.Laws.{length_words, word_in}
 use Rattle.bus_memory.proofs.memory.Memory.word.Goals as goal
 

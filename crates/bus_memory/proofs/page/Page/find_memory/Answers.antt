@@ -1,5 +1,4 @@
-use Rattle.std.proofs.Common.{rules, arith, ◌≡◌, length, ap, sym, ◌∙◌, eqb-true}
-use Rattle.bus_memory.specs.Frames.{Frame}
+use Rattle.bus_memory.proofs.Common.{rules, arith, ◌≡◌, length, ap, sym, ◌∙◌, eqb-true, Frame}
 use Rattle.bus_memory.proofs.Zeros.{same_zeros}
 use Rattle.bus_memory.proofs.page.Page.find_memory.Goals as goal
 

@@ -1,6 +1,4 @@
-use Rattle.std.proofs.Common.{ap, ◌+◌, ◌*◌, ◌∙◌, ◌≡◌, map, arith}
-use Rattle.std.specs.List.{range_with_len}
-use Rattle.elf_loader.specs.Segments.{first_word, word_of, file_words, words_touched}
+use Rattle.elf_loader.proofs.Common.{ap, ◌+◌, ◌*◌, ◌∙◌, ◌≡◌, map, arith, range_with_len, first_word, word_of, file_words, words_touched}
 use Rattle.elf_loader.proofs.Grown.{grown}
 use Rattle.elf_loader.proofs.program_header.ProgramHeader.file_words.Goals as goal
 

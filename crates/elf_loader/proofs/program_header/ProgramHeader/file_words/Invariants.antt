@@ -1,6 +1,4 @@
-use Rattle.std.proofs.Common.{◌≡◌, ◌+◌, ◌*◌, map, vec_len}
-use Rattle.std.specs.List.{range_with_len}
-use Rattle.elf_loader.specs.Segments.{first_word, word_of}
+use Rattle.elf_loader.proofs.Common.{◌≡◌, ◌+◌, ◌*◌, map, vec_len, range_with_len, first_word, word_of}
 use Rattle.elf_loader.proofs.program_header.ProgramHeader.file_words.Given as goal
 
 abbrev pub invariant-loop-k : goal.invariant-loop-k

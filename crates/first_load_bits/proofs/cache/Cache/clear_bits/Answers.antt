@@ -1,6 +1,4 @@
-use Rattle.std.proofs.Common.{sym, subst}
-use Rattle.first_load_bits.specs.Represents.{Contents, RepresentsEvents}
-use Rattle.first_load_bits.specs.Cached.{contents}
+use Rattle.first_load_bits.proofs.Common.{sym, subst, Contents, RepresentsEvents, contents}
 use Rattle.first_load_bits.proofs.Both.{clear_stands}
 use Rattle.first_load_bits.proofs.cache.Cache.clear_bits.Goals as goal
 

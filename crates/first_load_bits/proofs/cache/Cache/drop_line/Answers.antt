@@ -1,5 +1,4 @@
-use Rattle.std.proofs.Common.{◌∙◌, ap}
-use Rattle.first_load_bits.specs.Represents.{Contents}
+use Rattle.first_load_bits.proofs.Common.{◌∙◌, ap, Contents}
 use Rattle.first_load_bits.proofs.Both.{drop_goes}
 use Rattle.first_load_bits.proofs.cache.Cache.drop_line.Goals as goal
 

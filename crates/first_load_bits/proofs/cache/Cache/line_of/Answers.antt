@@ -1,6 +1,4 @@
-use Rattle.std.proofs.Common.{◌≡◌, ◌+◌, ◌/◌, ◌^◌, ◌∙◌, ap, subst, pow-add, mul_comm}
-use Rattle.first_load_bits.specs.Events.{line_of}
-use Rattle.first_load_bits.specs.Represents.{Contents}
+use Rattle.first_load_bits.proofs.Common.{◌≡◌, ◌+◌, ◌/◌, ◌^◌, ◌∙◌, ap, subst, pow-add, mul_comm, line_of, Contents}
 use Rattle.first_load_bits.proofs.cache.Cache.line_of.Goals as goal
 
 pub returns : goal.returns

@@ -1,11 +1,6 @@
-use Rattle.std.proofs.Common.{◌≡◌, ◌*◌, ◌^◌, ◌<◌, ◌≤◌, ◌==◌, ◌∙◌, ℕ, Bool, true, false, ap, sym, subst, arith, refl}
-use Rattle.std.specs.Prelude.{IsTrue, ◌&&◌, ◌||◌, if◌then◌else◌}
-use Rattle.std.specs.Int.{is_power_of_two}
-use Rattle.std.proofs.lemmas.Bool.{eqb-true}
-use Rattle.std.proofs.lemmas.List.Elements.{All-same, All-replicate}
+use Rattle.first_load_bits.proofs.Common.{◌≡◌, ◌*◌, ◌^◌, ◌<◌, ◌≤◌, ◌==◌, ◌∙◌, ℕ, Bool, true, false, ap, sym, subst, arith, refl, IsTrue, ◌&&◌, ◌||◌, if◌then◌else◌, is_power_of_two, eqb-true, All-same, All-replicate, Geometry}
 use Rattle.bn_base.specs.declared.settings.RawSettings.{RawSettings}
 use Rattle.bn_base.specs.Ranges.{is_between, is_small_power, IsSetting}
-use Rattle.first_load_bits.specs.Events.{Geometry}
 use Rattle.first_load_bits.proofs.Standing.{new_kept, exact_power, power_low}
 use Rattle.first_load_bits.proofs.cache.Cache.new.Goals as goal
 

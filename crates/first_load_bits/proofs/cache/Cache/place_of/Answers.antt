@@ -1,7 +1,4 @@
-use Rattle.std.proofs.Common.{◌≡◌, ◌/◌, ◌%◌, ◌^◌, ◌<◌, ◌≤◌, subst, arith, pow_pos, pow_mono}
-use Rattle.std.proofs.lemmas.Nat.{mod_below}
-use Rattle.first_load_bits.specs.Lines.{place_of}
-use Rattle.first_load_bits.specs.Represents.{Contents}
+use Rattle.first_load_bits.proofs.Common.{◌≡◌, ◌/◌, ◌%◌, ◌^◌, ◌<◌, ◌≤◌, subst, arith, pow_pos, pow_mono, mod_below, place_of, Contents}
 use Rattle.first_load_bits.proofs.cache.Cache.place_of.Goals as goal
 
 pub returns-clause-value : goal.returns-clause-value

@@ -1,9 +1,4 @@
-use Rattle.std.proofs.Common.{◌≡◌, ◌<◌, ◌≤◌, ◌+◌, ◌-◌, ◌∙◌, All, take, drop, set, ap, sym, subst, refl, arith}
-use Rattle.std.proofs.lemmas.List.Elements.{All-weaker}
-use Rattle.first_load_bits.specs.Events.{second_of}
-use Rattle.first_load_bits.specs.Represents.{Level, Contents, second_level}
-use Rattle.first_load_bits.specs.Cached.{contents, AreKept}
-use Rattle.first_load_bits.specs.Steps.{IsPutBelow, with_ways_below}
+use Rattle.first_load_bits.proofs.Common.{◌≡◌, ◌<◌, ◌≤◌, ◌+◌, ◌-◌, ◌∙◌, All, take, drop, set, ap, sym, subst, refl, arith, All-weaker, second_of, Level, Contents, second_level, contents, AreKept, IsPutBelow, with_ways_below}
 use Rattle.first_load_bits.proofs.Standing.{IsRead}
 use Rattle.first_load_bits.proofs.Both.{read_second, put_below_keeps, put_below_goes}
 use Rattle.first_load_bits.proofs.Inside.{has_sets, has_ways}

@@ -1,8 +1,4 @@
-use Rattle.std.proofs.Common.{◌<◌, ◌≤◌, ◌+◌, ◌-◌, ◌∙◌, take, drop, set, subst, refl, arith}
-use Rattle.first_load_bits.specs.declared.way.Way.{Way}
-use Rattle.first_load_bits.specs.Represents.{Contents, second_level}
-use Rattle.first_load_bits.specs.Cached.{contents}
-use Rattle.first_load_bits.specs.Steps.{IsTakenBelow, IsBitsBelow, with_ways_below}
+use Rattle.first_load_bits.proofs.Common.{◌<◌, ◌≤◌, ◌+◌, ◌-◌, ◌∙◌, take, drop, set, subst, refl, arith, Way, Contents, second_level, contents, IsTakenBelow, IsBitsBelow, with_ways_below}
 use Rattle.first_load_bits.proofs.Standing.{IsRead, out_keeps, out_goes, out_absent, way_made, line_inside, bits_read}
 use Rattle.first_load_bits.proofs.Both.{read_second, some_ways, bits_absent_below}
 use Rattle.first_load_bits.proofs.Inside.{has_sets}

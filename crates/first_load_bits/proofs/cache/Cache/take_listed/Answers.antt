@@ -1,8 +1,4 @@
-use Rattle.std.proofs.Common.{◌≤◌, ◌+◌, ◌-◌, take, drop, set, subst, pow_pos, refl}
-use Rattle.first_load_bits.specs.declared.way.Way.{Way}
-use Rattle.first_load_bits.specs.Represents.{Contents, first_level}
-use Rattle.first_load_bits.specs.Cached.{contents}
-use Rattle.first_load_bits.specs.Steps.{IsTakenListed, with_ways}
+use Rattle.first_load_bits.proofs.Common.{◌≤◌, ◌+◌, ◌-◌, take, drop, set, subst, pow_pos, refl, Way, Contents, first_level, contents, IsTakenListed, with_ways}
 use Rattle.first_load_bits.proofs.Standing.{IsRead, out_keeps, out_goes, out_absent, way_made, line_inside}
 use Rattle.first_load_bits.proofs.Both.{read_first}
 use Rattle.first_load_bits.proofs.cache.Cache.take_listed.Goals as goal

@@ -1,10 +1,5 @@
-use Rattle.std.proofs.Common.{◌≡◌, ◌<◌, ◌+◌, ◌-◌, ◌*◌, ◌%◌, ◌^◌, ◌∙◌, take, drop, ap, ◌==◌, sym, subst, arith, bit_or, pow_pos, refl, if◌then◌else◌}
-use Rattle.std.specs.Int.{bit_at}
+use Rattle.first_load_bits.proofs.Common.{◌≡◌, ◌<◌, ◌+◌, ◌-◌, ◌*◌, ◌%◌, ◌^◌, ◌∙◌, take, drop, ap, ◌==◌, sym, subst, arith, bit_or, pow_pos, refl, if◌then◌else◌, bit_at, known_bits, IsFallen, IsTakenBelow, Contents, first_level, second_level, contents}
 use Rattle.first_load_bits.specs.declared.warm.Warm.TheVariants as Answer
-use Rattle.first_load_bits.specs.Ways.{known_bits}
-use Rattle.first_load_bits.specs.Steps.{IsFallen, IsTakenBelow}
-use Rattle.first_load_bits.specs.Represents.{Contents, first_level, second_level}
-use Rattle.first_load_bits.specs.Cached.{contents}
 use Rattle.first_load_bits.proofs.Standing.{put_keeps, kept_later}
 use Rattle.first_load_bits.proofs.Both.{IsTouched, touched_cache, touch_is, mask_is, read_first}
 use Rattle.first_load_bits.proofs.Inside.{has_sets}

@@ -1,13 +1,5 @@
-use Rattle.std.proofs.Common.{ℕ, ◌≡◌, ◌+◌, List, ◌==◌, if◌then◌else◌, ◌-◌, ◌*◌, ◌%◌, ◌^◌, ◌∙◌, take, drop, ap, subst, sym, refl, arith, bit_or, pow_pos, inl}
-use Rattle.std.specs.Int.{bit_at}
-use Rattle.first_load_bits.specs.declared.way.Way.{Way}
+use Rattle.first_load_bits.proofs.Common.{ℕ, ◌≡◌, ◌+◌, List, ◌==◌, if◌then◌else◌, ◌-◌, ◌*◌, ◌%◌, ◌^◌, ◌∙◌, take, drop, ap, subst, sym, refl, arith, bit_or, pow_pos, inl, bit_at, Way, line_of, set_of, place_of, known_bits, HasLine, IsListed, IsTouch, Contents, first_level, second_level, contents}
 use Rattle.first_load_bits.specs.declared.warm.Warm.TheVariants as Answer
-use Rattle.first_load_bits.specs.Events.{line_of, set_of}
-use Rattle.first_load_bits.specs.Lines.{place_of}
-use Rattle.first_load_bits.specs.Ways.{known_bits, HasLine}
-use Rattle.first_load_bits.specs.Steps.{IsListed, IsTouch}
-use Rattle.first_load_bits.specs.Represents.{Contents, first_level, second_level}
-use Rattle.first_load_bits.specs.Cached.{contents}
 use Rattle.first_load_bits.proofs.Standing.{IsRead, put_keeps, kept_later, known_read}
 use Rattle.first_load_bits.proofs.Both.{listed_is, mask_is, read_first, touched_cache}
 use Rattle.first_load_bits.proofs.Inside.{no_sets}

@@ -1,5 +1,4 @@
-use Rattle.std.proofs.Common.{◌≡◌, ◌-◌, ◌^◌, ◌∙◌, ap, arith, bit_and}
-use Rattle.std.proofs.lemmas.Nat.{and_mask}
+use Rattle.first_load_bits.proofs.Common.{◌≡◌, ◌-◌, ◌^◌, ◌∙◌, ap, arith, bit_and, and_mask}
 use Rattle.first_load_bits.proofs.power.Power.rest.Goals as goal
 
 pub returns : goal.returns

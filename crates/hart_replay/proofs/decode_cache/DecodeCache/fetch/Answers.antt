@@ -1,10 +1,4 @@
-use Rattle.std.proofs.Common.{◌≡◌, sym, ◌∙◌, ap, ℕ, slice_get, List, Option, Some, refl}
-use Rattle.std.proofs.lemmas.Option.{slice_get_read}
-use Rattle.bn_base.specs.Programs.{code_at}
-use Rattle.rv_meaning.specs.Lookups.{destination, fetched}
-use Rattle.rv_meaning.specs.Rows.{instruction_in}
-use Rattle.hart_replay.specs.DecodeCaches.{CacheOf}
-use Rattle.hart_replay.specs.declared.decode_cache.Lookup.{Lookup}
+use Rattle.hart_replay.proofs.Common.{◌≡◌, sym, ◌∙◌, ap, ℕ, slice_get, List, Option, Some, refl, slice_get_read, code_at, destination, fetched, instruction_in, CacheOf, Lookup}
 use Rattle.hart_replay.proofs.decode_cache.DecodeCache.fetch.Goals as goal
 
 pub returns-in-Some-clause-value : goal.returns-in-Some-clause-value

@@ -1,7 +1,4 @@
-use Rattle.std.proofs.Common.{ℕ, Some, refl, subst, arith}
-use Rattle.rv_meaning.specs.declared.asks.Want.TheVariants.{Amo}
-use Rattle.rv_meaning.specs.declared.asks.Reply.TheVariants.{Word}
-use Rattle.rv_meaning.specs.Access.{amo_result}
+use Rattle.hart_replay.proofs.Common.{ℕ, Some, refl, subst, arith, Amo, Word, amo_result}
 use Rattle.hart_replay.proofs.Going.{loading_does, missing_does, twice, Kept}
 use Rattle.hart_replay.proofs.interval_cursor.IntervalCursor.amo.Goals as goal
 

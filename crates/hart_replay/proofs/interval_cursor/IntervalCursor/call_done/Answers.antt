@@ -1,6 +1,4 @@
-use Rattle.std.proofs.Common.{ℕ, Bool, true, false, Option, Some, None, ap, sym, ◌∙◌}
-use Rattle.std.proofs.lemmas.Bool.{eq-eqb, ne_eqb}
-use Rattle.rv_meaning.specs.Rows.{call_row}
+use Rattle.hart_replay.proofs.Common.{ℕ, Bool, true, false, Option, Some, None, ap, sym, ◌∙◌, eq-eqb, ne_eqb, call_row}
 use Rattle.hart_replay.proofs.interval_cursor.IntervalCursor.call_done.Goals as goal
 
 pub returns-then-reason-eq-CALL-clause-row : goal.returns-then-reason-eq-CALL-clause-row

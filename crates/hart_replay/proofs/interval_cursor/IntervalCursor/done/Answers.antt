@@ -1,6 +1,4 @@
-use Rattle.std.proofs.Common.{ap}
-use Rattle.bn_base.specs.declared.state.HartState.{HartState}
-use Rattle.rv_meaning.specs.Execute.{after}
+use Rattle.hart_replay.proofs.Common.{ap, HartState, after}
 use Rattle.hart_replay.proofs.interval_cursor.IntervalCursor.done.Goals as goal
 
 pub returns-clause-row : goal.returns-clause-row

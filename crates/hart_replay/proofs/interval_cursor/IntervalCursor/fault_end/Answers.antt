@@ -1,10 +1,4 @@
-use Rattle.std.proofs.Common.{ap, ◌∙◌}
-use Rattle.hart_replay.specs.declared.error.ReplayError.TheVariants.{EndDiffers}
-use Rattle.hart_replay.specs.Coming.{without_rows}
-use Rattle.hart_replay.specs.Sides.{outcome_of}
-use Rattle.hart_replay.specs.Cursors.{interval_of_cursor, position_of}
-use Rattle.bn_base.specs.Programs.{Program}
-use Rattle.rv_meaning.specs.Lookups.{fetched}
+use Rattle.hart_replay.proofs.Common.{ap, ◌∙◌, EndDiffers, without_rows, outcome_of, interval_of_cursor, position_of, Program, fetched}
 use Rattle.hart_replay.proofs.Codes.{run_of}
 use Rattle.hart_replay.proofs.Asked.{end_missed, end_met, end_other}
 use Rattle.hart_replay.proofs.interval_cursor.IntervalCursor.fault_end.Goals as goal

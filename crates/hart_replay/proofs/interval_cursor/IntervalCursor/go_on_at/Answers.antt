@@ -1,5 +1,4 @@
-use Rattle.std.proofs.Common.{refl}
-use Rattle.hart_replay.specs.Cursors.{side_of}
+use Rattle.hart_replay.proofs.Common.{refl, side_of}
 use Rattle.hart_replay.proofs.Asked.{asks_ready, does_asked, does_quiet}
 use Rattle.hart_replay.proofs.interval_cursor.IntervalCursor.go_on_at.Goals as goal
 

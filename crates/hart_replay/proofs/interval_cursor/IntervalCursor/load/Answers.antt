@@ -1,6 +1,4 @@
-use Rattle.std.proofs.Common.{Some, None, refl, arith}
-use Rattle.rv_meaning.specs.declared.asks.Want.TheVariants.{Load}
-use Rattle.rv_meaning.specs.declared.asks.Reply.TheVariants.{Word}
+use Rattle.hart_replay.proofs.Common.{Some, None, refl, arith, Load, Word}
 use Rattle.hart_replay.proofs.Going.{loading_does, missing_does}
 use Rattle.hart_replay.proofs.interval_cursor.IntervalCursor.load.Goals as goal
 

@@ -1,5 +1,4 @@
-use Rattle.std.proofs.Common.{arith}
-use Rattle.std.proofs.lemmas.Bool.{eq-eqb}
+use Rattle.hart_replay.proofs.Common.{arith, eq-eqb}
 use Rattle.hart_replay.proofs.Going.{storing_does}
 use Rattle.hart_replay.proofs.interval_cursor.IntervalCursor.store.Goals as goal
 

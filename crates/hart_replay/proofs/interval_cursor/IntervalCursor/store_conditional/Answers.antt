@@ -1,5 +1,4 @@
-use Rattle.std.proofs.Common.{List, Bool, Some, ap, sym, ◌∙◌, arith}
-use Rattle.hart_replay.specs.declared.interval_cursor.IntervalCursor.{IntervalCursor}
+use Rattle.hart_replay.proofs.Common.{List, Bool, Some, ap, sym, ◌∙◌, arith, IntervalCursor}
 use Rattle.hart_replay.proofs.Going.{trying_does}
 use Rattle.hart_replay.proofs.interval_cursor.IntervalCursor.store_conditional.Goals as goal
 

@@ -1,8 +1,4 @@
-use Rattle.std.proofs.Common.{ℕ, Some, None, Err, refl, subst, arith}
-use Rattle.rv_meaning.specs.declared.asks.Want.TheVariants.{Store}
-use Rattle.rv_meaning.specs.declared.asks.Reply.TheVariants.{Stored}
-use Rattle.rv_meaning.specs.Access.{stored_word}
-use Rattle.hart_replay.specs.Cursors.{side_of}
+use Rattle.hart_replay.proofs.Common.{ℕ, Some, None, Err, refl, subst, arith, Store, Stored, stored_word, side_of}
 use Rattle.hart_replay.proofs.Going.{loading_does, missing_does, part_does, Kept}
 use Rattle.hart_replay.proofs.interval_cursor.IntervalCursor.store_part.Goals as goal
 

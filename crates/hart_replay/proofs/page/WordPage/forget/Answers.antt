@@ -1,5 +1,4 @@
-use Rattle.std.proofs.Common.{ap, ◌∙◌}
-use Rattle.hart_replay.specs.Pages.{Frame, word_in}
+use Rattle.hart_replay.proofs.Common.{ap, ◌∙◌, Frame, word_in}
 use Rattle.hart_replay.proofs.Marks.{word_in-cleared}
 use Rattle.hart_replay.proofs.page.WordPage.forget.Goals as goal
 

@@ -1,5 +1,4 @@
-use Rattle.std.proofs.Common.{ap, ◌∙◌, arith}
-use Rattle.hart_replay.specs.Pages.{Frame, word_in}
+use Rattle.hart_replay.proofs.Common.{ap, ◌∙◌, arith, Frame, word_in}
 use Rattle.hart_replay.proofs.Marks.{word_in-marked}
 use Rattle.hart_replay.proofs.page.WordPage.put.Goals as goal
 

@@ -1,8 +1,4 @@
-use Rattle.std.proofs.Common.{◌≡◌, [], ◌∷◌, Option, Some, Result, Err, false, subst, sym, rules, arith}
-use Rattle.hart_replay.specs.declared.error.ReplayError.{ReplayError}
-use Rattle.hart_replay.specs.Coming.{Stepped, with_rows}
-use Rattle.hart_replay.specs.Cursors.{CursorDoes, answered, cursor_to_come, next_of}
-use Rattle.hart_replay.specs.Sides.{left_by}
+use Rattle.hart_replay.proofs.Common.{◌≡◌, [], ◌∷◌, Option, Some, Result, Err, false, subst, sym, rules, arith, ReplayError, Stepped, with_rows, CursorDoes, answered, cursor_to_come, next_of, left_by}
 use Rattle.hart_replay.proofs.Stepping.{stepped_on, stepped_out}
 use Rattle.hart_replay.proofs.replayer.Replayer.advance.Goals as goal
 

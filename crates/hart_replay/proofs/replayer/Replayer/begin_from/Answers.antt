@@ -1,7 +1,4 @@
-use Rattle.std.proofs.Common.{false, sym, subst}
-use Rattle.bn_base.specs.Programs.{Program}
-use Rattle.hart_replay.specs.Coming.{Begins}
-use Rattle.hart_replay.specs.Sides.{side, side_to_come}
+use Rattle.hart_replay.proofs.Common.{false, sym, subst, Program, Begins, side, side_to_come}
 use Rattle.hart_replay.proofs.Stepping.{begins}
 use Rattle.hart_replay.proofs.replayer.Replayer.begin_from.Goals as goal
 

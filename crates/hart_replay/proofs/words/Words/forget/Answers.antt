@@ -1,8 +1,4 @@
-use Rattle.std.proofs.Common.{◌≡◌, ◌/◌, ◌==◌, sym, ◌∙◌, ap, arith, List, None, true, false, if◌then◌else◌}
-use Rattle.std.proofs.lemmas.Option.{get_or_from_slice_get}
-use Rattle.hart_replay.specs.Directories.{place_for, stands_at}
-use Rattle.hart_replay.specs.Pages.{Known, word_at}
-use Rattle.hart_replay.specs.declared.words.TaggedPage.{TaggedPage}
+use Rattle.hart_replay.proofs.Common.{◌≡◌, ◌/◌, ◌==◌, sym, ◌∙◌, ap, arith, List, None, true, false, if◌then◌else◌, get_or_from_slice_get, place_for, stands_at, Known, word_at, TaggedPage}
 use Rattle.hart_replay.proofs.Listed.{word_set, word_stays}
 use Rattle.hart_replay.proofs.words.Words.forget.Goals as goal
 

@@ -1,9 +1,4 @@
-use Rattle.std.proofs.Common.{◌≡◌, ◌≤◌, ◌/◌, ◌%◌, sym, ◌∙◌, ap, arith, length, slice_get, List, Option, None, Some, refl}
-use Rattle.std.proofs.lemmas.Bool.Decides.{nat_tests}
-use Rattle.std.proofs.lemmas.Option.{slice_get_read, slice_get_past}
-use Rattle.hart_replay.specs.Directories.{page_in, place_for}
-use Rattle.hart_replay.specs.Pages.{Frame, Known, word_of, word_at}
-use Rattle.hart_replay.specs.declared.words.TaggedPage.{TaggedPage}
+use Rattle.hart_replay.proofs.Common.{◌≡◌, ◌≤◌, ◌/◌, ◌%◌, sym, ◌∙◌, ap, arith, length, slice_get, List, Option, None, Some, refl, nat_tests, slice_get_read, slice_get_past, page_in, place_for, Frame, Known, word_of, word_at, TaggedPage}
 use Rattle.hart_replay.proofs.Listed.{word_found, own_number, other_number}
 use Rattle.hart_replay.proofs.words.Words.get.Goals as goal
 

@@ -1,8 +1,4 @@
-use Rattle.std.proofs.Common.{◌/◌, ◌%◌, ◌^◌, inl, inr, ap, ◌∙◌, List, slice_get}
-use Rattle.std.proofs.lemmas.Bool.{cases_lt}
-use Rattle.hart_replay.specs.Directories.{page_at, page_in, place_for}
-use Rattle.hart_replay.specs.Pages.{word_of}
-use Rattle.hart_replay.specs.declared.words.TaggedPage.{TaggedPage}
+use Rattle.hart_replay.proofs.Common.{◌/◌, ◌%◌, ◌^◌, inl, inr, ap, ◌∙◌, List, slice_get, cases_lt, page_at, page_in, place_for, word_of, TaggedPage}
 use Rattle.hart_replay.proofs.Listed.{word_listed, none_past}
 use Rattle.hart_replay.proofs.words.Words.new.Goals as goal
 

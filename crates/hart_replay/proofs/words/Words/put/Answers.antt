@@ -1,9 +1,5 @@
-use Rattle.std.proofs.Common.{◌≡◌, ◌/◌, ◌==◌, sym, ◌∙◌, ap, arith, List, Some, true, false, if◌then◌else◌}
-use Rattle.std.proofs.lemmas.Option.{get_or_from_slice_get}
+use Rattle.hart_replay.proofs.Common.{◌≡◌, ◌/◌, ◌==◌, sym, ◌∙◌, ap, arith, List, Some, true, false, if◌then◌else◌, get_or_from_slice_get, page_at, pages_of, place_for, stands_at, Known, word_at, TaggedPage}
 use Rattle.std.proofs.lemmas.Result.{on_ok_weaker}
-use Rattle.hart_replay.specs.Directories.{page_at, pages_of, place_for, stands_at}
-use Rattle.hart_replay.specs.Pages.{Known, word_at}
-use Rattle.hart_replay.specs.declared.words.TaggedPage.{TaggedPage}
 use Rattle.hart_replay.proofs.Listed.{word_set, word_more}
 use Rattle.hart_replay.proofs.words.Words.put.Goals as goal
 

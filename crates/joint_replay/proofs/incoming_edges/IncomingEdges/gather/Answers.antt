@@ -1,5 +1,4 @@
-use Rattle.std.proofs.Common.{◌≡◌, subst, sym, ap, ◌∙◌, ℕ, ◌≤◌}
-use Rattle.joint_replay.specs.Sources.{edges_into, AscendFrom}
+use Rattle.joint_replay.proofs.Common.{◌≡◌, subst, sym, ap, ◌∙◌, ℕ, ◌≤◌, edges_into, AscendFrom}
 use Rattle.joint_replay.proofs.Ascents.{log_edges_ascend, all_gathered, none_left}
 use Rattle.joint_replay.proofs.incoming_edges.IncomingEdges.gather.Goals as goal
 

@@ -1,5 +1,4 @@
-use Rattle.std.proofs.Common.{◌≡◌, ◌++◌, drop}
-use Rattle.joint_replay.specs.Sources.{edges_into}
+use Rattle.joint_replay.proofs.Common.{◌≡◌, ◌++◌, drop, edges_into}
 use Rattle.joint_replay.proofs.incoming_edges.IncomingEdges.gather.Given as goal
 
 -- those before the place

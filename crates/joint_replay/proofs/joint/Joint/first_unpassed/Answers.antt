@@ -1,6 +1,4 @@
-use Rattle.std.proofs.Common.{List, length, take, sym, ◌∙◌, subst}
-use Rattle.joint_replay.specs.declared.incoming_edges.IncomingEdge.{IncomingEdge}
-use Rattle.joint_replay.specs.Together.{ArePassed}
+use Rattle.joint_replay.proofs.Common.{List, length, take, sym, ◌∙◌, subst, IncomingEdge, ArePassed}
 use Rattle.joint_replay.proofs.MetSources.{edges_are, more_passed, all_passed}
 use Rattle.joint_replay.proofs.joint.Joint.first_unpassed.Goals as goal
 

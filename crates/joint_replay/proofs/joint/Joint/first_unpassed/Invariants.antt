@@ -1,5 +1,4 @@
-use Rattle.std.proofs.Common.{take}
-use Rattle.joint_replay.specs.Together.{ArePassed}
+use Rattle.joint_replay.proofs.Common.{take, ArePassed}
 use Rattle.joint_replay.proofs.joint.Joint.first_unpassed.Given as goal
 
 -- the sources before the place are passed

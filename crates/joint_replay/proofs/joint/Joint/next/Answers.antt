@@ -1,5 +1,4 @@
-use Rattle.std.proofs.Common.{Bool, ◌+◌, drop, ap, ◌∙◌, length, arith}
-use Rattle.joint_replay.specs.Joining.{Joining, choice_from}
+use Rattle.joint_replay.proofs.Common.{Bool, ◌+◌, drop, ap, ◌∙◌, length, arith, Joining, choice_from}
 use Rattle.joint_replay.proofs.Choosing.{lanes_length, is_lowest, waits_on, is_done}
 use Rattle.joint_replay.proofs.joint.Joint.next.Goals as goal
 use Rattle.joint_replay.proofs.joint.Joint.next.Goals.{in-Waits, in-Done}

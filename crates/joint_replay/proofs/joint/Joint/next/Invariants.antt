@@ -1,5 +1,4 @@
-use Rattle.std.proofs.Common.{◌≡◌, drop}
-use Rattle.joint_replay.specs.Joining.{choice, choice_from}
+use Rattle.joint_replay.proofs.Common.{◌≡◌, drop, choice, choice_from}
 use Rattle.joint_replay.proofs.joint.Joint.next.Given as goal
 
 -- none of the harts before is ready

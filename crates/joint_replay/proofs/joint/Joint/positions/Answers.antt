@@ -1,7 +1,6 @@
-use Rattle.std.proofs.Common.{◌<◌, ◌+◌, ◌++◌, ◌∷◌, [], ℕ, List, length, drop, ap, ◌∙◌, arith}
+use Rattle.joint_replay.proofs.Common.{◌<◌, ◌+◌, ◌++◌, ◌∷◌, [], ℕ, List, length, drop, ap, ◌∙◌, arith, Joining, positions_from}
 use Rattle.std.specs.declared.vec.Vec.{Vec}
 use Rattle.std.specs.declared.alloc.Global.{Global}
-use Rattle.joint_replay.specs.Joining.{Joining, positions_from}
 use Rattle.joint_replay.proofs.Choosing.{lanes_length}
 use Rattle.joint_replay.proofs.Positions.{none_more, one_more}
 use Rattle.joint_replay.proofs.joint.Joint.positions.Goals as goal

@@ -1,5 +1,4 @@
-use Rattle.std.proofs.Common.{◌≡◌, ◌++◌, drop}
-use Rattle.joint_replay.specs.Joining.{positions_from}
+use Rattle.joint_replay.proofs.Common.{◌≡◌, ◌++◌, drop, positions_from}
 use Rattle.joint_replay.proofs.joint.Joint.positions.Given as goal
 
 -- those of the harts before are found

@@ -1,6 +1,4 @@
-use Rattle.std.proofs.Common.{◌+◌, slice_index_or, drop, subst}
-use Rattle.joint_replay.specs.Points.{sources_into}
-use Rattle.joint_replay.specs.declared.incoming_edges.IncomingEdge.{IncomingEdge}
+use Rattle.joint_replay.proofs.Common.{◌+◌, slice_index_or, drop, subst, sources_into, IncomingEdge}
 use Rattle.joint_replay.proofs.MetSources.{waits_from}
 use Rattle.joint_replay.proofs.Waiting.{IsLeft, opened_at, is_past}
 use Rattle.joint_replay.proofs.joint.Joint.waits.Goals as goal

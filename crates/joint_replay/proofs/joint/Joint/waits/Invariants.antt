@@ -1,5 +1,4 @@
-use Rattle.std.proofs.Common.{drop}
-use Rattle.joint_replay.specs.Points.{sources_into}
+use Rattle.joint_replay.proofs.Common.{drop, sources_into}
 use Rattle.joint_replay.proofs.Waiting.{IsLeft}
 use Rattle.joint_replay.proofs.joint.Joint.waits.Given as goal
 

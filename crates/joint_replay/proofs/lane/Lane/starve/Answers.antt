@@ -1,6 +1,4 @@
-use Rattle.std.proofs.Common.{subst, Some}
-use Rattle.joint_replay.specs.Harts.{HartLane, hart_lane}
-use Rattle.joint_replay.specs.Moves.{LaneRefuses}
+use Rattle.joint_replay.proofs.Common.{subst, Some, HartLane, hart_lane, LaneRefuses}
 use Rattle.joint_replay.proofs.LaneMoves.{refuses_in, no_keys}
 use Rattle.joint_replay.proofs.lane.Lane.starve.Goals as goal
 

@@ -1,8 +1,5 @@
-use Rattle.std.proofs.Common.{Bool, subst, ap, ◌∙◌, Some, Ok, Err}
+use Rattle.joint_replay.proofs.Common.{Bool, subst, ap, ◌∙◌, Some, Ok, Err, given, Running, HartLane, hart_lane, CursorSteps, LaneSteps}
 use Rattle.joint_replay.specs.declared.lane.Moved.TheVariants as to
-use Rattle.hart_replay.specs.Coming.{given}
-use Rattle.joint_replay.specs.Harts.{Running, HartLane, hart_lane}
-use Rattle.joint_replay.specs.Moves.{CursorSteps, LaneSteps}
 use Rattle.joint_replay.proofs.LaneMoves.{passes, gives_in, ends_in, refuses_in, no_keys}
 use Rattle.joint_replay.proofs.lane.Lane.step.Goals as goal
 

@@ -1,6 +1,4 @@
-use Rattle.std.proofs.Common.{ap, ◌∙◌, refl, arith, Some}
-use Rattle.joint_replay.specs.Memory.{forget}
-use Rattle.joint_replay.specs.Words.{Remembered}
+use Rattle.joint_replay.proofs.Common.{ap, ◌∙◌, refl, arith, Some, forget, Remembered}
 use Rattle.joint_replay.proofs.WordLists.{none_yet, one_more, all_gone, still_below}
 use Rattle.joint_replay.proofs.replay_memory.ReplayMemory.forget.Goals as goal
 

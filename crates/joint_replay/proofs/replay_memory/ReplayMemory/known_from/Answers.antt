@@ -1,7 +1,4 @@
-use Rattle.std.proofs.Common.{◌≡◌, ◌+◌, ◌*◌, ◌/◌, ◌<◌, ◌^◌, ◌-◌, ◌∷◌, ap, sym, ◌∙◌, arith}
-use Rattle.hart_replay.specs.Pages.{word_at}
-use Rattle.joint_replay.specs.Memory.{known_from}
-use Rattle.joint_replay.specs.Words.{Remembered}
+use Rattle.joint_replay.proofs.Common.{◌≡◌, ◌+◌, ◌*◌, ◌/◌, ◌<◌, ◌^◌, ◌-◌, ◌∷◌, ap, sym, ◌∙◌, arith, word_at, known_from, Remembered}
 use Rattle.joint_replay.proofs.WordLists.{from_address, one_unknown, one_known, none_after}
 use Rattle.joint_replay.proofs.replay_memory.ReplayMemory.known_from.Goals as goal
 

@@ -1,7 +1,4 @@
-use Rattle.std.proofs.Common.{◌≡◌, ◌-◌, ◌^◌}
-use Rattle.hart_replay.specs.Pages.{word_at}
-use Rattle.joint_replay.specs.Memory.{known_from}
-use Rattle.joint_replay.specs.Words.{words_from}
+use Rattle.joint_replay.proofs.Common.{◌≡◌, ◌-◌, ◌^◌, word_at, known_from, words_from}
 use Rattle.joint_replay.proofs.replay_memory.ReplayMemory.known_from.Given as goal
 
 -- none of the words before is known

@@ -1,7 +1,4 @@
-use Rattle.std.proofs.Common.{ap, ◌∙◌, arith}
-use Rattle.joint_replay.specs.Memory.{put_word}
-use Rattle.rv_meaning.specs.Words.{aligned}
-use Rattle.joint_replay.specs.Words.{Remembered}
+use Rattle.joint_replay.proofs.Common.{ap, ◌∙◌, arith, put_word, aligned, Remembered}
 use Rattle.joint_replay.proofs.WordLists.{word_put}
 use Rattle.joint_replay.proofs.replay_memory.ReplayMemory.put.Goals as goal
 

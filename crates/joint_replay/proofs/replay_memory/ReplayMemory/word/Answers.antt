@@ -1,6 +1,4 @@
-use Rattle.std.proofs.Common.{ap, sym, ◌∙◌, arith}
-use Rattle.joint_replay.specs.Memory.{word_in}
-use Rattle.joint_replay.specs.Words.{Remembered}
+use Rattle.joint_replay.proofs.Common.{ap, sym, ◌∙◌, arith, word_in, Remembered}
 use Rattle.joint_replay.proofs.WordLists.{word_found, no_word}
 use Rattle.joint_replay.proofs.replay_memory.ReplayMemory.word.Goals as goal
 

@@ -1,4 +1,5 @@
-use Rattle.log_commands.proofs.Common.{inl, inr, refl, File, NothingLeft}
+use Rattle.log_commands.proofs.Common.{inl, inr, refl}
+use Rattle.log_blocks.specs.declared.damage.SalvageError.TheVariants.{File, NothingLeft}
 use Rattle.log_commands.proofs.Renewals.{salvaged-told, unsalvaged-told}
 use Rattle.log_commands.proofs.commands.salvage.evaluate.Goals as goal
 

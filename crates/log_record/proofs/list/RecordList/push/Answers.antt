@@ -1,7 +1,4 @@
-use Rattle.std.proofs.Common.{◌≡◌, ◌∷◌, [], ◌++◌, List, length, map, arith, ◌∙◌, sym, ap}
-use Rattle.log_record.specs.declared.record.Record.{Record}
-use Rattle.log_record.specs.declared.stored_record.StoredRecord.{StoredRecord}
-use Rattle.log_record.specs.Entries.{record_of}
+use Rattle.log_record.proofs.Common.{◌≡◌, ◌∷◌, [], ◌++◌, List, length, map, arith, ◌∙◌, sym, ap, Record, StoredRecord, record_of}
 use Rattle.log_record.proofs.Entries.{grown, pushed, kept, refused}
 use Rattle.log_record.proofs.list.RecordList.push.Goals as goal
 

@@ -1,5 +1,4 @@
-use Rattle.std.proofs.Common.{◌∙◌}
-use Rattle.log_ring.specs.Kept.{Appends}
+use Rattle.log_ring.proofs.Common.{◌∙◌, Appends}
 use Rattle.log_ring.proofs.ring.Ring.append.Goals as goal
 
 appends : (c : goal.After-append_bytes) → Appends c.args.self.now c.args.entry.now c.append_bytes.new.self

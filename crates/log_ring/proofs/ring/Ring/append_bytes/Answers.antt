@@ -1,7 +1,4 @@
-use Rattle.std.proofs.Common.{◌≡◌, ◌+◌, ◌-◌, ℕ, length, ap, refl, arith}
-use Rattle.log_record.specs.declared.record.Record.{Record}
-use Rattle.log_record.specs.Spelling.{Fits, bytes_of}
-use Rattle.log_ring.specs.Kept.{Held}
+use Rattle.log_ring.proofs.Common.{◌≡◌, ◌+◌, ◌-◌, ℕ, length, ap, refl, arith, Record, Fits, bytes_of, Held}
 use Rattle.log_ring.proofs.Appends.{Pushed, pushed, gives_up, still_holds, longest}
 use Rattle.log_ring.proofs.ring.Ring.append_bytes.Goals as goal
 

@@ -1,5 +1,4 @@
-use Rattle.log_record.specs.declared.record.Record.TheVariants.{Edge}
-use Rattle.log_ring.specs.Kept.{Appends}
+use Rattle.log_ring.proofs.Common.{Edge, Appends}
 use Rattle.log_ring.proofs.ring.Ring.append_edge.Goals as goal
 
 appends : (c : goal.After-append_bytes) → Appends c.args.self.now (Edge c.args.hart c.args.ic c.args.from c.args.from_ic) c.append_bytes.new.self

@@ -1,5 +1,4 @@
-use Rattle.log_record.specs.declared.record.Record.TheVariants.{FirstLoad}
-use Rattle.log_ring.specs.Kept.{Appends}
+use Rattle.log_ring.proofs.Common.{FirstLoad, Appends}
 use Rattle.log_ring.proofs.ring.Ring.append_first_load.Goals as goal
 
 appends : (c : goal.After-append_bytes) → Appends c.args.self.now (FirstLoad c.args.hart c.args.skip c.args.value) c.append_bytes.new.self

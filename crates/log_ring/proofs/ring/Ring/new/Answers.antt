@@ -1,8 +1,4 @@
-use Rattle.std.proofs.Common.{◌≤◌, ℕ, List, ap, ◌∙◌, sym, subst}
-use Rattle.circular_buffer.specs.Buffer.{Buffer}
-use Rattle.log_record.specs.declared.record.Record.{Record}
-use Rattle.log_ring.specs.Whole.{IsWhole, records_in}
-use Rattle.log_ring.specs.Kept.{held}
+use Rattle.log_ring.proofs.Common.{◌≤◌, ℕ, List, ap, ◌∙◌, sym, subst, Buffer, Record, IsWhole, records_in, held}
 use Rattle.log_ring.proofs.Cuts.{whole_nil, records_in-nil}
 use Rattle.log_ring.proofs.ring.Ring.new.Goals as goal
 

@@ -1,7 +1,4 @@
-use Rattle.std.proofs.Common.{◌∙◌, arith, ap, slice_get, slice_set}
-use Rattle.std.proofs.lemmas.List.{length-set, get_or-set_same}
-use Rattle.race_log.specs.declared.epochs.Epoch.{Epoch}
-use Rattle.race_log.specs.Slots.{counts_of}
+use Rattle.race_log.proofs.Common.{◌∙◌, arith, ap, slice_get, slice_set, length-set, get_or-set_same, Epoch, counts_of}
 use Rattle.race_log.proofs.PageLemmas.{get_here, get_there}
 use Rattle.race_log.proofs.EpochLemmas.{is_free, begin_low, settled_apart, settled_begin, settled_now_begin}
 use Rattle.race_log.proofs.epochs.Epochs.begin.Goals as goal

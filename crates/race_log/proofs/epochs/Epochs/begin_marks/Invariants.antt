@@ -1,6 +1,4 @@
-use Rattle.std.proofs.Common.{◌≡◌, ◌<◌, ◌≤◌, ◌+◌, ℕ, length, IsTrue, slice_get}
-use Rattle.race_log.specs.Slots.{is_marked, marks_in}
-use Rattle.race_log.specs.Words.{epoch_counts, epoch_of}
+use Rattle.race_log.proofs.Common.{◌≡◌, ◌<◌, ◌≤◌, ◌+◌, ℕ, length, IsTrue, slice_get, is_marked, marks_in, epoch_counts, epoch_of}
 use Rattle.race_log.proofs.epochs.Epochs.begin_marks.Given as goal
 
 abbrev pub invariant-loop-hart : goal.invariant-loop-hart

@@ -1,6 +1,4 @@
-use Rattle.std.proofs.Common.{◌<◌, refl, arith, true, length, slice_set, slice_index}
-use Rattle.std.proofs.lemmas.List.{length-set}
-use Rattle.race_log.specs.declared.epochs.Epoch.{Epoch}
+use Rattle.race_log.proofs.Common.{◌<◌, refl, arith, true, length, slice_set, slice_index, length-set, Epoch}
 use Rattle.race_log.proofs.EpochLemmas.{settled_full, mark_counts, mark_here, mark_stays}
 use Rattle.race_log.proofs.BoundLemmas.{marks_set}
 use Rattle.race_log.proofs.epochs.Epochs.mark.Goals as goal

@@ -1,6 +1,4 @@
-use Rattle.std.proofs.Common.{◌<◌, ◌≡◌, ◌∙◌, true, arith, sym, ap, inl, inr, length, slice_get}
-use Rattle.std.proofs.lemmas.Bool.{false≢true, cases_lt}
-use Rattle.race_log.specs.Slots.{is_marked}
+use Rattle.race_log.proofs.Common.{◌<◌, ◌≡◌, ◌∙◌, true, arith, sym, ap, inl, inr, length, slice_get, false≢true, cases_lt, is_marked}
 use Rattle.race_log.proofs.EpochLemmas.{marked_at, settled_on, can_begin, is_free}
 use Rattle.race_log.proofs.epochs.Epochs.pass_used.Goals as goal
 

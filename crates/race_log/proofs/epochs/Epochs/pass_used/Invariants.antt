@@ -1,6 +1,4 @@
-use Rattle.std.proofs.Common.{◌≡◌, ◌≤◌, ◌<◌, ℕ, IsTrue, slice_get}
-use Rattle.race_log.specs.Slots.{is_settled, is_marked}
-use Rattle.race_log.specs.Words.{has_epoch}
+use Rattle.race_log.proofs.Common.{◌≡◌, ◌≤◌, ◌<◌, ℕ, IsTrue, slice_get, is_settled, is_marked, has_epoch}
 use Rattle.race_log.proofs.epochs.Epochs.pass_used.Given as goal
 
 abbrev pub invariant-loop-place : goal.invariant-loop-place

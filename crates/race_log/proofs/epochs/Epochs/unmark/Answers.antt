@@ -1,6 +1,4 @@
-use Rattle.std.proofs.Common.{◌≡◌, ◌<◌, ◌∙◌, arith, refl, false, length, slice_set, slice_index}
-use Rattle.std.proofs.lemmas.List.{length-set}
-use Rattle.race_log.specs.declared.epochs.Epoch.{Epoch}
+use Rattle.race_log.proofs.Common.{◌≡◌, ◌<◌, ◌∙◌, arith, refl, false, length, slice_set, slice_index, length-set, Epoch}
 use Rattle.race_log.proofs.EpochLemmas.{settled_full, mark_counts}
 use Rattle.race_log.proofs.BoundLemmas.{unmarked, no_marks}
 use Rattle.race_log.proofs.epochs.Epochs.unmark.Goals as goal

@@ -1,6 +1,4 @@
-use Rattle.std.proofs.Common.{◌≡◌, ◌<◌, ℕ, false, length, slice_get}
-use Rattle.race_log.specs.Slots.{is_marked}
-use Rattle.race_log.specs.Words.{epoch_counts}
+use Rattle.race_log.proofs.Common.{◌≡◌, ◌<◌, ℕ, false, length, slice_get, is_marked, epoch_counts}
 use Rattle.race_log.proofs.epochs.Epochs.unmark.Given as goal
 
 abbrev pub invariant-loop-place : goal.invariant-loop-place

@@ -1,9 +1,4 @@
-use Rattle.std.proofs.Common.{◌≡◌, ◌∙◌, ℕ, Bool, List, IsTrue, length, refl, sym, Contains, ◌↔◌, subst}
-use Rattle.race_log.specs.Kept.{access_point, after}
-use Rattle.race_log.specs.Points.{Point}
-use Rattle.race_log.specs.ByCount.{IsPointAt, IsEdgeBetween}
-use Rattle.race_log.specs.Represents.{RepresentsAccesses, edges_of, times_of}
-use Rattle.race_log.specs.Tests.{sources_into}
+use Rattle.race_log.proofs.Common.{◌≡◌, ◌∙◌, ℕ, Bool, List, IsTrue, length, refl, sym, Contains, ◌↔◌, subst, access_point, after, Point, IsPointAt, IsEdgeBetween, RepresentsAccesses, edges_of, times_of, sources_into}
 use Rattle.race_log.proofs.AccessLemmas.{counts_taken}
 use Rattle.race_log.proofs.Known.{listed_exactly}
 use Rattle.race_log.proofs.Steps.{now_in_order, found_edges, stands_after, new_times}

@@ -1,7 +1,4 @@
-use Rattle.std.proofs.Common.{◌≡◌, ◌<◌, ◌+◌, ◌-◌, ◌==◌, if◌then◌else◌, ℕ, ◌∙◌, arith, refl, sym, ap}
-use Rattle.race_log.specs.Kept.{Kept, is_write}
-use Rattle.race_log.specs.Search.{gathered, sources, counts_after}
-use Rattle.race_log.specs.Represents.{times_of, kept_of}
+use Rattle.race_log.proofs.Common.{◌≡◌, ◌<◌, ◌+◌, ◌-◌, ◌==◌, if◌then◌else◌, ℕ, ◌∙◌, arith, refl, sym, ap, Kept, is_write, gathered, sources, counts_after, times_of, kept_of}
 use Rattle.race_log.proofs.AccessLemmas.{counts_alone}
 use Rattle.race_log.proofs.Steps.{found_edges, stands_after, new_times}
 use Rattle.race_log.proofs.shadow.Shadow.access_alone.Goals as goal

@@ -1,6 +1,4 @@
-use Rattle.std.proofs.Common.{◌≤◌, ◌+◌, ◌*◌, sym, subst}
-use Rattle.race_log.specs.Sweep.{accessed_below}
-use Rattle.race_log.specs.Represents.{harts_of, words_of}
+use Rattle.race_log.proofs.Common.{◌≤◌, ◌+◌, ◌*◌, sym, subst, accessed_below, harts_of, words_of}
 use Rattle.race_log.proofs.HeldLemmas.{most_held}
 use Rattle.race_log.proofs.shadow.Shadow.held.Goals as goal
 

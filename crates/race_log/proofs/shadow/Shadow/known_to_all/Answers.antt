@@ -1,7 +1,4 @@
-use Rattle.std.proofs.Common.{◌∙◌, ◌&&◌, ◌||◌, not, nat_lt, ℕ, sym, ap, ap₂}
-use Rattle.vector_time.specs.Times.{count_of}
-use Rattle.race_log.specs.Sweep.{has_bit}
-use Rattle.race_log.specs.Represents.{times_of}
+use Rattle.race_log.proofs.Common.{◌∙◌, ◌&&◌, ◌||◌, not, nat_lt, ℕ, sym, ap, ap₂, count_of, has_bit, times_of}
 use Rattle.race_log.proofs.AccessLemmas.{read_times}
 use Rattle.race_log.proofs.Swept.{below_next, below_none}
 use Rattle.race_log.proofs.shadow.Shadow.known_to_all.Goals as goal

@@ -1,6 +1,4 @@
-use Rattle.std.proofs.Common.{◌≡◌, ℕ, not, ◌||◌, nat_lt}
-use Rattle.race_log.specs.Sweep.{has_bit, all_below, is_covered}
-use Rattle.race_log.specs.Represents.{times_of}
+use Rattle.race_log.proofs.Common.{◌≡◌, ℕ, not, ◌||◌, nat_lt, has_bit, all_below, is_covered, times_of}
 use Rattle.race_log.proofs.shadow.Shadow.known_to_all.Given as goal
 
 abbrev pub invariant-loop-hart : goal.invariant-loop-hart

@@ -1,5 +1,4 @@
-use Rattle.std.proofs.Common.{◌≡◌, ◌∙◌, ℕ, Option, Some, None, arith, subst, sym}
-use Rattle.race_log.specs.Words.{epoch_of}
+use Rattle.race_log.proofs.Common.{◌≡◌, ◌∙◌, ℕ, Option, Some, None, arith, subst, sym, epoch_of}
 use Rattle.race_log.proofs.NewLemmas.{AllZero, zero_none, zero_more, zero_at, stands_none}
 use Rattle.race_log.proofs.Swept.{all_have}
 use Rattle.race_log.proofs.shadow.Shadow.new.Goals as goal

@@ -1,5 +1,4 @@
-use Rattle.std.proofs.Common.{◌∙◌, refl}
-use Rattle.std.proofs.lemmas.Bool.{false≢true}
+use Rattle.race_log.proofs.Common.{◌∙◌, refl, false≢true}
 use Rattle.race_log.proofs.Steps.{stands_same}
 use Rattle.race_log.proofs.shadow.Shadow.reserve.Goals as goal
 

@@ -1,6 +1,4 @@
-use Rattle.std.proofs.Common.{◌≡◌, ◌∙◌, ℕ, Bool, ap, sym, subst, refl, not, filter, slice_get}
-use Rattle.race_log.specs.Represents.{kept_of}
-use Rattle.race_log.specs.Words.{present_counts, counts_at}
+use Rattle.race_log.proofs.Common.{◌≡◌, ◌∙◌, ℕ, Bool, ap, sym, subst, refl, not, filter, slice_get, kept_of, present_counts, counts_at}
 use Rattle.race_log.proofs.Swept.{room_swept, stands_swept, both_have}
 use Rattle.race_log.proofs.shadow.Shadow.sweep.Goals as goal
 

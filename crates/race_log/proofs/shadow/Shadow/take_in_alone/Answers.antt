@@ -1,10 +1,4 @@
-use Rattle.std.proofs.Common.{◌≡◌, ◌<◌, ◌+◌, ◌-◌, ◌==◌, if◌then◌else◌, ℕ, length, ◌∙◌, arith, refl, sym, ap, inl, inr, subst, Option, Some, None, slice_get, slice_set}
-use Rattle.std.proofs.lemmas.Bool.{cases_eq}
-use Rattle.vector_time.specs.Times.{count_of}
-use Rattle.race_log.specs.Kept.{is_write}
-use Rattle.race_log.specs.Search.{gathered, sources, counts_after}
-use Rattle.race_log.specs.Represents.{times_of, kept_of}
-use Rattle.race_log.specs.Words.{present_counts, counts_at}
+use Rattle.race_log.proofs.Common.{◌≡◌, ◌<◌, ◌+◌, ◌-◌, ◌==◌, if◌then◌else◌, ℕ, length, ◌∙◌, arith, refl, sym, ap, inl, inr, subst, Option, Some, None, slice_get, slice_set, cases_eq, count_of, is_write, gathered, sources, counts_after, times_of, kept_of, present_counts, counts_at}
 use Rattle.race_log.proofs.AccessLemmas.{read_times, set_apart}
 use Rattle.race_log.proofs.SizeLemmas.{same_size}
 use Rattle.race_log.proofs.Steps.{counts_here, counts_there}

@@ -1,10 +1,4 @@
-use Rattle.std.proofs.Common.{◌≡◌, ◌<◌, ◌+◌, ◌-◌, ◌*◌, ◌/◌, ◌==◌, ℕ, length, IsTrue, ltb-true, ◌∙◌, arith, refl, sym, ap, inl, inr, Option, Some, None, slice_get, slice_set, subst}
-use Rattle.std.proofs.lemmas.Bool.{cases_eq}
-use Rattle.vector_time.specs.Times.{count_of}
-use Rattle.race_log.specs.Kept.{is_write}
-use Rattle.race_log.specs.Search.{gathered, sources}
-use Rattle.race_log.specs.Slots.{slots_of}
-use Rattle.race_log.specs.Words.{kept_in, kept_now, present_counts, KeepsAccess, counts_at}
+use Rattle.race_log.proofs.Common.{◌≡◌, ◌<◌, ◌+◌, ◌-◌, ◌*◌, ◌/◌, ◌==◌, ℕ, length, IsTrue, ltb-true, ◌∙◌, arith, refl, sym, ap, inl, inr, Option, Some, None, slice_get, slice_set, subst, cases_eq, count_of, is_write, gathered, sources, slots_of, kept_in, kept_now, present_counts, KeepsAccess, counts_at}
 use Rattle.race_log.proofs.AccessLemmas.{read_times, set_times, times_kept, set_apart, not_less}
 use Rattle.race_log.proofs.SizeLemmas.{more_size}
 use Rattle.race_log.proofs.Steps.{counts_here, counts_there}

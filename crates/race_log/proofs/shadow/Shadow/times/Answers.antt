@@ -1,5 +1,4 @@
-use Rattle.std.proofs.Common.{◌∙◌, ℕ, ap, sym, subst}
-use Rattle.race_log.specs.ByCount.{IsTimesOf}
+use Rattle.race_log.proofs.Common.{◌∙◌, ℕ, ap, sym, subst, IsTimesOf}
 use Rattle.race_log.proofs.AccessLemmas.{read_times}
 use Rattle.race_log.proofs.Known.{latest_times, no_times}
 use Rattle.race_log.proofs.shadow.Shadow.times.Goals as goal

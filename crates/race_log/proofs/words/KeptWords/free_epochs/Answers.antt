@@ -1,8 +1,4 @@
-use Rattle.std.proofs.Common.{◌≡◌, ◌∙◌, arith, sym, ap, subst, length, IsTrue, Some, slice_get, slice_index, inl, inr}
-use Rattle.std.proofs.lemmas.Bool.{cases_eq}
-use Rattle.race_log.specs.Slots.{is_marked, marks_in, slots_of, slots_in}
-use Rattle.race_log.specs.Words.{epoch_of, size_of}
-use Rattle.race_log.specs.Sweep.{sum_below}
+use Rattle.race_log.proofs.Common.{◌≡◌, ◌∙◌, arith, sym, ap, subst, length, IsTrue, Some, slice_get, slice_index, inl, inr, cases_eq, is_marked, marks_in, slots_of, slots_in, epoch_of, size_of, sum_below}
 use Rattle.race_log.proofs.PagesLemmas.{page_at, slot_low}
 use Rattle.race_log.proofs.EpochLemmas.{settled_low, settled_grown}
 use Rattle.race_log.proofs.BoundLemmas.{all_marks}

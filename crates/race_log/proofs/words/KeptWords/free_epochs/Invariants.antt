@@ -1,8 +1,4 @@
-use Rattle.std.proofs.Common.{◌≡◌, ◌<◌, ◌≤◌, ◌+◌, ℕ, length, IsTrue, Some, slice_get}
-use Rattle.race_log.specs.declared.slot.Slot.{Slot}
-use Rattle.race_log.specs.Slots.{is_marked, marks_in, slots_of}
-use Rattle.race_log.specs.Words.{epoch_counts, epoch_of, size_of}
-use Rattle.race_log.specs.Sweep.{sum_below}
+use Rattle.race_log.proofs.Common.{◌≡◌, ◌<◌, ◌≤◌, ◌+◌, ℕ, length, IsTrue, Some, slice_get, Slot, is_marked, marks_in, slots_of, epoch_counts, epoch_of, size_of, sum_below}
 use Rattle.race_log.proofs.words.KeptWords.free_epochs.Given as goal
 
 abbrev pub invariant-loop-number : goal.invariant-loop-number

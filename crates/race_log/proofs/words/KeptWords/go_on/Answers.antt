@@ -1,5 +1,4 @@
-use Rattle.std.proofs.Common.{◌/◌, ◌%◌, ◌==◌, cond, [], ap}
-use Rattle.race_log.specs.Words.{epoch_counts, page_of, place_of}
+use Rattle.race_log.proofs.Common.{◌/◌, ◌%◌, ◌==◌, cond, [], ap, epoch_counts, page_of, place_of}
 use Rattle.race_log.proofs.PageLemmas.{word_counts}
 use Rattle.race_log.proofs.words.KeptWords.go_on.Goals as goal
 

@@ -1,7 +1,4 @@
-use Rattle.std.proofs.Common.{◌≡◌, ◌∙◌, ◌+◌, ◌*◌, ◌<◌, arith, ap, sym, length, slice_get}
-use Rattle.race_log.specs.Slots.{slots_of}
-use Rattle.race_log.specs.Sweep.{sum_below}
-use Rattle.race_log.specs.Words.{kept_in, epoch_counts}
+use Rattle.race_log.proofs.Common.{◌≡◌, ◌∙◌, ◌+◌, ◌*◌, ◌<◌, arith, ap, sym, length, slice_get, slots_of, sum_below, kept_in, epoch_counts}
 use Rattle.race_log.proofs.PagesLemmas.{page_at, page_sum}
 use Rattle.race_log.proofs.SweepLemmas.{sum_none, sum_parts}
 use Rattle.race_log.proofs.words.KeptWords.held.Goals as goal

@@ -1,6 +1,4 @@
-use Rattle.std.proofs.Common.{◌≡◌, ◌≤◌, ◌*◌}
-use Rattle.race_log.specs.Words.{kept_in}
-use Rattle.race_log.specs.Sweep.{held_below}
+use Rattle.race_log.proofs.Common.{◌≡◌, ◌≤◌, ◌*◌, kept_in, held_below}
 use Rattle.race_log.proofs.words.KeptWords.held.Given as goal
 
 abbrev pub invariant-loop-number : goal.invariant-loop-number

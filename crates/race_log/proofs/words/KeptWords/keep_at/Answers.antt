@@ -1,9 +1,4 @@
-use Rattle.std.proofs.Common.{◌≡◌, ◌∙◌, refl, ◌+◌, ◌*◌, ◌/◌, ◌%◌, ◌==◌, arith, sym, ap, subst, slice_get, slice_set, length, inl, inr}
-use Rattle.std.proofs.lemmas.Bool.{cases_eq}
-use Rattle.std.proofs.lemmas.List.{length-set}
-use Rattle.race_log.specs.Kept.{Replaces}
-use Rattle.race_log.specs.Slots.{word_in, slots_of, IsSettledPage}
-use Rattle.race_log.specs.Words.{place_of, epoch_counts, kept_of_slot}
+use Rattle.race_log.proofs.Common.{◌≡◌, ◌∙◌, refl, ◌+◌, ◌*◌, ◌/◌, ◌%◌, ◌==◌, arith, sym, ap, subst, slice_get, slice_set, length, inl, inr, cases_eq, length-set, Replaces, word_in, slots_of, IsSettledPage, place_of, epoch_counts, kept_of_slot}
 use Rattle.race_log.proofs.PageLemmas.{places_apart}
 use Rattle.race_log.proofs.SizeLemmas.{sizes_set, slots_same}
 use Rattle.race_log.proofs.PagesLemmas.{page_at, page_here, page_there, full_set, settled_page_set, other_word, room_is, some_page, at_aligned}

@@ -1,6 +1,4 @@
-use Rattle.std.proofs.Common.{◌≡◌, ◌+◌, ◌*◌, ◌∙◌, arith, subst}
-use Rattle.race_log.specs.Words.{kept_in, kept_of_slot, KeepsAccess}
-use Rattle.race_log.specs.Kept.{Replaces}
+use Rattle.race_log.proofs.Common.{◌≡◌, ◌+◌, ◌*◌, ◌∙◌, arith, subst, kept_in, kept_of_slot, KeepsAccess, Replaces}
 use Rattle.race_log.proofs.WordLemmas.{keeps_more}
 use Rattle.race_log.proofs.SizeLemmas.{more_size}
 use Rattle.race_log.proofs.words.KeptWords.keep_each.Goals as goal

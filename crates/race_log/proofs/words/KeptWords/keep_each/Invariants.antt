@@ -1,5 +1,4 @@
-use Rattle.std.proofs.Common.{◌≡◌, ℕ}
-use Rattle.race_log.specs.Words.{kept_in, has_room, IsAsLarge, kept_of_slot, KeepsAccess}
+use Rattle.race_log.proofs.Common.{◌≡◌, ℕ, kept_in, has_room, IsAsLarge, kept_of_slot, KeepsAccess}
 use Rattle.race_log.proofs.words.KeptWords.keep_each.Given as goal
 
 abbrev pub invariant-loop-i : goal.invariant-loop-i

@@ -1,8 +1,4 @@
-use Rattle.std.proofs.Common.{◌≡◌, ◌∙◌, ◌<◌, ◌≤◌, ◌+◌, ◌*◌, ◌/◌, ◌%◌, ◌==◌, cond, [], arith, sym, ap, subst, slice_get, slice_set, length, IsTrue, inl, inr}
-use Rattle.std.proofs.lemmas.Bool.{cases_eq, cases_lt}
-use Rattle.race_log.specs.Slots.{word_in, slots_of, is_settled, IsSettledPage}
-use Rattle.race_log.specs.Words.{place_of, epoch_counts}
-use Rattle.std.proofs.lemmas.List.{length-set}
+use Rattle.race_log.proofs.Common.{◌≡◌, ◌∙◌, ◌<◌, ◌≤◌, ◌+◌, ◌*◌, ◌/◌, ◌%◌, ◌==◌, cond, [], arith, sym, ap, subst, slice_get, slice_set, length, IsTrue, inl, inr, cases_eq, cases_lt, word_in, slots_of, is_settled, IsSettledPage, place_of, epoch_counts, length-set}
 use Rattle.race_log.proofs.SizeLemmas.{slots_more}
 use Rattle.race_log.proofs.PagesLemmas.{page_at, page_here, page_there, full_set, settled_page_set, remade, room_is, is_room}
 use Rattle.race_log.proofs.words.KeptWords.make_page.Goals as goal

@@ -1,7 +1,4 @@
-use Rattle.std.proofs.Common.{◌≢◌, ◌⊎◌, ◌<◌, ◌≤◌, ℕ, ◌∙◌, ◌+◌, ◌-◌, ◌*◌, ◌/◌, ◌%◌, ◌==◌, cond, [], arith, ap, length, inl, inr}
-use Rattle.std.proofs.lemmas.Bool.{false≢true, cases_eq}
-use Rattle.race_log.specs.Slots.{word_in}
-use Rattle.race_log.specs.Words.{epoch_counts, page_of, place_of}
+use Rattle.race_log.proofs.Common.{◌≢◌, ◌⊎◌, ◌<◌, ◌≤◌, ℕ, ◌∙◌, ◌+◌, ◌-◌, ◌*◌, ◌/◌, ◌%◌, ◌==◌, cond, [], arith, ap, length, inl, inr, false≢true, cases_eq, word_in, epoch_counts, page_of, place_of}
 use Rattle.race_log.proofs.PagesLemmas.{room_at, room_is, some_page}
 use Rattle.race_log.proofs.SizeLemmas.{makes_none}
 use Rattle.race_log.proofs.words.KeptWords.make_pages.Goals as goal

@@ -1,5 +1,4 @@
-use Rattle.std.proofs.Common.{◌≡◌, ◌⊎◌, max, length, ◌≤◌, ◌<◌, ◌+◌, ◌/◌, ℕ, IsTrue, vec_len}
-use Rattle.race_log.specs.Words.{kept_in, has_room, size_of}
+use Rattle.race_log.proofs.Common.{◌≡◌, ◌⊎◌, max, length, ◌≤◌, ◌<◌, ◌+◌, ◌/◌, ℕ, IsTrue, vec_len, kept_in, has_room, size_of}
 use Rattle.race_log.proofs.words.KeptWords.make_pages.Given as goal
 
 abbrev pub invariant-loop-number : goal.invariant-loop-number

@@ -1,7 +1,5 @@
-use Rattle.std.proofs.Common.{◌<◌, ◌+◌, ◌*◌, ◌∙◌, ◌/◌, ◌%◌, slice_get, ◌==◌, cond, [], ap, arith, sym, subst, length, inl, inr, IsTrue, ℕ}
+use Rattle.race_log.proofs.Common.{◌<◌, ◌+◌, ◌*◌, ◌∙◌, ◌/◌, ◌%◌, slice_get, ◌==◌, cond, [], ap, arith, sym, subst, length, inl, inr, IsTrue, ℕ, word_in, slots_of, epoch_counts, page_of, place_of}
 use Rattle.std.proofs.lemmas.Result.{on_ok_weaker}
-use Rattle.race_log.specs.Slots.{word_in, slots_of}
-use Rattle.race_log.specs.Words.{epoch_counts, page_of, place_of}
 use Rattle.race_log.proofs.words.KeptWords.make_room_for_many.Goals as goal
 
 pub returns-clause-same : goal.returns-clause-same

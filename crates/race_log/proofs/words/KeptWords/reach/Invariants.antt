@@ -1,5 +1,4 @@
-use Rattle.std.proofs.Common.{◌≡◌, ◌≤◌, ℕ, max, length, slice_get, vec_len}
-use Rattle.race_log.specs.Slots.{slots_of}
+use Rattle.race_log.proofs.Common.{◌≡◌, ◌≤◌, ℕ, max, length, slice_get, vec_len, slots_of}
 use Rattle.race_log.proofs.words.KeptWords.reach.Given as goal
 
 abbrev pub invariant-loop : goal.invariant-loop

@@ -1,7 +1,4 @@
-use Rattle.std.proofs.Common.{◌∙◌, ◌+◌, ◌*◌, ◌/◌, arith, sym, ap, length, inl, inr}
-use Rattle.std.proofs.lemmas.Bool.{cases_eq, cases_lt}
-use Rattle.race_log.specs.Sweep.{uncovered}
-use Rattle.race_log.specs.Words.{kept_in, epoch_counts}
+use Rattle.race_log.proofs.Common.{◌∙◌, ◌+◌, ◌*◌, ◌/◌, arith, sym, ap, length, inl, inr, cases_eq, cases_lt, uncovered, kept_in, epoch_counts}
 use Rattle.race_log.proofs.PagesLemmas.{past_word}
 use Rattle.race_log.proofs.SweepLemmas.{page_step}
 use Rattle.race_log.proofs.SizeLemmas.{more_size}

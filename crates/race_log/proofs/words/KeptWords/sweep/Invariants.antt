@@ -1,6 +1,4 @@
-use Rattle.std.proofs.Common.{◌≡◌, ◌<◌, ◌≤◌, ◌+◌, ◌*◌, ◌/◌, ℕ, length}
-use Rattle.race_log.specs.Words.{kept_in, has_room, IsAsLarge}
-use Rattle.race_log.specs.Sweep.{uncovered, held_below}
+use Rattle.race_log.proofs.Common.{◌≡◌, ◌<◌, ◌≤◌, ◌+◌, ◌*◌, ◌/◌, ℕ, length, kept_in, has_room, IsAsLarge, uncovered, held_below}
 use Rattle.race_log.proofs.words.KeptWords.sweep.Given as goal
 
 abbrev pub invariant-loop-number : goal.invariant-loop-number

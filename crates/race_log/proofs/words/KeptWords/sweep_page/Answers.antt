@@ -1,10 +1,4 @@
-use Rattle.std.proofs.Common.{◌≡◌, ◌∙◌, refl, ◌+◌, ◌*◌, ◌/◌, ◌%◌, ◌==◌, ◌<◌, ℕ, cond, [], List, arith, sym, ap, subst, slice_get, slice_set, length, inl, inr}
-use Rattle.std.proofs.lemmas.Bool.{cases_eq}
-use Rattle.std.proofs.lemmas.List.{length-set}
-use Rattle.race_log.specs.declared.slot.Slot.{Slot}
-use Rattle.race_log.specs.Slots.{word_in, slots_of, IsSettledPage}
-use Rattle.race_log.specs.Sweep.{uncovered}
-use Rattle.race_log.specs.Words.{epoch_counts, place_of}
+use Rattle.race_log.proofs.Common.{◌≡◌, ◌∙◌, refl, ◌+◌, ◌*◌, ◌/◌, ◌%◌, ◌==◌, ◌<◌, ℕ, cond, [], List, arith, sym, ap, subst, slice_get, slice_set, length, inl, inr, cases_eq, length-set, Slot, word_in, slots_of, IsSettledPage, uncovered, epoch_counts, place_of}
 use Rattle.race_log.proofs.PagesLemmas.{page_at, page_here, page_there, page_sum, full_set, settled_page_set}
 use Rattle.race_log.proofs.SizeLemmas.{sizes_set, slots_same}
 use Rattle.race_log.proofs.SweepLemmas.{uncovered_where}

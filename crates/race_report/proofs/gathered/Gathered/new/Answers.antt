@@ -1,5 +1,4 @@
-use Rattle.std.proofs.Common.{◌∙◌, ◌<◌, ℕ, ap, subst, sym, arith, length, true, false}
-use Rattle.race_report.specs.Gathering.{everyone}
+use Rattle.race_report.proofs.Common.{◌∙◌, ◌<◌, ℕ, ap, subst, sym, arith, length, true, false, everyone}
 use Rattle.race_report.proofs.Following.{follows_none}
 use Rattle.race_report.proofs.gathered.Gathered.new.Goals as goal
 

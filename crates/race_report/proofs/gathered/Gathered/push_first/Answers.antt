@@ -1,7 +1,4 @@
-use Rattle.std.proofs.Common.{◌≡◌, ◌∙◌, ◌++◌, ℕ, ap, sym, arith, List}
-use Rattle.std.proofs.lemmas.List.{append-nil}
-use Rattle.race_report.specs.declared.race.Race.{Race}
-use Rattle.race_report.specs.Races.{races_with, races_by_second, meetings_of}
+use Rattle.race_report.proofs.Common.{◌≡◌, ◌∙◌, ◌++◌, ℕ, ap, sym, arith, List, append-nil, Race, races_with, races_by_second, meetings_of}
 use Rattle.race_report.proofs.Orders.{second_next, then_more}
 use Rattle.race_report.proofs.gathered.Gathered.push_first.Goals as goal
 

@@ -1,7 +1,4 @@
-use Rattle.std.proofs.Common.{◌≡◌, ◌++◌, ℕ, List}
-use Rattle.race_report.specs.Points.{Accessing}
-use Rattle.race_report.specs.Races.{races_by_second}
-use Rattle.race_report.specs.Gathering.{IsGathered}
+use Rattle.race_report.proofs.Common.{◌≡◌, ◌++◌, ℕ, List, Accessing, races_by_second, IsGathered}
 use Rattle.race_report.proofs.gathered.Gathered.push_first.Given as goal
 
 abbrev pub invariant-loop-hart : goal.invariant-loop-hart

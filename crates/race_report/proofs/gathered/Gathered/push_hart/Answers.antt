@@ -1,9 +1,5 @@
-use Rattle.std.proofs.Common.{◌≡◌, ◌∙◌, ◌++◌, ℕ, ap, sym, arith, List, [], cond, length}
-use Rattle.std.proofs.lemmas.List.{append-nil}
-use Rattle.race_report.specs.declared.race.Race.{Race}
-use Rattle.race_report.specs.Races.{races_by_second, races_by_place}
+use Rattle.race_report.proofs.Common.{◌≡◌, ◌∙◌, ◌++◌, ℕ, ap, sym, arith, List, [], cond, length, append-nil, Race, races_by_second, races_by_place, is_at}
 use Rattle.race_report.proofs.Orders.{place_next, then_more}
-use Rattle.race_report.specs.Races.{is_at}
 use Rattle.race_report.proofs.gathered.Gathered.push_hart.Goals as goal
 
 pub loop-first-init : goal.loop-first-init

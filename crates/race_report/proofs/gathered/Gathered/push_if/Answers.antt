@@ -1,6 +1,4 @@
-use Rattle.std.proofs.Common.{◌∙◌, ◌++◌, ap, sym, [], cond, Bool}
-use Rattle.std.proofs.lemmas.List.{append-nil}
-use Rattle.race_report.specs.Races.{races_by_second}
+use Rattle.race_report.proofs.Common.{◌∙◌, ◌++◌, ap, sym, [], cond, Bool, append-nil, races_by_second}
 use Rattle.race_report.proofs.Orders.{no_at, yes_at}
 use Rattle.race_report.proofs.Tracking.{then_ok}
 use Rattle.race_report.proofs.gathered.Gathered.push_if.Goals as goal

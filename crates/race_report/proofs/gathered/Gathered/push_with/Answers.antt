@@ -1,8 +1,4 @@
-use Rattle.std.proofs.Common.{◌∙◌, ◌++◌, append_assoc, ◌+◌, ap, sym, arith, List, drop}
-use Rattle.std.proofs.lemmas.List.{append-nil}
-use Rattle.race_report.specs.declared.meeting.Meeting.{Meeting}
-use Rattle.race_report.specs.declared.race.Race.{Race}
-use Rattle.race_report.specs.Races.{races_with, meetings_of}
+use Rattle.race_report.proofs.Common.{◌∙◌, ◌++◌, append_assoc, ◌+◌, ap, sym, arith, List, drop, append-nil, Meeting, Race, races_with, meetings_of}
 use Rattle.race_report.proofs.Orders.{with_more, with_done, same_meetings}
 use Rattle.race_report.proofs.gathered.Gathered.push_with.Goals as goal
 

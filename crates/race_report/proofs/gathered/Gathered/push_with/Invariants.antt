@@ -1,7 +1,4 @@
-use Rattle.std.proofs.Common.{◌≡◌, ◌++◌, ℕ, List, drop}
-use Rattle.race_report.specs.Points.{Accessing}
-use Rattle.race_report.specs.Races.{races_with}
-use Rattle.race_report.specs.Gathering.{IsGathered}
+use Rattle.race_report.proofs.Common.{◌≡◌, ◌++◌, ℕ, List, drop, Accessing, races_with, IsGathered}
 use Rattle.race_report.proofs.gathered.Gathered.push_with.Given as goal
 
 abbrev pub invariant-loop-k : goal.invariant-loop-k

@@ -1,6 +1,4 @@
-use Rattle.std.proofs.Common.{◌∙◌, ap, sym, slice_get, Option}
-use Rattle.bn_base.specs.declared.row.Row.{Row}
-use Rattle.race_report.specs.Races.{race_by, row_of}
+use Rattle.race_report.proofs.Common.{◌∙◌, ap, sym, slice_get, Option, Row, race_by, row_of}
 use Rattle.race_report.proofs.Orders.{race_none, race_some, race_nothing}
 use Rattle.race_report.proofs.gathered.Gathered.race_with.Goals as goal
 

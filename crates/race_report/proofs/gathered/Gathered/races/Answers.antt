@@ -1,6 +1,4 @@
-use Rattle.std.proofs.Common.{◌≡◌, ◌∙◌, ◌++◌, ℕ, ap, sym, arith, List, length}
-use Rattle.race_report.specs.declared.race.Race.{Race}
-use Rattle.race_report.specs.Races.{races_by_place, races_by_first}
+use Rattle.race_report.proofs.Common.{◌≡◌, ◌∙◌, ◌++◌, ℕ, ap, sym, arith, List, length, Race, races_by_place, races_by_first}
 use Rattle.race_report.proofs.Orders.{first_next}
 use Rattle.race_report.proofs.gathered.Gathered.races.Goals as goal
 

@@ -1,7 +1,4 @@
-use Rattle.std.proofs.Common.{◌≡◌, ℕ, List}
-use Rattle.race_report.specs.Points.{Accessing}
-use Rattle.race_report.specs.Races.{races_by_first}
-use Rattle.race_report.specs.Gathering.{IsGathered}
+use Rattle.race_report.proofs.Common.{◌≡◌, ℕ, List, Accessing, races_by_first, IsGathered}
 use Rattle.race_report.proofs.gathered.Gathered.races.Given as goal
 
 abbrev pub invariant-loop-hart : goal.invariant-loop-hart

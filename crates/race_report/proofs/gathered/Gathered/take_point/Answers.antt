@@ -1,8 +1,4 @@
-use Rattle.std.proofs.Common.{◌≡◌, ◌∙◌, ℕ, ap, subst, refl, length}
-use Rattle.vector_time.specs.Times.{count_of}
-use Rattle.race_report.specs.declared.gathered.Gathered.{Gathered}
-use Rattle.race_report.specs.Points.{Accessing}
-use Rattle.race_report.specs.Kept.{lists_of}
+use Rattle.race_report.proofs.Common.{◌≡◌, ◌∙◌, ℕ, ap, subst, refl, length, count_of, Gathered, Accessing, lists_of}
 use Rattle.race_report.proofs.Tracking.{then_ok}
 use Rattle.race_report.proofs.Taking.{IsTaken, gathered_more, map_long}
 use Rattle.race_report.proofs.gathered.Gathered.take_point.Goals as goal

@@ -1,5 +1,4 @@
-use Rattle.std.proofs.Common.{◌∙◌, ◌<◌, ℕ, subst, sym, arith}
-use Rattle.race_report.specs.Points.{touch_of}
+use Rattle.race_report.proofs.Common.{◌∙◌, ◌<◌, ℕ, subst, sym, arith, touch_of}
 use Rattle.race_report.proofs.Tracking.{then_ok}
 use Rattle.race_report.proofs.Counting.{state_over, state_more}
 use Rattle.race_report.proofs.gathered.Gathered.take_row.Goals as goal

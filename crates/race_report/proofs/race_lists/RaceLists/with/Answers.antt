@@ -1,5 +1,4 @@
-use Rattle.std.proofs.Common.{◌∙◌, ap, sym, arith, List, Some}
-use Rattle.race_report.specs.declared.meeting.Meeting.{Meeting}
+use Rattle.race_report.proofs.Common.{◌∙◌, ap, sym, arith, List, Some, Meeting}
 use Rattle.race_report.proofs.Lists.{lists_length, list_at, lists_get}
 use Rattle.race_report.proofs.race_lists.RaceLists.with.Goals as goal
 

@@ -1,6 +1,4 @@
-use Rattle.std.proofs.Common.{◌∙◌, ap, length, arith, List}
-use Rattle.hart_replay.specs.Pages.{Known}
-use Rattle.race_report.specs.Tracks.{head_at}
+use Rattle.race_report.proofs.Common.{◌∙◌, ap, length, arith, List, Known, head_at}
 use Rattle.race_report.proofs.Prefixes.{length_more}
 use Rattle.race_report.proofs.Tracking.{head_more}
 use Rattle.race_report.proofs.track.Track.new.Goals as goal

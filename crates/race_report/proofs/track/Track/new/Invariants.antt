@@ -1,5 +1,4 @@
-use Rattle.std.proofs.Common.{◌≡◌, ℕ, length, None}
-use Rattle.race_report.specs.Tracks.{head_at}
+use Rattle.race_report.proofs.Common.{◌≡◌, ℕ, length, None, head_at}
 use Rattle.race_report.proofs.track.Track.new.Given as goal
 
 abbrev pub invariant-loop : goal.invariant-loop

@@ -1,7 +1,4 @@
-use Rattle.std.proofs.Common.{◌∙◌, ℕ, ap, [], ◌∷◌, ◌++◌, cond, ◌&&◌, ◌==◌, ◌/◌, Some, Option, Vec, length}
-use Rattle.std.specs.Global.{Global}
-use Rattle.race_report.specs.declared.track.TrackEntry.{TrackEntry}
-use Rattle.race_report.specs.Tracks.{head_at}
+use Rattle.race_report.proofs.Common.{◌∙◌, ℕ, ap, [], ◌∷◌, ◌++◌, cond, ◌&&◌, ◌==◌, ◌/◌, Some, Option, Vec, length, Global, TrackEntry, head_at}
 use Rattle.race_report.proofs.Tracking.{tracked_more}
 use Rattle.race_report.proofs.track.Track.note.Goals as goal
 

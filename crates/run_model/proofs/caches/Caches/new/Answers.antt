@@ -1,5 +1,4 @@
-use Rattle.std.proofs.Common.{◌+◌, List, subst, sym}
-use Rattle.first_load_bits.specs.Represents.{Contents}
+use Rattle.run_model.proofs.Common.{◌+◌, List, subst, sym, Contents}
 use Rattle.run_model.proofs.NewCaches.{AreNew, one_new}
 use Rattle.run_model.proofs.caches.Caches.new.Goals as goal
 

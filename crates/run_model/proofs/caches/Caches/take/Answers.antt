@@ -1,11 +1,5 @@
-use Rattle.std.proofs.Common.{◌≡◌, ◌∙◌, ap, length, List, subst, sym, Option, Some, None}
-use Rattle.first_load_bits.specs.Represents.{Contents}
+use Rattle.run_model.proofs.Common.{◌≡◌, ◌∙◌, ap, length, List, subst, sym, Option, Some, None, Contents, Plan, GoesOn, Span, events_after, AreCaches}
 use Rattle.run_model.proofs.Histories.{call_stands, written_back}
-use Rattle.system_calls.specs.declared.effect.Plan.{Plan}
-use Rattle.run_model.specs.declared.turn_end.TurnEnd.TheVariants.{GoesOn}
-use Rattle.run_model.specs.declared.span.Span.{Span}
-use Rattle.run_model.specs.Turn.{events_after}
-use Rattle.run_model.specs.Represents.EachCache.{AreCaches}
 use Rattle.run_model.proofs.caches.Caches.take.Goals as goal
 
 pub returns-in-None-call-clause-stands : goal.returns-in-None-call-clause-stands

@@ -1,8 +1,4 @@
-use Rattle.std.proofs.Common.{◌≡◌, ◌∙◌, subst, sym, ap, List, Some, None, length}
-use Rattle.first_load_bits.specs.Represents.{Contents}
-use Rattle.run_model.specs.declared.turn_end.TurnEnd.TheVariants.{GoesOn}
-use Rattle.run_model.specs.Turn.{events_after}
-use Rattle.run_model.specs.Represents.EachCache.{AreCaches}
+use Rattle.run_model.proofs.Common.{◌≡◌, ◌∙◌, subst, sym, ap, List, Some, None, length, Contents, GoesOn, events_after, AreCaches}
 use Rattle.run_model.proofs.Histories.{written_back}
 use Rattle.run_model.proofs.caches.Caches.take_access.Goals as goal
 

@@ -1,9 +1,6 @@
-use Rattle.std.proofs.Common.{sym, subst, ap, ◌≡◌, ◌∙◌, ℕ}
-use Rattle.rv_meaning.specs.Access.{amo_result}
+use Rattle.run_model.proofs.Common.{sym, subst, ap, ◌≡◌, ◌∙◌, ℕ, amo_result, HoldsMap, updated, Machine, with_memory, others_lose, IsMachine}
 use Rattle.rv_meaning.specs.declared.asks.Reply.TheVariants.{Word}
-use Rattle.bus_memory.specs.Contents.{Contents, HoldsMap, updated}
-use Rattle.run_model.specs.Machine.{Machine, with_memory, others_lose}
-use Rattle.run_model.specs.Represents.Parts.{IsMachine}
+use Rattle.bus_memory.specs.Contents.{Contents}
 use Rattle.run_model.proofs.machine.Machine.amo.Goals as goal
 
 pub returns-clause-answer : goal.returns-clause-answer

@@ -1,7 +1,4 @@
-use Rattle.std.proofs.Common.{sym, subst, Option}
-use Rattle.system_calls.specs.declared.effect.Plan.{Plan}
-use Rattle.run_model.specs.Machine.{answer}
-use Rattle.run_model.specs.Represents.Parts.{IsAnswer}
+use Rattle.run_model.proofs.Common.{sym, subst, Option, Plan, answer, IsAnswer}
 use Rattle.run_model.proofs.machine.Machine.answer.Goals as goal
 
 pub returns-in-None-clause-answer : goal.returns-in-None-clause-answer

@@ -1,7 +1,4 @@
-use Rattle.std.proofs.Common.{sym, subst}
-use Rattle.rv_meaning.specs.declared.asks.Want.{Want}
-use Rattle.run_model.specs.Machine.{answer_access}
-use Rattle.run_model.specs.Represents.Parts.{IsAnswer}
+use Rattle.run_model.proofs.Common.{sym, subst, Want, answer_access, IsAnswer}
 use Rattle.run_model.proofs.machine.Machine.answer_access.Goals as goal
 
 pub returns-in-LoadReserved-clause-answer : goal.returns-in-LoadReserved-clause-answer

@@ -1,7 +1,4 @@
-use Rattle.std.proofs.Common.{sym, subst}
-use Rattle.system_calls.specs.declared.effect.Plan.{Plan}
-use Rattle.run_model.specs.Machine.{answer_call}
-use Rattle.run_model.specs.Represents.Parts.{IsAnswer}
+use Rattle.run_model.proofs.Common.{sym, subst, Plan, answer_call, IsAnswer}
 use Rattle.run_model.proofs.machine.Machine.answer_call.Goals as goal
 
 pub returns-in-Send-clause-answer : goal.returns-in-Send-clause-answer

@@ -1,9 +1,5 @@
-use Rattle.std.proofs.Common.{refl, sym, subst, ap, ◌≡◌, ◌∙◌, ℕ}
-use Rattle.rv_meaning.specs.Words.{aligned}
-use Rattle.rv_meaning.specs.Access.{stored_word}
-use Rattle.bus_memory.specs.Contents.{Contents, HoldsMap, updated}
-use Rattle.run_model.specs.Machine.{with_memory, others_lose}
-use Rattle.run_model.specs.Represents.Parts.{IsMachine}
+use Rattle.run_model.proofs.Common.{refl, sym, subst, ap, ◌≡◌, ◌∙◌, ℕ, aligned, stored_word, HoldsMap, updated, with_memory, others_lose, IsMachine}
+use Rattle.bus_memory.specs.Contents.{Contents}
 use Rattle.run_model.proofs.machine.Machine.store.Goals as goal
 
 pub returns-clause-answer : goal.returns-clause-answer

@@ -1,6 +1,4 @@
-use Rattle.std.proofs.Common.{arith, ◌≡◌, ◌∙◌, ◌+◌, ◌/◌, sym, subst, List, Bool, true, false, get_or}
-use Rattle.rv_meaning.specs.Words.{aligned}
-use Rattle.bus_memory.specs.Contents.{has_page}
+use Rattle.run_model.proofs.Common.{arith, ◌≡◌, ◌∙◌, ◌+◌, ◌/◌, sym, subst, List, Bool, true, false, get_or, aligned, has_page}
 use Rattle.run_model.proofs.Moved.{byte_page, filled_step}
 use Rattle.run_model.proofs.machine.bytes.fill.Goals as goal
 

@@ -1,6 +1,4 @@
-use Rattle.std.proofs.Common.{◌≡◌, ℕ, length, take, drop}
-use Rattle.bus_memory.specs.Contents.{HoldsMap}
-use Rattle.run_model.specs.Machine.{filled}
+use Rattle.run_model.proofs.Common.{◌≡◌, ℕ, length, take, drop, HoldsMap, filled}
 use Rattle.run_model.proofs.machine.bytes.fill.Given as goal
 
 abbrev pub invariant-loop-place : goal.invariant-loop-place

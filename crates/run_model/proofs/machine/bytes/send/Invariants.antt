@@ -1,6 +1,4 @@
-use Rattle.std.proofs.Common.{◌≡◌, ◌+◌, ◌++◌, ℕ, vec_len, vec_capacity}
-use Rattle.bus_memory.specs.Contents.{HoldsMap}
-use Rattle.run_model.specs.Machine.{bytes_in}
+use Rattle.run_model.proofs.Common.{◌≡◌, ◌+◌, ◌++◌, ℕ, vec_len, vec_capacity, HoldsMap, bytes_in}
 use Rattle.run_model.proofs.machine.bytes.send.Given as goal
 
 abbrev pub invariant-loop-place : goal.invariant-loop-place

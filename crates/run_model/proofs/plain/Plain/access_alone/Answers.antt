@@ -1,9 +1,4 @@
-use Rattle.std.proofs.Common.{◌≡◌, false, refl, subst, arith}
-use Rattle.rv_meaning.specs.Ahead.{AsksThere}
-use Rattle.rv_meaning.specs.declared.asks.Want.{Want}
-use Rattle.rv_meaning.specs.declared.asks.Want.TheVariants.{Load}
-use Rattle.run_model.specs.declared.hart.Hart.{Hart}
-use Rattle.run_model.specs.Represents.Harts.{hart_in}
+use Rattle.run_model.proofs.Common.{◌≡◌, false, refl, subst, arith, AsksThere, Want, Load, Hart, hart_in}
 use Rattle.run_model.proofs.Owns.{hart_at}
 use Rattle.run_model.proofs.plain.Plain.access_alone.Goals as goal
 

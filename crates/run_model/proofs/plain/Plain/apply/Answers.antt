@@ -1,17 +1,4 @@
-use Rattle.std.proofs.Common.{◌≡◌, ◌<◌, ◌==◌, ◌+◌, ◌-◌, ◌^◌, ℕ, Bool, List, length, refl, sym, subst, ap, ◌∙◌, arith, IsTrue}
-use Rattle.std.specs.Prelude.{Vec, if◌then◌else◌}
-use Rattle.std.specs.Global.{Global}
-use Rattle.rv_meaning.specs.Execute.{absorbed}
-use Rattle.race_log.specs.declared.shadow.Shadow.{Shadow}
-use Rattle.run_model.specs.declared.hart.Hart.{Hart}
-use Rattle.run_model.specs.declared.trace.Trace.{Trace}
-use Rattle.run_model.specs.Machine.{answer}
-use Rattle.run_model.specs.Represents.Parts.{IsMachine}
-use Rattle.run_model.specs.Represents.Logs.{taken, is_marked_next}
-use Rattle.run_model.specs.Represents.EachCache.{steps_in, touched_word, touches}
-use Rattle.run_model.specs.Represents.Harts.{AreHarts, hart_in}
-use Rattle.run_model.specs.Turn.{guarded_run, serve_call, span_of, next_of, hart_after, harts_after, skipped_after}
-use Rattle.run_model.specs.Represents.Plain.{IsTrace, IsRaceReady, clears}
+use Rattle.run_model.proofs.Common.{◌≡◌, ◌<◌, ◌==◌, ◌+◌, ◌-◌, ◌^◌, ℕ, Bool, List, length, refl, sym, subst, ap, ◌∙◌, arith, IsTrue, Vec, if◌then◌else◌, Global, absorbed, Shadow, Hart, Trace, answer, IsMachine, taken, is_marked_next, steps_in, touched_word, touches, AreHarts, hart_in, guarded_run, serve_call, span_of, next_of, hart_after, harts_after, skipped_after, IsTrace, IsRaceReady, clears}
 use Rattle.run_model.proofs.Owns.{hart_of_run}
 use Rattle.run_model.proofs.PlainRuns.{traced, race_ready}
 use Rattle.run_model.proofs.Asked.{asked_fit, asked_counts, few_steps, few_steps_more, low_number, few_skipped, some_room, eqb_same, if_true}

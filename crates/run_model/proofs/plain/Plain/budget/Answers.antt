@@ -1,5 +1,4 @@
-use Rattle.std.proofs.Common.{◌∙◌, ap, arith}
-use Rattle.run_model.specs.Turn.{budget}
+use Rattle.run_model.proofs.Common.{◌∙◌, ap, arith, budget}
 use Rattle.run_model.proofs.Owns.{hart_at}
 use Rattle.run_model.proofs.plain.Plain.budget.Goals as goal
 

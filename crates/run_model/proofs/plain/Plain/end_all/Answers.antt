@@ -1,5 +1,4 @@
-use Rattle.std.proofs.Common.{◌+◌, ℕ, ap, arith}
-use Rattle.run_model.specs.Represents.Harts.{hart_in}
+use Rattle.run_model.proofs.Common.{◌+◌, ℕ, ap, arith, hart_in}
 use Rattle.run_model.proofs.Ending.{ended_are, ended_fits, some_left}
 use Rattle.run_model.proofs.OneTurn.{live_within}
 use Rattle.run_model.proofs.plain.Plain.end_all.Goals as goal

@@ -1,10 +1,4 @@
-use Rattle.std.proofs.Common.{◌≡◌, ◌≤◌, ◌==◌, ◌+◌, ◌-◌, ◌*◌, ◌/◌, false, Bool, ap, subst, arith}
-use Rattle.std.specs.Prelude.{nat_lt, ◌&&◌}
-use Rattle.std.proofs.lemmas.Bool.{ne_eqb}
-use Rattle.run_model.specs.Turn.{header_size}
-use Rattle.run_model.specs.declared.hart.Hart.{Hart}
-use Rattle.run_model.specs.Represents.Alone.{IsUnguarded}
-use Rattle.run_model.specs.Represents.Harts.{hart_in}
+use Rattle.run_model.proofs.Common.{◌≡◌, ◌≤◌, ◌==◌, ◌+◌, ◌-◌, ◌*◌, ◌/◌, false, Bool, ap, subst, arith, nat_lt, ◌&&◌, ne_eqb, header_size, Hart, IsUnguarded, hart_in}
 use Rattle.run_model.proofs.LoneTurns.{fewer_than_half, below_none}
 use Rattle.run_model.proofs.Owns.{hart_at}
 use Rattle.run_model.proofs.plain.Plain.guards_from.Goals as goal

@@ -1,7 +1,4 @@
-use Rattle.std.proofs.Common.{ℕ, ◌∙◌, ap}
-use Rattle.rv_meaning.specs.Orderly.{orderly}
-use Rattle.run_model.specs.declared.hart.Hart.{Hart}
-use Rattle.run_model.specs.Turn.{is_orderly}
+use Rattle.run_model.proofs.Common.{ℕ, ◌∙◌, ap, orderly, Hart, is_orderly}
 use Rattle.run_model.proofs.Owns.{hart_at, hart_of_run}
 use Rattle.run_model.proofs.OneTurn.{live_within}
 use Rattle.run_model.proofs.plain.Plain.is_orderly.Goals as goal

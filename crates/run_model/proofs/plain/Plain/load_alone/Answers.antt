@@ -1,32 +1,7 @@
-use Rattle.std.proofs.Common.{◌≡◌, ◌<◌, ◌^◌, ◌-◌, IsTrue, ◌≤◌, ◌==◌, ◌+◌, ◌++◌, ℕ, false, List, length, refl, sym, subst, ap, ◌∙◌, arith}
-use Rattle.std.specs.Prelude.{Vec, if◌then◌else◌, Option, Some, None, []}
-use Rattle.std.specs.Global.{Global}
-use Rattle.std.proofs.lemmas.List.{append-nil}
-use Rattle.std.proofs.lemmas.Option.{slice_get-get_or}
-use Rattle.run_model.specs.declared.turn_end.TurnEnd.TheVariants.{GoesOn}
+use Rattle.run_model.proofs.Common.{◌≡◌, ◌<◌, ◌^◌, ◌-◌, IsTrue, ◌≤◌, ◌==◌, ◌+◌, ◌++◌, ℕ, false, List, length, refl, sym, subst, ap, ◌∙◌, arith, Vec, if◌then◌else◌, Option, Some, None, [], Global, append-nil, slice_get-get_or, GoesOn, absorbed, aligned, Ask, Load, Reply, Record, Read, RepresentsAccesses, next_count, Hart, Trace, HartState, TurnEnd, Span, AreCaches, taken, IsLog, is_marked_next, steps_in, touched_word, AreHarts, hart_in, ask_here, span, serve_call, next_of, hart_after, harts_after, skipped_after, points_after, point_of, edge_records, load_record, events_after, next_records, run_over_records, IsTrace, everyone, count_after, clears}
 use Rattle.run_model.proofs.LoneTurns.{one_on}
 use Rattle.run_model.proofs.MoveOn.{one_up}
-use Rattle.rv_meaning.specs.Execute.{absorbed}
-use Rattle.rv_meaning.specs.Words.{aligned}
-use Rattle.rv_meaning.specs.declared.asks.Ask.{Ask}
-use Rattle.rv_meaning.specs.declared.asks.Want.TheVariants.{Load}
-use Rattle.rv_meaning.specs.declared.asks.Reply.{Reply}
 use Rattle.rv_meaning.specs.declared.asks.Reply.TheVariants as replies
-use Rattle.log_record.specs.declared.record.Record.{Record}
-use Rattle.race_log.specs.declared.mode.Mode.TheVariants.{Read}
-use Rattle.race_log.specs.Represents.{RepresentsAccesses, next_count}
-use Rattle.run_model.specs.declared.hart.Hart.{Hart}
-use Rattle.run_model.specs.declared.trace.Trace.{Trace}
-use Rattle.bn_base.specs.declared.state.HartState.{HartState}
-use Rattle.run_model.specs.declared.turn_end.TurnEnd.{TurnEnd}
-use Rattle.run_model.specs.declared.span.Span.{Span}
-use Rattle.run_model.specs.Represents.EachCache.{AreCaches}
-use Rattle.run_model.specs.Represents.Logs.{taken, IsLog, is_marked_next}
-use Rattle.run_model.specs.Represents.EachCache.{steps_in, touched_word}
-use Rattle.run_model.specs.Represents.Harts.{AreHarts, hart_in}
-use Rattle.run_model.specs.Represents.InPlace.{ask_here}
-use Rattle.run_model.specs.Turn.{span, serve_call, next_of, hart_after, harts_after, skipped_after, points_after, point_of, edge_records, load_record, events_after, next_records, run_over_records}
-use Rattle.run_model.specs.Represents.Plain.{IsTrace, everyone, count_after, clears}
 use Rattle.run_model.proofs.OneTurn.{passes_of}
 use Rattle.run_model.proofs.Owns.{hart_at, hart_of_run}
 use Rattle.run_model.proofs.PlainRuns.{traced}

@@ -1,6 +1,4 @@
-use Rattle.std.proofs.Common.{◌≡◌, ◌<◌, ◌*◌, ◌==◌, ℕ, false, sym, subst}
-use Rattle.std.specs.Prelude.{nat_lt, ◌&&◌}
-use Rattle.run_model.specs.Represents.Turning.{parts}
+use Rattle.run_model.proofs.Common.{◌≡◌, ◌<◌, ◌*◌, ◌==◌, ℕ, false, sym, subst, nat_lt, ◌&&◌, parts}
 use Rattle.run_model.proofs.LoneTurns.{bytes_here, below_from}
 use Rattle.run_model.proofs.plain.Plain.may_guard.Goals as goal
 

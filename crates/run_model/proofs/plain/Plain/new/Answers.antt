@@ -1,8 +1,4 @@
-use Rattle.std.proofs.Common.{ℕ, List, refl, sym, subst}
-use Rattle.bn_base.specs.declared.settings.RawSettings.{RawSettings}
-use Rattle.run_model.specs.Represents.Parts.{IsMachine}
-use Rattle.run_model.specs.Represents.Plain.{IsTrace}
-use Rattle.run_model.specs.Runs.{start, start_machine}
+use Rattle.run_model.proofs.Common.{ℕ, List, refl, sym, subst, RawSettings, IsMachine, IsTrace, start, start_machine}
 use Rattle.run_model.proofs.plain.Plain.new.Goals as goal
 
 pub returns-clause-run : goal.returns-clause-run

@@ -1,6 +1,4 @@
-use Rattle.std.proofs.Common.{◌+◌, refl, sym, arith, ◌∙◌}
-use Rattle.std.proofs.lemmas.Result.{on_ok_weaker, on_err_weaker}
-use Rattle.run_model.specs.Represents.Turning.{parts}
+use Rattle.run_model.proofs.Common.{◌+◌, refl, sym, arith, ◌∙◌, on_ok_weaker, on_err_weaker, parts}
 use Rattle.run_model.proofs.LoneTurns.{none_turned, one_turned, could_more, can_turn}
 use Rattle.run_model.proofs.plain.Plain.one_alone.Goals as goal
 

@@ -1,7 +1,4 @@
-use Rattle.std.proofs.Common.{◌≡◌, subst, arith}
-use Rattle.rv_meaning.specs.Ahead.{AsksThere}
-use Rattle.run_model.specs.declared.hart.Hart.{Hart}
-use Rattle.run_model.specs.Represents.Harts.{hart_in}
+use Rattle.run_model.proofs.Common.{◌≡◌, subst, arith, AsksThere, Hart, hart_in}
 use Rattle.run_model.proofs.Owns.{hart_at}
 use Rattle.run_model.proofs.plain.Plain.part_alone.Goals as goal
 

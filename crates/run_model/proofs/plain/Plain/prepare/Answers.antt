@@ -1,14 +1,4 @@
-use Rattle.std.proofs.Common.{ℕ, List, sym, subst, ap, ◌∙◌}
-use Rattle.std.specs.Prelude.{Vec}
-use Rattle.std.specs.Global.{Global}
-use Rattle.first_load_bits.specs.Represents.{Contents}
-use Rattle.run_model.specs.declared.log.Log.{Log}
-use Rattle.run_model.specs.declared.hart.Hart.{Hart}
-use Rattle.run_model.specs.Represents.Parts.{IsMachine}
-use Rattle.run_model.specs.Represents.EachCache.{AreCaches}
-use Rattle.run_model.specs.Represents.Harts.{AreHarts}
-use Rattle.run_model.specs.Represents.Logs.{IsLog}
-use Rattle.run_model.specs.Represents.Parts.{IsPlanned}
+use Rattle.run_model.proofs.Common.{ℕ, List, sym, subst, ap, ◌∙◌, Vec, Global, Contents, Log, Hart, IsMachine, AreCaches, AreHarts, IsLog, IsPlanned}
 use Rattle.run_model.proofs.Meant.{is_before}
 use Rattle.run_model.proofs.PlainFits.{found_room, swept_fit}
 use Rattle.run_model.proofs.plain.Plain.prepare.Goals as goal

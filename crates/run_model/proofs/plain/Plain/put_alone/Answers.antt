@@ -1,10 +1,4 @@
-use Rattle.std.proofs.Common.{refl}
-use Rattle.rv_meaning.specs.Orderly.{is_aligned}
-use Rattle.rv_meaning.specs.declared.asks.Want.{Want}
-use Rattle.rv_meaning.specs.declared.asks.Want.TheVariants.{Store}
-use Rattle.run_model.specs.declared.hart.Hart.{Hart}
-use Rattle.run_model.specs.Represents.Harts.{hart_in}
-use Rattle.run_model.specs.Represents.InPlace.{ask_here}
+use Rattle.run_model.proofs.Common.{refl, is_aligned, Want, Store, Hart, hart_in, ask_here}
 use Rattle.run_model.proofs.MoveOn.{both}
 use Rattle.run_model.proofs.OneTurn.{passes_of}
 use Rattle.run_model.proofs.plain.Plain.put_alone.Goals as goal

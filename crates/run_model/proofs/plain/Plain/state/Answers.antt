@@ -1,5 +1,4 @@
-use Rattle.std.proofs.Common.{ap, arith}
-use Rattle.run_model.specs.declared.hart.Hart.{Hart}
+use Rattle.run_model.proofs.Common.{ap, arith, Hart}
 use Rattle.run_model.proofs.Owns.{hart_at}
 use Rattle.run_model.proofs.plain.Plain.state.Goals as goal
 

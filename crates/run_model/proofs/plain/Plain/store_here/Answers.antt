@@ -1,16 +1,4 @@
-use Rattle.std.proofs.Common.{◌<◌, IsTrue, false, refl, sym, subst, ap, ◌∙◌}
-use Rattle.std.specs.Prelude.{Vec, None}
-use Rattle.std.specs.Global.{Global}
-use Rattle.rv_meaning.specs.Orderly.{is_aligned}
-use Rattle.rv_meaning.specs.declared.asks.Want.{Want}
-use Rattle.rv_meaning.specs.declared.asks.Want.TheVariants.{Store}
-use Rattle.run_model.specs.declared.hart.Hart.{Hart}
-use Rattle.run_model.specs.declared.start.Start.{Start}
-use Rattle.run_model.specs.Turn.{is_orderly, serve_call}
-use Rattle.run_model.specs.Represents.Harts.{hart_in}
-use Rattle.run_model.specs.Represents.InPlace.{ask_here}
-use Rattle.run_model.specs.Represents.Plain.{IsRun}
-use Rattle.run_model.specs.Represents.Turning.{parts}
+use Rattle.run_model.proofs.Common.{◌<◌, IsTrue, false, refl, sym, subst, ap, ◌∙◌, Vec, None, Global, is_aligned, Want, Store, Hart, Start, is_orderly, serve_call, hart_in, ask_here, IsRun, parts}
 use Rattle.run_model.proofs.InPlace.{stands_on}
 use Rattle.run_model.proofs.MoveOn.{both}
 use Rattle.run_model.proofs.OneTurn.{passes_of}

@@ -1,10 +1,5 @@
-use Rattle.std.proofs.Common.{◌≡◌, ℕ, sym, subst, arith}
-use Rattle.rv_meaning.specs.Ahead.{AsksThere}
-use Rattle.rv_meaning.specs.declared.asks.Want.TheVariants.{Store}
-use Rattle.run_model.specs.declared.hart.Hart.{Hart}
-use Rattle.run_model.specs.Represents.Harts.{hart_in}
+use Rattle.run_model.proofs.Common.{◌≡◌, ℕ, sym, subst, arith, AsksThere, Store, Hart, hart_in, slice_index}
 use Rattle.run_model.proofs.Owns.{hart_at}
-use Rattle.std.specs.Prelude.{slice_index}
 use Rattle.run_model.proofs.plain.Plain.store_or_part.Goals as goal
 
 pub index-requires : goal.index-requires

@@ -1,13 +1,4 @@
-use Rattle.std.proofs.Common.{◌≡◌, sym, subst, ap, ◌∙◌, arith, true}
-use Rattle.std.specs.Prelude.{Vec, IsTrue}
-use Rattle.std.specs.Global.{Global}
-use Rattle.run_model.specs.declared.hart.Hart.{Hart}
-use Rattle.run_model.specs.declared.start.Start.{Start}
-use Rattle.run_model.specs.Represents.Harts.{hart_in}
-use Rattle.run_model.specs.Machine.{call_of}
-use Rattle.run_model.specs.Represents.Plain.{IsRun}
-use Rattle.run_model.specs.Turn.{Run, ask_at, is_orderly, is_guarded, serve_call}
-use Rattle.run_model.specs.Represents.Turning.{parts}
+use Rattle.run_model.proofs.Common.{◌≡◌, sym, subst, ap, ◌∙◌, arith, true, Vec, IsTrue, Global, Hart, Start, hart_in, call_of, IsRun, Run, ask_at, is_orderly, is_guarded, serve_call, parts}
 use Rattle.run_model.proofs.Owns.{hart_of_run}
 use Rattle.run_model.proofs.OneTurn.{live_within, asked_orderly, passes_of, turn_is}
 use Rattle.run_model.proofs.plain.Plain.take_asked.Goals as goal

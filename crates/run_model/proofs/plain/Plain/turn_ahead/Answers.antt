@@ -1,19 +1,4 @@
-use Rattle.std.proofs.Common.{◌≡◌, ℕ, List, length, sym, subst, ap, ◌∙◌, arith, refl}
-use Rattle.std.specs.Prelude.{slice_get}
-use Rattle.bn_base.specs.declared.state.HartState.{HartState}
-use Rattle.run_model.specs.declared.start.Start.{Start}
-use Rattle.run_model.specs.Represents.Plain.{IsRun, IsTraceFit}
-use Rattle.run_model.specs.Represents.Parts.{size_of}
-use Rattle.std.proofs.lemmas.Result.{on_ok_weaker, on_err_weaker}
-use Rattle.std.proofs.lemmas.List.{length-set}
-use Rattle.run_model.specs.Represents.Turning.{parts}
-use Rattle.run_model.specs.declared.hart.Hart.{Hart}
-use Rattle.bn_base.specs.Programs.{Program}
-use Rattle.rv_meaning.specs.declared.asks.Want.{Want}
-use Rattle.rv_meaning.specs.declared.asks.Want.TheVariants.{Load, Store}
-use Rattle.run_model.specs.Represents.Harts.{hart_in, is_live_hart}
-use Rattle.run_model.specs.Represents.InPlace.{IsMoved, in_state}
-use Rattle.run_model.specs.Turn.{turn, ask_at}
+use Rattle.run_model.proofs.Common.{◌≡◌, ℕ, List, length, sym, subst, ap, ◌∙◌, arith, refl, slice_get, HartState, Start, IsRun, IsTraceFit, size_of, on_ok_weaker, on_err_weaker, length-set, parts, Hart, Program, Want, Load, Store, hart_in, is_live_hart, IsMoved, in_state, turn, ask_at}
 use Rattle.run_model.proofs.OneTurn.{live_within}
 use Rattle.run_model.proofs.InPlace.{IsAside, IsLike, at_ask, load_taken, store_taken, swept_aside, back, like_fit, like_trace, like_itself, own_moved, stands_on}
 use Rattle.run_model.proofs.plain.Plain.turn_ahead.Goals.{in-Load+else-take_load, in-Store+else-take_store, in_default}

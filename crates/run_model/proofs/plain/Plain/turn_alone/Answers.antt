@@ -1,13 +1,4 @@
-use Rattle.std.proofs.Common.{◌≡◌, ◌≤◌, ◌<◌, ◌+◌, ℕ, length, true, sym, ap, subst, arith}
-use Rattle.rv_meaning.specs.Ahead.{Walking}
-use Rattle.rv_meaning.specs.Execute.{ask_of}
-use Rattle.run_model.specs.declared.start.Start.{Start}
-use Rattle.run_model.specs.declared.trace.Trace.{Trace}
-use Rattle.run_model.specs.Represents.Alone.{IsOnWay}
-use Rattle.run_model.specs.Represents.Harts.{hart_in}
-use Rattle.run_model.specs.Represents.InPlace.{IsMoved}
-use Rattle.run_model.specs.Represents.Plain.{PlainParts, IsTraceFit}
-use Rattle.run_model.specs.Represents.Turning.{parts, is_live}
+use Rattle.run_model.proofs.Common.{◌≡◌, ◌≤◌, ◌<◌, ◌+◌, ℕ, length, true, sym, ap, subst, arith, Walking, ask_of, Start, Trace, IsOnWay, hart_in, IsMoved, PlainParts, IsTraceFit, parts, is_live}
 use Rattle.run_model.proofs.LoneTurns.{HasGoneOn, gone_fits, gone_moved, can_take, turned_alone, still_on_way, still_unguarded}
 use Rattle.run_model.proofs.OneTurn.{live_within}
 use Rattle.run_model.proofs.plain.Plain.turn_alone.Goals as goal

@@ -1,9 +1,4 @@
-use Rattle.std.proofs.Common.{◌≡◌, ◌+◌, ◌-◌, ℕ, refl, sym, ap, subst, arith, ◌∙◌}
-use Rattle.std.proofs.lemmas.Result.{on_ok_weaker, on_err_weaker}
-use Rattle.run_model.specs.declared.start.Start.{Start}
-use Rattle.run_model.specs.Represents.Alone.{IsUnguarded, HasTurned}
-use Rattle.run_model.specs.Represents.Harts.{hart_in}
-use Rattle.run_model.specs.Represents.Turning.{parts}
+use Rattle.run_model.proofs.Common.{◌≡◌, ◌+◌, ◌-◌, ℕ, refl, sym, ap, subst, arith, ◌∙◌, on_ok_weaker, on_err_weaker, Start, IsUnguarded, HasTurned, hart_in, parts}
 use Rattle.run_model.proofs.LoneTurns.{none_turned, one_turned, moved_turn, moved_stays, could_more, can_turn}
 use Rattle.run_model.proofs.plain.Plain.turns_on.Goals as goal
 

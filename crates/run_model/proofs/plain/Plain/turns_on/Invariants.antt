@@ -1,9 +1,4 @@
-use Rattle.std.proofs.Common.{◌≡◌, ◌≤◌, ◌-◌, true}
-use Rattle.run_model.specs.Turn.{Run}
-use Rattle.run_model.specs.Represents.Alone.{IsOnWay, IsUnguarded, HasTurned}
-use Rattle.run_model.specs.Represents.Harts.{hart_in}
-use Rattle.run_model.specs.Represents.Plain.{IsRun}
-use Rattle.run_model.specs.Represents.Turning.{parts, is_live}
+use Rattle.run_model.proofs.Common.{◌≡◌, ◌≤◌, ◌-◌, true, Run, IsOnWay, IsUnguarded, HasTurned, hart_in, IsRun, parts, is_live}
 use Rattle.run_model.proofs.plain.Plain.turns_on.Given as goal
 
 abbrev pub invariant-turns : goal.invariant-turns

@@ -1,8 +1,4 @@
-use Rattle.std.proofs.Common.{refl, subst}
-use Rattle.rv_meaning.specs.Ahead.{AsksThere}
-use Rattle.rv_meaning.specs.declared.asks.Want.{Want}
-use Rattle.rv_meaning.specs.declared.asks.Want.TheVariants.{Load}
-use Rattle.run_model.specs.Represents.Harts.{hart_in}
+use Rattle.run_model.proofs.Common.{refl, subst, AsksThere, Want, Load, hart_in}
 use Rattle.run_model.proofs.plain.Plain.want_alone.Goals as goal
 
 pub load_alone-requires-clause-asks : goal.load_alone-requires-clause-asks

@@ -1,10 +1,4 @@
-use Rattle.std.proofs.Common.{subst}
-use Rattle.std.specs.Prelude.{Option}
-use Rattle.run_model.specs.declared.turn_end.TurnEnd.TheVariants.{GoesOn}
-use Rattle.run_model.specs.declared.span.Span.{Span}
-use Rattle.run_model.specs.Represents.EachCache.{AreCaches}
-use Rattle.run_model.specs.Turn.{events_after}
-use Rattle.run_model.specs.Represents.Accessed.{IsNoted}
+use Rattle.run_model.proofs.Common.{subst, Option, GoesOn, Span, AreCaches, events_after, IsNoted}
 use Rattle.run_model.proofs.trace.Trace.access.Goals as goal
 
 pub returns-clause-caches : goal.returns-clause-caches

@@ -1,7 +1,4 @@
-use Rattle.std.proofs.Common.{sym, subst}
-use Rattle.run_model.specs.declared.turn_end.TurnEnd.{TurnEnd}
-use Rattle.run_model.specs.Represents.EachCache.{AreCaches}
-use Rattle.run_model.specs.Turn.{events_after}
+use Rattle.run_model.proofs.Common.{sym, subst, TurnEnd, AreCaches, events_after}
 use Rattle.run_model.proofs.trace.Trace.begin.Goals as goal
 
 pub returns-in-NewInterval-clause-caches : goal.returns-in-NewInterval-clause-caches

@@ -1,10 +1,4 @@
-use Rattle.std.proofs.Common.{◌∙◌, ◌+◌, ◌++◌, length, refl, ap, subst}
-use Rattle.std.proofs.lemmas.List.{get_or-set_same, get_or-set_other, length-set}
-use Rattle.run_model.specs.declared.turn_end.TurnEnd.{TurnEnd}
-use Rattle.run_model.specs.Counts.{anew}
-use Rattle.run_model.specs.Turn.{next_records}
-use Rattle.run_model.specs.Represents.Harts.{no_hart}
-use Rattle.run_model.specs.Represents.Logs.{taken, IsLog}
+use Rattle.run_model.proofs.Common.{◌∙◌, ◌+◌, ◌++◌, length, refl, ap, subst, get_or-set_same, get_or-set_other, length-set, TurnEnd, anew, next_records, no_hart, taken, IsLog}
 use Rattle.run_model.proofs.Owns.{hart_at, hart_of_run}
 use Rattle.run_model.proofs.Begun.{trace_begun}
 use Rattle.run_model.proofs.trace.Trace.begin_anew.Goals as goal

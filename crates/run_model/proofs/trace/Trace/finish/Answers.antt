@@ -1,15 +1,4 @@
-use Rattle.std.proofs.Common.{◌≡◌, ◌∙◌, ◌++◌, List, length, sym, subst, ap, arith, length-set}
-use Rattle.std.specs.Prelude.{Vec}
-use Rattle.std.specs.Global.{Global}
-use Rattle.rv_meaning.specs.Execute.{absorbed}
-use Rattle.log_record.specs.declared.record.Record.{Record}
-use Rattle.run_model.specs.declared.hart.Hart.{Hart}
-use Rattle.run_model.specs.declared.log.Log.{Log}
-use Rattle.run_model.specs.declared.turn_end.TurnEnd.{TurnEnd}
-use Rattle.run_model.specs.Represents.EachCache.{AreCaches}
-use Rattle.run_model.specs.Represents.Harts.{AreHarts, hart_in}
-use Rattle.run_model.specs.Represents.Logs.{taken, IsLog}
-use Rattle.run_model.specs.Turn.{events_after, harts_after, hart_after, skipped_after, next_of, next_records}
+use Rattle.run_model.proofs.Common.{◌≡◌, ◌∙◌, ◌++◌, List, length, sym, subst, ap, arith, length-set, Vec, Global, absorbed, Record, Hart, Log, TurnEnd, AreCaches, AreHarts, hart_in, taken, IsLog, events_after, harts_after, hart_after, skipped_after, next_of, next_records}
 use Rattle.run_model.proofs.Owns.{hart_at, next_at, own_after}
 use Rattle.run_model.proofs.Stopping.{with_own, own_set, others_then, ends_are, is_finished}
 use Rattle.run_model.proofs.trace.Trace.finish.Goals as goal

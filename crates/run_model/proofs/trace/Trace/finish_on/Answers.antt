@@ -1,16 +1,4 @@
-use Rattle.std.proofs.Common.{◌≡◌, ◌++◌, ◌∙◌, List, length, refl, sym, subst, length-set}
-use Rattle.std.specs.Prelude.{None, [], slice_set}
-use Rattle.std.proofs.lemmas.List.{append-nil}
-use Rattle.rv_meaning.specs.Execute.{absorbed}
-use Rattle.log_record.specs.declared.record.Record.{Record}
-use Rattle.run_model.specs.declared.hart.Hart.{Hart}
-use Rattle.run_model.specs.declared.turn_end.TurnEnd.{TurnEnd}
-use Rattle.run_model.specs.declared.turn_end.TurnEnd.TheVariants.{GoesOn}
-use Rattle.run_model.specs.Represents.EachCache.{AreCaches}
-use Rattle.run_model.specs.Represents.Harts.{AreHarts, hart_in}
-use Rattle.run_model.specs.Represents.InPlace.{ask_here}
-use Rattle.run_model.specs.Represents.Logs.{IsLog}
-use Rattle.run_model.specs.Turn.{events_after, harts_after, hart_after, skipped_after, next_records, run_over_records}
+use Rattle.run_model.proofs.Common.{◌≡◌, ◌++◌, ◌∙◌, List, length, refl, sym, subst, length-set, None, [], slice_set, append-nil, absorbed, Record, Hart, TurnEnd, GoesOn, AreCaches, AreHarts, hart_in, ask_here, IsLog, events_after, harts_after, hart_after, skipped_after, next_records, run_over_records}
 use Rattle.run_model.proofs.LoneTurns.{own_on, finished_on}
 use Rattle.run_model.proofs.Owns.{hart_at}
 use Rattle.run_model.proofs.Stopping.{own_set}

@@ -1,9 +1,4 @@
-use Rattle.std.proofs.Common.{◌≡◌, ◌++◌, ℕ, refl, subst, ap, arith}
-use Rattle.std.specs.Prelude.{Some}
-use Rattle.run_model.specs.declared.hart.Hart.{Hart}
-use Rattle.run_model.specs.Turn.{edge_records, point_of, load_record}
-use Rattle.run_model.specs.Represents.Harts.{hart_in}
-use Rattle.run_model.specs.Represents.Logs.{IsLog}
+use Rattle.run_model.proofs.Common.{◌≡◌, ◌++◌, ℕ, refl, subst, ap, arith, Some, Hart, edge_records, point_of, load_record, hart_in, IsLog}
 use Rattle.run_model.proofs.LoneTurns.{with_no_edges, few_records}
 use Rattle.run_model.proofs.Owns.{hart_at}
 use Rattle.run_model.proofs.trace.Trace.load_word_alone.Goals as goal

@@ -1,8 +1,4 @@
-use Rattle.std.proofs.Common.{◌≡◌, ◌∙◌, ℕ, ◌+◌, ◌-◌, refl, sym, ap, arith}
-use Rattle.bn_base.specs.declared.state.HartState.{HartState}
-use Rattle.rv_meaning.specs.Execute.{ask_of}
-use Rattle.run_model.specs.declared.hart.Hart.{Hart}
-use Rattle.run_model.specs.Represents.Harts.{hart_in}
+use Rattle.run_model.proofs.Common.{◌≡◌, ◌∙◌, ℕ, ◌+◌, ◌-◌, refl, sym, ap, arith, HartState, ask_of, Hart, hart_in}
 use Rattle.run_model.proofs.LoneTurns.{state_there, moved_by, asks_same}
 use Rattle.run_model.proofs.Owns.{hart_at}
 use Rattle.run_model.proofs.trace.Trace.move_alone.Goals as goal

@@ -1,6 +1,4 @@
-use Rattle.std.proofs.Common.{refl, ap, ◌∙◌, []}
-use Rattle.log_ring.specs.Kept.{held}
-use Rattle.run_model.specs.Represents.Plain.{everyone}
+use Rattle.run_model.proofs.Common.{refl, ap, ◌∙◌, [], held, everyone}
 use Rattle.run_model.proofs.Beginning.{empty_is, trace_begins, trace_fits}
 use Rattle.run_model.proofs.trace.Trace.new.Goals as goal
 

@@ -1,10 +1,5 @@
-use Rattle.std.proofs.Common.{true, is_some, ap, subst}
+use Rattle.rv_meaning.proofs.Common.{true, is_some, ap, subst, Option, IfSome, Program, Says, Asking, instruction_at, Op}
 use Rattle.std.specs.Borrow.{Bor}
-use Rattle.std.specs.Prelude.{Option, IfSome}
-use Rattle.bn_base.specs.Programs.{Program}
-use Rattle.rv_meaning.specs.Ops.{Says, Asking}
-use Rattle.rv_meaning.specs.Rows.{instruction_at}
-use Rattle.rv_meaning.specs.declared.ops.Op.{Op}
 use Rattle.rv_meaning.proofs.DecodedAhead.{asks_here}
 use Rattle.rv_meaning.proofs.ahead.DecodedImage.ask.Goals as goal
 

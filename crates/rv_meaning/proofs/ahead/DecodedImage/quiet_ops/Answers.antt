@@ -1,6 +1,4 @@
-use Rattle.std.proofs.Common.{◌≡◌, ◌∙◌, ℕ, ◌+◌, ◌-◌, ◌^◌, min, arith, ap}
-use Rattle.rv_meaning.specs.Execute.{ask_of}
-use Rattle.rv_meaning.specs.Ops.{pc_of}
+use Rattle.rv_meaning.proofs.Common.{◌≡◌, ◌∙◌, ℕ, ◌+◌, ◌-◌, ◌^◌, min, arith, ap, ask_of, pc_of}
 use Rattle.rv_meaning.proofs.DecodedAhead.{ahead_in, leads_plain}
 use Rattle.rv_meaning.proofs.ahead.DecodedImage.quiet_ops.Goals as goal
 

@@ -1,8 +1,4 @@
-use Rattle.std.proofs.Common.{subst}
-use Rattle.bn_base.specs.Programs.{code_at}
-use Rattle.rv_meaning.specs.Ahead.{Walking}
-use Rattle.rv_meaning.specs.Ops.{Says}
-use Rattle.rv_meaning.specs.Rows.{instruction_in}
+use Rattle.rv_meaning.proofs.Common.{subst, code_at, Walking, Says, instruction_in}
 use Rattle.rv_meaning.proofs.DecodedAhead.{says_here}
 use Rattle.rv_meaning.proofs.walk.Walk.op.Goals as goal
 

@@ -1,11 +1,4 @@
-use Rattle.std.proofs.Common.{◌≡◌, true, false, ap, subst}
-use Rattle.std.specs.Prelude.{slice_index}
-use Rattle.bn_base.specs.Programs.{Program, code_at}
-use Rattle.rv_meaning.specs.Ahead.{Walking}
-use Rattle.rv_meaning.specs.Ops.{Asking}
-use Rattle.rv_meaning.specs.Rows.{instruction_in}
-use Rattle.rv_meaning.specs.declared.asks.Want.{Want}
-use Rattle.rv_meaning.specs.declared.asks.Want.TheVariants.{Store}
+use Rattle.rv_meaning.proofs.Common.{◌≡◌, true, false, ap, subst, slice_index, Program, code_at, Walking, Asking, instruction_in, Want, Store}
 use Rattle.rv_meaning.proofs.DecodedAhead.{asks_here}
 use Rattle.rv_meaning.proofs.walk.Walk.word_store.Goals as goal
 

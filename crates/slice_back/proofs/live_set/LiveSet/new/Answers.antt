@@ -1,5 +1,4 @@
-use Rattle.std.proofs.Common.{◌≡◌, ℕ, zero, suc, false, get_or, refl, ap}
-use Rattle.std.specs.Prelude.{is_some, replicate}
+use Rattle.slice_back.proofs.Common.{◌≡◌, ℕ, zero, suc, false, get_or, refl, ap, is_some, replicate}
 use Rattle.slice_back.proofs.live_set.LiveSet.new.Goals as goal
 
 none_at : (n q : ℕ) → get_or (replicate n false) q false ≡ false

@@ -1,5 +1,4 @@
-use Rattle.std.proofs.Common.{rules, arith}
-use Rattle.std.proofs.lemmas.Grind.{common_steps}
+use Rattle.slice_back.proofs.Common.{rules, arith, common_steps}
 use Rattle.slice_back.proofs.live_set.LiveSet.use_word.Goals as goal
 
 pub invariant_of-self : goal.invariant_of-self

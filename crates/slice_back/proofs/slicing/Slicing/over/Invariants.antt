@@ -1,5 +1,4 @@
-use Rattle.std.proofs.Common.{◌-◌, drop}
-use Rattle.slice_back.specs.Passes.{TellsLive}
+use Rattle.slice_back.proofs.Common.{◌-◌, drop, TellsLive}
 use Rattle.slice_back.proofs.slicing.Slicing.over.Given as goal
 
 -- the rows from a place on are told

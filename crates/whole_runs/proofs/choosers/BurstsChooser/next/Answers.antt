@@ -1,6 +1,4 @@
-use Rattle.std.proofs.Common.{◌-◌, ◌<◌, length, arith}
-use Rattle.run_model.specs.Runs.{most_turns}
-use Rattle.whole_runs.specs.Lists.{list_run}
+use Rattle.whole_runs.proofs.Common.{◌-◌, ◌<◌, length, arith, most_turns, list_run}
 use Rattle.whole_runs.proofs.Draws.{drawn_none, turn_drawn}
 use Rattle.whole_runs.proofs.Live.{over_none}
 use Rattle.whole_runs.proofs.Taken.{turns_are}

@@ -1,6 +1,4 @@
-use Rattle.std.proofs.Common.{◌∙◌, ◌-◌, ◌<◌, ◌∷◌, ◌++◌, [], ℕ, length, sym, ap, arith}
-use Rattle.run_model.specs.Runs.{chosen, most_turns}
-use Rattle.whole_runs.specs.Lists.{list_run, live_harts_of, seeded_after}
+use Rattle.whole_runs.proofs.Common.{◌∙◌, ◌-◌, ◌<◌, ◌∷◌, ◌++◌, [], ℕ, length, sym, ap, arith, chosen, most_turns, list_run, live_harts_of, seeded_after}
 use Rattle.whole_runs.proofs.Counted.{count_stays}
 use Rattle.whole_runs.proofs.Live.{over_none}
 use Rattle.whole_runs.proofs.Seeds.{seeded_none}

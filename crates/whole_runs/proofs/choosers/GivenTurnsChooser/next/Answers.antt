@@ -1,6 +1,4 @@
-use Rattle.std.proofs.Common.{◌∙◌, ℕ, List, sym, ap}
-use Rattle.whole_runs.specs.Followed.{legal_prefix_from}
-use Rattle.whole_runs.specs.Lists.{list_run}
+use Rattle.whole_runs.proofs.Common.{◌∙◌, ℕ, List, sym, ap, legal_prefix_from, list_run}
 use Rattle.whole_runs.proofs.Follows.{prefix_none, prefix_over, prefix_more}
 use Rattle.whole_runs.proofs.choosers.GivenTurnsChooser.next.Goals as goal
 

@@ -1,5 +1,4 @@
-use Rattle.std.proofs.Common.{◌≡◌, true}
-use Rattle.run_model.specs.Machine.{unless, is_among}
+use Rattle.run_model.proofs.Common.{◌≡◌, true, unless, is_among}
 use Rattle.run_model.proofs.EachHart.{Changed}
 use Rattle.run_model.proofs.machine.reservations.Reservations.end_among.Given as goal
 

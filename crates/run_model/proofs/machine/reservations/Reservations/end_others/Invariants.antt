@@ -1,5 +1,4 @@
-use Rattle.std.proofs.Common.{◌≡◌, ◌==◌, cond, true}
-use Rattle.run_model.specs.Machine.{unless}
+use Rattle.run_model.proofs.Common.{◌≡◌, ◌==◌, cond, true, unless}
 use Rattle.run_model.proofs.EachHart.{Changed}
 use Rattle.run_model.proofs.machine.reservations.Reservations.end_others.Given as goal
 
