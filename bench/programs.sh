@@ -23,6 +23,7 @@ work=$(mktemp -d)
 trap 'rm -rf "$work"' EXIT
 runs=${1:-3}
 elf=$top/examples/sort.elf
+[ -x /usr/bin/time ] || { echo "bench/programs.sh: /usr/bin/time (Debian's time) isn't installed" >&2 && exit 1; }
 zelkuma=${ZELKUMA_PROGRAM:-$("$top/zelkuma" build)} # the program itself
 
 # seconds STATUS WORD..: runs the words, which have to end with this status, and prints the least
@@ -162,26 +163,20 @@ checked=$(seconds 0 "$zelkuma" check "$work/LOG")
 listed=$(seconds 0 "$zelkuma" list "$work/LOG")
 rate check "$kept" bytes "$checked" sha256sum "$digested"
 rate list "$kept" bytes "$listed" "check" "$checked"
-if [ -x /usr/bin/time ]; then
-    for command in check list; do
-        most=$(peak "$zelkuma" "$command" "$work/LOG")
-        awk -v what="$command" -v most="$most" -v bytes="$(stat -c %s "$work/LOG")" \
-            'BEGIN { printf "%s: %.2f bytes of memory at the peak for a byte of log\n", what, most * 1024 / bytes }'
-    done
-fi
+for command in check list; do
+    most=$(peak "$zelkuma" "$command" "$work/LOG")
+    awk -v what="$command" -v most="$most" -v bytes="$(stat -c %s "$work/LOG")" \
+        'BEGIN { printf "%s: %.2f bytes of memory at the peak for a byte of log\n", what, most * 1024 / bytes }'
+done
 
 # What a turn takes is the difference between this recording and one of half as many instructions.
-if [ -x /usr/bin/time ]; then
-    most=$(peak "$zelkuma" "${record[@]}" "$elf" "$work/LOG" "$work/BOOK")
-    less=$(peak "$zelkuma" "${record[@]}" --limit $((instructions / 2)) "$elf" "$work/LOG" "$work/BOOK")
-    fewer=$(told turns)
-    awk -v most="$most" -v less="$less" -v turns="$turns" -v fewer="$fewer" 'BEGIN {
-        printf "list of turns: %.1f bytes a turn", (most - less) * 1024 / (turns - fewer)
-        printf ", %d KiB at the peak of %d turns, %d KiB of %d\n", most, turns, less, fewer
-    }'
-else
-    echo "/usr/bin/time (Debian's time) is not installed: the list of turns is not measured"
-fi
+most=$(peak "$zelkuma" "${record[@]}" "$elf" "$work/LOG" "$work/BOOK")
+less=$(peak "$zelkuma" "${record[@]}" --limit $((instructions / 2)) "$elf" "$work/LOG" "$work/BOOK")
+fewer=$(told turns)
+awk -v most="$most" -v less="$less" -v turns="$turns" -v fewer="$fewer" 'BEGIN {
+    printf "list of turns: %.1f bytes a turn", (most - less) * 1024 / (turns - fewer)
+    printf ", %d KiB at the peak of %d turns, %d KiB of %d\n", most, turns, less, fewer
+}'
 
 # number N..: each as the four bytes of a word.
 number() {
@@ -217,31 +212,27 @@ threads "40,000 quiet instructions before each access" 1000 20000
 threads "fighting at each access" 100000 0
 
 # What a turn of harts in threads takes, as above.
-if [ -x /usr/bin/time ]; then
-    for lean in "" --lean; do
-        harts 4 100000 0
-        most=$(peak "$zelkuma" "${harts[@]}" $lean "$top/bench/harts.elf" "$work/LOG" "$work/BOOK")
-        turns=$(told turns)
-        harts 4 50000 0
-        less=$(peak "$zelkuma" "${harts[@]}" $lean "$top/bench/harts.elf" "$work/LOG" "$work/BOOK")
-        awk -v how="${lean:+, $lean}" -v most="$most" -v less="$less" -v turns="$turns" -v fewer="$(told turns)" 'BEGIN {
-            printf "harts in threads%s: %.1f bytes a turn, %d KiB at the peak of %d turns\n",
-                how, (most - less) * 1024 / (turns - fewer), most, turns
-        }'
-    done
-fi
+for lean in "" --lean; do
+    harts 4 100000 0
+    most=$(peak "$zelkuma" "${harts[@]}" $lean "$top/bench/harts.elf" "$work/LOG" "$work/BOOK")
+    turns=$(told turns)
+    harts 4 50000 0
+    less=$(peak "$zelkuma" "${harts[@]}" $lean "$top/bench/harts.elf" "$work/LOG" "$work/BOOK")
+    awk -v how="${lean:+, $lean}" -v most="$most" -v less="$less" -v turns="$turns" -v fewer="$(told turns)" 'BEGIN {
+        printf "harts in threads%s: %.1f bytes a turn, %d KiB at the peak of %d turns\n",
+            how, (most - less) * 1024 / (turns - fewer), most, turns
+    }'
+done
 
 # A long recording of harts in threads, made once, and with 2 GB of address space so that it can't take the machine's.
-if [ -x /usr/bin/time ]; then
-    long=${ZELKUMA_THREAD_TURNS:-100000000}
-    harts 4 $((long / 8)) 0
-    if most=$(ulimit -v 2000000 && peak "$zelkuma" "${harts[@]}" "$top/bench/harts.elf" "$work/LOG" "$work/BOOK"); then
-        awk -v most="$most" -v turns="$(told turns)" 'BEGIN {
-            printf "harts in threads, %d turns: %.0f MB at the peak\n", turns, most * 1024 / 1e6
-        }'
-    else
-        echo "harts in threads, $long turns: not recorded in 2 GB"
-    fi
+long=${ZELKUMA_THREAD_TURNS:-100000000}
+harts 4 $((long / 8)) 0
+if most=$(ulimit -v 2000000 && peak "$zelkuma" "${harts[@]}" "$top/bench/harts.elf" "$work/LOG" "$work/BOOK"); then
+    awk -v most="$most" -v turns="$(told turns)" 'BEGIN {
+        printf "harts in threads, %d turns: %.0f MB at the peak\n", turns, most * 1024 / 1e6
+    }'
+else
+    echo "harts in threads, $long turns: not recorded in 2 GB"
 fi
 
 # The joint replay of so many harts, 800,000 instructions together, beside single replays of all their
@@ -258,11 +249,9 @@ joint() { # HARTS
     joined=$(seconds 0 "$zelkuma" joint "$work/LOG" "$top/bench/harts.elf")
     rows=$("$zelkuma" joint "$work/LOG" "$top/bench/harts.elf" | grep -c '^[0-9]')
     rate "joint, $1 harts" "$rows" rows "$joined" "single replays" "$alone"
-    if [ -x /usr/bin/time ]; then
-        awk -v most="$(peak "$zelkuma" joint "$work/LOG" "$top/bench/harts.elf")" \
-            -v less="$(peak "$zelkuma" list "$work/LOG")" -v bytes="$(stat -c %s "$work/LOG")" \
-            'BEGIN { printf "  %d KiB at the peak, %d without the joint replay, for a log of %d KiB\n", most, less, bytes / 1024 }'
-    fi
+    awk -v most="$(peak "$zelkuma" joint "$work/LOG" "$top/bench/harts.elf")" \
+        -v less="$(peak "$zelkuma" list "$work/LOG")" -v bytes="$(stat -c %s "$work/LOG")" \
+        'BEGIN { printf "  %d KiB at the peak, %d without the joint replay, for a log of %d KiB\n", most, less, bytes / 1024 }'
 }
 for count in 1 2 4 8; do
     joint "$count"
@@ -289,11 +278,9 @@ back() { # TIMES WORD..
 back 40 "back 1"
 back 8 "back 100000"
 back 1 "break 10054" rgo
-if [ -x /usr/bin/time ]; then
-    awk -v most="$(peak bash -c 'printf "go\n" | "$0" debug "$1" "$2"' "$zelkuma" "$work/LOG" "$top/bench/harts.elf")" \
-        -v less="$(peak "$zelkuma" joint "$work/LOG" "$top/bench/harts.elf")" -v n="$steps" \
-        'BEGIN { printf "  %.1f bytes of memory a step beyond those of the joint replay\n", (most - less) * 1024 / n }'
-fi
+awk -v most="$(peak bash -c 'printf "go\n" | "$0" debug "$1" "$2"' "$zelkuma" "$work/LOG" "$top/bench/harts.elf")" \
+    -v less="$(peak "$zelkuma" joint "$work/LOG" "$top/bench/harts.elf")" -v n="$steps" \
+    'BEGIN { printf "  %.1f bytes of memory a step beyond those of the joint replay\n", (most - less) * 1024 / n }'
 
 # The race report of four harts, 800,000 instructions together, beside their joint replay: each on words of its
 # own, which has no race, and all on the same words.
@@ -318,11 +305,9 @@ read -r hart interval rows last < <("$zelkuma" list "$work/LOG" | awk '
 sliced=$(seconds 0 "$zelkuma" slice "$work/LOG" "$elf" "$hart" "$interval" "$last")
 replayed=$(seconds 0 "$zelkuma" replay "$work/LOG" "$elf" "$hart" "$interval")
 rate slice "$rows" rows "$sliced" "the replay with its text" "$replayed"
-if [ -x /usr/bin/time ]; then
-    awk -v most="$(peak "$zelkuma" slice "$work/LOG" "$elf" "$hart" "$interval" "$last")" \
-        -v less="$(peak "$zelkuma" replay "$work/LOG" "$elf" "$hart" "$interval")" -v rows="$rows" \
-        'BEGIN { printf "  %.1f bytes of memory a row beyond those of the replay\n", (most - less) * 1024 / rows }'
-fi
+awk -v most="$(peak "$zelkuma" slice "$work/LOG" "$elf" "$hart" "$interval" "$last")" \
+    -v less="$(peak "$zelkuma" replay "$work/LOG" "$elf" "$hart" "$interval")" -v rows="$rows" \
+    'BEGIN { printf "  %.1f bytes of memory a row beyond those of the replay\n", (most - less) * 1024 / rows }'
 
 # The text of that replay, and that of a joint replay of one hart, into a pipe.
 rate "replay into a pipe" "$rows" rows "$(piped "$zelkuma" replay "$work/LOG" "$elf" "$hart" "$interval")"

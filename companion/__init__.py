@@ -3,19 +3,18 @@
 docs/PYTHON.md tells what other scripts can use."""
 from __future__ import annotations
 
+import importlib
 from typing import TYPE_CHECKING, Any
 
 if TYPE_CHECKING:
     from .call.errors import CompanionError as CompanionError
     from .library import Recording as Recording
 
+MODULES = {"Recording": ".library", "CompanionError": ".call.errors"}
+
 
 def __getattr__(name: str) -> Any:
     """What other scripts can use is imported once it is used, since no companion needs it."""
-    if name == "Recording":
-        from .library import Recording
-        return Recording
-    if name == "CompanionError":
-        from .call.errors import CompanionError
-        return CompanionError
+    if name in MODULES:
+        return getattr(importlib.import_module(MODULES[name], __name__), name)
     raise AttributeError(name)

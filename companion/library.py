@@ -10,9 +10,9 @@ from typing import Any, Iterator, List, NamedTuple, Optional
 from .call.errors import NO_INTERVAL, CompanionError
 from .gdb.memory import Memory
 from .gdb.session import Session, begin_session
-from .questions.calls import Values, calls_of
+from .questions.calls import calls_of, said_arguments, said_result
 from .questions.functions import function_of
-from .questions.history import history_of, value_of
+from .questions.history import history_of
 from .questions.reading import Asked, asked_of
 from .questions.types import python_value
 from .questions.variables import variable_of
@@ -141,12 +141,11 @@ class Recording:
         """The last stores to a variable."""
         asked = self.asked
         found = history_of(asked, variable_of(asked.named, name), last)
-        return [Stored(entry.hart, entry.count, entry.part.path, value_of(entry, entry.before, asked),
-                       value_of(entry, entry.after, asked), asked.places.chain(entry.pcs, 4)) for entry in found.told]
+        return [Stored(entry.hart, entry.count, entry.part, entry.old, entry.new, asked.places.chain(entry.pcs, 4)) for entry in found.told]
 
     def calls(self, function: str, last: int = 100) -> List[Called]:
         """The last calls of a function."""
         asked = self.asked
-        found, values = calls_of(asked, function_of(asked.named, function), last), Values(asked)
-        return [Called(int(call.hart), call.count, values.arguments(call), values.result(call), call.rows, asked.places.where(call.source))
-                for call in found.told]
+        found = calls_of(asked, function_of(asked.named, function), last)
+        return [Called(int(call.hart), call.count, said_arguments(asked, call), said_result(asked, call), call.rows,
+                       asked.places.where(call.source)) for call in found.told]

@@ -1,4 +1,8 @@
-# What scripts of tests share. A script sets work, a folder of its own, and what, the point that it tries.
+# What scripts of tests share: top is the folder of all, and work one of their own. A script sets what, the point that it tries.
+set -u
+top=$(cd "$(dirname "${BASH_SOURCE[0]}")/.." && pwd)
+work=$(mktemp -d)
+trap 'rm -rf "$work"' EXIT
 failures=0
 
 # Says what went wrong, with what the words wrote that ran last.
@@ -18,9 +22,10 @@ runs() { # STATUS WORD..
     [ "$status" -eq "$wanted" ] || fails "status $status of '$*', and not $wanted"
 }
 
-has() { grep -qF -- "$2" "$work/$1" || fails "no '$2' in $1"; }                # FILE TEXT
+has() { grep -qF -- "$2" "$work/$1" || fails "no '$2' in $1"; } # FILE TEXT
 equals() { cmp -s -- "$1" "$2" || fails "$1 and $2 differ: $(diff "$1" "$2" | head -n 5)"; } # FILE FILE
-skips() { echo "skipped: $1"; }                                                # TEXT
+says() { [ "$(<"$work/err")" = "$(printf '%s\n' "$@")" ] || fails "err isn't: $*"; } # LINE..
+skips() { echo "skipped: $1"; } # TEXT
 
 # Ends a script that can try nothing here.
 end_skipped() { # TEXT

@@ -70,7 +70,6 @@ class Process:
             os.kill(self.pid, signal.SIGKILL)
 
     def wait(self) -> int:
-        """Its status."""
         return self.end(os.waitpid(self.pid, 0)[1])
 
 

@@ -27,7 +27,6 @@ def escaped(text: str) -> str:
 
 
 def page(title: str, parts: Sequence[Part]) -> str:
-    """The report as a page."""
     text = ["\n".join(map(escaped, part.lines)) for part in parts]
     body = "".join(f"<h2>{escaped(part.heading)}</h2>\n<pre>{lines}</pre>\n" for part, lines in zip(parts, text))
     return (f"<!doctype html>\n<html lang=\"en\"><head><meta charset=\"utf-8\">{PAGE_MARK}"

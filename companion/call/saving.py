@@ -98,7 +98,6 @@ class Target:
                 self.write_in_place(file, old)
 
     def save(self, data: bytes) -> None:
-        """Saves these bytes."""
         old = self.check()
         if old is not None and not (stat.S_ISREG(old.st_mode) and os.access(self.folder(), ENTER_AND_WRITE)):
             self.write_in_place(io.BytesIO(data), old)

@@ -39,13 +39,9 @@ WORDS = {word: (part, what) for part, words in PARTS.items() for word, what in w
 BROKEN = 1                  # a fault of the companion itself
 
 
-def usage() -> str:
-    return HELP + "\n\n" + "".join(f"    {word:<7} {what}\n" for word, (_, what) in WORDS.items())
-
-
 def run(words: list[str]) -> int:
     if not words or words[0] in ("-h", "--help", "help"):
-        streams.put(usage())
+        streams.put(HELP + "\n\n" + "".join(f"    {word:<7} {what}\n" for word, (_, what) in WORDS.items()))
         return 0 if words else REFUSED
     if words[0] not in WORDS:
         raise CompanionError(f"no companion is called {words[0]!r}: {', '.join(WORDS)}", REFUSED)

@@ -41,7 +41,6 @@ class Fills:
         del self.places[kept:], self.ranges[kept:]
 
     def take(self, place: int, filled: Range) -> None:
-        """Takes the next call."""
         self.places.append(place)
         self.ranges.append(filled)
         if filled not in self.places_of:

@@ -15,17 +15,67 @@ between, so no hart may be in an interval that the log has lost. All else is unk
 from __future__ import annotations
 
 import bisect
+import re
 import struct
 from typing import Optional
 
 from ..recording.elf import Elf
 from ..recording.log import Log
 from .fills import Fills
-from .future import Future
 from .session import Session
+from .steps import Steps
 
 LOWEST = 4096  # no address below is mapped
 BATCH = 256  # words asked for at once
+BLOCK = 4096  # steps that are looked through at once
+AHEAD = 16 * BLOCK
+MOST_BLOCKS = 64  # that are kept
+ACCESS = re.compile(rb"\| (load|store) ([0-9a-f]{8})=([0-9a-f]{8})")  # of a row's two, the load is first
+
+
+class Future:
+    """What the known steps ahead tell: the first access to each word in blocks of them."""
+
+    def __init__(self, steps: Steps, fills: Fills) -> None:
+        self.steps, self.fills = steps, fills
+        self.blocks: dict[tuple[int, int], dict[int, Optional[int]]] = {}  # by ends: by word, what its first access tells
+        steps.when_cut.append(self.forget)
+
+    def forget(self, place: int) -> None:
+        self.blocks = {ends: block for ends, block in self.blocks.items() if ends[1] <= place}
+
+    def look(self, start: int, end: int) -> dict[int, Optional[int]]:
+        """By word its value before [start, end), if the first step that touches it loads it, else None."""
+        found: dict[int, Optional[int]] = {}
+        fills = dict(self.fills.between(start, end))
+        for place, line in enumerate(self.steps.lines.text(start, end).split(b"\n"), start):
+            access = ACCESS.search(line)
+            if access:
+                value = int(access[3], 16) if access[1] == b"load" else None
+                found.setdefault(int(access[2], 16) & ~3, value)
+            if place in fills:
+                address, length = fills[place]
+                for word in range(address & ~3, address + length, 4):
+                    found.setdefault(word, None)
+        return found
+
+    def block(self, start: int, end: int) -> dict[int, Optional[int]]:
+        if (start, end) not in self.blocks:
+            if len(self.blocks) >= MOST_BLOCKS:
+                self.blocks.clear()
+            self.blocks[start, end] = self.look(start, end)
+        return self.blocks[start, end]
+
+    def word(self, address: int, place: int) -> Optional[int]:
+        """The word at an aligned address, or None where the steps ahead don't tell it."""
+        limit = min(self.steps.count, place + AHEAD)
+        while place < limit:
+            end = min(limit, (place // BLOCK + 1) * BLOCK)
+            block = self.block(place, end)
+            if address in block:
+                return block[address]
+            place = end
+        return None
 
 
 class Memory:
@@ -37,22 +87,14 @@ class Memory:
         self.future = Future(session.steps, self.fills)
         self.borders = sorted({border for part in elf.parts for border in (part.address, part.address + part.size)})
 
-    def is_mapped(self, address: int) -> bool:
-        return LOWEST <= address < self.size
-
     def first_word(self, address: int) -> Optional[int]:
         """A word's value at the start, if it is still that, else None."""
-        if not self.is_whole or not self.is_mapped(address):
-            return None
-        if self.fills.find(address, 4, 0, self.session.at) is not None:
+        is_mapped = LOWEST <= address < self.size
+        if not self.is_whole or not is_mapped or self.fills.find(address, 4, 0, self.session.at) is not None:
             return None
         # A segment can end within a word; the bytes behind it are 0.
         body = b"".join(self.elf.bytes_at(address + i, 1) or b"\0" for i in range(4))
         return int.from_bytes(body, "little")
-
-    def later_word(self, address: int) -> Optional[int]:
-        """A word's value as the steps ahead tell it, else None."""
-        return self.future.word(address, self.session.at) if self.session.all_have_states() else None
 
     def words(self, first: int, count: int) -> list[int]:
         """Words from an aligned address on, up to the first that isn't known."""
@@ -62,7 +104,8 @@ class Memory:
             addresses = [first + 4 * (len(found) + i) for i in range(wanted)]
             for address, value in zip(addresses, self.session.words(addresses)):
                 value = self.first_word(address) if value is None else value
-                value = self.later_word(address) if value is None else value
+                if value is None and self.session.all_have_states():
+                    value = self.future.word(address, self.session.at)
                 if value is None:
                     return found
                 found.append(value)

@@ -21,7 +21,6 @@ class Questions:
         self.files, self.names = [log, elf], ["--names", names] if names else []
 
     def answer(self, word: str, words: Sequence[str]) -> str:
-        """What a companion says of the recording."""
         asked = ["--row", *words] if word == "why" and words else list(words)
         try:
             done = subprocess.run([sys.executable, PACKAGE, word, *self.names, *(asked if word == "why" else []), "--", *self.files,

@@ -36,7 +36,6 @@ def number_of(text: str) -> int:
 
 
 def numbers_of(text: str) -> tuple[int, int]:
-    """Two numbers with a comma between them."""
     first, second = text.split(",")
     return number_of(first), number_of(second)
 
@@ -84,7 +83,7 @@ class Server:
             "p": self.register,
             "m": self.read_memory,
             "H": self.choose_thread,
-            "T": self.is_alive,
+            "T": lambda text: REFUSED if self.threads.hart_of(text) is None else OK,
             "Z": lambda text: self.change_point(True, text),
             "z": lambda text: self.change_point(False, text),
             "S": lambda _: whole["s"](),
@@ -126,9 +125,6 @@ class Server:
     def choose_thread(self, text: str) -> str:
         self.threads.choose(text)
         return OK
-
-    def is_alive(self, text: str) -> str:
-        return REFUSED if self.threads.hart_of(text) is None else OK
 
     def change_point(self, is_set: bool, text: str) -> str:
         kind, place = text.split(";")[0].split(",", 1)
@@ -191,7 +187,6 @@ class Server:
         return UNSUPPORTED
 
     def answer(self, packet: str) -> str:
-        """The answer to a packet."""
         try:
             if packet in self.whole:
                 return self.whole[packet]()
@@ -203,7 +198,6 @@ class Server:
         return UNSUPPORTED
 
     def begin(self, at_end: bool, place: Optional[At]) -> None:
-        """Goes to the beginning of the log, to its end or to a place."""
         self.stopped(self.motion.begin())
         if place:
             self.session.go_to_row(place)
@@ -218,7 +212,6 @@ class Server:
         return self.stopped(Stop(self.motion.first_hart()))
 
     def serve(self) -> None:
-        """Answers packets until gdb leaves."""
         while True:
             packet = self.stream.receive()
             if packet[:1] == "k" and not self.is_extended:

@@ -211,7 +211,6 @@ class Session:
 
 
 def begin_session(log: Log, elf_name: str) -> Session:
-    """A session at the log's beginning."""
     process = DebugProcess(log.name, elf_name)
     try:
         return Session(log, process)

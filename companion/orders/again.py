@@ -13,8 +13,7 @@ from ..call.options import read_words, whole
 from ..call.saving import LOG, TURNS, Target, target
 from ..call.text import counted, number
 from ..recording.book import DIFFERS, check_book
-from .quick import Quick, refusal
-from .record import ENDS, last_line
+from .record import ENDS, Quick, last_line, refusal
 
 HELP = """zelkuma again LOG ELF BOOK NEWLOG [--input FILE] [--log-size N] [--interval N]
 
@@ -75,7 +74,7 @@ def first_difference(one: str, other: str) -> int:
 
 def ends_of(log: str) -> dict[str, str]:
     """The count, reason and value with which each hart ended that a log has an interval of."""
-    lines = [line.split(" ", 3) for line in program.output("list", log).text.splitlines()]
+    lines = [line.split(" ", 3) for line in program.output("list", log).splitlines()]
     return {hart: end for hart, _, _, end in lines}
 
 

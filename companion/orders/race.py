@@ -13,7 +13,7 @@ from ..recording.answers import LONGEST, place_of, put_answer
 from ..recording.elf import Elf, Symbol
 from ..recording.log import At
 from ..recording.naming import named_elf, places_of
-from ..recording.races import FENCED, ORDERED, TOO_MANY, Access, AccessPair, Group, Races
+from ..recording.races import FENCED, ORDERED, TOO_MANY, AccessPair, Group, Races, RacingAccess
 from ..recording.ready import ready
 from ..recording.recent import FIRST_ROWS, LogFile, open_log
 from ..recording.sources import source_folders
@@ -45,7 +45,7 @@ KINDS = ("", ORDERED, FENCED)                # in the order in which groups are 
 ON_CHAIN, CHAIN_WORD, IN_FAULT, OTHER = range(4)
 HEADS = {ORDERED: "ORDERED BY FENCES: these pairs are ordered if the fenced accesses below are meant as acquire and release",
          FENCED: "FENCED: both accesses stand beside a fence, as GCC writes acquire and release"}
-Beside = Callable[[Access], List[str]]        # what is told beside a row
+Beside = Callable[[RacingAccess], List[str]]        # what is told beside a row
 RANK_WORDS = {ON_CHAIN: "on the chain of values behind the fault", CHAIN_WORD: "touches a word of that chain",
               IN_FAULT: "in the function that faulted", OTHER: ""}
 
@@ -145,30 +145,23 @@ def brief_line(races: Races, family: list[Group]) -> str:
 
 
 def report(races: Races, judged: Judged, more: bool, beside: Beside) -> list[str]:
-    """All that is printed, as lines."""
     families: dict[str, list[list[Group]]] = {kind: [] for kind in KINDS}
     for family in judged.families():
         families[family[0].kind].append(family)
     total = sum(map(len, families.values()))
     lines = [f"RACES: {counted(races.total, 'pair')} in {counted(total, 'group')}. Grouping and order are this command's "
              "own judgement; zelkuma races lists each."]
-    told = families[""] if more else families[""][:GROUPS_TOLD]
-    for place, family in enumerate(told, 1):
-        lines += family_lines(races, family, place, judged, beside)
-    if total and not told:
-        lines.append("  none but those below")
-    lines += left_out(families[""], told)
-    for kind in KINDS[1:]:
-        if families[kind]:
-            told = families[kind] if more else families[kind][:BRIEF_TOLD]
-            lines.append(f"{HEADS[kind]} ({counted(sum(map(pairs_of, families[kind])), 'pair')})")
-            lines += [brief_line(races, family) for family in told] + left_out(families[kind], told)
+    for kind, found in families.items():
+        told = found if more else found[:BRIEF_TOLD if kind else GROUPS_TOLD]
+        if kind and found:
+            lines.append(f"{HEADS[kind]} ({counted(sum(map(pairs_of, found)), 'pair')})")
+        elif total and not kind and not found:
+            lines.append("  none but those below")
+        for place, family in enumerate(told, 1):
+            lines += [brief_line(races, family)] if kind else family_lines(races, family, place, judged, beside)
+        if len(told) < len(found):
+            lines.append(f"    .. {counted(len(found) - len(told), 'more group')} (--more) ..")
     return lines + races.places.trouble()
-
-
-def left_out(families: list[list[Group]], told: list[list[Group]]) -> list[str]:
-    rest = len(families) - len(told)
-    return [f"    .. {counted(rest, 'more group')} (--more) .."] if rest else []
 
 
 def judge(source: LogFile, elf_name: str, races: Races) -> Judged:
@@ -182,10 +175,6 @@ def judge(source: LogFile, elf_name: str, races: Races) -> Judged:
         return Judged(races, trace, History(trace, [fault.row])) if fault else Judged(races)
 
 
-def race_answer(races: Races, judged: Judged) -> dict[str, Any]:
-    return {"pairs": races.total, "groups": [family_answer(races, judged, family) for family in judged.families()]}
-
-
 def family_answer(races: Races, judged: Judged, family: list[Group]) -> dict[str, Any]:
     one, other = judged.pair(family[0])
     return {"pairs": pairs_of(family), "words": [f"{group.word:08x}" for group in family[:LONGEST]],
@@ -193,7 +182,7 @@ def family_answer(races: Races, judged: Judged, family: list[Group]) -> dict[str
             "one": access_answer(races, one), "other": access_answer(races, other)}
 
 
-def access_answer(races: Races, access: Access) -> dict[str, Any]:
+def access_answer(races: Races, access: RacingAccess) -> dict[str, Any]:
     return {"hart": access.hart, "count": access.count, "did": access.verb(), "row": access.row,
             "place": place_of(races.places, access.pc)}
 
@@ -211,9 +200,10 @@ def main(words: list[str]) -> int:
         judged, teller = judge(source, elf_name, races), Teller(named, races.places)
         story = asked_story(given, source.end(FIRST_ROWS), elf_name) if "--book" in given else None
         if "--json" in given:
-            put_answer("race", **race_answer(races, judged), book=teller.story_answer(story))
+            groups = [family_answer(races, judged, family) for family in judged.families()]
+            put_answer("race", pairs=races.total, groups=groups, book=teller.story_answer(story))
         else:
-            def beside(access: Access) -> list[str]:
+            def beside(access: RacingAccess) -> list[str]:
                 return ready(log_name, elf, named, access.hart, access.count)
             told = [STORY_HEAD] + ["  " + line for line in teller.story(story)] if story else []
             streams.put("\n".join(told + report(races, judged, "--more" in given, beside)) + "\n")

@@ -7,7 +7,9 @@ from enum import IntEnum
 from pathlib import Path
 from typing import NamedTuple, Sequence
 
-from ..call.errors import REFUSED, CompanionError
+from ..call import program
+from ..call.children import Group, Process
+from ..call.errors import REFUSED, UNREADABLE, CompanionError
 from ..call.files import check_regular
 from ..call.options import decimal, parse
 from ..call.saving import LOG, TURNS, Target, target
@@ -65,7 +67,6 @@ class RecordWords:
         self.named_targets = self.saved(self.outputs)
 
     def saved(self, names: Sequence[str]) -> list[Target]:
-        """LOG and BOOK of these names."""
         return [target(name, kind, [*self.read, *names[:at]]) for at, (name, kind) in enumerate(zip(names, (LOG, TURNS)))]
 
     def outputs_of(self, plan: Plan) -> list[str]:
@@ -94,6 +95,40 @@ class RecordWords:
         words = ["zelkuma", "record", *self.options, *plan.options()]
         words += ["--"] * any(name.startswith("-") for name in names) + names
         return " ".join([f"{SCHEDULE}={shlex.quote(schedule)}"] * bool(schedule) + [shlex.quote(word) for word in words])
+
+
+class Quick:
+    """The program, started many times one after the other and side by side. What it prints goes into files: so a start costs
+    little, and its group ends what is under way when this process ends. Use it by `with`. `folder` is for its files."""
+
+    def __init__(self, folder: str) -> None:
+        self.folder = folder
+        self.group: Group
+
+    def __enter__(self) -> Quick:
+        self.group = Group()
+        return self
+
+    def __exit__(self, *_: object) -> None:
+        self.group.close()
+
+    def start(self, said: str, err: str, *words: str, schedule: str = "") -> Process:
+        """A command, by these turns if it is `record`; without them its harts run in threads, whatever is set for this process."""
+        environment = {name: value for name, value in os.environ.items() if name != SCHEDULE}
+        return self.group.start([program.path(), *words], said, err, {**environment, SCHEDULE: schedule} if schedule else environment)
+
+    def text(self, *words: str) -> bytes:
+        said, err = (os.path.join(self.folder, name) for name in ("text", "text.err"))
+        status = self.start(said, err, *words).wait()
+        if status:
+            raise refusal(err, status)
+        return Path(said).read_bytes()
+
+
+def refusal(err: str, status: int, what: str = "the program") -> CompanionError:
+    """What the program said when it ended with a status."""
+    why = last_line(err).split(": ", 1)[-1] or f"{what} ended with {status}"
+    return CompanionError(why, status if status > 0 else UNREADABLE)
 
 
 def last_line(name: str) -> str:

@@ -13,8 +13,7 @@ from ..recording.cause import MOST_FRAMES, cause_along
 from ..recording.chunks import OTHER_LINES
 from ..recording.elf import Elf
 from ..recording.log import End, Log, is_fault, load_log
-from .quick import Quick
-from .record import FAULT, LIMIT
+from .record import FAULT, LIMIT, Quick
 from .waiting import STAY_ROWS, Stay, Waiting, stay_like, stay_of
 
 CALLS_ROWS = 100000         # so many of a hart's last rows are read for its calls, as whole intervals

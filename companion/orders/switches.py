@@ -29,7 +29,6 @@ def bounded(pieces: Pieces, lines: Sequence[Sequence[bytes]], windows: Sequence[
 
 
 def window_lines(teller: Teller, one: Bounded) -> list[str]:
-    """The race window."""
     if one.after is None:
         return []
     if one.before is None:
@@ -51,7 +50,6 @@ def parted(teller: Teller, *rows: Row) -> list[list[str]]:
 
 
 def answer_of(teller: Teller, one: Bounded) -> dict[str, Any]:
-    """A switch for other programs."""
     after, before = teller.point(one.after), teller.point(one.before)
     if one.after and one.before and after and before:
         after["inlined"], before["inlined"] = parted(teller, one.after, one.before)

@@ -7,7 +7,7 @@ import time
 from contextlib import closing
 from dataclasses import dataclass
 from pathlib import Path
-from typing import Iterator, NamedTuple, Optional, Sequence
+from typing import Callable, Iterator, NamedTuple, Optional, Sequence
 
 from ..call import streams
 from ..call.children import Forked, Process
@@ -17,8 +17,7 @@ from ..recording.naming import places_of
 from ..recording.places import Places
 from ..recording.recent import FIRST_ROWS, LogFile
 from ..triage.bucket import bucket_of
-from .quick import Quick, refusal
-from .record import ENDS, FAULT, Kind, Plan, RecordWords, last_line
+from .record import ENDS, FAULT, Kind, Plan, Quick, RecordWords, last_line, refusal
 
 NO_PLACE = "-"
 MOST_KEPT = 1000            # endings of which one recording each is kept
@@ -65,13 +64,10 @@ class Endings:
         self.by_status[ending.status] = self.by_status.get(ending.status, 0) + 1
         heapq.heappush(self.early, (plan, ending))
 
-    def count_below(self, bound: Plan) -> None:
-        while self.early and self.early[0][0] < bound:
-            self.count_next()
-
-    def count_next(self) -> None:
-        plan, ending = heapq.heappop(self.early)
-        self.counts.setdefault(ending, Count(plan)).count += 1
+    def count_while(self, is_known: Callable[[Plan], bool]) -> None:
+        while self.early and is_known(self.early[0][0]):
+            plan, ending = heapq.heappop(self.early)
+            self.counts.setdefault(ending, Count(plan)).count += 1
 
 
 class Trial:
@@ -85,9 +81,6 @@ class Trial:
         self.outputs = [os.path.join(folder, f"{name}.{number}") for number, folder in enumerate(folders)]
         self.said, self.err = self.outputs[0] + ".said", self.outputs[0] + ".err"
         self.child: Process = quick.start(os.devnull, self.err, *words.command(plan, self.outputs), schedule=plan.schedule())
-
-    def look_for_cause(self) -> None:
-        self.child = Forked(self.find_cause, self.said, self.err)
 
     def find_cause(self) -> str:
         with closing(LogFile(self.outputs[0])) as source:
@@ -129,7 +122,7 @@ class Buckets:
             self.opened[1].close()
 
 
-class Search:
+class TrialSearch:
     """Trials in order; those above the lowest that was found are given up. Recordings in threads need a processor a hart, so
     only one is under way: beside others it is left out when its turn comes too early. They don't repeat, so the first
     that ends as wanted ends the search.
@@ -155,11 +148,8 @@ class Search:
     def plans(self) -> Iterator[Plan]:
         for self.at in self.numbers.range():
             for kind in self.kinds:
-                if kind is not Kind.THREADS or len(self.kinds) == 1 or not self.in_threads():
+                if kind is not Kind.THREADS or len(self.kinds) == 1 or kind not in {trial.plan.kind for trial in self.running.values()}:
                     yield Plan(self.at, kind)
-
-    def in_threads(self) -> bool:
-        return any(trial.plan.kind is Kind.THREADS for trial in self.running.values())
 
     def stop(self, number: int, _: object) -> None:
         """Ctrl-C, or another signal. No call is broken off, so that each child is known."""
@@ -213,7 +203,7 @@ class Search:
         if trial.status == self.until:
             self.keep(trial)
         if trial.status == FAULT:
-            trial.look_for_cause()
+            trial.child = Forked(trial.find_cause, trial.said, trial.err)
             self.watch(trial)
         else:
             self.end(trial, NO_PLACE)
@@ -263,11 +253,9 @@ class Search:
     def count(self) -> None:
         """Counts those below all that are under way and the one that was found."""
         open_ones = [trial.plan for trial in self.running.values()] + ([self.found.plan] if self.found else [])
-        if open_ones:
-            self.endings.count_below(min(open_ones))
+        self.endings.count_while(lambda plan: plan < min(open_ones, default=plan))
 
     def count_rest(self) -> None:
         """Counts what is left, but nothing above a found one that a number draws."""
-        early, found = self.endings.early, self.found
-        while early and (found is None or found.plan.kind is Kind.THREADS or early[0][0] <= found.plan):
-            self.endings.count_next()
+        last = self.found.plan if self.found and self.found.plan.kind is not Kind.THREADS else None
+        self.endings.count_while(lambda plan: last is None or plan <= last)

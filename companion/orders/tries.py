@@ -10,8 +10,7 @@ from typing import Generator, Hashable, Iterable, Iterator, Mapping, NamedTuple,
 from ..call import streams
 from ..call.errors import NO_INTERVAL, CompanionError
 from ..recording.turns import Pieces, pieces_of, size_of, turns_of
-from .quick import Quick, refusal
-from .record import ENDS
+from .record import ENDS, Quick, refusal
 from .same_end import Ends, Exact, Over, Recording
 from .waiting import Waiting
 

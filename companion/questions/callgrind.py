@@ -9,7 +9,6 @@ from ..recording.places import Frame
 from .flow import Flow, Open
 from .reading import Asked, read
 
-
 Where = Tuple[str, str, int]        # a file and a function, and the line in it
 
 
@@ -51,7 +50,7 @@ class Costs:
 def callgrind(asked: Asked) -> str:
     costs = Costs(asked)
     flow = Flow(costs.left)
-    read(asked, flow)
+    read(asked.chunks(), flow)
     pcs = {int(pc, 16): times for pc, times in flow.times.items()}
     asked.places.fetch(pcs)
     for hart, calls in flow.open.items():       # of those that didn't return: up to the hart's end

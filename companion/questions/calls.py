@@ -7,11 +7,11 @@ from collections import deque
 from dataclasses import dataclass, field
 from typing import Any, Callable, Deque, Iterator, NamedTuple, Optional, Union
 
-from ..call import streams
 from ..call.errors import REFUSED, CompanionError
 from ..call.options import read_words, whole
-from ..call.text import clean, columns, counted, number
-from ..recording.answers import place_of, put_answer
+from ..call.text import clean, columns, counted
+from ..recording.answers import place_of, put_found
+from ..recording.elf import Elf
 from ..recording.instruction import JUMP, Instruction
 from ..recording.places import Frame
 from .functions import PAIR, PLAIN, WORD, Begin, Function, function_of
@@ -97,7 +97,7 @@ def number_of(text: str) -> int:
     return int(text)
 
 
-class Waiting(NamedTuple):
+class WaitingChunk(NamedTuple):
     """A chunk that waits: its place, and how many calls it has."""
     text: bytes
     base: int
@@ -122,14 +122,14 @@ class Calls:
         self.sources: dict[bytes, Instruction] = {}
         self.told: Deque[Call] = deque(maxlen=most)
         self.asks: Deque[tuple[int, Call, bool]] = deque()
-        self.waiting: Deque[Waiting] = deque()
+        self.waiting: Deque[WaitingChunk] = deque()
         self.total = self.waiting_calls = 0
 
     def take(self, text: bytes) -> None:
         """While later ones may have all calls that are told, only its calls are counted."""
         self.window.add(text)
         base = self.window.begins[-1]
-        self.waiting.append(Waiting(text, base, 0 if self.where else self.count_calls(text, base)))
+        self.waiting.append(WaitingChunk(text, base, 0 if self.where else self.count_calls(text, base)))
         self.waiting_calls += self.waiting[-1].calls
         while self.waiting and (self.where or self.is_passed() or self.window.end - self.waiting[0].base > self.window.kept // 2):
             self.take_waiting()
@@ -289,43 +289,39 @@ def inlined_call(frames: list[Frame], begin: Begin) -> list[Union[str, Frame]]:
     return [frames[over - 1].function, *frames[over:]] if over > 0 else []
 
 
-class Values:
-    """Arguments and results as text."""
-
-    def __init__(self, asked: Asked) -> None:
-        self.named, self.name_of = asked.named, asked.name_of
-
-    def text(self, kind: Type, value: Optional[int]) -> str:
-        if value is None:
-            return "unknown"
-        if kind["kind"] in ("fields", "array"):
-            return f"{value:08x}"
-        said = value_text(Leaf("", 0, kind), value.to_bytes(8, "little")[:max(1, kind["size"])], self.name_of)
-        return said + (self.literal(value) if kind["kind"] == "pointer" and "char" in kind["name"] else "")
-
-    def literal(self, address: int) -> str:
-        """The text at an address that no run can change."""
-        found = self.named.part_of(address)
-        if not found or not self.named.is_read_only(address):
-            return ""
-        body = bytes(found.body[address - found.address:][:MOST_TEXT]).partition(b"\0")[0]
-        return f" {body.decode('ascii')!r}" if body and all(32 <= byte < 127 for byte in body) else ""
-
-    def result(self, call: Call) -> Optional[str]:
-        """None if there is none."""
-        return self.text(call.begin.result, call.result) if call.begin.result and call.rows is not None else None
-
-    def arguments(self, call: Call) -> dict[str, str]:
-        return {each.name: self.text(each.type, value) for each, value in zip(call.begin.parameters, call.values)}
+def said_value(asked: Asked, kind: Type, value: Optional[int]) -> str:
+    if value is None:
+        return "unknown"
+    if kind["kind"] in ("fields", "array"):
+        return f"{value:08x}"
+    said = value_text(Leaf("", 0, kind), value.to_bytes(8, "little")[:max(1, kind["size"])], asked.name_of)
+    return said + (literal(asked.named, value) if kind["kind"] == "pointer" and "char" in kind["name"] else "")
 
 
-def call_line(call: Call, asked: Asked, values: Values) -> list[str]:
-    """What is told of a call, in columns."""
+def literal(named: Elf, address: int) -> str:
+    """The text at an address that no run can change."""
+    found = named.part_of(address)
+    if not found or not named.is_read_only(address):
+        return ""
+    body = bytes(found.body[address - found.address:][:MOST_TEXT]).partition(b"\0")[0]
+    return f" {body.decode('ascii')!r}" if body and all(32 <= byte < 127 for byte in body) else ""
+
+
+def said_result(asked: Asked, call: Call) -> Optional[str]:
+    """None if there is none."""
+    return said_value(asked, call.begin.result, call.result) if call.begin.result and call.rows is not None else None
+
+
+def said_arguments(asked: Asked, call: Call) -> dict[str, str]:
+    return {each.name: said_value(asked, each.type, value) for each, value in zip(call.begin.parameters, call.values)}
+
+
+def call_line(call: Call, asked: Asked) -> list[str]:
     position, places = f"{call.hart.decode()}:{call.count}", asked.places
     if call.begin.inlined:
         return [position, "(inlined)", "", "", places.chain([call.begin.address], MOST_FRAMES)]
-    arguments = ", ".join(f"{name}={text}" for name, text in values.arguments(call).items())
-    result = values.result(call)
+    arguments = ", ".join(f"{name}={text}" for name, text in said_arguments(asked, call).items())
+    result = said_result(asked, call)
     came = "jumps from " if call.jumped else "from "
     return [position, f"({arguments})", f"-> {result}" if result else "", counted(call.rows, "row") if call.rows is not None else "no return",
             came + places.chain([call.source], MOST_FRAMES) if call.source else "from before the first row"]
@@ -334,31 +330,23 @@ def call_line(call: Call, asked: Asked, values: Values) -> list[str]:
 def report(found: Calls) -> list[str]:
     asked = found.asked
     asked.places.fetch(call.source or call.begin.address for call in found.told)
-    said = f"CALLS of {found.function.title()}: {counted(found.total, 'call')}"
-    if len(found.told) < found.total:
-        said += f"; the last {number(len(found.told))} are told (--last N)"
-    values = Values(asked)
-    lines = columns([call_line(call, asked, values) for call in found.told])
-    last = asked.ready(int(found.told[-1].hart), found.told[-1].count) if found.told else []
-    return [said] + lines + ["  " + line for line in last + asked.left_out()]
-
-
-def call_answer(call: Call, asked: Asked, values: Values) -> dict[str, Any]:
-    return {"hart": int(call.hart), "count": call.count,
-            "place": place_of(asked.places, call.begin.address), "inlined": call.begin.inlined,
-            "from": place_of(asked.places, call.source) if call.source else None,
-            "arguments": values.arguments(call), "rows": call.rows, "result": values.result(call)}
+    return asked.report(f"CALLS of {found.function.title()}: {counted(found.total, 'call')}",
+                        [(int(call.hart), call.count) for call in found.told], found.total,
+                        columns([call_line(call, asked) for call in found.told]))
 
 
 def calls_answer(found: Calls) -> dict[str, Any]:
-    values = Values(found.asked)
-    return {"function": found.function.name, "calls": found.total, "left_out": found.asked.left_out(),
-            "entries": [call_answer(call, found.asked, values) for call in found.told]}
+    asked = found.asked
+    return {"function": found.function.name, "calls": found.total, "left_out": asked.left_out(),
+            "entries": [{"hart": int(call.hart), "count": call.count, "place": place_of(asked.places, call.begin.address),
+                         "inlined": call.begin.inlined, "from": place_of(asked.places, call.source) if call.source else None,
+                         "arguments": said_arguments(asked, call), "rows": call.rows, "result": said_result(asked, call)}
+                        for call in found.told]}
 
 
 def calls_of(asked: Asked, function: Function, most: int = TOLD, where: Optional[Where] = None) -> Calls:
     found = Calls(asked, function, most, where)
-    read(asked, found)
+    read(asked.chunks(), found)
     found.finish()
     return found
 
@@ -370,8 +358,5 @@ def main(words: list[str]) -> int:
         function = function_of(asked.named, name)
         where = Where(given["--where"], function) if "--where" in given else None
         found = calls_of(asked, function, most, where)
-        if "--json" in given:
-            put_answer("calls", **calls_answer(found))
-        else:
-            streams.put_lines(report(found))
+        put_found("calls", found, report, calls_answer, "--json" in given)
     return 0

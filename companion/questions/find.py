@@ -5,11 +5,10 @@ import re
 from dataclasses import dataclass, field
 from typing import Any
 
-from ..call import streams
 from ..call.errors import MISSING, REFUSED, CompanionError
 from ..call.options import read_words
 from ..call.text import clean, columns, counted, number
-from ..recording.answers import LONGEST, place_of, put_answer
+from ..recording.answers import LONGEST, place_of, put_found
 from ..recording.chunks import rows_with
 from ..recording.elf import Elf
 from .reading import Asked, asked_of, read
@@ -35,7 +34,7 @@ VERBS = {b"load ": "loads it from", b"store": "stores it to"}
 
 
 @dataclass
-class Group:
+class PlaceGroup:
     """The rows of one place that do the same with the value. `words` are those of memory, of which the first are kept."""
     pc: int
     did: str
@@ -46,24 +45,24 @@ class Group:
 
 
 class Found:
-    """told, more   how many rows have the value; groups: of the first of them, by place and what they do"""
+    """total   how many rows have the value; groups: of the first of them, by place and what they do"""
 
     def __init__(self, asked: Asked, value: int) -> None:
         self.asked, self.value = asked, value
         self.needle = b"=%08x" % value
         self.pattern = re.compile(self.needle)
-        self.groups: dict[tuple[bytes, str], Group] = {}
-        self.told = self.more = 0
+        self.groups: dict[tuple[bytes, str], PlaceGroup] = {}
+        self.total = self.told = 0
 
     def take(self, text: bytes) -> None:
         if self.told >= MOST_ROWS:
-            self.more += text.count(self.needle)
+            self.total += text.count(self.needle)
             return
         for row in rows_with(text, self.pattern):
             self.take_row(row)
 
     def take_row(self, row: bytes) -> None:
-        self.told += 1
+        self.told, self.total = self.told + 1, self.total + 1
         head, *told = row.split(b" | ")
         hart, count, pc, _ = head.split(b" ", 3)
         for part in reversed(told):             # memory before registers: a load puts the value there by itself
@@ -76,7 +75,7 @@ class Found:
         did = verb or f"puts it into {part.partition(b'=')[0].decode()}"
         group = self.groups.get((pc, did))
         if group is None:
-            group = self.groups[pc, did] = Group(int(pc, 16), did, when)
+            group = self.groups[pc, did] = PlaceGroup(int(pc, 16), did, when)
         group.last, group.times = when, group.times + 1
         if verb and len(group.words) < MOST_WORDS:
             word = int(part[-17:-9], 16) & ~3
@@ -96,7 +95,6 @@ class Found:
 
 
 def value_of(elf: Elf, text: str) -> int:
-    """The value that is asked for."""
     symbol = symbol_of(elf, text)
     if symbol:
         return symbol.address
@@ -116,7 +114,7 @@ def word_text(asked: Asked, word: int) -> str:
     return f"{word:08x}" + (f" <{name}>" if name else "")
 
 
-def group_line(group: Group, asked: Asked) -> list[str]:
+def group_line(group: PlaceGroup, asked: Asked) -> list[str]:
     words = ", ".join(word_text(asked, word) for word in group.words)
     more = ", .." if len(group.words) == MOST_WORDS else ""
     return [group.first, group.last, number(group.times), " ".join(filter(None, (group.did, words))) + more,
@@ -126,8 +124,8 @@ def group_line(group: Group, asked: Asked) -> list[str]:
 def report(found: Found) -> list[str]:
     asked, groups = found.asked, list(found.groups.values())
     asked.places.fetch(group.pc for group in groups[:TOLD])
-    lines = [f"FIND {found.value:08x}: {counted(found.told + found.more, 'row')}, {counted(len(groups), 'place')}"]
-    if found.more:
+    lines = [f"FIND {found.value:08x}: {counted(found.total, 'row')}, {counted(len(groups), 'place')}"]
+    if found.total > found.told:
         lines.append(f"  Places are those of the first {number(found.told)} rows that have it.")
     in_file = found.in_file()
     if in_file:
@@ -141,7 +139,7 @@ def report(found: Found) -> list[str]:
 
 def find_answer(found: Found) -> dict[str, Any]:
     asked = found.asked
-    return {"value": f"{found.value:08x}", "rows": found.told + found.more, "rows_by_place": found.told, "left_out": asked.left_out(),
+    return {"value": f"{found.value:08x}", "rows": found.total, "rows_by_place": found.told, "left_out": asked.left_out(),
             "in_file": [f"{word:08x}" for word in found.in_file()],
             "places": [{"place": place_of(asked.places, group.pc), "did": group.did, "first": group.first, "last": group.last,
                         "times": group.times, "words": [f"{word:08x}" for word in group.words]}
@@ -152,9 +150,6 @@ def main(words: list[str]) -> int:
     (log_name, elf_name, text), given = read_words(words, FORM)
     with asked_of(log_name, elf_name, given) as asked:
         found = Found(asked, value_of(asked.named, text))
-        read(asked, found)
-        if "--json" in given:
-            put_answer("find", **find_answer(found))
-        else:
-            streams.put_lines(report(found))
+        read(asked.chunks(), found)
+        put_found("find", found, report, find_answer, "--json" in given)
     return 0

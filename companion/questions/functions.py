@@ -66,7 +66,6 @@ def plain_parameters() -> list[Parameter]:
 
 
 def begin_of(said: dict[str, Any], sizes: dict[int, int]) -> Begin:
-    """A place as gdb tells it."""
     if said["inlined"]:
         return Begin(said["address"], 0, True, [], None, said["depth"])
     result = said["result"] if said["result"]["name"] != "void" else None

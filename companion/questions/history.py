@@ -6,13 +6,12 @@ from collections import deque
 from dataclasses import dataclass
 from typing import Any, Deque, Optional
 
-from ..call import streams
 from ..call.options import read_words, whole
-from ..call.text import columns, counted, number
-from ..recording.answers import place_of, put_answer
+from ..call.text import columns, counted
+from ..recording.answers import place_of, put_found
 from ..recording.instruction import STORE, Instruction
 from ..recording.log import SystemCall
-from ..recording.memory import Bytes, words_of
+from ..recording.memory import bytes_of, words_of
 from .reading import Asked, asked_of, read
 from .types import Leaf, leaves, value_text
 from .variables import Variable, variable_of
@@ -40,15 +39,15 @@ TOLD, MOST_TOLD, MOST_FRAMES, LARGEST = 100, 1000000, 4, 8
 
 @dataclass(frozen=True)
 class Entry:
-    """A store or a `read` call: its hart and count, its row, its address and that of the call over it, what it stored to,
+    """A store or a `read` call: its hart and count, its row, its address and that of the call over it, the part that it stored to,
     and the values of that before and after."""
     hart: int
     count: int
     row: str
     pcs: list[int]
-    part: Leaf
-    before: Bytes
-    after: Bytes
+    part: str
+    old: str
+    new: str
     fill: Optional[SystemCall]
 
 
@@ -81,7 +80,8 @@ class History:
         if self.words.is_aligned or change.after is None:
             return change.after is None or change.after != change.before[1]
         begin, end = max(change.word, self.variable.address), min(change.word + 4, self.variable.end)
-        return change.bytes_before(begin, end - begin) != change.bytes_after(begin, end - begin)
+        old, new = change.values(begin, end - begin)
+        return old != new
 
     def tell(self, end: int) -> None:
         """Looks for the callers of stores whose text is forgotten next."""
@@ -104,8 +104,9 @@ class History:
             end = first + code.width
         first, end = max(first, base), min(end, self.variable.end)
         part = self.part(first - base, end - base)
-        return Entry(int(hart), int(count), row.decode("ascii", "replace"), [code.pc] + ([caller] if caller else []), part,
-                     change.bytes_before(base + part.at, part.size), change.bytes_after(base + part.at, part.size), change.fill)
+        old, new = (value_text(part, data, self.asked.name_of) for data in change.values(base + part.at, part.size))
+        return Entry(int(hart), int(count), row.decode("ascii", "replace"), [code.pc] + ([caller] if caller else []), part.path,
+                     old, new, change.fill)
 
     def part(self, first: int, end: int) -> Leaf:
         """The part of the variable that has these bytes; of several the bytes as they are, by the first one's name."""
@@ -115,16 +116,9 @@ class History:
         return Leaf(parts[0].path if parts else f"+{first}", first, {"kind": "bytes", "size": end - first, "name": ""})
 
 
-def value_of(entry: Entry, data: Bytes, asked: Asked) -> str:
-    return value_text(entry.part, data, asked.name_of)
-
-
 def entry_line(entry: Entry, asked: Asked, name: str) -> list[str]:
-    """What is told of a store, in columns."""
-    new = f"{counted(entry.fill.size, 'byte')} of a read call" if entry.fill else value_of(entry, entry.after, asked)
-    part = name + entry.part.path
-    return [f"{entry.hart}:{entry.count}", part, f"{value_of(entry, entry.before, asked)} -> {new}",
-            asked.places.chain(entry.pcs, MOST_FRAMES)]
+    new = f"{counted(entry.fill.size, 'byte')} of a read call" if entry.fill else entry.new
+    return [f"{entry.hart}:{entry.count}", name + entry.part, f"{entry.old} -> {new}", asked.places.chain(entry.pcs, MOST_FRAMES)]
 
 
 def before_line(found: History) -> list[str]:
@@ -133,9 +127,7 @@ def before_line(found: History) -> list[str]:
     part = found.part(0, variable.size)
     if part.at or part.size != variable.size or variable.size > LARGEST:
         return []
-    words = [found.begins.get(word) for word in words_of(variable.address, variable.size)]
-    data = [byte for word in words for byte in ([None] * 4 if word is None else word.to_bytes(4, "little"))]
-    data = data[variable.address & 3:][:variable.size]
+    data = bytes_of(map(found.begins.get, words_of(variable.address, variable.size)))[variable.address & 3:][:variable.size]
     if None in data:
         return ["  before the first row: unknown"]
     return [f"  before the first row: {value_text(part, data, asked.name_of)}, as the file has it"]
@@ -144,14 +136,11 @@ def before_line(found: History) -> list[str]:
 def report(found: History) -> list[str]:
     variable, asked = found.variable, found.asked
     asked.places.fetch(pc for entry in found.told for pc in entry.pcs)
-    said = f"HISTORY of {variable.what()}: {counted(found.total, 'change' if found.only_changes else 'store')}"
-    if len(found.told) < found.total:
-        said += f"; the last {number(len(found.told))} are told (--last N)"
+    head = f"HISTORY of {variable.what()}: {counted(found.total, 'change' if found.only_changes else 'store')}"
     rows = [entry_line(entry, asked, variable.name) for entry in found.told]
     if all(row[1] == variable.name for row in rows):
         rows = [row[:1] + row[2:] for row in rows]
-    last = asked.ready(found.told[-1].hart, found.told[-1].count) if found.told else []
-    return [said] + before_line(found) + columns(rows) + ["  " + line for line in last + asked.left_out()]
+    return asked.report(head, [(entry.hart, entry.count) for entry in found.told], found.total, before_line(found) + columns(rows))
 
 
 def history_answer(found: History) -> dict[str, Any]:
@@ -160,14 +149,13 @@ def history_answer(found: History) -> dict[str, Any]:
             "stores": found.total, "left_out": asked.left_out(),
             "entries": [{"hart": entry.hart, "count": entry.count, "row": entry.row, "place": place_of(asked.places, entry.pcs[0]),
                          "caller": place_of(asked.places, entry.pcs[1]) if len(entry.pcs) > 1 else None,
-                         "part": entry.part.path, "old": value_of(entry, entry.before, asked),
-                         "new": value_of(entry, entry.after, asked), "read": entry.fill.size if entry.fill else 0}
+                         "part": entry.part, "old": entry.old, "new": entry.new, "read": entry.fill.size if entry.fill else 0}
                         for entry in found.told]}
 
 
 def history_of(asked: Asked, variable: Variable, most: int = TOLD, only_changes: bool = False) -> History:
     found = History(asked, variable, most, only_changes)
-    read(asked, found)
+    read(asked.chunks(), found)
     found.finish()
     return found
 
@@ -177,8 +165,5 @@ def main(words: list[str]) -> int:
     most = whole(given.get("--last", str(TOLD)), 1, MOST_TOLD, "--last")
     with asked_of(log_name, elf_name, given) as asked:
         found = history_of(asked, variable_of(asked.named, name), most, "--changes" in given)
-        if "--json" in given:
-            put_answer("history", **history_answer(found))
-        else:
-            streams.put_lines(report(found))
+        put_found("history", found, report, history_answer, "--json" in given)
     return 0

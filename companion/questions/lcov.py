@@ -10,17 +10,12 @@ from .flow import PCS
 from .reading import Asked
 
 
-def done_times(asked: Asked) -> dict[int, int]:
-    """{address: how often it was done}; of code that wasn't, 0."""
+def lcov(asked: Asked) -> str:
+    """A line was done as often as the address of it that was done most."""
     done: Counter[bytes] = Counter()
     for text in asked.chunks():
         done.update(PCS.findall(text))
-    return {**dict.fromkeys(code_of(asked.named), 0), **{int(pc, 16): times for pc, times in done.items()}}
-
-
-def lcov(asked: Asked) -> str:
-    """A line was done as often as the address of it that was done most."""
-    times = done_times(asked)
+    times = {**dict.fromkeys(code_of(asked.named), 0), **{int(pc, 16): times for pc, times in done.items()}}
     asked.places.fetch(times)
     lines: dict[str, Counter[int]] = {}
     for pc, count in times.items():

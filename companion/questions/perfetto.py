@@ -91,7 +91,7 @@ class Turns:
 def perfetto(asked: Asked) -> str:
     events, turns = Events(asked), Turns(asked)
     flow = Flow(events.left)
-    read(asked, turns, flow)
+    read(asked.chunks(), turns, flow)
     for hart, end in sorted(asked.log.ends.items()):
         for call in flow.open.get(b"%d" % hart, []):
             events.left(hart, call, end.count, flow.rows)

@@ -3,7 +3,7 @@ from __future__ import annotations
 
 import contextlib
 from contextlib import closing
-from typing import Iterator, Mapping, NamedTuple, Protocol
+from typing import Iterable, Iterator, Mapping, NamedTuple, Protocol, Sequence
 
 from ..call.options import whole
 from ..call.text import number
@@ -33,7 +33,7 @@ class Asked(NamedTuple):
         return not self.log.dropped and not self.log.unread
 
     def chunks(self) -> Iterator[bytes]:
-        return chunks(self.log.name, self.elf.name, total=self.log.rows())
+        return chunks(self.log.name, self.elf.name, log=self.log)
 
     def name_of(self, address: int) -> str:
         """The object or the function that an address is in, with the offset, or nothing."""
@@ -52,15 +52,21 @@ class Asked(NamedTuple):
             return [f"Only the last {number(log.rows())} rows were read; --rows N reads more."]
         return [f"The log gave up {number(log.dropped)} records before its first row."] if log.dropped else []
 
+    def report(self, head: str, told: Sequence[tuple[int, int]], total: int, lines: list[str]) -> list[str]:
+        """Lines of what is told of so many, each at a hart's count, with a head; then what opens the last, and what isn't read."""
+        more = f"; the last {number(len(told))} are told (--last N)" if len(told) < total else ""
+        last = self.ready(*told[-1]) if told else []
+        return [head + more] + lines + ["  " + line for line in last + self.left_out()]
+
 
 class Reader(Protocol):
     def take(self, text: bytes) -> None:
         """Reads a chunk."""
 
 
-def read(asked: Asked, *readers: Reader) -> None:
-    """All of them read the rows, in one go."""
-    for text in asked.chunks():
+def read(texts: Iterable[bytes], *readers: Reader) -> None:
+    """All of them read these chunks, in one go."""
+    for text in texts:
         for each in readers:
             each.take(text)
 

@@ -34,7 +34,6 @@ class Variable(NamedTuple):
         return self.address + self.size
 
     def what(self) -> str:
-        """Its name, type, size and address."""
         kind = f"{self.type['name']}, " if self.type["name"] else ""
         place = f"{counted(self.size, 'byte')} at {self.address:08x}"
         return place if self.name == f"{self.address:08x}" else f"{self.name} ({kind}{place})"
@@ -44,7 +43,8 @@ def variable_of(elf: Elf, name: str) -> Variable:
     """The variable of a name; CompanionError with near names if there is none."""
     found = symbol_of(elf, name)
     if found is None and (told := ADDRESS.fullmatch(name)):
-        return at_address(int(told[1] or told[2], 16), int(told[3] or WORD))
+        address = int(told[1] or told[2], 16)
+        return Variable(f"{address:08x}", address, words_type(length(int(told[3] or WORD))))
     if found is None and (told := OFFSET.fullmatch(name)) and (base := symbol_of(elf, told[1])):
         return Variable(name, base.address + int(told[2]), words_type(length(int(told[3] or WORD))))
     if found and found.kind == FUNCTION:
@@ -56,10 +56,6 @@ def variable_of(elf: Elf, name: str) -> Variable:
     if found is None:
         raise CompanionError(not_found(elf, name, elf.objects), MISSING)
     return Variable(name, found.address, words_type(length(found.size or WORD)))
-
-
-def at_address(address: int, size: int) -> Variable:
-    return Variable(f"{address:08x}", address, words_type(length(size)))
 
 
 def length(size: int) -> int:

@@ -122,7 +122,6 @@ class Waits:
             self.open[hart] = self.open[hart][0], self.open[hart][1] + rows
 
     def close(self, hart: int) -> None:
-        """The wait is over."""
         if hart in self.open and len(self.found) < self.most:
             self.found.append(self.open.pop(hart)[0])
 

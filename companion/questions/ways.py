@@ -73,7 +73,6 @@ class Lane:
         self.steps = self.compare()
 
     def advance(self) -> None:
-        """Compares what is known."""
         if not self.is_over:
             self.is_over = next(self.steps, True)
 

@@ -37,7 +37,6 @@ class Window:
         return self.begins[1] if self.size > self.kept and len(self.texts) > 1 else 0
 
     def drop(self) -> None:
-        """Forgets the oldest chunk."""
         self.size -= len(self.texts.pop(0))
         del self.begins[0]
 

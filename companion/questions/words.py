@@ -6,7 +6,7 @@ from typing import Deque, Iterator, NamedTuple, Optional
 
 from ..recording.chunks import LOAD, STORE, touching
 from ..recording.log import READ_CALL, Log, SystemCall
-from ..recording.memory import Bytes, words_of
+from ..recording.memory import Bytes, bytes_of, words_of
 from .reading import Asked
 from .variables import Variable
 
@@ -24,18 +24,11 @@ class Change(NamedTuple):
     after: Word
     fill: Optional[SystemCall] = None
 
-    def bytes_before(self, address: int, size: int) -> Bytes:
-        return self.taken(self.before, address, size)
-
-    def bytes_after(self, address: int, size: int) -> Bytes:
-        return self.taken((self.before[0], self.after, self.before[2]), address, size)
-
-    def taken(self, words: tuple[Word, Word, Word], address: int, size: int) -> Bytes:
-        found: list[Optional[int]] = []
-        for word in words:
-            found += [None] * 4 if word is None else word.to_bytes(4, "little")
+    def values(self, address: int, size: int) -> Iterator[Bytes]:
+        """Some bytes before and after it."""
         begin = address - self.word + 4
-        return found[begin:begin + size] if 0 <= begin and begin + size <= len(found) else [None] * size
+        for words in (self.before, (self.before[0], self.after, self.before[2])):
+            yield bytes_of(words)[begin:begin + size] if 0 <= begin <= 12 - size else [None] * size
 
 
 def fills_of(log: Log, first: int, end: int) -> dict[int, Deque[SystemCall]]:

@@ -138,4 +138,4 @@ def cause_along(texts: Iterable[bytes], hart: int, end: End) -> Cause:
 
 def cause_of(log: Log, elf_name: str) -> Cause:
     hart = ended_hart(log)
-    return cause_along(chunks(log.name, elf_name), hart, log.ends[hart])
+    return cause_along(chunks(log.name, elf_name, log=log), hart, log.ends[hart])

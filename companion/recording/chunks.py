@@ -5,7 +5,7 @@ from __future__ import annotations
 
 import re
 from itertools import islice
-from typing import Iterable, Iterator, Pattern
+from typing import Callable, Iterable, Iterator, Optional, Pattern
 
 from ..call import streams
 from ..call.program import Output
@@ -15,14 +15,17 @@ from .log import Log, is_fault
 CHUNK = 1 << 18             # bytes of a chunk, about
 OTHER_LINES, WORDS = re.compile(rb"\n[a-z][^\n]*"), b"\nword "
 LOAD, STORE = b"load", b"store"
+FIRST_HART = b"\n0 "
 JUMPS = re.compile(rb" jalr? ")     # in rows of calls, returns and other jumps
+JUMP = b"j"                 # no other row has this letter
 DIGITS = "0123456789abcdef"
 
 
-def chunks(log_name: str, elf_name: str, command: str = "joint", *words: str, total: int = 0) -> Iterator[bytes]:
-    """All rows that a command prints, and at a terminal how many have been read, of how many if that is given. It ends with the
-    iterator, if that is dropped before."""
-    of_all = f" of {number(total)}" if total else ""
+def chunks(log_name: str, elf_name: str, command: str = "joint", *words: str, log: Optional[Log] = None) -> Iterator[bytes]:
+    """All rows that a command prints, and at a terminal how many have been read, of how many if it prints a whole `log`. It ends
+    with the iterator, if that is dropped before."""
+    of_all = f" of {number(log.rows())}" if log else ""
+    ends = [interval.end for interval in reversed(log.intervals)] if log and log.harts == 1 else []
     with Output(command, log_name, elf_name, *words) as out, streams.Progress() as progress:
         rest, behind, passed = b"\n", b"", 0
         while True:
@@ -30,7 +33,7 @@ def chunks(log_name: str, elf_name: str, command: str = "joint", *words: str, to
             text = rest + read
             end = text.rfind(b"\n")
             rest, text = text[end:], text[:end]
-            if OTHER_LINES.search(text):
+            if can_have_others(text, ends) and OTHER_LINES.search(text):
                 rows, behind, _ = text.partition(WORDS)
                 text = OTHER_LINES.sub(b"", rows)
                 if behind:              # they come behind all rows
@@ -43,6 +46,34 @@ def chunks(log_name: str, elf_name: str, command: str = "joint", *words: str, to
                 break
         if not behind:
             out.finish()
+
+
+def can_have_others(text: bytes, ends: list[int]) -> bool:
+    """Whether a chunk can have lines that are no rows. `ends` are the counts at which the intervals of the only hart end, the
+    last one first, or nothing; those that the chunk's last row is behind are taken away."""
+    at = text.rfind(FIRST_HART) if ends else -1
+    if at < 0:
+        return True
+    count = int(text[at + len(FIRST_HART):].split(b" ", 1)[0])
+    is_near = ends[-1] <= count + 1             # the end of a row's interval comes behind it, maybe in the next chunk
+    while len(ends) > 1 and ends[-1] < count:
+        ends.pop()
+    return is_near
+
+
+def after(rows: int, texts: Iterable[bytes], skip: Optional[Callable[[bytes], None]] = None) -> Iterator[bytes]:
+    """The chunks after so many rows; those before are handed to `skip`."""
+    for text in texts:
+        if rows:
+            here, end = text.count(b"\n"), len(text)
+            if rows < here:
+                *_, last = islice(re.finditer(b"\n", text), rows + 1)
+                end = last.start()
+            if skip:
+                skip(text[:end])
+            rows, text = max(0, rows - here), text[end:]
+        if text:
+            yield text
 
 
 def check_program(log_name: str, elf_name: str) -> None:
@@ -68,17 +99,17 @@ def last_rows(log: Log, elf_name: str, most: int) -> dict[int, bytes]:
     return {hart: b"".join(rows_between(log, elf_name, hart, end - most, end)) for hart, end in behind.items()}
 
 
-def parted(text: bytes, rows: int) -> tuple[bytes, bytes]:
-    """The first so many rows of a chunk, and the rest."""
-    if rows >= text.count(b"\n"):
-        return text, b""
-    *_, last = islice(re.finditer(b"\n", text), rows + 1)
-    return text[:last.start()], text[last.start():]
-
-
 def count_of(text: bytes) -> int:
     """The hart's count at the first row."""
     return int(text.split(b" ", 2)[1])
+
+
+def places(text: bytes, word: bytes, at: int = 0, end: Optional[int] = None) -> Iterator[int]:
+    """The places of a word in a part of a text."""
+    at = text.find(word, at, end)
+    while at >= 0:
+        yield at
+        at = text.find(word, at + 1, end)
 
 
 def rows_with(text: bytes, pattern: Pattern[bytes]) -> Iterator[bytes]:
@@ -93,14 +124,14 @@ def rows_with(text: bytes, pattern: Pattern[bytes]) -> Iterator[bytes]:
 
 def touching(first: int, end: int, *kinds: bytes) -> Pattern[bytes]:
     """What rows have that access a word with a byte from an address up to another, by loads, stores or both."""
-    words = hexadecimal(first & ~3, (end - 1) | 3)
-    return re.compile(rb"\| (?:%s) %s=" % (b"|".join(kinds or (LOAD, STORE)), words))
+    return touching_any([(first, end)], *kinds)
 
 
-def touching_any(ranges: Iterable[tuple[int, int]]) -> Pattern[bytes]:
-    """The same of several ranges."""
-    words = [hexadecimal(first & ~3, (end - 1) | 3) for first, end in ranges]
-    return re.compile(rb"\| (?:load|store) (?:%s)=" % b"|".join(words) if words else rb"(?!)")
+def touching_any(ranges: Iterable[tuple[int, int]], *kinds: bytes) -> Pattern[bytes]:
+    """The same of several ranges. It begins with a letter that few rows have, so that a search is fast."""
+    words = b"|".join(hexadecimal(first & ~3, (end - 1) | 3) for first, end in ranges)
+    kind = b"|".join(kind[-2:] for kind in kinds or (LOAD, STORE))
+    return re.compile(rb"o(?:%s) (?:%s)=" % (kind, words) if words else rb"(?!)")
 
 
 def at(first: int, end: int) -> Pattern[bytes]:

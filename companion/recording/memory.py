@@ -1,7 +1,7 @@
 """The words of memory as the rows tell them."""
 from __future__ import annotations
 
-from typing import Optional, Sequence
+from typing import Iterable, Optional, Sequence
 
 from .elf import Elf
 
@@ -39,16 +39,17 @@ class Memory:
 
     def read(self, address: int, size: int) -> list[Optional[int]]:
         """Bytes; None for each that isn't known."""
-        found: list[Optional[int]] = []
-        for word in words_of(address, size):
-            value = self.word(word)
-            found += [None] * 4 if value is None else value.to_bytes(4, "little")
-        return found[address & 3:(address & 3) + size]
+        return bytes_of(map(self.word, words_of(address, size)))[address & 3:(address & 3) + size]
 
 
 def words_of(address: int, size: int) -> range:
     """The addresses of the words that some bytes are in."""
     return range(address & ~3, address + size, 4) if size else range(0)
+
+
+def bytes_of(words: Iterable[Optional[int]]) -> list[Optional[int]]:
+    """The bytes of some words' values; None for each of one that isn't known."""
+    return [byte for word in words for byte in ([None] * 4 if word is None else word.to_bytes(4, "little"))]
 
 
 def quoted(data: Bytes) -> str:

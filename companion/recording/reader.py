@@ -22,7 +22,8 @@ WRITES, GOES, ASKS, TRIES = 1, 2, 16, 32
 NEW = -1                    # in place of the number of an instruction that hasn't one
 NO_REGISTER = 32            # in place of the register of what writes none
 WORD = ~OFFSET
-SPECIAL, RESULT = re.compile(rb"[\x10-\x3f]"), re.compile(rb"\| (\w+)=(\w{8})")
+SPECIAL, RESULT = re.compile(rb"[\x10-\x3f]"), re.compile(rb"\n(\d+) [^|\n]*\| (\w+)=(\w{8})")
+LAST = 1 << 12              # letters of the last rows
 REGISTERS = {name.encode(): register for register, name in enumerate(NAMES)}
 FAULT = b" | fault "
 KEY, ZERO = 17, b"0" * 8    # letters of an address and a word; the value of what writes no register
@@ -117,17 +118,14 @@ class Reader:
         self.start = 0
 
     def skip(self, text: bytes) -> None:
-        """Rows that aren't kept: only what they put into registers, by the last row of each instruction."""
-        lines = text[1:].split(b"\n")
-        latest: dict[int, dict[bytes, int]] = {hart: {} for hart in self.harts}
-        for hart, begin, end, _, letters in self.turns(lines, self.harts_of(lines)):
-            key = slice(letters, letters + KEY)
-            latest[hart.number].update(zip([line[key] for line in lines[begin:end]], range(begin, end)))
-        for number, places in latest.items():
-            for place in sorted(places.values()):
-                found = RESULT.search(lines[place])
-                if found:
-                    self.harts[number].values[REGISTERS[found[1]]] = int(found[2], 16)
+        """Rows that aren't kept: only what they put into registers. Of one hart the last rows tell most, and the rest is looked for."""
+        last = text[-LAST:] if len(self.harts) == 1 else text
+        values = {(hart, name): value for hart, name, value in RESULT.findall(last)}
+        if last is not text:
+            others = b"|".join(REGISTERS.keys() - {name for _, name in values})
+            values.update(((b"0", name), value) for name, value in re.findall(rb"\| (%s)=(\w{8})" % others, text))
+        for (hart, name), value in values.items():
+            self.harts[int(hart)].values[REGISTERS[name]] = int(value, 16)
 
     def read(self, text: bytes) -> None:
         rows, self.start, lines = self.rows, len(self.rows.code), text[1:].split(b"\n")
@@ -183,11 +181,11 @@ class Reader:
         """{place: what the row tells} of faults and system calls. Shapes are corrected: of these if they write no register,
         and of store-conditionals that failed."""
         found: dict[int, list[bytes]] = {}
-        at = text.find(FAULT)
+        at = text.rfind(FAULT)
         while at >= 0:
             place = text.count(b"\n", 0, at) - 1
             shapes[place], found[place] = 0, lines[place].split(FAULT)[1].split(b" ")
-            at = text.find(FAULT, at + 1)
+            at = text.rfind(FAULT, 0, at)
         for place in [each.start() for each in SPECIAL.finditer(shapes)]:
             if shapes[place] & TRIES:
                 shapes[place] &= ~0 if b"| store " in lines[place] else ~STORES
@@ -216,12 +214,16 @@ class Reader:
 
     def link_rows(self, hart: State, codes: Sequence[int], n: int) -> None:
         """The one loop over all rows."""
-        add_first, add_second, writers = self.writers.first.append, self.writers.second.append, hart.writers
+        firsts: list[int] = []
+        seconds: list[int] = []
+        writers = hart.writers
         for register, first, second in map(self.codes.registers.__getitem__, codes):
-            add_first(writers[first])
-            add_second(writers[second])
+            firsts.append(writers[first])
+            seconds.append(writers[second])
             writers[register] = n
             n += 1
+        self.writers.first.fromlist(firsts)
+        self.writers.second.fromlist(seconds)
 
     def link_alone(self, hart: State, n: int, fault: list[bytes]) -> None:
         """A row that faulted, or else a system call."""

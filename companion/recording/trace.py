@@ -5,7 +5,7 @@ import time
 from typing import AbstractSet, NamedTuple, Optional
 
 from .calls import Calls
-from .chunks import OTHER_LINES, chunks, parted
+from .chunks import OTHER_LINES, after, chunks
 from .log import At, Log
 from .reader import Reader
 from .rows import Rows
@@ -30,16 +30,12 @@ def read_trace(log: Log, elf_name: str, entries: AbstractSet[int] = frozenset(),
     rows, end = log.rows(), b""
     if asked and most and rows > most:
         rows, end = rows_before(log, elf_name, asked), head_of(asked)
-    trace.rows.passed = left = max(0, rows - most) if most else 0
+    trace.rows.passed = max(0, rows - most) if most else 0
     reader = Reader(*trace)
-    for text in chunks(log.name, elf_name, total=log.rows()):
-        if left:
-            passed, text = parted(text, left)
-            reader.skip(passed)
-            left -= passed.count(b"\n")
+    for text in after(trace.rows.passed, chunks(log.name, elf_name, log=log), reader.skip):
         last = text.find(end) if end else -1
-        if text:
-            reader.read(text if last < 0 else parted(text, text.count(b"\n", 0, last) + 1)[0])
+        stop = text.find(b"\n", last + 1) if last >= 0 else -1
+        reader.read(text if stop < 0 else text[:stop])
         if last >= 0:
             break
     reader.finish(time.monotonic() - began)
@@ -59,7 +55,7 @@ def trace_of(log: Log, text: bytes) -> Trace:
 def rows_before(log: Log, elf_name: str, asked: At) -> int:
     """How many rows come before one."""
     rows = 0
-    for text in chunks(log.name, elf_name, total=log.rows()):
+    for text in chunks(log.name, elf_name, log=log):
         at = text.find(head_of(asked))
         if at >= 0:
             rows += text.count(b"\n", 0, at)

@@ -122,7 +122,6 @@ class Boxes:
         return self.columns - 1 if place else column
 
     def told(self, row: int) -> str:
-        """What a row did."""
         text = self.page.rows.text(row)
         told = text.split(" | ")[1:]
         return told[-1] if told else text.split(" ", 4)[-1]

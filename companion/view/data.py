@@ -1,11 +1,14 @@
-"""What a page shows of a log as a whole: places, intervals, Edges, the functions along each hart."""
+"""What a page shows of a log as a whole: places, intervals, Edges, the functions along each hart, and a short order of
+turns."""
 from __future__ import annotations
 
-from typing import Any, Iterator, NamedTuple, Union
+from typing import Any, Iterator, NamedTuple, Optional, Union
 
 from ..call.text import clean
 from ..recording.log import NO_END, Log
 from ..recording.places import Places
+from ..recording.rows import Rows
+from ..recording.story import Story, Teller
 from ..recording.trace import Trace
 
 EDGES = 6000            # in the page at most: a half of them evenly over all rows, the other half at the end
@@ -142,3 +145,21 @@ class Page:
             spots = min(most, last - first + 1)
             size = (last - first + 1) / spots
             yield hart, (last + 1, [(int(first + i * size), rows.row_of(hart, int(first + (i + 0.5) * size))) for i in range(spots)])
+
+
+def story_data(story: Optional[Story], teller: Teller, log: Log, rows: Rows) -> Optional[dict[str, Any]]:
+    """The order in words; of each piece its hart, its turns, its first count and the one behind its last, each with its row;
+    of each switch its lines. Nothing without BOOK."""
+    if story is None:
+        return None
+    behind: dict[int, int] = {}
+    pieces = []
+    for at, (hart, turns) in enumerate(story.pieces):
+        stopped = story.switches[at].stopped if at < len(story.switches) else None
+        is_last = all(piece.hart != hart for piece in story.pieces[at + 1:])
+        begin = behind.get(hart, 0)
+        end = log.ends[hart].count if is_last and hart in log.ends else stopped.ic + 1 if stopped else begin
+        pieces.append([hart, turns, begin, rows.row_of(hart, begin), end, rows.row_of(hart, max(begin, end - 1))])
+        behind[hart] = end
+    return {"left": story.left, "order": story.order(), "pieces": pieces,
+            "switches": [[line.strip() for line in teller.lines(at, each)] for at, each in enumerate(story.switches, 1)]}

@@ -4,9 +4,9 @@ from __future__ import annotations
 from typing import Any, Iterable, Iterator, Optional, Sequence, Union
 
 from ..call.errors import CompanionError
-from ..questions.calls import Call, Calls, Values
+from ..questions.calls import Call, Calls, said_arguments, said_result
 from ..questions.functions import function_of
-from ..questions.history import Entry, History, value_of
+from ..questions.history import History
 from ..questions.reading import Asked, read
 from ..questions.variables import Variable, variable_of
 from ..recording.elf import Elf
@@ -43,45 +43,32 @@ def calls_in(asked: Asked, names: Iterable[str]) -> Iterator[Calls]:
             continue
 
 
-class Questions:
-    """The answers, which one reading of the rows gives."""
-
-    def __init__(self, asked: Asked, words: Iterable[int], functions: Iterable[str]) -> None:
-        self.asked = asked
-        self.histories = [History(asked, variable, TOLD, False) for variable in variables_of(asked.named, words)]
-        self.calls = list(calls_in(asked, functions))
-        every: list[Union[History, Calls]] = [*self.histories, *self.calls]
-        read(asked, *every)
-        for each in every:
-            each.finish()
-
-    def data(self, page: Page) -> dict[str, Any]:
-        values = Values(self.asked)
-        return {"most": TOLD, "leftOut": self.asked.left_out(),
-                "variables": [self.history(page, found) for found in self.histories],
-                "functions": [{"name": found.function.name, "title": found.function.title(), "calls": found.total,
-                               "rows": [call_row(page, call, values) for call in found.told]} for found in self.calls]}
-
-    def history(self, page: Page, found: History) -> dict[str, Any]:
-        variable = found.variable
-        return {"title": variable.what(), "first": variable.address & ~3, "end": variable.end, "stores": found.total,
-                "rows": [self.entry_row(page, variable.name, entry) for entry in found.told]}
-
-    def entry_row(self, page: Page, name: str, entry: Entry) -> list[Any]:
-        """Hart and count, the part, its value before and after, the place."""
-        new = "bytes of a read call" if entry.fill else value_of(entry, entry.after, self.asked)
-        return [entry.hart, entry.count, name + entry.part.path, value_of(entry, entry.before, self.asked), new, page.place(entry.pcs[0])]
-
-
-def questions_of(crash: Analysis, suspects: Sequence[Suspect], races: Optional[Races]) -> Questions:
-    """Those of the words and functions that are looked at first: of suspects, of races, of the last rows before the end."""
+def questions_data(page: Page, crash: Analysis, suspects: Sequence[Suspect], races: Optional[Races]) -> dict[str, Any]:
+    """Those of the words and functions that are looked at first: of suspects, of races, of the last rows before the end. One
+    reading of the rows gives all."""
     rows, guilty = crash.rows, [row for item in suspects for row in (item.guilty, item.store, item.load) if row]
     hart, last = rows.hart[crash.start], rows.count_of(crash.start)
     near = filter(None, (rows.row_of(hart, count) for count in range(last, max(-1, last - ROWS_NEAR), -1)))
-    words = words_at(crash, guilty) + [group.word for group in (races.groups[:RACES] if races else ())]
+    words = words_at(crash, guilty) + [group.word for group in (races.groups[:RACES] if races else ())] + words_at(crash, near)
     functions = [name for row in [crash.start, *guilty] for name in
                  [crash.places.function(rows.code_of(row).pc), *(frame.function for frame in crash.callers(row))]]
-    return Questions(Asked(crash.log, crash.elf, crash.named, crash.places), words + words_at(crash, near), functions)
+    asked = Asked(crash.log, crash.elf, crash.named, crash.places)
+    histories = [History(asked, variable, TOLD, False) for variable in variables_of(asked.named, words)]
+    calls = list(calls_in(asked, functions))
+    every: list[Union[History, Calls]] = [*histories, *calls]
+    read(asked.chunks(), *every)
+    for each in every:
+        each.finish()
+    return {"most": TOLD, "leftOut": asked.left_out(), "variables": [history_data(page, found) for found in histories],
+            "functions": [{"name": found.function.name, "title": found.function.title(), "calls": found.total,
+                           "rows": [call_row(page, call, asked) for call in found.told]} for found in calls]}
+
+
+def history_data(page: Page, found: History) -> dict[str, Any]:
+    variable = found.variable
+    return {"title": variable.what(), "first": variable.address & ~3, "end": variable.end, "stores": found.total,
+            "rows": [[entry.hart, entry.count, variable.name + entry.part, entry.old,
+                      "bytes of a read call" if entry.fill else entry.new, page.place(entry.pcs[0])] for entry in found.told]}
 
 
 def words_at(crash: Analysis, rows: Iterable[int]) -> list[int]:
@@ -89,9 +76,9 @@ def words_at(crash: Analysis, rows: Iterable[int]) -> list[int]:
     return [access.address & ~3 for access in found if access]
 
 
-def call_row(page: Page, call: Call, values: Values) -> list[Any]:
+def call_row(page: Page, call: Call, asked: Asked) -> list[Any]:
     """Hart and count, the arguments, the result, how many rows it took, and the place that it came from, -1 if that isn't known."""
-    arguments = ", ".join(f"{name}={text}" for name, text in values.arguments(call).items())
+    arguments = ", ".join(f"{name}={text}" for name, text in said_arguments(asked, call).items())
     place = page.place(call.source or call.begin.address) if call.source or call.begin.inlined else -1
-    return [int(call.hart), call.count, "inlined" if call.begin.inlined else arguments, values.result(call) or "",
+    return [int(call.hart), call.count, "inlined" if call.begin.inlined else arguments, said_result(asked, call) or "",
             -1 if call.rows is None else call.rows, place]

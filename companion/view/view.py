@@ -28,10 +28,9 @@ from ..why.origins import advice
 from ..why.report import output_lines, unread
 from ..why.suspect import ALONE, DID, NEW_OWNER, Suspect
 from .chain import Way, chain_boxes
-from .data import Page, PageEdge
-from .questions import questions_of
+from .data import Page, PageEdge, story_data
+from .questions import questions_data
 from .rows import PageRows
-from .story import story_data
 
 HELP = """Draws a log as one page, to look at in a browser: harts, intervals, Edges, races, the fault, and the chain behind it.
 
@@ -109,7 +108,7 @@ class View:
         """A family of groups for the page; the pair that tells most comes first."""
         one, other = judged.pair(family[0])
         pairs = [pair for group in family for pair in group.first if pair[0] is not one or pair[1] is not other]
-        arcs = [self.arc(pair) for pair in [AccessPair(one, other)] + pairs[:ARCS - 1]]
+        arcs = [self.arc(pair) for pair in [(one, other)] + pairs[:ARCS - 1]]
         return dict(pairs=pairs_of(family), word=family_word(races, family), kind=family[0].kind,
                     judged=judged.reason(family[0]), first=self.page.place(one.pc), second=self.page.place(other.pc), arcs=arcs)
 
@@ -168,7 +167,6 @@ class View:
         return {loads.nearest: origin.words for origin, loads in nearest[:2]} if len(ways) < 2 else {}
 
     def rows(self, edges: Sequence[PageEdge], ways: Sequence[Way], origins: Mapping[int, str]) -> PageRows:
-        """The rows that the page holds."""
         history, rows = self.crash.history, PageRows(self.page)
         on_ways = [row for goal in [way.row for way in ways] + list(origins)
                    for row, _ in history.path(goal)[:WAY_ROWS]]
@@ -179,7 +177,6 @@ class View:
         return rows
 
     def data(self) -> dict[str, Any]:
-        """All that the page's script reads, as one dict."""
         crash, log, page = self.crash, self.log, self.page
         edges, (strips, functions), ways = page.edges(), page.strips(), self.ways()
         origins = self.origins_drawn(ways)
@@ -191,16 +188,16 @@ class View:
             ends=[[hart, end.count, end.reason, f"{end.value:08x}"] for hart, end in sorted(log.ends.items())],
             races=self.race_groups, allRaces=self.races.total if self.races else 0,
             raceGroups=self.race_total, racesNote=self.races_note,
-            windows=rows.as_data(), nodes=[(0, 0), *rows.nodes], chain=chain_boxes(page, crash.history, ways, origins))
+            windows=[[each.hart, each.first, each.codes, "\n".join(each.tails), each.calls] for each in rows.windows],
+            nodes=[(0, 0), *rows.nodes], chain=chain_boxes(page, crash.history, ways, origins))
         data.update(self.end_data(), story=self.story)
         if self.with_questions:
-            data["questions"] = questions_of(crash, self.suspects, self.races).data(page)
+            data["questions"] = questions_data(page, crash, self.suspects, self.races)
         told = [data["where"]] + [item["place"] for item in data["suspects"]]
         data.update(codes=page.code_list, places=page.place_list, around={each: page.around(each) for each in told})
         return data
 
     def end_data(self) -> dict[str, Any]:
-        """What is told of the end, and of what is behind it."""
         crash, history = self.crash, self.crash.history
         final = self.crash.rows.final[self.crash.rows.hart[crash.start]]
         return dict(
@@ -213,7 +210,6 @@ class View:
             origin=[[loads.times, *origin] for origin, loads in list(crash.origin.items())[:ORIGINS]])
 
     def about(self) -> str:
-        """What the page begins with."""
         crash = self.crash
         return "output" if crash.output else "fault" if self.fault else "row" if crash.asked else "hang" if crash.loops else "end"
 

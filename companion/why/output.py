@@ -4,18 +4,17 @@ Which calls wrote, from where and how much is in the log's records. Of its rows 
 written, and calls and returns."""
 from __future__ import annotations
 
-import re
 from contextlib import closing
-from typing import Any, Iterable, Iterator, Match, NamedTuple, Optional
+from typing import Any, Iterable, Iterator, NamedTuple, Optional
 
 from ..call import streams
 from ..call.options import read_words, whole
 from ..call.text import counted, number
 from ..recording.answers import place_of as code_place, put_answer
 from ..recording.calls import CallTree, entries_of
-from ..recording.chunks import chunks, parted, touching_any
+from ..recording.chunks import JUMP, after, chunks, places, touching_any
 from ..recording.elf import Elf
-from ..recording.instruction import A0
+from ..recording.instruction import A0, Instruction
 from ..recording.log import READ_CALL, WRITE_CALL, Log, SystemCall
 from ..recording.memory import Memory, quoted
 from ..recording.naming import named_elf, places_of
@@ -36,9 +35,8 @@ together from the rows of `joint`: bytes that no row loaded or stored, and that 
 as unknown. Companions show; the program proves."""
 FORM = "output LOG ELF [--names ELF] [--rows N] [--json]"
 MOST_ROWS, MOST_FRAMES, MOST_RANGES = 32000000, 4, 8
-ASKED, SET = re.compile(rb" 00000073 ecall[^\n]*"), b"| a0="
-JUMPED = re.compile(rb" jalr? (\w+),(?:(\w{8})|-?\d+\((ra|t0)\))?")  # what it links, the place that it leads to, if it is a return
-LINKS, TOP = (b"ra", b"t0"), 1 << 32
+ASKED, SET = b" 00000073 ecall", b"| a0="
+CODE, TOP = 18, 1 << 32     # letters of an address and a word, before an instruction's name
 STREAMS = {1: "the output", 2: "err"}
 
 
@@ -71,6 +69,7 @@ class Reader:
         self.wanted = sorted(numbers[call] for call in self.calls.values() if call in numbers)
         self.ranges = ranges(numbers)
         self.touched = touching_any(self.ranges)
+        self.jumps: dict[bytes, Instruction] = {}
         self.harts = {b"%d" % hart: Hart(interval.registers[A0]) for hart, interval in log.first_intervals().items()}
 
     def writes(self, texts: Iterator[bytes]) -> Iterator[Write]:
@@ -91,16 +90,17 @@ class Reader:
         for name, hart in self.harts.items():
             if hart.returns:                    # its last row was a return
                 self.come_back(hart, text, name, 0)
-        for asked in ASKED.finditer(text) if b" ecall" in text else ():
-            begin = text.rfind(b"\n", 0, asked.start()) + 1
-            name, count, _ = text[begin:asked.start()].split(b" ", 2)
+        for asked in places(text, ASKED):
+            begin, end = text.rfind(b"\n", 0, asked) + 1, text.find(b"\n", asked)
+            name, count, _ = text[begin:asked].split(b" ", 2)
             call = self.calls.get((int(name), int(count)))
             if call:
                 self.follow(text, at, begin)
                 at = begin
                 if call in self.numbers:
-                    yield Write(self.numbers[call], text[begin:asked.end()].decode("ascii", "replace"), self.harts[name].a0,
-                                self.memory.read(call.address, call.size), call.pc, self.harts[name].node)
+                    row = text[begin:end if end >= 0 else len(text)].decode("ascii", "replace")
+                    yield Write(self.numbers[call], row, self.harts[name].a0, self.memory.read(call.address, call.size), call.pc,
+                                self.harts[name].node)
                 elif call.kind == READ_CALL:
                     self.fill(call.address, call.address + call.size)
         self.follow(text, at, len(text))
@@ -115,8 +115,8 @@ class Reader:
         for told in self.touched.finditer(text, begin, end):
             address, value = text[told.end() - 9:told.end() - 1], text[told.end():told.end() + 8]
             self.memory.known[int(address, 16) & ~3] = int(value, 16)
-        for jumped in JUMPED.finditer(text, begin, end):
-            self.jump(text, text.rfind(b"\n", 0, jumped.start()) + 1, jumped)
+        for at in places(text, JUMP, begin, end):
+            self.jump(text, at)
         left = set(self.harts)
         while left and end >= begin:            # of each hart the latest a0
             end = text.rfind(SET, begin, end)
@@ -125,16 +125,19 @@ class Reader:
                 left.remove(name)
                 self.harts[name].a0 = int(text[end + len(SET):end + len(SET) + 8], 16)
 
-    def jump(self, text: bytes, begin: int, jumped: Match[bytes]) -> None:
-        """A call, a return, or a jump to a function."""
-        name, _, place = text[begin:begin + 40].split(b" ", 3)[:3]
-        hart, register, leads, link = self.harts[name], *jumped.groups()
-        if register in LINKS:
-            hart.node = self.tree.called(hart.node, int(place, 16))
-        elif link:
-            self.come_back(hart, text, name, jumped.end())
-        elif leads and int(leads, 16) in self.tree.entries:
-            hart.node = self.tree.went(hart.node, int(place, 16))
+    def jump(self, text: bytes, at: int) -> None:
+        """A call, a return, or a jump to a function: its name is at a place."""
+        code, tree = text[at - CODE:at], self.tree
+        if code not in self.jumps:
+            self.jumps[code] = Instruction(0, code + JUMP)
+        ins = self.jumps[code]
+        if ins.call or ins.ret or ins.leads in tree.entries:
+            name = text[text.rfind(b"\n", 0, at) + 1:at].split(b" ", 1)[0]
+            hart = self.harts[name]
+            if ins.ret:
+                self.come_back(hart, text, name, at)
+            else:
+                hart.node = tree.called(hart.node, ins.pc) if ins.call else tree.went(hart.node, ins.pc)
 
     def come_back(self, hart: Hart, text: bytes, name: bytes, behind: int) -> None:
         """A hart's return leads to its next row, which may be in a later chunk."""
@@ -173,17 +176,6 @@ def write_answer(places: Places, write: Write) -> dict[str, Any]:
             "place": code_place(places, write.pc)}
 
 
-def texts_of(log: Log, elf_name: str, most: int) -> Iterator[bytes]:
-    """About so many of the last rows."""
-    left = log.rows() - most if log.rows() > 2 * most else 0
-    for text in chunks(log.name, elf_name, total=log.rows()):
-        if left:
-            passed, text = parted(text, left)
-            left -= passed.count(b"\n")
-        if text:
-            yield text
-
-
 def numbered(log: Log) -> dict[SystemCall, int]:
     """The writes of a log, and their numbers."""
     return {call: at for at, call in enumerate(call for call in log.system_calls() if call.kind == WRITE_CALL)}
@@ -191,7 +183,8 @@ def numbered(log: Log) -> dict[SystemCall, int]:
 
 def writes_of(log: Log, elf: Elf, tree: CallTree, numbers: dict[SystemCall, int], most: int) -> Iterator[Write]:
     """The writes among about so many of the last rows of a log. `numbers` are those of the whole log's."""
-    return Reader(log, elf, tree, numbers).writes(texts_of(log, elf.name, most))
+    first = log.rows() - most if log.rows() > 2 * most else 0
+    return Reader(log, elf, tree, numbers).writes(after(first, chunks(log.name, elf.name, log=log)))
 
 
 def said_of(places: Places, tree: CallTree, write: Write) -> str:

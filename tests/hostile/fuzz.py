@@ -167,12 +167,16 @@ class Calls:
         if status not in STATUSES[words[0]] or not good:
             self.tell(words, f"status {status}: {line!r}")
 
+    def kept(self):
+        """Returns the files that a call was given, by name."""
+        return {name: self.read(name) for name in ("LOG", "ELF", "BOOK", "NEW", "keys") if os.path.exists(self.path(name))}
+
     def tell(self, words, what):
         os.makedirs(KEPT, exist_ok=True)
         place = f"{KEPT}/{os.getpid()}-{len(self.wrong)}"
-        for name in ("LOG", "ELF", "BOOK", "NEW", "keys"):
-            if os.path.exists(self.path(name)):
-                os.system(f"cp {self.path(name)} {place}-{name}")
+        for name, data in self.kept().items():
+            with open(f"{place}-{name}", "wb") as file:
+                file.write(data)
         self.wrong.append(f"{place}: {' '.join(words)}: {what}")
 
     def numbers(self):
@@ -262,13 +266,8 @@ class Cases(Calls):
             self.tell(words, f"took {seconds:.2f} seconds, {most} bytes with all before")
         return status, line
 
-    def tell(self, words, what):
-        os.makedirs(KEPT, exist_ok=True)
-        place = f"{KEPT}/{os.getpid()}-{len(self.wrong)}"
-        for name, data in self.files.items():
-            with open(f"{place}-{name}", "wb") as file:
-                file.write(data)
-        self.wrong.append(f"{place}: {' '.join(words)}: {what}")
+    def kept(self):
+        return self.files
 
 
 # ---- what is made of recordings
@@ -335,11 +334,15 @@ def put(data, at, size, draw):
     return data[:at] + other_number(draw, old, size).to_bytes(size, "little") + data[at + size :]
 
 
+def with_flip(data, bit):
+    place = bit // 8
+    return data[:place] + bytes((data[place] ^ 1 << bit % 8,)) + data[place + 1 :]
+
+
 def flipped(draw, data):
-    changed = bytearray(data)
     for _ in range(draw.choice((1, 1, 1, 2, 8))):
-        changed[draw.randrange(len(data))] ^= 1 << draw.randrange(8)
-    return bytes(changed)
+        data = with_flip(data, 8 * draw.randrange(len(data)) + draw.randrange(8))
+    return data
 
 
 def patched(draw, data):
@@ -382,21 +385,20 @@ def changed_records(draw, records, others):
     return found
 
 
+def spoiled(draw, data, way, flip):
+    """Returns a file with flipped bits, with other bytes, or a prefix of it."""
+    return flip(draw, data) if way == 0 else patched(draw, data) if way == 1 else data[: draw.randrange(len(data))]
+
+
 def mutated_log(draw, pool):
     """Returns a log that was made of recordings, and the program file of one of them."""
     (data, elf), (other, _) = draw.choice(pool[1]), draw.choice(pool[1])
     head, records = forge.parts(data)
     way = draw.randrange(10)
-    if way == 0:
-        return flipped(draw, data), elf
-    if way == 1:
-        return patched(draw, data), elf
-    if way == 2:
-        return data[: draw.randrange(len(data))], elf
-    if way == 3:
-        return forge.sealed(flipped(draw, data[:-32])), elf
-    if way == 4:
-        return forge.sealed(patched(draw, data[:-32])), elf
+    if way < 3:
+        return spoiled(draw, data, way, flipped), elf
+    if way < 5:
+        return forge.sealed((flipped, patched)[way - 3](draw, data[:-32])), elf
     if way == 5:
         at, size = draw.choice(HEAD_FIELDS)
         return forge.sealed(put(data[:-32], at, size, draw)), elf
@@ -493,19 +495,15 @@ def rebuilt(draw, signed, records):
 def damaged(draw, data):
     """Returns a file with some bits flipped at a place that is more often near its end."""
     place = draw.choice((draw.randrange(len(data)), len(data) - 1 - draw.randrange(min(len(data), 100))))
-    return data[:place] + bytes((data[place] ^ 1 << draw.randrange(8),)) + data[place + 1 :]
+    return with_flip(data, 8 * place + draw.randrange(8))
 
 
 def mutated_log2(draw, pool):
     """Returns a log of version 2 that was made of recordings, and the program file of one of them."""
     (data, elf), (other, _) = draw.choice(pool[2]), draw.choice(pool[2])
     way = draw.randrange(10)
-    if way == 0:
-        return damaged(draw, data), elf
-    if way == 1:
-        return patched(draw, data), elf
-    if way == 2:
-        return data[: draw.randrange(len(data))], elf
+    if way < 3:
+        return spoiled(draw, data, way, damaged), elf
     signed, blocks = forge.parts2(data)
     if way == 3:
         at, size = draw.choice(HEAD2_FIELDS)
@@ -524,10 +522,8 @@ def mutated_elf(draw, pool):
     """Returns a program file that was made of an example, and the log of one with its digest."""
     data, elf = draw.choice(pool[1])
     way = draw.randrange(4)
-    if way == 0:
-        elf = flipped(draw, elf)
-    elif way == 1:
-        elf = patched(draw, elf)
+    if way < 2:
+        elf = (flipped, patched)[way](draw, elf)
     else:
         size, count = draw.choice(((2, 18), (4, 26)))
         elf = put(elf, 16 + draw.randrange(count) * size, size, draw)
@@ -641,34 +637,27 @@ def give_small(calls):
     for length in range(len(data)):
         give_log(draw, calls, data[:length], elf)
     for bit in range(8 * len(data)):
-        changed = bytearray(data)
-        changed[bit // 8] ^= 1 << bit % 8
-        give_log(draw, calls, bytes(changed), elf)
+        changed = with_flip(data, bit)
+        give_log(draw, calls, changed, elf)
         if bit < 8 * (len(data) - 32):
-            give_log(draw, calls, forge.sealed(bytes(changed[:-32])), elf)
-    give_small2(calls, draw, data, elf)
-    for bit in range(8 * len(elf)):
-        changed = bytearray(elf)
-        changed[bit // 8] ^= 1 << bit % 8
-        give_elf(draw, calls, data[:48] + forge.digest(changed) + data[80:-32], bytes(changed))
-    for length in range(len(elf)):
-        give_elf(draw, calls, data[:48] + forge.digest(elf[:length]) + data[80:-32], elf[:length])
+            give_log(draw, calls, forge.sealed(changed[:-32]), elf)
+    give_small2(calls, draw, version2(data), elf)
+    for changed in [*(with_flip(elf, bit) for bit in range(8 * len(elf))), *(elf[:length] for length in range(len(elf)))]:
+        give_elf(draw, calls, data[:48] + forge.digest(changed) + data[80:-32], changed)
 
 
-def give_small2(calls, draw, first, elf):
+def give_small2(calls, draw, data, elf):
     """Gives all prefixes and flipped bits of a small log in version 2, as they are and sealed again."""
-    data = version2(first)
     signed, blocks = forge.parts2(data)
     for length in range(len(data)):
         give_log(draw, calls, data[:length], elf)
     for bit in range(8 * len(data)):
-        changed = bytearray(data)
-        changed[bit // 8] ^= 1 << bit % 8
-        give_log(draw, calls, bytes(changed), elf)
+        changed = with_flip(data, bit)
+        give_log(draw, calls, changed, elf)
         if bit < 8 * len(signed):
-            give_log(draw, calls, sealed2(bytes(changed[:104]), blocks), elf)
+            give_log(draw, calls, sealed2(changed[:104], blocks), elf)
         elif 8 * 136 <= bit < 8 * (len(data) - 32):
-            body = bytes(changed[136:-32])
+            body = changed[136:-32]
             give_log(draw, calls, data[:136] + body + forge.digest(data[104:136] + body), elf)
 
 

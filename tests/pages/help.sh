@@ -3,12 +3,8 @@
 # commands, options, ranges and defaults that are told there. It takes a second.
 #
 # tests/pages/help.sh PROGRAM
-set -u
-top=$(cd "$(dirname "$0")/../.." && pwd)
+. "$(dirname "$0")/../asserts.sh"
 program=$(readlink -f -- "${1:?the words are PROGRAM}")
-work=$(mktemp -d)
-trap 'rm -rf "$work"' EXIT
-. "$top/tests/asserts.sh"
 made=(tools/help/{page.txt,each.txt,words.sh} tools/files.txt packaging/zelkuma.1 packaging/zelkuma.bash docs/COMMANDS.md)
 
 # A tree with the help's source, the document whose tables are made, and the files that are listed.

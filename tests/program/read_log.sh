@@ -1,13 +1,11 @@
 #!/usr/bin/env bash
 # Compares what examples/read_log.py says of logs with what the program's `check` and `list` say:
 # tests/program/read_log.sh PROGRAM LOG.. , or without logs of recordings that it makes of the examples.
-set -u
-top=$(cd "$(dirname "$0")/../.." && pwd)
-type -P python3 >/dev/null || { echo "skipped: python3 isn't here" && exit 77; }
+. "$(dirname "$0")/../asserts.sh"
+type -P python3 >/dev/null || end_skipped "python3 isn't here"
 program=$(readlink -f "$1")
 shift
-work=$(mktemp -d)
-trap 'rm -rf "$work"' EXIT
+
 # Records a program in both formats; those that leave a log are looked at.
 records() { # NAME SEED ELF
     local format log
@@ -35,19 +33,17 @@ if [ $# = 0 ]; then
             records $name $seed "$top/examples/$name.elf"
         done
     done
+    what="a jump that is misaligned"
     misaligned
     records misaligned 1 "$work/misaligned.elf"
-    "$program" list "$work/misaligned.1.1" | grep -q "TargetMisaligned" || { echo "no jump was misaligned" && exit 1; }
+    "$program" list "$work/misaligned.1.1" | grep -q "TargetMisaligned" || fails "no jump was misaligned"
 fi
-failures=0
 for log in "${logs[@]}"; do
+    what=${log##*/}
     "$program" check "$log" >"$work/program" 2>/dev/null && "$program" list "$log" >>"$work/program"
     python3 "$top/examples/read_log.py" "$log" >"$work/reader" 2>/dev/null
-    if cmp -s "$work/program" "$work/reader"; then
-        echo "same: $(basename "$log")"
-    else
-        echo "differs: $(basename "$log")" && failures=$((failures + 1))
-    fi
+    equals "$work/program" "$work/reader"
 done
-echo "${#logs[@]} logs, $failures differ"
-[ ${#logs[@]} -gt 0 ] && [ $failures = 0 ]
+echo "${#logs[@]} logs"
+[ ${#logs[@]} -gt 0 ] || fails "there are no logs"
+end

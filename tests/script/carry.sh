@@ -3,12 +3,8 @@
 # moved, linked to and installed by dpkg. The companions here only seem to be some. It takes some seconds.
 #
 # tests/script/carry.sh PROGRAM
-set -u
-top=$(cd "$(dirname "$0")/../.." && pwd)
+. "$(dirname "$0")/../asserts.sh"
 program=$(readlink -f -- "${1:?the words are PROGRAM}")
-work=$(mktemp -d)
-trap 'rm -rf "$work"' EXIT
-. "$top/tests/asserts.sh"
 elf=$top/examples/wild_store.elf
 python=$(type -P python3) || skips "calls of companions: python3 isn't here"
 

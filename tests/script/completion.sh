@@ -1,11 +1,7 @@
 #!/usr/bin/env bash
 # Tries the completion of zelkuma's words in a bash at a terminal, which script(1) makes: TAB is pressed, and
 # what the shell then runs is compared. It takes a second.
-set -u
-top=$(cd "$(dirname "$0")/../.." && pwd)
-work=$(mktemp -d)
-trap 'rm -rf "$work"' EXIT
-. "$top/tests/asserts.sh"
+. "$(dirname "$0")/../asserts.sh"
 type -P script >/dev/null || end_skipped "script isn't here"
 : >"$work/typed"
 : >"$work/wanted"

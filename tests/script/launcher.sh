@@ -12,11 +12,6 @@ cp "$top/examples/counter.elf" ELF
 
 err_is_terminal
 
-# Of an answer each line has to be there: the program's, then that of the script.
-says() { # LINE..
-    [ "$(cat "$work/err")" = "$(printf '%s\n' "$@")" ] || fails "err isn't: $*"
-}
-
 # A recording is refused before it begins.
 refuses() { # STATUS TEXT WORD..
     local wanted=$1 text=$2 before

@@ -11,8 +11,7 @@ everything() { (cd "$tree" && find . -printf '%p %m %T@ %C@\n' && find . -type f
 
 what="nothing is shipped"
 runs 1 "$zelkuma" list LOG
-[ "$(cat "$work/err")" = "zelkuma: there is no program '$shipped' that can be run; 'zelkuma build' makes one from the sources" ] ||
-    fails "err isn't one clear line"
+says "zelkuma: there is no program '$shipped' that can be run; 'zelkuma build' makes one from the sources"
 runs 0 "$zelkuma" build
 runs 1 "$tree/tests/release.sh"
 has err "there is no shipped program in release/; tools/release.sh renews release/"
@@ -107,8 +106,7 @@ done
 
 what="a shipped program that can't run here"
 runs 1 env HOSTTYPE=aarch64 "$zelkuma" list LOG
-[ "$(cat "$work/err")" = "zelkuma: the program is for Linux on x86-64, as 'zelkuma build' is, and this is $OSTYPE on aarch64" ] ||
-    fails "err isn't one clear line"
+says "zelkuma: the program is for Linux on x86-64, as 'zelkuma build' is, and this is $OSTYPE on aarch64"
 ZELKUMA_PROGRAM=other HOSTTYPE=aarch64 runs 6 "$zelkuma" list LOG
 chmod -x "$shipped"
 runs 1 "$zelkuma" list LOG

@@ -1,12 +1,8 @@
 # A small tree with the script zelkuma, and a toolchain that only seems to prove and build, for the tests of the script.
 # Read by these; each sets `what` to what it tries next.
-set -u
-top=$(cd "$(dirname "$0")/../.." && pwd)
-work=$(mktemp -d)
-trap 'rm -rf "$work"' EXIT
+. "$(dirname "$0")/../asserts.sh"
 tree="$work/a tree" # with a space in its name
 calls=$work/calls
-. "$top/tests/asserts.sh"
 export RT_CALLS=$calls TMPDIR=$work/temporary
 
 # What the script may need of the system, and nothing else: so no other rt is found.

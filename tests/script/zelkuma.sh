@@ -12,8 +12,7 @@ done
 for words in a --cpu "--cpu x86-64-v4" "--cpu=x86-64-v3" "--cpu x86-64-v3 a" "x86-64-v3 --cpu"; do
     # shellcheck disable=SC2086
     runs 2 "$zelkuma" build $words
-    [ "$(cat "$work/err")" = "zelkuma: build takes no word, or --cpu NAME, where NAME is one of: x86-64 x86-64-v2 x86-64-v3" ] ||
-        fails "err isn't one clear line"
+    says "zelkuma: build takes no word, or --cpu NAME, where NAME is one of: x86-64 x86-64-v2 x86-64-v3"
 done
 runs 2 "$zelkuma" build --cpu ''
 runs 2 "$zelkuma" build --cpu 'x86-64 x86-64-v2'

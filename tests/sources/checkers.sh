@@ -1,17 +1,13 @@
 #!/usr/bin/env bash
 # Tries what shellcheck says of the scripts, and mypy and flake8 of what is in Python, and that tests begin free of what
 # the caller has set: tests/sources/checkers.sh
-set -u
-top=$(cd "$(dirname "$0")/../.." && pwd)
-work=$(mktemp -d)
-trap 'rm -rf "$work"' EXIT
-. "$top/tests/asserts.sh"
+. "$(dirname "$0")/../asserts.sh"
 cd "$top" || exit 1
 
 what="a fresh start"
-says='umask; echo "<$*>$LANG${!LC_@}${TMPDIR-}"; [[ -d $HOME && $PATH == *:/usr/sbin:* ]] && grep SigIgn /proc/self/status'
+told='umask; echo "<$*>$LANG${!LC_@}${TMPDIR-}"; [[ -d $HOME && $PATH == *:/usr/sbin:* ]] && grep SigIgn /proc/self/status'
 runs 0 env LC_ALL=C TMPDIR=/nowhere HOME=/nowhere PATH=/usr/bin:/bin bash -c 'trap "" HUP INT QUIT && umask 077 && exec bash "$@"' \
-    bash tests/fresh_start.sh bash -c "$says" bash "a b" ''
+    bash tests/fresh_start.sh bash -c "$told" bash "a b" ''
 equals <(printf '%s\n' 0022 "<a b >C.UTF-8" $'SigIgn:\t0000000000000000') "$work/out"
 
 what="the scripts by shellcheck"

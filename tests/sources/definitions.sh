@@ -4,12 +4,8 @@
 # a second, and no program.
 #
 # tests/sources/definitions.sh
-set -u
-top=$(cd "$(dirname "$0")/../.." && pwd)
+. "$(dirname "$0")/../asserts.sh"
 export LC_ALL=C.UTF-8
-work=$(mktemp -d)
-trap 'rm -rf "$work"' EXIT
-. "$top/tests/asserts.sh"
 
 type -P python3 >/dev/null || end_skipped "python3 isn't here"
 

@@ -1,43 +1,15 @@
 -- The places that sessions of the debugger reach, and which of their lines are `quit`.
-use Rattle.bugnet.proofs.Common.{◌≡◌, ◌≢◌, ℕ, zero, suc, ◌+◌, ◌-◌, ◌==◌, nat_lt, Bool, true, false, not, codes, refl, sym, ap, ◌∙◌, subst, arith, List, [], ◌∷◌, ◌++◌, length, take, drop, slice_get, map, Option, Some, None, Result, Ok, Err, filter, map-append, take-append-drop, Program, Record, ReplayError, JointError, Readiness, Next, Joining, Walk, begun, longer, readiness, readiness_of, choice, choice_from, next_step, move, steps_left, Lane, Item, lane_step, IsBegun, ready_step, walk_on, Recording, IsLogOf, OfBeginnings, begin, GoesOn, IsNotRefused, ReachedSayTheRun, entry_of, harts_of, Trace, at_start, with_entry, trace_step, cut, Stop, Moves, Session, hart_text, address_text, word_text, registers_text, places_from, break_limit, is_set, stop_unless, step_by, step_up_to, go_past, go_by, go_for, go_on, back_by, stop_below, back_to, back_to_stop, says, moved, unknown, answer, command_of, goes_on_by, answers, DebugCommand, Ending, session_after, SessionsShowTheRun, NoQuit}
+use Rattle.bugnet.proofs.Common.{◌≡◌, ◌≢◌, ℕ, zero, suc, ◌+◌, ◌-◌, ◌==◌, nat_lt, Bool, true, false, not, codes, refl, sym, ap, ◌∙◌, subst, List, [], ◌∷◌, ◌++◌, length, take, drop, slice_get, map, Option, Some, None, Result, Ok, Err, filter, map-append, take-append-drop, Program, Record, ReplayError, JointError, Readiness, Next, Joining, Walk, begun, longer, readiness, choice, next_step, move, steps_left, Lane, Item, lane_step, IsBegun, ready_step, walk_on, Recording, IsLogOf, OfBeginnings, begin, GoesOn, IsNotRefused, ReachedSayTheRun, entry_of, harts_of, Trace, at_start, with_entry, trace_step, cut, Stop, Moves, Session, hart_text, address_text, word_text, registers_text, places_from, break_limit, is_set, stop_unless, step_by, step_up_to, go_past, go_by, go_for, go_on, back_by, stop_below, back_to, back_to_stop, says, moved, unknown, answer, command_of, goes_on_by, answers, DebugCommand, Ending, session_after, SessionsShowTheRun, NoQuit}
 use Rattle.joint_replay.specs.declared.kinds.Readiness.TheVariants as is
 use Rattle.joint_replay.specs.declared.kinds.Next.TheVariants as next
 use Rattle.joint_replay.specs.Calls.{bare, state_at, IsReached}
 use Rattle.joint_replay.specs.Memory.{word_in}
 use Rattle.joint_replay.specs.Lanes as lanes
 use Rattle.back_step.specs.declared.entry.Entry.{Entry}
+use Rattle.step_debugger.proofs.Stepping.{lowest_is_ready}
 use Rattle.step_debugger.specs.Answers.{Answer, begin as session_begin}
 use Rattle.step_debugger.specs.declared.command.DebugCommand.TheVariants as to
 use Rattle.step_debugger.specs.declared.session.Ending.TheVariants as ending
-
--- ---- the lowest ready hart is ready
-
-record Found (records : List Record) (lanes : List Lane) (k : ℕ) (ls : List Lane) (h : ℕ) : Type 0 where
-  pub place : ℕ
-  pub lane : Lane
-  pub at : slice_get ls place ≡ Some lane
-  pub number : k + place ≡ h
-  pub ready : readiness_of records lanes h lane ≡ is.Ready
-
-found : (records : List Record) (lanes : List Lane) (k : ℕ) (ls : List Lane) (w : Bool) (h : ℕ) → choice_from records lanes k ls w ≡ next.Hart h → Found records lanes k ls h
-found records lanes k [] true h e = absurd cc
-found records lanes k [] false h e = absurd cc
-found records lanes k (l ∷ ls) w h e = by (readiness_of records lanes k l) refl (λ v f. found records lanes (k + 1) ls v h f) e
-  where
-    further : Found records lanes (k + 1) ls h → Found records lanes k (l ∷ ls) h
-    further f = record { place = suc f.place; lane = f.lane; at = f.at; number = omega (arith, f.number); ready = f.ready }
-
-    by : (r : Readiness) → readiness_of records lanes k l ≡ r → ((v : Bool) → choice_from records lanes (k + 1) ls v ≡ next.Hart h → Found records lanes (k + 1) ls h)
-        → elim r as (λ y. Next) [ is.Ready ↦ next.Hart k | is.Waits s ic ↦ choice_from records lanes (k + 1) ls true | is.Done ↦ choice_from records lanes (k + 1) ls w ] ≡ next.Hart h → Found records lanes k (l ∷ ls) h
-    by is.Ready f rest e = let same : k ≡ h = cc in record { place = 0; lane = l; at = refl; number = omega (arith, same); ready = subst (λ n. readiness_of records lanes n l ≡ is.Ready) same f }
-    by (is.Waits s ic) f rest e = further (rest true e)
-    by is.Done f rest e = further (rest w e)
-
-lowest-is-ready : (j : Joining) (h : ℕ) → choice j ≡ next.Hart h → readiness j h ≡ is.Ready
-lowest-is-ready j h e =
-    let f = found j.records j.lanes 0 j.lanes false h e in
-    let same : f.place ≡ h = omega (arith, f.number) in
-    ap (λ (o : Option Lane). elim o as (λ y. Readiness) [ None ↦ is.Done | Some lane ↦ readiness_of j.records j.lanes h lane ]) (ap (slice_get j.lanes) (sym same) ∙ f.at) ∙ f.ready
 
 -- ---- where moves lead
 
@@ -73,7 +45,7 @@ past-by P g j h None go p e rest =
 go-by : (P : Trace → Type 0) → Lasts P → (first : Bool) (breaks : List ℕ) (j : Trace) (n : Next) (go : Trace → Moves) → P j → choice j.now ≡ n → ((i : Trace) → P i → MovesOn P (go i)) → MovesOn P (go_by first breaks j n go)
 go-by P g first breaks j next.AllDone go p e rest = (p, refl)
 go-by P g first breaks j next.NoneReady go p e rest = absurd (g.some j p e)
-go-by P g first breaks j (next.Hart h) go p e rest = past-by P g j h (stop_unless first breaks j.now h) go p (lowest-is-ready j.now h e) rest
+go-by P g first breaks j (next.Hart h) go p e rest = past-by P g j h (stop_unless first breaks j.now h) go p (lowest_is_ready j.now h e) rest
 
 goes-on : (P : Trace → Type 0) → Lasts P → (n : ℕ) (first : Bool) (breaks : List ℕ) (j : Trace) → P j → MovesOn P (go_for n first breaks j)
 goes-on P g zero first breaks j p = (p, refl)

@@ -27,7 +27,7 @@ struct Lookup {
 }
 
 /// A program, and what was looked up last at the addresses of its code: of those that have the same
-/// place in a table of 1,024, the latest. Contracts see the program.
+/// slot in a table of 1,024, the latest. Contracts see the program.
 ///
 /// The table takes 32 KiB, once there is a look-up to keep. When out of memory, nothing is kept.
 #[derive(Drop)]
@@ -47,7 +47,7 @@ impl<'a> Model for Code<'a> {
 }
 
 impl Lookup {
-    // That there is no word at an address that can have none.
+    // A slot in which nothing was looked up: no instruction has its pc, which is odd.
     fn none() -> Lookup
         ensures { (i : Program) → IsLookup i result }
     {
@@ -67,7 +67,7 @@ fn instruction(word: Option<u32>) -> Option<Instr>
     decode(word?)
 }
 
-// The place of an address in the table.
+// The slot of an address in the table.
 fn place_of(pc: Addr) -> usize
     ensures { result ≡ pc / 4 % 1024 }
 {
@@ -86,7 +86,7 @@ fn make_table(kept: &mut Vec<Lookup>)
     }
 }
 
-// Keeps a look-up at a place of the table, if the table is there.
+// Keeps a look-up in a slot of the table, if the table is there.
 fn keep(kept: &mut Vec<Lookup>, place: usize, lookup: Lookup)
     ensures { (i : Program) → IsLookup i lookup → AreLookups i kept.old.items → AreLookups i kept.new.items }
 {

@@ -32,7 +32,7 @@ abbrev pub left_then : Option HartState → Replayed → Replayed
 left_then None left = left
 left_then (Some before) left = over (Refused OutOfMemory)
 
--- an interval, by the state at which memory ran out for it, if it did
+-- an interval for which memory ran out at a state, if it did
 abbrev pub halted : Option HartState → Running → Running
 halted before r = record {
   program = r.program;

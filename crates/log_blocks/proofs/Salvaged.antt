@@ -79,10 +79,6 @@ unlisted bytes digest body n rest size sizes b w none all =
       wrong = inr (inr (nothing_ahead body rest none, sym b.n_is ∙ all ∙ w.laid.size_is, tt));
     })
 
--- what the call that continues with the blocks says
-abbrev pub Answers : (body : List ℕ) (rest size : ℕ) (sizes : List ℕ) → Head → ℕ → Result Content Damage → Type 0
-Answers body rest size sizes head dropped r = (pieces : List Piece) → AreLaid body rest size sizes pieces → MatchResult r (HasBlocks head dropped (136 + rest) pieces) (IsRecordsFault head dropped (136 + rest) pieces)
-
 has_blocks_is : (h k : Head) (d e a b : ℕ) (pieces : List Piece) (c : Content) → h ≡ k → d ≡ e → a ≡ b → HasBlocks h d a pieces c → HasBlocks k e b pieces c
 has_blocks_is h k d e a b pieces c hk de ab x =
     subst (λ (t : ℕ). HasBlocks k e t pieces c) ab (subst (λ (t : ℕ). HasBlocks k t a pieces c) de (subst (λ (t : Head). HasBlocks t d a pieces c) hk x))
@@ -110,11 +106,6 @@ refused_is bytes digest body n rest size sizes head dropped e b w none all hi di
   walk = walk_is bytes digest body (take rest body) n w.pieces b w.walk;
   wrong = inr (inr (nothing_ahead body rest none, sym b.n_is ∙ all ∙ w.laid.size_is, fault_is head (head_in bytes) dropped (dropped_in bytes) (136 + rest) 136 w.pieces e hi di (omega (arith, none)) fault));
 })
-
-pub read_ok : (bytes digest body : List ℕ) (n rest size : ℕ) (sizes : List ℕ) (head : Head) (dropped : ℕ) (r : Result Content Damage) → Behind bytes digest body n → HasWalked digest n body rest size sizes → rest ≡ 0 → n ≡ size → head ≡ head_in bytes
-    → dropped ≡ dropped_in bytes → Answers body rest size sizes head dropped r → MatchResult r (IsRead bytes) (IsSecondRefusal bytes)
-read_ok bytes digest body n rest size sizes head dropped (Ok c) b w none all hi di says = read_is bytes digest body n rest size sizes head dropped c b w none all hi di (says w.pieces w.laid)
-read_ok bytes digest body n rest size sizes head dropped (Err e) b w none all hi di says = refused_is bytes digest body n rest size sizes head dropped e b w none all hi di (says w.pieces w.laid)
 
 -- the walk over the bytes after a head is one over those of the file
 pub walked_behind : (bytes digest body : List ℕ) (n rest size : ℕ) (sizes : List ℕ) → Behind bytes digest body n → HasWalked digest n body rest size sizes → HasWalked (head_digest bytes) (size_in bytes) (blocks_in bytes) rest size sizes
@@ -207,12 +198,6 @@ salvage_refused bytes digest body n rest size sizes head given dropped e b w kep
   wrong = fault_is head (head_in bytes) dropped (dropped_before (dropped_in bytes) w.pieces) (136 + rest) (136 + length (take rest body)) w.pieces e hi (di w.pieces w.laid ∙ ap (λ (k : ℕ). dropped_before k w.pieces) gi)
       (omega (arith, length-take-le rest body w.within)) fault;
 })
-
-pub salvaged : (bytes digest body : List ℕ) (n rest size : ℕ) (sizes : List ℕ) (head : Head) (given dropped : ℕ) (r : Result Content Damage) → Behind bytes digest body n → HasWalked digest n body rest size sizes
-    → (not (n == 0) && (length sizes == 0)) ≡ false → head ≡ head_in bytes → given ≡ dropped_in bytes → ((pieces : List Piece) → AreLaid body rest size sizes pieces → dropped ≡ dropped_before given pieces)
-    → Answers body rest size sizes head dropped r → MatchResult r (IsSalvaged bytes) (λ e. IsSalvageRefusal bytes (told e))
-salvaged bytes digest body n rest size sizes head given dropped (Ok c) b w kept hi gi di says = salvaged_is bytes digest body n rest size sizes head given dropped c b w kept hi gi di (says w.pieces w.laid)
-salvaged bytes digest body n rest size sizes head given dropped (Err e) b w kept hi gi di says = salvage_refused bytes digest body n rest size sizes head given dropped e b w kept hi gi di (says w.pieces w.laid)
 
 -- ---- by cases on what a call answered
 

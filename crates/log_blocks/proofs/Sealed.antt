@@ -1,6 +1,6 @@
 -- The pieces of a file that is read are the sealed blocks of its log.
-use Rattle.std.proofs.Common.{◌≡◌, ℕ, ◌+◌, ◌%◌, ◌^◌, ◌<◌, ◌≤◌, Bool, true, false, nat_le, List, [], ◌∷◌, ◌++◌, length, length-append, append_assoc, append-nil, Option, Some, None, Result, Ok, Err, refl, sym, ap, ap₂, subst, ◌∙◌, arith}
-use Rattle.std.specs.Prelude.{◌==◌, ◌&&◌, if◌then◌else◌, IfOk}
+use Rattle.std.proofs.Common.{◌≡◌, ℕ, ◌+◌, ◌%◌, ◌^◌, ◌<◌, ◌≤◌, Bool, true, false, nat_le, List, [], ◌∷◌, ◌++◌, length, length-append, append_assoc, append-nil, Option, Some, None, refl, sym, ap, ap₂, subst, ◌∙◌, arith}
+use Rattle.std.specs.Prelude.{◌==◌, ◌&&◌, if◌then◌else◌}
 use Rattle.std.specs.List.{flat_map, AllByRecursion}
 use Rattle.std.specs.Str.{bytes_eq}
 use Rattle.std.proofs.lemmas.Bool.{eqb-true}
@@ -17,7 +17,6 @@ use Rattle.log_record.specs.Spelling.{bytes_of, total, tag_of, size_of, FitsFiel
 use Rattle.log_order.specs.Content.{Content}
 use Rattle.log_file.specs.Layout.{head_bytes2, file_bytes2}
 use Rattle.log_file.specs.Blocks.{Block, block_size, cut_from, last_block, total_of, numbered, blocks_of, all_sealed}
-use Rattle.log_blocks.specs.declared.damage.Damage.{Damage}
 use Rattle.log_blocks.specs.Fields.{head_in, dropped_in, size_in, head_digest, blocks_in}
 use Rattle.log_blocks.specs.Pieces.{Piece, piece, piece_bytes, pieces_bytes, gathered}
 use Rattle.log_blocks.specs.Cuts.{is_block, piece_end, first_wrong}
@@ -162,7 +161,3 @@ read_is_spelled written long tell bytes are c r =
     file_parts written bytes are p
     ∙ assemble (head_bytes2 (head_in bytes) (dropped_in bytes) (size_in bytes)) (head_bytes2 c.head c.dropped (total c.records)) digest (blocks_in bytes) (blocks_of c.dropped c.records) head
     (ap sha256 (head_written written bytes are p ∙ head)) (pieces ∙ cut)
-
-pub ok_is_spelled : AreWritten → HaveTheirWidth → TagsTell → (bytes : List ℕ) → AreBytes bytes → (r : Result Content Damage) → IfOk r (IsRead bytes) → IfOk r (λ c. bytes ≡ file_bytes2 c)
-ok_is_spelled written long tell bytes are (Ok c) r = read_is_spelled written long tell bytes are c r
-ok_is_spelled written long tell bytes are (Err e) r = tt

@@ -20,19 +20,6 @@ use Rattle.log_blocks.specs.Faults.{is_second, head_fault}
 use Rattle.log_blocks.specs.Pieces.{Piece, gathered, IsWalk}
 use Rattle.log_blocks.specs.Cuts.{first_wrong}
 
--- no record begins somewhere in bytes that should be those of records, or memory ran out
-abbrev pub IsSplitError : ℕ → List ℕ → Damage → Type 0
-IsSplitError format bytes (BadBlock at) = ⊥
-IsSplitError format bytes (File (Short length)) = ⊥
-IsSplitError format bytes (File BadMagic) = ⊥
-IsSplitError format bytes (File (BadVersion found)) = ⊥
-IsSplitError format bytes (File (BadHead field value)) = ⊥
-IsSplitError format bytes (File (LengthDiffers said found)) = ⊥
-IsSplitError format bytes (File (DigestDiffers kept found)) = ⊥
-IsSplitError format bytes (File (BadRecord place)) = NoRecord format bytes place
-IsSplitError format bytes (File (BadOrder place rule)) = ⊥
-IsSplitError format bytes (File OutOfMemory) = Unit {0}
-
 -- the blocks hold records, and the first place at which they are cut otherwise, or counted otherwise, is the end of this block
 pub record CutOtherwise (head : Head) (dropped start : ℕ) (pieces : List Piece) (place : ℕ) : Type 0 where
   pub records : List Record
@@ -68,19 +55,6 @@ pub record HasBlocks (head : Head) (dropped start : ℕ) (pieces : List Piece) (
   pub dropped_is : c.dropped ≡ dropped
   pub parts : gathered pieces ≡ flat_map bytes_of c.records
   pub blocks : first_wrong start (blocks_of dropped c.records) pieces ≡ None
-
--- records of this head, before which so many were given up, break the order
-abbrev pub IsOrderFault : Head → ℕ → List Record → Damage → Type 0
-IsOrderFault head dropped records (BadBlock at) = ⊥
-IsOrderFault head dropped records (File (Short length)) = ⊥
-IsOrderFault head dropped records (File BadMagic) = ⊥
-IsOrderFault head dropped records (File (BadVersion found)) = ⊥
-IsOrderFault head dropped records (File (BadHead field value)) = ⊥
-IsOrderFault head dropped records (File (LengthDiffers said found)) = ⊥
-IsOrderFault head dropped records (File (DigestDiffers kept found)) = ⊥
-IsOrderFault head dropped records (File (BadRecord place)) = ⊥
-IsOrderFault head dropped records (File (BadOrder place rule)) = broken_by head.settings dropped records ≡ Some (order_break place rule)
-IsOrderFault head dropped records (File OutOfMemory) = ⊥
 
 -- the log is what a file of version 2 says whose head has no fault: its blocks are all good, have as many bytes as the head says, and are the log's
 pub record IsRead (bytes : List ℕ) (c : Content) : Type 0 where

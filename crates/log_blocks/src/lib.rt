@@ -15,7 +15,7 @@ pub mod reading;
 pub mod readings;
 pub mod salvaging;
 pub mod sealing;
-pub mod splitting;
+pub mod testing;
 pub mod walking;
 pub mod writing;
 

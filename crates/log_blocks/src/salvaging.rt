@@ -1,24 +1,23 @@
 //! What is salvaged of a damaged file of version 2: the good blocks at its end, a suffix of the log.
-ghost use Rattle.std.specs.Prelude.{◌≡◌, ◌≤◌, ◌+◌, ◌==◌, ◌&&◌, not, false, List, None, length, MatchResult, IfOk, IfErr};
+ghost use Rattle.std.specs.Prelude.{◌≡◌, ◌≤◌, ◌==◌, ◌&&◌, not, false, List, None, length, IfOk, IfErr};
 ghost use Rattle.log_blocks.specs.Fields.{settings_in, size_in, head_digest, blocks_in};
 ghost use Rattle.log_blocks.specs.Faults.{head_fault};
 ghost use Rattle.log_blocks.specs.Pieces.{Piece};
 ghost use Rattle.log_blocks.specs.Walks.{AreKept, HasWalked};
-ghost use Rattle.log_blocks.specs.Counts.{RenewsBlocks, RenewsSalvaged};
-ghost use Rattle.log_blocks.specs.File.{dropped_before, told, IsRecordsFault, IsSalvaged, IsSalvageRefusal};
+ghost use Rattle.log_blocks.specs.Counts.{TestsSalvaged, RenewsSalvaged};
+ghost use Rattle.log_blocks.specs.File.{dropped_before, told, IsSalvaged, IsSalvageRefusal};
 
-use crate::counting::counts_along;
 use crate::damage::{Damage, SalvageError};
-use crate::gathering::gather;
 use crate::head::{HEAD_SIZE, checked_settings, head_digest, program_in};
-use crate::reading::content_of;
 use crate::sealing::{SEAL_SIZE, front};
+use crate::testing::{Tested, test_blocks};
 use crate::walking::{Walk, walk_back};
 use crate::writing::write_file2;
 use bn_base::Settings;
 use le_numbers::{read_u32, read_u64};
 use log_file::head::tail;
 use log_file::offsets::{DROPPED2, N2};
+use log_file::splitting::list;
 use log_file::{FileError, LogCounts};
 use log_order::KeptLog;
 use log_record::Head;
@@ -84,12 +83,12 @@ fn kept_walk(alloc: Global, bytes: &[u8]) -> Result<Walk, SalvageError>
     Ok(walk)
 }
 
-// What is salvaged of a file whose head has no fault and these settings.
-fn salvage_in(alloc: Global, bytes: &[u8], settings: Settings) -> Result<KeptLog, SalvageError>
+// What the last good blocks have of a file whose head has no fault and these settings.
+fn test_in(alloc: Global, bytes: &[u8], settings: Settings) -> Result<Tested, SalvageError>
     requires long { 136 ≤ length bytes.now }
     requires settings { settings ≡ settings_in bytes.now }
     requires fault { head_fault bytes.now ≡ None }
-    ensures salvaged { IfOk result (IsSalvaged bytes.now) }
+    ensures tested { IfOk result (TestsSalvaged bytes.now) }
     ensures refused { IfErr result (IsSalvageRefusal bytes.now) }
 {
     let _range = settings.raw();
@@ -100,57 +99,20 @@ fn salvage_in(alloc: Global, bytes: &[u8], settings: Settings) -> Result<KeptLog
     };
     let blocks = tail(bytes, HEAD_SIZE);
     let dropped = dropped_before(blocks, &walk, read_u64(bytes, DROPPED2));
-    match content_of(alloc, head, dropped, blocks, &walk) {
-        Ok(log) => Ok(log),
+    match test_blocks(alloc, head, dropped, blocks, &walk) {
+        Ok(tested) => Ok(tested),
         Err(damage) => Err(told(damage)),
     }
 }
 
-// Makes the file of version 2 of the blocks that a walk back kept, with the counts of its records. `bytes` come after
-// the head.
-fn new_of(
-    alloc: Global,
-    head: Head,
-    dropped: u64,
-    bytes: &[u8],
-    walk: &Walk,
-) -> Result<NewFile, Damage>
-    requires laid { (pieces : List Piece) × AreKept bytes.now walk.now pieces }
-    requires bound { walk.now.size ≤ head.settings.log_size }
-    ensures { (pieces : List Piece) → AreKept bytes.now walk.now pieces → MatchResult result (RenewsBlocks head dropped (136 + walk.now.rest) pieces) (IsRecordsFault head dropped (136 + walk.now.rest) pieces) }
-{
-    let _digest = head.digest;
-    let records = gather(alloc, bytes, walk)?;
-    let counts = match counts_along(&head, dropped, bytes, walk, &records) {
-        Ok(counts) => counts,
-        Err(damage) => return Err(damage),
-    };
-    let file = write_file2(alloc, &head, dropped, &records)?;
-    Ok(NewFile {
-        bytes: file,
-        counts,
-    })
-}
-
-// The file of what is salvaged of a file whose head has no fault and these settings.
-fn renewed_in(alloc: Global, bytes: &[u8], settings: Settings) -> Result<NewFile, SalvageError>
-    requires long { 136 ≤ length bytes.now }
-    requires settings { settings ≡ settings_in bytes.now }
-    requires fault { head_fault bytes.now ≡ None }
-    ensures renewed { IfOk result (RenewsSalvaged bytes.now) }
+// What the last good blocks of a file have, or why nothing is salvaged.
+fn test(alloc: Global, bytes: &[u8]) -> Result<Tested, SalvageError>
+    ensures tested { IfOk result (TestsSalvaged bytes.now) }
     ensures refused { IfErr result (IsSalvageRefusal bytes.now) }
 {
-    let _range = settings.raw();
-    let walk = kept_walk(alloc, bytes)?;
-    let head = Head {
-        settings,
-        digest: program_in(bytes),
-    };
-    let blocks = tail(bytes, HEAD_SIZE);
-    let dropped = dropped_before(blocks, &walk, read_u64(bytes, DROPPED2));
-    match new_of(alloc, head, dropped, blocks, &walk) {
-        Ok(new) => Ok(new),
-        Err(damage) => Err(told(damage)),
+    match checked_settings(bytes) {
+        Err(fault) => Err(SalvageError::File(Damage::File(fault))),
+        Ok(settings) => test_in(alloc, bytes, settings),
     }
 }
 
@@ -161,10 +123,9 @@ pub fn salvage(alloc: Global, bytes: &[u8]) -> Result<KeptLog, SalvageError>
     ensures salvaged { IfOk result (IsSalvaged bytes.now) }
     ensures refused { IfErr result (IsSalvageRefusal bytes.now) }
 {
-    match checked_settings(bytes) {
-        Err(fault) => Err(SalvageError::File(Damage::File(fault))),
-        Ok(settings) => salvage_in(alloc, bytes, settings),
-    }
+    let tested = test(alloc, bytes)?;
+    let log = list(alloc, tested.head, tested.counts, &tested.records)?;
+    Ok(log)
 }
 
 /// The file of version 2 of what `salvage` salvages of a file, and what that log has, without a list of its
@@ -174,8 +135,10 @@ pub fn salvage_file(alloc: Global, bytes: &[u8]) -> Result<NewFile, SalvageError
     ensures renewed { IfOk result (RenewsSalvaged bytes.now) }
     ensures refused { IfErr result (IsSalvageRefusal bytes.now) }
 {
-    match checked_settings(bytes) {
-        Err(fault) => Err(SalvageError::File(Damage::File(fault))),
-        Ok(settings) => renewed_in(alloc, bytes, settings),
-    }
+    let tested = test(alloc, bytes)?;
+    let file = write_file2(alloc, &tested.head, tested.counts.dropped, &tested.records)?;
+    Ok(NewFile {
+        bytes: file,
+        counts: tested.counts,
+    })
 }

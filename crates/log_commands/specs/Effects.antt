@@ -169,7 +169,7 @@ abbrev pub done_of : {A : Type 0} → Result A Refusal → Result Status Refusal
 done_of (Ok value) = Ok exit.Done
 done_of (Err refusal) = Err refusal
 
--- a status is the end, and err stays; a refusal is told on err, and gives the status
+-- what a command ends with gives the status: a status itself, and err stays; a refusal, which is told on err
 abbrev pub IsClosed : FileNames → Result Status Refusal → (status : ℕ) → (err end : Stream) → Type 0
 IsClosed names (Ok value) status err end = (status ≡ code value) × (end ≡ err)
 IsClosed names (Err refusal) status err end = Refuses names refusal status err end

@@ -33,7 +33,7 @@ use Rattle.log_file.proofs.Heads.{spelled, signed_is_spelled}
 few_harts : (s : RawSettings) → IsSetting s → s.format ≡ 1 → s.harts ≤ 8
 few_harts s is one = subst (λ (f : ℕ). s.harts ≤ (if f == 2 then 16 else 8)) one is.harts_high
 
-fit_first : (c : Content) → IsVersion1 c → AllByRecursion (Fits 1) c.records
+pub fit_first : (c : Content) → IsVersion1 c → AllByRecursion (Fits 1) c.records
 fit_first c is = subst (λ (f : ℕ). AllByRecursion (Fits f) c.records) is.1 is.0.fit
 
 none_else : (none power : Bool) → IsTrue (none || 1 == 2 && power) → none ≡ true
@@ -210,8 +210,8 @@ some_bytes (ScFailed h) = omega arith
 some_bytes (Edge h ic s j) = omega arith
 some_bytes (End h mark) = omega arith
 
-pub records_free : BeginNoOther → ArePrefixFree bytes_of (Fits 1)
-records_free alone = record { some = λ r fits. some_bytes r; one = λ r s x y fr fs e. alone r s x y fr.fields fs.fields e }
+pub records_free : BeginNoOther → (format : ℕ) → ArePrefixFree bytes_of (Fits format)
+records_free alone format = record { some = λ r fits. some_bytes r; one = λ r s x y fr fs e. alone r s x y fr.fields fs.fields e }
 
 abbrev unbroken : Option OrderBreak
 unbroken = None
@@ -232,9 +232,9 @@ records_fault_again alone c is (BadVersion found) x = absurd x
 records_fault_again alone c is (BadHead field value) x = absurd x
 records_fault_again alone c is (LengthDiffers said found) x = absurd x
 records_fault_again alone c is (DigestDiffers kept found) x = absurd x
-records_fault_again alone c is (BadRecord place) x = absurd (no_stop bytes_of (Fits 1) (records_free alone) c.records x.before x.rest (fit_first c is) x.fit x.parts x.more x.none)
+records_fault_again alone c is (BadRecord place) x = absurd (no_stop bytes_of (Fits 1) (records_free alone 1) c.records x.before x.rest (fit_first c is) x.fit x.parts x.more x.none)
 records_fault_again alone c is (BadOrder place rule) x =
-    let same = one_row bytes_of (Fits 1) (records_free alone) c.records x.records (fit_first c is) x.fit x.parts in
+    let same = one_row bytes_of (Fits 1) (records_free alone 1) c.records x.records (fit_first c is) x.fit x.parts in
     absurd (no_break (order_break place rule) (sym is.0.order ∙ ap (broken_by c.head.settings c.dropped) same ∙ x.first))
 records_fault_again alone c is OutOfMemory x = refl
 
@@ -288,7 +288,7 @@ one_content read alone c d ic id e =
     let b = content_again read d id in
     let head : c.head ≡ d.head = sym a.head ∙ ap head_in s ∙ b.head in
     let dropped : c.dropped ≡ d.dropped = sym a.dropped_is ∙ ap dropped_in s ∙ b.dropped_is in
-    let rs = one_row bytes_of (Fits 1) (records_free alone) c.records d.records (fit_first c ic) (fit_first d id) (sym a.rest_is ∙ ap (drop 92) s ∙ b.rest_is) in
+    let rs = one_row bytes_of (Fits 1) (records_free alone 1) c.records d.records (fit_first c ic) (fit_first d id) (sym a.rest_is ∙ ap (drop 92) s ∙ b.rest_is) in
     ap (λ (h : Head). content h c.dropped c.records) head ∙ ap (λ (n : ℕ). content d.head n c.records) dropped ∙ ap (content d.head d.dropped) rs
 
 -- a file is read as the log whose spelling it is, since it is that of no other, and has no cause for a refusal

@@ -1,6 +1,6 @@
 -- What a head without a fault says.
-use Rattle.std.proofs.Common.{◌≡◌, ℕ, ◌-◌, ◌<◌, ◌≤◌, Bool, true, false, not, cond, eqb, ltb, List, ◌++◌, length, take, drop, length-drop, Result, Ok, Err, Option, Some, None, inl, inr, refl, sym, ap, subst, ◌∙◌, append_assoc, arith}
-use Rattle.std.specs.Prelude.{slice_index, IfOk}
+use Rattle.std.proofs.Common.{◌≡◌, ℕ, ◌-◌, ◌<◌, ◌≤◌, Bool, true, false, not, cond, eqb, ltb, List, ◌++◌, length, take, drop, length-drop, Result, Ok, Option, Some, None, inl, inr, refl, sym, ap, subst, ◌∙◌, append_assoc, arith}
+use Rattle.std.specs.Prelude.{slice_index}
 use Rattle.std.specs.List.{flat_map}
 use Rattle.std.specs.Str.{bytes_eq}
 use Rattle.std.proofs.lemmas.Bool.{cases_lt, eqb-true, eq-eqb, ltb-false}
@@ -143,7 +143,3 @@ front_bytes bytes signed kept parts are i =
       | inl lt ↦ subst (λ (n : ℕ). n < 256) (ap (λ (t : List ℕ). slice_index t i) parts ∙ get_or_append_left signed kept 0 i lt) (are i)
       | inr le ↦ rw (get_or_past signed i 0 le) (omega arith)
     ]
-
-pub ok_is_file : AreWritten → (bytes signed kept : List ℕ) (r : Result Content FileError) → bytes ≡ signed ++ kept → AreBytes bytes → 92 ≤ length signed → head_fault signed kept ≡ None → IfOk r (HasFields signed) → IfOk r (λ c. bytes ≡ file_bytes c)
-ok_is_file written bytes signed kept (Ok c) parts are long h has = parts ∙ is_file written signed kept c (front_bytes bytes signed kept parts are) long h has
-ok_is_file written bytes signed kept (Err e) parts are long h has = tt

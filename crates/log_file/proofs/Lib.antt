@@ -2,8 +2,7 @@ pub mod Rows
 pub mod Heads
 pub mod Again
 pub mod Refusals
-pub mod Counts
 pub mod Decided
 pub mod Walks
-pub mod Counted
+pub mod Tests
 pub mod Worked

@@ -34,15 +34,15 @@ same_break b c h = cc
 module _ (alone : BeginNoOther) where
   one_place : (bytes : List ℕ) (p q : ℕ) → NoRecord 1 bytes p → NoRecord 1 bytes q → p ≡ q
   one_place bytes p q x y =
-      let same = one_stop bytes_of (Fits 1) (records_free alone) x.before y.before x.rest y.rest x.fit y.fit (sym x.parts ∙ y.parts) x.none y.none in
+      let same = one_stop bytes_of (Fits 1) (records_free alone 1) x.before y.before x.rest y.rest x.fit y.fit (sym x.parts ∙ y.parts) x.none y.none in
       x.place_is ∙ ap total same ∙ sym y.place_is
 
   whole_or_not : (head : Head) (dropped : ℕ) (bytes : List ℕ) (p q rule : ℕ) → NoRecord 1 bytes p → BreaksOrder head dropped bytes q rule → ⊥
-  whole_or_not head dropped bytes p q rule x y = no_stop bytes_of (Fits 1) (records_free alone) y.records x.before x.rest y.fit x.fit (sym y.parts ∙ x.parts) x.more x.none
+  whole_or_not head dropped bytes p q rule x y = no_stop bytes_of (Fits 1) (records_free alone 1) y.records x.before x.rest y.fit x.fit (sym y.parts ∙ x.parts) x.more x.none
 
   one_break : (head : Head) (dropped : ℕ) (bytes : List ℕ) (p q a b : ℕ) → BreaksOrder head dropped bytes p a → BreaksOrder head dropped bytes q b → order_break p a ≡ order_break q b
   one_break head dropped bytes p q a b x y =
-      let same = one_row bytes_of (Fits 1) (records_free alone) x.records y.records x.fit y.fit (sym x.parts ∙ y.parts) in
+      let same = one_row bytes_of (Fits 1) (records_free alone 1) x.records y.records x.fit y.fit (sym x.parts ∙ y.parts) in
       same_break (order_break p a) (order_break q b) (sym x.first ∙ ap (broken_by head.settings dropped) same ∙ y.first)
 
   one_fault : (head : Head) (dropped : ℕ) (bytes : List ℕ) (e f : FileError) → IsRecordsFault head dropped bytes e → IsRecordsFault head dropped bytes f → e ≢ OutOfMemory → f ≢ OutOfMemory → e ≡ f

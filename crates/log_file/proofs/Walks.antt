@@ -15,11 +15,10 @@ use Rattle.log_order.specs.declared.walk.OrderBreak.{OrderBreak}
 use Rattle.log_order.specs.Order.{◌>>=◌, at_place, order_break, step, after_all, is_late, late_edge, ended, broken_in, broken, broken_by, order_limits_of}
 use Rattle.log_order.specs.Rules.{is_unfinished, fresh}
 use Rattle.log_file.proofs.Again.{some_bytes}
-use Rattle.log_file.proofs.Counts.{same_some}
 use Rattle.log_file.specs.declared.counting.LogCounts.{LogCounts}
 use Rattle.log_file.specs.declared.counting.Tally.{Tally}
 use Rattle.log_file.specs.declared.counting.Walked.{Walked}
-use Rattle.log_file.specs.File.{BreaksOrder, AreInOrder}
+use Rattle.log_file.specs.File.{BreaksOrder}
 use Rattle.log_file.specs.Counts.{headers_of, header_count, Walks, IsWalked, IsTallied, IsCounted}
 
 abbrev Harts : Type 0
@@ -27,6 +26,18 @@ Harts = List HartView
 
 abbrev Ran : Type 0
 Ran = Result Harts OrderBreak
+
+abbrev some : ℕ → Option ℕ
+some n = Some n
+
+abbrev none : Option ℕ
+none = None
+
+pub same_some : (a b : ℕ) → some a ≡ some b → a ≡ b
+same_some a b e = cc
+
+pub no_some : {P : Type 0} (a : ℕ) → none ≡ some a → P
+no_some a e = absurd cc
 
 -- the records up to the rest of the bytes, and what was found on the way along them
 pub record WalkedTo (format : ℕ) (t : OrderLimits) (start harts : List HartView) (bytes rest : List ℕ) (records headers : ℕ) (broken : Option OrderBreak) : Type 0 where
@@ -216,9 +227,6 @@ is_tallied format settings dropped t start harts bytes w n result walked is coun
       counts = counts ∙ rw (walked.count, walked.headers, ap length walked.parts) refl;
       broken = is;
     }
-
-pub in_order : (head : Head) (dropped : ℕ) (bytes : List ℕ) (n : LogCounts) → IsCounted head dropped bytes n → AreInOrder head dropped bytes
-in_order head dropped bytes n k = record { records = k.records; fit = k.fit; parts = k.parts; order = k.order }
 
 pub is_counted : (head : Head) (dropped : ℕ) (bytes : List ℕ) (t : Tally) → IsTallied 1 head.settings dropped bytes t → t.broken ≡ None → IsCounted head dropped bytes t.counts
 is_counted head dropped bytes t k none = record { records = k.records; fit = k.fit; parts = k.parts; order = sym k.broken ∙ none; counts = k.counts }

@@ -1,5 +1,5 @@
 -- What is counted of a log.
-use Rattle.std.specs.Prelude.{◌≡◌, ℕ, ◌+◌, List, [], ◌∷◌, length, Option, Some, None, Result, Ok, Err}
+use Rattle.std.specs.Prelude.{◌≡◌, ℕ, ◌+◌, ◌≤◌, List, [], ◌∷◌, length, drop, Option, Some, None, Result, Ok, Err}
 use Rattle.std.specs.List.{flat_map, AllByRecursion}
 use Rattle.bn_base.specs.declared.settings.RawSettings.{RawSettings}
 use Rattle.log_record.specs.declared.head.Head.{Head}
@@ -14,8 +14,11 @@ use Rattle.log_order.specs.Content.{Content}
 use Rattle.log_file.specs.declared.counting.LogCounts.{LogCounts}
 use Rattle.log_file.specs.declared.counting.Tally.{Tally}
 use Rattle.log_file.specs.declared.counting.Walked.{Walked}
+use Rattle.log_file.specs.declared.error.FileError.TheVariants.{OutOfMemory}
+use Rattle.log_file.specs.declared.testing.Tested.{Tested}
 use Rattle.log_file.specs.Layout.{file_bytes, IsVersion1}
-use Rattle.log_file.specs.File.{HasFields}
+use Rattle.log_file.specs.Faults.{signed_of}
+use Rattle.log_file.specs.File.{HasFields, IsRefusal}
 
 -- 1 if the record is a Header, else 0
 abbrev pub headers_of : Record → ℕ
@@ -69,12 +72,27 @@ pub record IsCounted (head : Head) (dropped : ℕ) (bytes : List ℕ) (n : LogCo
   pub order : broken_by head.settings dropped records ≡ None
   pub counts : n ≡ counts_in dropped records
 
--- these are the counts of a log that has what the fields say
-pub record CountsFields (signed : List ℕ) (n : LogCounts) : Type 0 where
+-- the log has this head, records with these bytes, and these counts
+pub record Tells (head : Head) (bytes : List ℕ) (n : LogCounts) (log : Content) : Type 0 where
+  pub head_is : log.head ≡ head
+  pub parts : bytes ≡ flat_map bytes_of log.records
+  pub counts : n ≡ counts_of log
+
+-- a log has what the fields say, and what is told of them
+pub record TestsFields (signed : List ℕ) (t : Tested) : Type 0 where
   pub log : Content
   pub content : IsVersion1 log
   pub fields : HasFields signed log
-  pub counts : n ≡ counts_of log
+  pub tells : Tells t.head (drop 92 signed) t.counts log
+
+-- a log's spelling are the bytes, and what is told is the log's; so there is no cause to refuse them but out of memory
+pub record TestsFile (bytes : List ℕ) (t : Tested) : Type 0 where
+  pub log : Content
+  pub content : IsVersion1 log
+  pub spelled : bytes ≡ file_bytes log
+  pub long : 124 ≤ length bytes
+  pub tells : Tells t.head (drop 92 (signed_of bytes)) t.counts log
+  pub memory : IsRefusal bytes OutOfMemory
 
 -- these are the counts of the log whose spelling the bytes are
 pub record CountsFile (bytes : List ℕ) (n : LogCounts) : Type 0 where

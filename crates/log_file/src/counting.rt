@@ -1,28 +1,20 @@
-//! Counting what a file has, with no list of its records: `check` tests a log so, in no memory.
-ghost use Rattle.std.specs.Prelude.{◌≡◌, ◌≢◌, ◌≤◌, ◌<◌, ◌++◌, ◌∷◌, [], List, ℕ, length, drop, Result, Ok, IfOk, IfErr};
+//! Testing and counting the bytes of records, in no memory.
+ghost use Rattle.std.specs.Prelude.{◌≡◌, ◌≤◌, ◌<◌, ◌++◌, ◌∷◌, [], List, ℕ, length, Result, IfOk, IfErr};
 ghost use Rattle.std.specs.List.{flat_map, AllByRecursion};
 ghost use Rattle.log_record.specs.declared.record.Record.{Record};
 ghost use Rattle.log_record.specs.Spelling.{bytes_of, total, Fits};
 ghost use Rattle.log_order.specs.declared.view.HartView.{HartView};
 ghost use Rattle.log_order.specs.declared.walk.OrderBreak.{OrderBreak};
-ghost use Rattle.log_order.specs.Content.{Content};
 ghost use Rattle.log_order.specs.Order.{after_all, is_late, late_edge, ended, broken_in};
-ghost use Rattle.log_file.specs.declared.error.FileError.TheVariants.{OutOfMemory};
-ghost use Rattle.log_file.specs.Layout.{settings_in, head_in, dropped_in, file_bytes, IsVersion1};
-ghost use Rattle.log_file.specs.File.{NoRecord, IsRecordsFault, IsRefusal};
-ghost use Rattle.log_file.specs.Counts.{headers_of, counts_of, Walks, IsWalked, IsTallied, IsCounted, CountsFields, CountsFile};
+ghost use Rattle.log_file.specs.File.{NoRecord};
+ghost use Rattle.log_file.specs.Counts.{headers_of, Walks, IsWalked, IsTallied};
 
-use crate::error::FileError;
-use crate::head::{DIGEST_SIZE, HEAD_SIZE, checked_settings, digest_in, tail};
-use crate::laws::{files_say_one_thing, logs_are_not_refused};
-use crate::offsets::DROPPED;
+use crate::head::tail;
 use bn_base::{HARTS, Settings};
-use le_numbers::laws::read_numbers_are_written;
-use le_numbers::read_u64;
 use log_order::walk::{any_unfinished, is_late, step};
 use log_order::{HartView, OrderBreak, OrderLimits, OrderRule};
 use log_record::laws::tags_tell_sizes;
-use log_record::{Head, Record, read_as, size};
+use log_record::{Record, read_as, size};
 
 /// What is counted of a log.
 #[derive(Clone, Copy, Debug, Drop)]
@@ -214,75 +206,4 @@ pub fn tally_of(format: u8, settings: &Settings, dropped: u64, bytes: &[u8]) -> 
         bytes: bytes.len() as u64,
     };
     Ok(Tally { counts, broken })
-}
-
-/// What is counted of the records with these bytes, of a log of version 1 that has this head and
-/// dropped so many. The error is what is wrong with them.
-pub(crate) fn counted(head: &Head, dropped: u64, bytes: &[u8]) -> Result<LogCounts, FileError>
-    ensures counted { IfOk result (IsCounted head.now dropped bytes.now) }
-    ensures refused { IfErr result (λ e. IsRecordsFault head.now dropped bytes.now e) }
-    ensures memory { IfErr result (λ e. e ≢ OutOfMemory) }
-{
-    match tally_of(1, &head.settings, dropped, bytes) {
-        Err(at) => Err(FileError::BadRecord { at }),
-        Ok(tally) => match tally.broken {
-            None => Ok(tally.counts),
-            Some(found) => Err(FileError::BadOrder {
-                at: found.at,
-                rule: found.rule,
-            }),
-        },
-    }
-}
-
-// What is counted of the log that a file has whose head has no fault and these settings.
-fn counts_in(signed: &[u8], settings: Settings) -> Result<LogCounts, FileError>
-    requires long { 92 ≤ length signed.now }
-    requires settings { settings ≡ settings_in signed.now }
-    requires bound { length (drop 92 signed.now) ≤ settings.log_size }
-    ensures counted { IfOk result (CountsFields signed.now) }
-    ensures refused { IfErr result (λ e. IsRecordsFault (head_in signed.now) (dropped_in signed.now) (drop 92 signed.now) e) }
-    ensures memory { IfErr result (λ e. e ≢ OutOfMemory) }
-{
-    let _range = settings.raw();
-    let head = Head {
-        settings,
-        digest: digest_in(signed),
-    };
-    let dropped = read_u64(signed, DROPPED);
-    counted(&head, dropped, tail(signed, HEAD_SIZE))
-}
-
-fn count(bytes: &[u8]) -> Result<LogCounts, FileError>
-    ensures counted { IfOk result (CountsFile bytes.now) }
-    ensures refused { IfErr result (λ e. IsRefusal bytes.now e) }
-    ensures memory { IfErr result (λ e. e ≢ OutOfMemory) }
-{
-    read_numbers_are_written();
-    let length = bytes.len();
-    if length < HEAD_SIZE + DIGEST_SIZE {
-        return Err(FileError::Short {
-            length: length as u64,
-        });
-    }
-    let (signed, kept) = bytes.split_at(length - DIGEST_SIZE);
-    match checked_settings(signed, kept) {
-        Ok(settings) => counts_in(signed, settings),
-        Err(fault) => Err(fault),
-    }
-}
-
-/// What is counted of the log that a file says, without a list of its records: it takes no memory.
-/// A file is refused as `read_file` refuses it, but never as out of memory.
-pub fn count_file(bytes: &[u8]) -> Result<LogCounts, FileError>
-    // The counts are those of a log, and the bytes are its spelling.
-    ensures counted { IfOk result (CountsFile bytes.now) }
-    // A log whose spelling the bytes are is counted.
-    ensures only { (c : Content) → IsVersion1 c → bytes.now ≡ file_bytes c → result ≡ Ok (counts_of c) }
-    ensures refused { IfErr result (λ e. IsRefusal bytes.now e) }
-    ensures memory { IfErr result (λ e. e ≢ OutOfMemory) }
-{
-    files_say_one_thing();
-    logs_are_not_refused();
-    count(bytes)
 }

@@ -10,13 +10,14 @@ pub mod offsets;
 pub mod reading;
 pub mod readings;
 pub mod splitting;
+pub mod testing;
 pub mod writing;
 
-pub use counting::{LogCounts, Tally, count_file, tally_of};
+pub use counting::{LogCounts, Tally, tally_of};
 pub use error::FileError;
 pub use examples::{
     a_head_is_refused, no_record_begins_there, other_bytes_are_no_file,
     other_bytes_than_those_signed_are_refused,
 };
-pub use reading::read_file;
+pub use reading::{count_file, read_file};
 pub use writing::write_file;

@@ -1,45 +1,46 @@
-//! The records of a file, as a list. Counting does without it.
-ghost use Rattle.std.specs.Prelude.{◌≡◌, List, length, IfSome};
+//! The records whose bytes are tested, as a list.
+ghost use Rattle.std.specs.Prelude.{◌≡◌, List, IfOk};
 ghost use Rattle.std.specs.List.{flat_map, AllByRecursion};
 ghost use Rattle.log_record.specs.declared.record.Record.{Record};
 ghost use Rattle.log_record.specs.Spelling.{bytes_of, Fits};
+ghost use Rattle.log_order.specs.Content.{Content, IsContent};
+ghost use Rattle.log_file.specs.Counts.{Tells};
 
-use log_record::laws::tags_tell_sizes;
-use log_record::{RecordList, read, size};
-use std::alloc::Global;
+use crate::counting::LogCounts;
+use log_order::KeptLog;
+use log_record::laws::no_record_begins_another;
+use log_record::{Head, RecordList, read_as};
+use std::alloc::{AllocError, Global};
 
-/// How many records these bytes are, by the tags alone. Bytes that are no records are counted up to the
-/// first tag that none has.
-pub fn count(bytes: &[u8]) -> usize
-    ensures { (rs : List Record) → AllByRecursion (Fits 1) rs → bytes.now ≡ flat_map bytes_of rs → result ≡ length rs }
+// The records with these bytes, of a log of this format. So many are expected.
+fn split(alloc: Global, format: u8, count: usize, bytes: &[u8]) -> Result<RecordList, AllocError>
+    ensures { (rs : List Record) → AllByRecursion (Fits format) rs → bytes.now ≡ flat_map bytes_of rs → IfOk result (λ list. list ≡ rs) }
 {
-    tags_tell_sizes();
-    let mut count = 0;
-    let mut at = 0;
-    while at < bytes.len() {
-        match size(bytes[at]) {
-            None => return count,
-            Some(size) => {
-                at += size;
-                count += 1;
-            }
-        }
-    }
-    count
-}
-
-/// The records of a log of version 1 whose bytes these are. There is no list if somewhere a record should
-/// begin and none does, or if memory runs out.
-pub(crate) fn split(alloc: Global, bytes: &[u8]) -> Option<RecordList>
-    ensures fit { IfSome result (λ v. AllByRecursion (Fits 1) v) }
-    ensures parts { IfSome result (λ v. bytes.now ≡ flat_map bytes_of v) }
-{
-    let mut records = RecordList::with_capacity(alloc, count(bytes)).ok()?;
+    no_record_begins_another();
+    let mut records = RecordList::with_capacity(alloc, count)?;
     let mut rest = bytes;
-    while !rest.is_empty() {
-        let (entry, size) = read(rest)?;
-        records.push(entry).ok()?;
+    while let Some((entry, size)) = read_as(format, rest) {
+        records.push(entry)?;
         rest = &rest[size..];
     }
-    Some(records)
+    Ok(records)
+}
+
+/// The log with this head, whose records have these bytes and counts. The only error is out of memory.
+pub fn list(
+    alloc: Global,
+    head: Head,
+    counts: LogCounts,
+    bytes: &[u8],
+) -> Result<KeptLog, AllocError>
+    requires { (log : Content) × IsContent log × Tells head bytes.now counts log }
+    ensures { (log : Content) → IsContent log → Tells head bytes.now counts log → IfOk result (λ listed. listed ≡ log) }
+{
+    let records = split(
+        alloc,
+        head.settings.format(),
+        counts.records as usize,
+        bytes,
+    )?;
+    Ok(KeptLog::of(head, counts.dropped, records))
 }

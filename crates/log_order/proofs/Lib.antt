@@ -1,4 +1,3 @@
-pub mod Walking
 pub mod Firsts
 pub mod Weaker
 pub mod Fronts

@@ -1,11 +1,7 @@
 //! What a log says, as readers of files and replays pass it on: its type has the order of the records.
-ghost use Rattle.std.specs.Prelude.{◌≡◌, ◌≤◌, Some, IfOk, IfErr};
-ghost use Rattle.std.specs.List.{AllByRecursion};
-ghost use Rattle.log_record.specs.Spelling.{Fits, total};
-ghost use Rattle.log_order.specs.Order.{broken_by};
+ghost use Rattle.std.specs.Prelude.{◌≡◌};
 ghost use Rattle.log_order.specs.Content.{content, IsContent};
 
-use crate::walk::{OrderBreak, broken_by};
 use log_record::{Head, RecordList};
 use std::marker::Model;
 
@@ -29,24 +25,15 @@ impl Model for KeptLog {
 }
 
 impl KeptLog {
-    /// The log with this head, so many dropped records and these kept ones. The error is the first
-    /// break of their order.
-    pub fn checked(head: Head, dropped: u64, records: RecordList) -> Result<KeptLog, OrderBreak>
-        requires fit { AllByRecursion (Fits head.settings.format) records }
-        requires bound { total records ≤ head.settings.log_size }
-        ensures ok { IfOk result (λ k. k ≡ content head dropped records) }
-        ensures err { IfErr result (λ b. broken_by head.settings dropped records ≡ Some b) }
-        ensures whole { IfOk result (λ k. IsContent k) }
+    /// The log with this head, so many dropped records and these kept ones.
+    pub fn of(head: Head, dropped: u64, records: RecordList) -> KeptLog
+        requires { IsContent (content head dropped records) }
+        ensures { result ≡ content head dropped records }
     {
-        let _settings = head.settings.raw();
-        let _digest = head.digest;
-        match broken_by(&head.settings, dropped, &records) {
-            Some(found) => Err(found),
-            None => Ok(KeptLog {
-                head,
-                dropped,
-                records,
-            }),
+        KeptLog {
+            head,
+            dropped,
+            records,
         }
     }
 

@@ -16,4 +16,4 @@ pub use examples::{
 pub use kept_log::KeptLog;
 pub use rule::OrderRule;
 pub use view::{HartView, OrderLimits, Phase};
-pub use walk::{OrderBreak, broken_by};
+pub use walk::OrderBreak;

@@ -1,15 +1,13 @@
-//! The first break of the order of records, by one walk along them. A file with a break is refused.
-ghost use Rattle.std.specs.Prelude.{◌≡◌, ◌<◌, ◌≤◌, ◌^◌, ◌==◌};
+//! One step of a walk along records, and what is tested at its end. A file whose records break a rule is refused.
+ghost use Rattle.std.specs.Prelude.{◌≡◌};
 ghost use Rattle.std.specs.List.{list_any};
-ghost use Rattle.bn_base.specs.declared.settings.TheConstants.{HARTS};
-ghost use Rattle.log_record.specs.Spelling.{total};
 ghost use Rattle.log_order.specs.Rules.{number_of, by_number, is_unfinished};
-ghost use Rattle.log_order.specs.Order.{has_source, order_break, step, Steps, after_all, is_late, late_edge, ended, broken, broken_by, order_limits_of};
+ghost use Rattle.log_order.specs.Order.{has_source, order_break, step, Steps, is_late, order_limits_of};
 
 use crate::rule::OrderRule;
 use crate::view::{HartView, OrderLimits};
-use bn_base::{HARTS, Settings};
-use log_record::{Record, RecordList};
+use bn_base::Settings;
+use log_record::Record;
 
 /// The first break of the order of records: its place and its rule.
 #[derive(Clone, Copy, Debug, PartialEq, Eq, Drop)]
@@ -74,25 +72,6 @@ pub fn step(terms: &OrderLimits, harts: &mut [HartView], entry: &Record) -> Resu
     }
 }
 
-fn after_all(
-    terms: &OrderLimits,
-    harts: &mut [HartView],
-    records: &RecordList,
-) -> Result<(), OrderBreak>
-    requires { total records.now < 2 ^ 63 }
-    ensures { Steps result harts.new (after_all terms.now 0 harts.old records.now) }
-{
-    let mut at = 0;
-    for place in 0..records.len() {
-        let entry = records.get(place);
-        if let Err(rule) = step(terms, harts, &entry) {
-            return Err(OrderBreak::of(at, rule));
-        }
-        at += entry.size() as u64;
-    }
-    Ok(())
-}
-
 /// Whether some hart has to be done by the last record and isn't; `all` says that all records are
 /// kept.
 pub fn any_unfinished(all: bool, harts: &[HartView]) -> bool
@@ -116,69 +95,4 @@ pub fn is_late(harts: &[HartView], entry: &Record) -> bool
         },
         _ => false,
     }
-}
-
-fn late_edge(harts: &[HartView], records: &RecordList) -> Option<u64>
-    requires { total records.now < 2 ^ 63 }
-    ensures { result ≡ late_edge harts.now 0 records.now }
-{
-    let mut at = 0;
-    for place in 0..records.len() {
-        let entry = records.get(place);
-        if is_late(harts, &entry) {
-            return Some(at);
-        }
-        at += entry.size() as u64;
-    }
-    None
-}
-
-fn total(records: &RecordList) -> u64
-    requires { total records.now < 2 ^ 63 }
-    ensures { result ≡ total records.now }
-{
-    let mut size = 0;
-    for place in 0..records.len() {
-        size += records.get(place).size() as u64;
-    }
-    size
-}
-
-// The rules that only the end of the records can break: a hart that isn't done, and a late Edge.
-#[tactic(auto, unfolding(crate::specs::Order::ended))]
-fn ended(all: bool, harts: &[HartView], records: &RecordList) -> Option<OrderBreak>
-    requires { total records.now < 2 ^ 63 }
-    ensures { result ≡ ended all harts.now records.now }
-{
-    if any_unfinished(all, harts) {
-        return Some(OrderBreak::of(total(records), OrderRule::HartsDone));
-    }
-    match late_edge(harts, records) {
-        None => None,
-        Some(at) => Some(OrderBreak::of(at, OrderRule::SourcesDone)),
-    }
-}
-
-#[tactic(auto, unfolding(crate::specs::Order::broken))]
-fn broken(terms: &OrderLimits, count: usize, all: bool, records: &RecordList) -> Option<OrderBreak>
-    requires count { count ≤ HARTS }
-    requires size { total records.now < 2 ^ 63 }
-    ensures { result ≡ broken terms.now count all records.now }
-{
-    let mut views = [HartView::fresh(all); HARTS];
-    let harts = &mut views[..count];
-    match after_all(terms, harts, records) {
-        Err(found) => Some(found),
-        Ok(()) => ended(all, harts, records),
-    }
-}
-
-/// The first break of the order of a log's records, before which so many were dropped. `None` if and
-/// only if they are in order.
-pub fn broken_by(settings: &Settings, dropped: u64, records: &RecordList) -> Option<OrderBreak>
-    requires { total records.now < 2 ^ 63 }
-    ensures { result ≡ broken_by settings.now dropped records.now }
-{
-    let harts = settings.harts() as usize;
-    broken(&OrderLimits::of(settings), harts, dropped == 0, records)
 }

@@ -8,7 +8,7 @@ import common
 from companion.recording.elf import Elf
 from companion.questions import calls, debugger
 from companion.questions.functions import parameters_of
-from companion.questions.reading import asked_of
+from companion.questions.reading import asked_of, read
 
 LINE = re.compile(r"^  (\d+):(\d+) +(\(.*?\)) +(?:-> (\w+).*?)? +(?:([\d,]+) rows?|no return) +(from|jumps from) (.*)$", re.M)
 
@@ -92,7 +92,8 @@ class CallsTest(case.Case):
                 found.window.kept = kept
                 found.registers.carries = kept < 1 << 30
                 rows = b"".join(asked.chunks())[1:].split(b"\n")
-                found.read(b"\n" + b"\n".join(rows[at:at + 10]) for at in range(0, len(rows), 10))
+                read((b"\n" + b"\n".join(rows[at:at + 10]) for at in range(0, len(rows), 10)), found)
+                found.finish()
                 said.append(calls.report(found))
         self.assertEqual(said[0], said[1])
 

@@ -7,7 +7,7 @@ import common
 
 from companion.recording.elf import Elf
 from companion.questions import debugger, find
-from companion.questions.reading import asked_of
+from companion.questions.reading import asked_of, read
 
 LINE = re.compile(r"^  (\d+:\d+) +(\d+:\d+) +([\d,]+) +(puts it into|loads it from|stores it to) (\w+)", re.M)
 
@@ -57,7 +57,7 @@ class FindTest(case.Case):
         with asked_of(log, elf, {}) as asked:
             found = find.Found(asked, 1)
             rows = b"".join(asked.chunks())[1:].split(b"\n")
-            found.read(b"\n" + row for row in rows)
+            read((b"\n" + row for row in rows), found)
             lines = find.report(found)
         some = sum(row.count(b"=00000001") for row in rows)
         self.assertLess(100, found.total)

@@ -77,7 +77,7 @@ class HistoryTest(case.Case):
         """With a window of a few rows the same is said, but for calls that are further back."""
         from companion.questions import window
         from companion.questions.history import History, report
-        from companion.questions.reading import asked_of
+        from companion.questions.reading import asked_of, read
         from companion.questions.variables import variable_of
         log, elf = self.record("heap", "--seed", "1"), self.elf("heap")
         said = []
@@ -86,7 +86,8 @@ class HistoryTest(case.Case):
                 found = History(asked, variable_of(asked.named, "00011b60"), 100, False)
                 found.window.kept = kept
                 text = b"".join(asked.chunks())
-                found.read(b"\n" + b"\n".join(rows) for rows in zip(*[iter(text[1:].split(b"\n"))] * 10))
+                read((b"\n" + b"\n".join(rows) for rows in zip(*[iter(text[1:].split(b"\n"))] * 10)), found)
+                found.finish()
                 said.append(report(found))
         self.assertEqual([line.split("  <  ")[0] for line in said[0]], [line.split("  <  ")[0] for line in said[1]])
         self.assertIn("_start", said[0][3])

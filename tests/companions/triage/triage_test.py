@@ -256,7 +256,7 @@ class LimitsTest(unittest.TestCase):
     def test_memory_of_its_own(self):
         work = triage_work.Work()
         self.change(work, "bucket", lambda _task: bytearray(1 << 40))
-        self.assertEqual(work.answer(self.tasks[0]), triage_work.unread(triage_work.TOO_LARGE))
+        self.assertEqual(work.answer(self.tasks[0]), triage_work.Answer(triage_work.UNREAD, triage_work.TOO_LARGE))
 
     def test_a_program_that_says_nothing(self):
         self.script("exec sleep 600")

@@ -31,7 +31,7 @@ fn row_of(hart: HartId) -> TurnRow {
     }
 }
 
-// Whether a row is that of this hart.
+// Whether a row is the one that `row_of` makes for this hart.
 fn is_row_of(row: &TurnRow, hart: HartId) -> bool {
     row.hart == hart
         && row.ask.state == start()

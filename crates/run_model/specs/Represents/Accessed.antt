@@ -81,9 +81,10 @@ pub record CanFinish (c : RawSettings) (call : Option Plan) (t : Trace) (k : ℕ
   pub marked : IsTrue (is_marked_next (next_by c call t.harts.items k ask reply))
   pub room : taken t.log.ring + 18 < 2 ^ 56
 
--- from one to the other this came next for hart k: the bits of its cache were cleared if it begins an interval, and at
--- most 18 records were appended. If an interval ended and a walk was due, the race log gave up what all harts know of
--- that are live afterwards; else it stayed
+-- from one to the other this came next for hart k. The numbers of harts and caches and the ring's size stay. The bits of
+-- hart k's cache were cleared if it begins an interval; no other cache had a step. The race log represents the same
+-- points. If an interval ended and a walk was due, it gave up what all harts know of that are live afterwards; else it
+-- stayed. At most 18 records were appended
 pub record IsFinished (old new : Trace) (k : ℕ) (next : TurnEnd) : Type 0 where
   pub len : length new.harts.items ≡ length old.harts.items
   pub count : length new.caches ≡ length old.caches

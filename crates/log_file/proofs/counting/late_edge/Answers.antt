@@ -1,6 +1,5 @@
 use Rattle.std.proofs.Common.{rules, arith, ap, sym, ◌∙◌, ◌-◌, length, length-drop}
-use Rattle.log_file.proofs.Counts.{same_some, no_some}
-use Rattle.log_file.proofs.Walks.{left_all, left_none, left_late, left_more, left_stops}
+use Rattle.log_file.proofs.Walks.{same_some, no_some, left_all, left_none, left_late, left_more, left_stops}
 use Rattle.log_file.proofs.counting.late_edge.Goals as goal
 
 pub loop-rest-init : goal.loop-rest-init
