@@ -2,19 +2,13 @@
 from __future__ import annotations
 
 import re
-from typing import Mapping, NamedTuple, NoReturn, Sequence
+from typing import Dict, List, Mapping, NoReturn, Sequence, Tuple
 
 from .errors import REFUSED, CompanionError
 
 REPEATED, AND = "--source", "\0"       # this option can be given several times: its values, and what stands between them
 TIMES = {"": 1, "K": 1 << 10, "M": 1 << 20, "G": 1 << 30}
-
-
-class Words(NamedTuple):
-    """names    the words that are no options
-    options  {option: its value}; of one without a value the value is empty"""
-    names: list[str]
-    options: dict[str, str]
+Words = Tuple[List[str], Dict[str, str]]    # names, and {option: its value}; of one without a value that is empty
 
 
 def parse(words: Sequence[str], known: Mapping[str, bool], names: range, form: str) -> Words:
@@ -45,7 +39,7 @@ def parse(words: Sequence[str], known: Mapping[str, bool], names: range, form: s
             given[option] = given[option] + AND + value if option in given else value
     if len(found) not in names:
         refuse(f"{len(found)} names are given")
-    return Words(found, given)
+    return found, given
 
 
 def read_words(words: Sequence[str], form: str, *more: str) -> Words:

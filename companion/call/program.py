@@ -4,7 +4,7 @@ from __future__ import annotations
 import os
 import shutil
 import subprocess
-from typing import Iterator, NamedTuple, Sequence
+from typing import Iterator, Sequence
 
 from . import PACKAGE
 from .children import start
@@ -81,13 +81,6 @@ class Output:
         self.err.close()
 
 
-class Said(NamedTuple):
-    """What a command printed, as text, and its status."""
-    text: str
-    status: int
-
-
-def output(command: str, *names: str, accept: Sequence[int] = (0,), options: Sequence[str] = ()) -> Said:
-    with Output(command, *names, accept=accept, options=options) as out:
-        text = out.read().decode("ascii", "replace")
-    return Said(text, out.status or 0)
+def output(command: str, *names: str, options: Sequence[str] = ()) -> str:
+    with Output(command, *names, options=options) as out:
+        return out.read().decode("ascii", "replace")

@@ -74,7 +74,7 @@ def first_difference(one: str, other: str) -> int:
 
 def ends_of(log: str) -> dict[str, str]:
     """The count, reason and value with which each hart ended that a log has an interval of."""
-    lines = [line.split(" ", 3) for line in program.output("list", log).text.splitlines()]
+    lines = [line.split(" ", 3) for line in program.output("list", log).splitlines()]
     return {hart: end for hart, _, _, end in lines}
 
 

@@ -5,7 +5,6 @@ from typing import Iterator, Sequence, Tuple
 
 from ..recording.turns import Piece, Pieces, joined, pieces_of, size_of, turns_of
 
-
 Move = Tuple[int, Pieces]       # the piece from which on a list of turns differs, and it
 
 

@@ -13,7 +13,7 @@ from ..recording.answers import LONGEST, place_of, put_answer
 from ..recording.elf import Elf, Symbol
 from ..recording.log import At
 from ..recording.naming import named_elf, places_of
-from ..recording.races import FENCED, ORDERED, TOO_MANY, Access, AccessPair, Group, Races
+from ..recording.races import FENCED, ORDERED, TOO_MANY, AccessPair, Group, Races, RacingAccess
 from ..recording.ready import ready
 from ..recording.recent import FIRST_ROWS, LogFile, open_log
 from ..recording.sources import source_folders
@@ -45,7 +45,7 @@ KINDS = ("", ORDERED, FENCED)                # in the order in which groups are 
 ON_CHAIN, CHAIN_WORD, IN_FAULT, OTHER = range(4)
 HEADS = {ORDERED: "ORDERED BY FENCES: these pairs are ordered if the fenced accesses below are meant as acquire and release",
          FENCED: "FENCED: both accesses stand beside a fence, as GCC writes acquire and release"}
-Beside = Callable[[Access], List[str]]        # what is told beside a row
+Beside = Callable[[RacingAccess], List[str]]        # what is told beside a row
 RANK_WORDS = {ON_CHAIN: "on the chain of values behind the fault", CHAIN_WORD: "touches a word of that chain",
               IN_FAULT: "in the function that faulted", OTHER: ""}
 
@@ -182,7 +182,7 @@ def family_answer(races: Races, judged: Judged, family: list[Group]) -> dict[str
             "one": access_answer(races, one), "other": access_answer(races, other)}
 
 
-def access_answer(races: Races, access: Access) -> dict[str, Any]:
+def access_answer(races: Races, access: RacingAccess) -> dict[str, Any]:
     return {"hart": access.hart, "count": access.count, "did": access.verb(), "row": access.row,
             "place": place_of(races.places, access.pc)}
 
@@ -203,7 +203,7 @@ def main(words: list[str]) -> int:
             groups = [family_answer(races, judged, family) for family in judged.families()]
             put_answer("race", pairs=races.total, groups=groups, book=teller.story_answer(story))
         else:
-            def beside(access: Access) -> list[str]:
+            def beside(access: RacingAccess) -> list[str]:
                 return ready(log_name, elf, named, access.hart, access.count)
             told = [STORY_HEAD] + ["  " + line for line in teller.story(story)] if story else []
             streams.put("\n".join(told + report(races, judged, "--more" in given, beside)) + "\n")

@@ -1,6 +1,7 @@
 """Searches for turns by which a program ends as wanted."""
 from __future__ import annotations
 
+import contextlib
 import os
 import signal
 from typing import Mapping, Optional, Sequence
@@ -15,8 +16,8 @@ from ..recording.elf import Elf
 from ..questions.compare import compared
 from .again import settings_of
 from .record import ENDS, FAULT, LIMIT, Kind, Plan, RecordWords
-from .shrinking import Asked, Shrunk, shrink
-from .trials import MOST_KEPT, Count, Ending, Numbers, Search
+from .shrinking import ShrinkInput, Shrunk, shrink
+from .trials import MOST_KEPT, Count, Ending, Numbers, TrialSearch
 
 HELP = """zelkuma seeds [-j N] [--until STATUS] [--only KIND,..] [--all DIR] [--part K/N] [--shrink] [--compare] [--json] FROM TO
               -- RECORD-WORDS
@@ -94,7 +95,7 @@ def table(counts: Mapping[Ending, Count]) -> str:
     return "".join("  ".join([cell.ljust(width) for cell, width in zip(row, widths)] + [row[3]]) + "\n" for row in rows)
 
 
-def tell(search: Search) -> None:
+def tell(search: TrialSearch) -> None:
     text, found = "", search.found
     if found is not None:
         text = f"{found.plan}: status {search.until}\n{search.words.shown(found.plan)}\n"
@@ -112,7 +113,7 @@ def shrunk(words: RecordWords, plan: Plan, good: Sequence[Target]) -> Shrunk:
     log, book = words.targets(plan)
     source = {option: value for option, _, value in (word.partition("=") for word in words.options) if option == "--input"}
     elf = Elf(words.elf)
-    return shrink(Asked(log.path, book.path, elf, {**settings_of(log.path), **source}, log, book, elf, good=good))
+    return shrink(ShrinkInput(log.path, book.path, elf, {**settings_of(log.path), **source}, log, book, elf, good=good))
 
 
 def goods_of(words: RecordWords) -> list[Target]:
@@ -137,7 +138,7 @@ def tell_difference(short: Shrunk, words: RecordWords, good: Sequence[Target], i
         return None
 
 
-def tell_json(search: Search, short: Optional[Shrunk], difference: Optional[dict[str, object]]) -> None:
+def tell_json(search: TrialSearch, short: Optional[Shrunk], difference: Optional[dict[str, object]]) -> None:
     plan, counts, numbers = search.found.plan if search.found else None, search.endings.counts, search.numbers
     endings = [{"status": ending.status, "place": ending.place, "count": count.count, **fields_of(count.first),
                 "files": list(filter(os.path.exists, search.words.outputs_of(count.first))) if ending in search.kept else []}
@@ -149,7 +150,7 @@ def tell_json(search: Search, short: Optional[Shrunk], difference: Optional[dict
                shrunk=short.answer if short else None, compared=difference)
 
 
-def find(search: Search, is_json: bool, shrinks: bool, good: Sequence[Target]) -> None:
+def find(search: TrialSearch, is_json: bool, shrinks: bool, good: Sequence[Target]) -> None:
     """Searches, saves what was found, and tells how the runs ended: as text also those before a refusal."""
     short = difference = None
     try:
@@ -172,7 +173,7 @@ def find(search: Search, is_json: bool, shrinks: bool, good: Sequence[Target]) -
         tell_json(search, short, difference)
 
 
-def status_of(search: Search, names: Sequence[str]) -> int:
+def status_of(search: TrialSearch, names: Sequence[str]) -> int:
     if search.stopped:
         return 128 + search.stopped
     if search.found is not None:
@@ -233,11 +234,7 @@ def main(words: list[str]) -> int:
     jobs = whole(options["--jobs"], 1, 1024, "-j") if "--jobs" in options else processors
     if record.folder:
         os.makedirs(record.folder, exist_ok=True)
-    folders = record.scratch()
-    search = Search(record, numbers, kinds, until, jobs, [folder.name for folder in folders])
-    try:
+    with contextlib.ExitStack() as opened:
+        search = TrialSearch(record, numbers, kinds, until, jobs, [opened.enter_context(folder) for folder in record.scratch()])
         find(search, "--json" in options, bool(shrinks), good)
-    finally:
-        for folder in folders:
-            folder.close()
     return status_of(search, [name for name, kind in KINDS.items() if kind in kinds])

@@ -19,7 +19,7 @@ from ..why.facts import asked_byte
 from .again import settings_of
 from .record import RECORD_OPTIONS
 from .same_end import exit_code
-from .shrinking import Asked, shrink
+from .shrinking import ShrinkInput, shrink
 
 HELP = """zelkuma shrink LOG ELF BOOK NEWLOG NEWBOOK [--seconds N] [--output N:BYTE] [--names ELF] [--source DIR] [--json] [-- WORD..]
 
@@ -80,8 +80,8 @@ def main(words: list[str]) -> int:
     targets = target(new_log, LOG, read), target(new_book, TURNS, [*read, new_log])
     check(log, elf_name, book, options, byte is not None)
     elf = Elf(elf_name)
-    shrunk = shrink(Asked(log, book, elf, options, *targets, named_elf(elf, given.get("--names", "")), byte, seconds,
-                          folders=source_folders(given)))
+    shrunk = shrink(ShrinkInput(log, book, elf, options, *targets, named_elf(elf, given.get("--names", "")), byte, seconds,
+                                folders=source_folders(given)))
     if "--json" in given:
         put_answer("shrink", **shrunk.answer)
     else:

@@ -36,7 +36,7 @@ MEMORY_FOLDER = "/dev/shm"  # files of tries needn't reach a disk
 
 
 @dataclass(frozen=True)
-class Asked:
+class ShrinkInput:
     """What is shrunk.
 
     options  those of its recording
@@ -68,7 +68,7 @@ class Shrunk(NamedTuple):
     nearest: Optional[Nearest]
 
 
-def shrink(asked: Asked) -> Shrunk:
+def shrink(asked: ShrinkInput) -> Shrunk:
     with Scratch(MEMORY_FOLDER if os.access(MEMORY_FOLDER, os.W_OK) else "") as folder, Quick(folder) as quick:
         found, made, signals = search(asked, quick)
         save(made, (asked.new_log, asked.new_book))
@@ -123,7 +123,7 @@ def offset_of(log: Log, elf: Elf, byte: Byte) -> int:
                          NO_INTERVAL)
 
 
-def search(asked: Asked, quick: Quick) -> tuple[Search, Recording, Signals]:
+def search(asked: ShrinkInput, quick: Quick) -> tuple[Search, Recording, Signals]:
     """Searches, and makes the recording of the shortest list that is found."""
     offset = offset_of(load_log(asked.log), asked.elf, asked.byte) if asked.byte else None
     tries = Tries(asked.options, Ends(quick, asked.elf, offset), len(os.sched_getaffinity(0)))
@@ -137,7 +137,7 @@ def search(asked: Asked, quick: Quick) -> tuple[Search, Recording, Signals]:
 class Told:
     """What is told of a search."""
 
-    def __init__(self, found: Search, made: Recording, teller: Teller, asked: Asked) -> None:
+    def __init__(self, found: Search, made: Recording, teller: Teller, asked: ShrinkInput) -> None:
         self.found, self.teller, self.asked, elf = found, teller, asked, asked.elf
         log = made.read
         self.pieces, self.turns = pieces_of(made.turns()), found.recorded_turns

@@ -122,7 +122,7 @@ class Buckets:
             self.opened[1].close()
 
 
-class Search:
+class TrialSearch:
     """Trials in order; those above the lowest that was found are given up. Recordings in threads need a processor a hart, so
     only one is under way: beside others it is left out when its turn comes too early. They don't repeat, so the first
     that ends as wanted ends the search.

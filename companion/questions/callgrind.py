@@ -9,7 +9,6 @@ from ..recording.places import Frame
 from .flow import Flow, Open
 from .reading import Asked, read
 
-
 Where = Tuple[str, str, int]        # a file and a function, and the line in it
 
 

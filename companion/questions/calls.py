@@ -7,11 +7,10 @@ from collections import deque
 from dataclasses import dataclass, field
 from typing import Any, Callable, Deque, Iterator, NamedTuple, Optional, Union
 
-from ..call import streams
 from ..call.errors import REFUSED, CompanionError
 from ..call.options import read_words, whole
-from ..call.text import clean, columns, counted, number
-from ..recording.answers import place_of, put_answer
+from ..call.text import clean, columns, counted
+from ..recording.answers import place_of, put_found
 from ..recording.elf import Elf
 from ..recording.instruction import JUMP, Instruction
 from ..recording.places import Frame
@@ -98,7 +97,7 @@ def number_of(text: str) -> int:
     return int(text)
 
 
-class Waiting(NamedTuple):
+class WaitingChunk(NamedTuple):
     """A chunk that waits: its place, and how many calls it has."""
     text: bytes
     base: int
@@ -123,14 +122,14 @@ class Calls:
         self.sources: dict[bytes, Instruction] = {}
         self.told: Deque[Call] = deque(maxlen=most)
         self.asks: Deque[tuple[int, Call, bool]] = deque()
-        self.waiting: Deque[Waiting] = deque()
+        self.waiting: Deque[WaitingChunk] = deque()
         self.total = self.waiting_calls = 0
 
     def take(self, text: bytes) -> None:
         """While later ones may have all calls that are told, only its calls are counted."""
         self.window.add(text)
         base = self.window.begins[-1]
-        self.waiting.append(Waiting(text, base, 0 if self.where else self.count_calls(text, base)))
+        self.waiting.append(WaitingChunk(text, base, 0 if self.where else self.count_calls(text, base)))
         self.waiting_calls += self.waiting[-1].calls
         while self.waiting and (self.where or self.is_passed() or self.window.end - self.waiting[0].base > self.window.kept // 2):
             self.take_waiting()
@@ -331,12 +330,9 @@ def call_line(call: Call, asked: Asked) -> list[str]:
 def report(found: Calls) -> list[str]:
     asked = found.asked
     asked.places.fetch(call.source or call.begin.address for call in found.told)
-    said = f"CALLS of {found.function.title()}: {counted(found.total, 'call')}"
-    if len(found.told) < found.total:
-        said += f"; the last {number(len(found.told))} are told (--last N)"
-    lines = columns([call_line(call, asked) for call in found.told])
-    last = asked.ready(int(found.told[-1].hart), found.told[-1].count) if found.told else []
-    return [said] + lines + ["  " + line for line in last + asked.left_out()]
+    return asked.report(f"CALLS of {found.function.title()}: {counted(found.total, 'call')}",
+                        [(int(call.hart), call.count) for call in found.told], found.total,
+                        columns([call_line(call, asked) for call in found.told]))
 
 
 def calls_answer(found: Calls) -> dict[str, Any]:
@@ -362,8 +358,5 @@ def main(words: list[str]) -> int:
         function = function_of(asked.named, name)
         where = Where(given["--where"], function) if "--where" in given else None
         found = calls_of(asked, function, most, where)
-        if "--json" in given:
-            put_answer("calls", **calls_answer(found))
-        else:
-            streams.put_lines(report(found))
+        put_found("calls", found, report, calls_answer, "--json" in given)
     return 0

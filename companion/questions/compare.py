@@ -5,11 +5,10 @@ import contextlib
 from dataclasses import dataclass, field
 from typing import Any, Dict, Iterable, Iterator, List, Mapping, NamedTuple, Optional
 
-from ..call import streams
 from ..call.errors import NO_INTERVAL, CompanionError
 from ..call.options import read_words, whole
 from ..call.text import counted, number
-from ..recording.answers import place_of, put_answer
+from ..recording.answers import place_of, put_found
 from ..recording.chunks import STORE, rows_between, rows_with, touching
 from ..recording.instruction import NAMES, Instruction
 from .reading import HIGHEST, Asked, asked_of
@@ -161,7 +160,7 @@ def rows_back(runs: list[Run], lane: Lane) -> Iterator[tuple[Row, Row]]:
             return
 
 
-class Search:
+class StoreSearch:
     """Looks in the order of a run for the row that had stored what was loaded, and for the place at which a hart parted."""
 
     def __init__(self, found: Parting, at: int) -> None:
@@ -183,7 +182,7 @@ class Search:
 
 
 def find_givers(run: Run, at: int, partings: list[Parting]) -> None:
-    rows, left = 0, [Search(found, at) for found in partings]
+    rows, left = 0, [StoreSearch(found, at) for found in partings]
     for text in run.asked.chunks() if left else ():
         left = [search for search in left if search.take(text, rows)]
         rows += text.count(b"\n")
@@ -290,8 +289,5 @@ def main(words: list[str]) -> int:
     most = whole(given.get("--rows", str(MOST_ROWS)), 1, HIGHEST, "--rows")
     files = {option: given[option] for option in ("--names", "--source") if option in given}
     with compared(good, bad, elf_name, files, most) as found:
-        if "--json" in given:
-            put_answer("compare", **found.answer())
-        else:
-            streams.put_lines(found.lines())
+        put_found("compare", found, Compared.lines, Compared.answer, "--json" in given)
     return 0

@@ -5,11 +5,10 @@ import re
 from dataclasses import dataclass, field
 from typing import Any
 
-from ..call import streams
 from ..call.errors import MISSING, REFUSED, CompanionError
 from ..call.options import read_words
 from ..call.text import clean, columns, counted, number
-from ..recording.answers import LONGEST, place_of, put_answer
+from ..recording.answers import LONGEST, place_of, put_found
 from ..recording.chunks import rows_with
 from ..recording.elf import Elf
 from .reading import Asked, asked_of, read
@@ -35,7 +34,7 @@ VERBS = {b"load ": "loads it from", b"store": "stores it to"}
 
 
 @dataclass
-class Group:
+class PlaceGroup:
     """The rows of one place that do the same with the value. `words` are those of memory, of which the first are kept."""
     pc: int
     did: str
@@ -52,7 +51,7 @@ class Found:
         self.asked, self.value = asked, value
         self.needle = b"=%08x" % value
         self.pattern = re.compile(self.needle)
-        self.groups: dict[tuple[bytes, str], Group] = {}
+        self.groups: dict[tuple[bytes, str], PlaceGroup] = {}
         self.total = self.told = 0
 
     def take(self, text: bytes) -> None:
@@ -76,7 +75,7 @@ class Found:
         did = verb or f"puts it into {part.partition(b'=')[0].decode()}"
         group = self.groups.get((pc, did))
         if group is None:
-            group = self.groups[pc, did] = Group(int(pc, 16), did, when)
+            group = self.groups[pc, did] = PlaceGroup(int(pc, 16), did, when)
         group.last, group.times = when, group.times + 1
         if verb and len(group.words) < MOST_WORDS:
             word = int(part[-17:-9], 16) & ~3
@@ -115,7 +114,7 @@ def word_text(asked: Asked, word: int) -> str:
     return f"{word:08x}" + (f" <{name}>" if name else "")
 
 
-def group_line(group: Group, asked: Asked) -> list[str]:
+def group_line(group: PlaceGroup, asked: Asked) -> list[str]:
     words = ", ".join(word_text(asked, word) for word in group.words)
     more = ", .." if len(group.words) == MOST_WORDS else ""
     return [group.first, group.last, number(group.times), " ".join(filter(None, (group.did, words))) + more,
@@ -152,8 +151,5 @@ def main(words: list[str]) -> int:
     with asked_of(log_name, elf_name, given) as asked:
         found = Found(asked, value_of(asked.named, text))
         read(asked.chunks(), found)
-        if "--json" in given:
-            put_answer("find", **find_answer(found))
-        else:
-            streams.put_lines(report(found))
+        put_found("find", found, report, find_answer, "--json" in given)
     return 0

@@ -6,10 +6,9 @@ from collections import deque
 from dataclasses import dataclass
 from typing import Any, Deque, Optional
 
-from ..call import streams
 from ..call.options import read_words, whole
-from ..call.text import columns, counted, number
-from ..recording.answers import place_of, put_answer
+from ..call.text import columns, counted
+from ..recording.answers import place_of, put_found
 from ..recording.instruction import STORE, Instruction
 from ..recording.log import SystemCall
 from ..recording.memory import bytes_of, words_of
@@ -137,14 +136,11 @@ def before_line(found: History) -> list[str]:
 def report(found: History) -> list[str]:
     variable, asked = found.variable, found.asked
     asked.places.fetch(pc for entry in found.told for pc in entry.pcs)
-    said = f"HISTORY of {variable.what()}: {counted(found.total, 'change' if found.only_changes else 'store')}"
-    if len(found.told) < found.total:
-        said += f"; the last {number(len(found.told))} are told (--last N)"
+    head = f"HISTORY of {variable.what()}: {counted(found.total, 'change' if found.only_changes else 'store')}"
     rows = [entry_line(entry, asked, variable.name) for entry in found.told]
     if all(row[1] == variable.name for row in rows):
         rows = [row[:1] + row[2:] for row in rows]
-    last = asked.ready(found.told[-1].hart, found.told[-1].count) if found.told else []
-    return [said] + before_line(found) + columns(rows) + ["  " + line for line in last + asked.left_out()]
+    return asked.report(head, [(entry.hart, entry.count) for entry in found.told], found.total, before_line(found) + columns(rows))
 
 
 def history_answer(found: History) -> dict[str, Any]:
@@ -169,8 +165,5 @@ def main(words: list[str]) -> int:
     most = whole(given.get("--last", str(TOLD)), 1, MOST_TOLD, "--last")
     with asked_of(log_name, elf_name, given) as asked:
         found = history_of(asked, variable_of(asked.named, name), most, "--changes" in given)
-        if "--json" in given:
-            put_answer("history", **history_answer(found))
-        else:
-            streams.put_lines(report(found))
+        put_found("history", found, report, history_answer, "--json" in given)
     return 0

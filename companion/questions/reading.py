@@ -3,7 +3,7 @@ from __future__ import annotations
 
 import contextlib
 from contextlib import closing
-from typing import Iterable, Iterator, Mapping, NamedTuple, Protocol
+from typing import Iterable, Iterator, Mapping, NamedTuple, Protocol, Sequence
 
 from ..call.options import whole
 from ..call.text import number
@@ -51,6 +51,12 @@ class Asked(NamedTuple):
         if log.unread:
             return [f"Only the last {number(log.rows())} rows were read; --rows N reads more."]
         return [f"The log gave up {number(log.dropped)} records before its first row."] if log.dropped else []
+
+    def report(self, head: str, told: Sequence[tuple[int, int]], total: int, lines: list[str]) -> list[str]:
+        """Lines of what is told of so many, each at a hart's count, with a head; then what opens the last, and what isn't read."""
+        more = f"; the last {number(len(told))} are told (--last N)" if len(told) < total else ""
+        last = self.ready(*told[-1]) if told else []
+        return [head + more] + lines + ["  " + line for line in last + self.left_out()]
 
 
 class Reader(Protocol):

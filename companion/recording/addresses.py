@@ -3,24 +3,18 @@ from __future__ import annotations
 
 import os
 from contextlib import closing
-from typing import NamedTuple
+from typing import Tuple
 
 from .elf import EXECUTABLE, Elf
 from .naming import places_of
 from .places import LONGEST_LINE_NUMBER
 
 MOST_CODE = 1 << 22
-
-
-class Named(NamedTuple):
-    """An address, and what is there."""
-    address: int
-    what: str
+Named = Tuple[int, str]     # an address, and what is there
 
 
 def addresses_of(elf: Elf, name: str) -> list[Named]:
-    """The addresses of a name."""
-    found = sorted({Named(symbol.address, symbol.name) for symbol in elf.symbols if symbol.name == name})
+    found = sorted({(symbol.address, symbol.name) for symbol in elf.symbols if symbol.name == name})
     file, _, line = name.rpartition(":")
     if found or not (file and line.isascii() and line.isdigit() and len(line) <= LONGEST_LINE_NUMBER):
         return found
@@ -36,7 +30,7 @@ def addresses_of_line(elf: Elf, file: str, line: int) -> list[Named]:
         for pc in code:
             here = [frame for frame in places.frames(pc) if frame.line == line and is_file(frame.path, file)]
             if here and not before:
-                found.append(Named(pc, f"{here[0].function} {here[0].file}:{here[0].line}"))
+                found.append((pc, f"{here[0].function} {here[0].file}:{here[0].line}"))
             before = bool(here)
     return found
 

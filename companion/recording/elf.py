@@ -32,14 +32,6 @@ class Symbol(NamedTuple):
     name: str
 
 
-class SectionHead(NamedTuple):
-    """The fields of a section's header that are read: its kind, its place, and the section that it names."""
-    kind: int
-    offset: int
-    size: int
-    link: int
-
-
 class Elf:
     """parts    the loaded segments, by address
     symbols  by address; functions are those of code, objects those of data"""
@@ -80,22 +72,15 @@ class Elf:
 
     def read_symbols(self) -> None:
         left = MOST_SYMBOLS                     # so many entries are read, whether they name something or not
-        heads = self.section_heads()
-        for head in heads:
-            if head.kind == SYMBOL_TABLE and head.link < len(heads):
-                count = min(head.size // 16, left)
-                self.read_table(head.offset, count, heads[head.link].offset)
-                left -= count
-        self.symbols.sort()
-
-    def section_heads(self) -> list[SectionHead]:
         first, = struct.unpack_from("<I", self.data, 32)
         count, = struct.unpack_from("<H", self.data, 48)
-        found = []
-        for i in range(count if first else 0):
-            kind, offset, size, link = struct.unpack_from("<4xI8xIII", self.data, first + 40 * i)
-            found.append(SectionHead(kind, offset, size, link))
-        return found
+        sections = [struct.unpack_from("<4xI8xIII", self.data, first + 40 * i) for i in range(count if first else 0)]
+        for kind, offset, size, link in sections:
+            if kind == SYMBOL_TABLE and link < len(sections):
+                count = min(size // 16, left)
+                self.read_table(offset, count, sections[link][1])
+                left -= count
+        self.symbols.sort()
 
     def read_table(self, at: int, count: int, names: int) -> None:
         for place in range(at, at + 16 * count, 16):

@@ -136,7 +136,6 @@ class Log:
                         self.called.append(interval)
 
     def header(self, record: bytes) -> Interval:
-        """A new interval."""
         number, count, pc = struct.unpack_from("<QQI", record, 2)
         registers = (pc,) + struct.unpack_from("<31I", record, 22)
         self.intervals.append(Interval(record[1], number, count, count, NO_END, 0, registers))

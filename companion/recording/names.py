@@ -4,6 +4,7 @@ from __future__ import annotations
 import os
 import sys
 from contextlib import closing
+from typing import Callable
 
 from ..call import streams
 from ..call.errors import MISSING, CompanionError
@@ -50,19 +51,11 @@ class Filter:
 
     def of_address(self, text: bytes) -> bytes:
         """What is put behind an address of code."""
-        try:
-            said = self.places.named(int(text, 16))
-        except ValueError:
-            return b"\n"
-        return b" | %s\n" % said.encode() if said else b"\n"
+        return behind(self.places.named, text)
 
     def of_data(self, text: bytes) -> bytes:
         """What is put behind an address of data."""
-        try:
-            said = self.elf.data_name(int(text[:8], 16))
-        except ValueError:
-            return b"\n"
-        return b" | %s\n" % said.encode() if said else b"\n"
+        return behind(self.elf.data_name, text[:8])
 
     def other(self, line: bytes, words: list[bytes]) -> bytes:
         """A line that is no row: an end, one of `list`, of `debug`, of `races`, a word of memory."""
@@ -88,6 +81,15 @@ class Filter:
         if words[1] in (b"FetchOutside", b"TargetMisaligned"):
             return self.of_address(words[2])
         return self.of_data(words[2]) if words[1].startswith((b"Load", b"Store")) else b"\n"
+
+
+def behind(name_of: Callable[[int], str], address: bytes) -> bytes:
+    """The name of an address behind a line, with the line's end."""
+    try:
+        said = name_of(int(address, 16))
+    except ValueError:
+        said = ""
+    return b" | %s\n" % said.encode() if said else b"\n"
 
 
 def filter_input(elf: Elf) -> int:
@@ -117,6 +119,5 @@ def main(words: list[str]) -> int:
         found = addresses_of(elf, name)
         if not found:
             raise CompanionError(f"{os.path.basename(elf.name)} has no {name}", MISSING)
-        for each in found:
-            streams.put(f"{each.address:08x} {each.what}\n")
+        streams.put_lines(f"{address:08x} {what}" for address, what in found)
     return 0

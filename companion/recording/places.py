@@ -36,6 +36,10 @@ class Frame(NamedTuple):
     line: int
     path: str
 
+    def text(self) -> str:
+        """FUNCTION FILE:LINE, as much as is known."""
+        return f"{self.function} {self.file}:{self.line}" if self.line else self.function
+
 
 class Tool:
     """One addr2line. The first question starts it; `name` is empty if there is none, or it has failed.
@@ -130,7 +134,6 @@ class Tool:
 
 
 def piece(output: int, until: float) -> bytes:
-    """What a tool says next."""
     if not select.select([output], [], [], max(0, until - time.monotonic()))[0]:
         raise ValueError("it took too long")
     found = os.read(output, 1 << 16)
@@ -195,9 +198,8 @@ class Places:
         return frames[0] if frames else Frame("", "", 0, "")
 
     def named(self, pc: int) -> str:
-        """FUNCTION FILE:LINE of the innermost frame, as much as is known."""
-        frame = self.innermost(pc)
-        return f"{frame.function} {frame.file}:{frame.line}" if frame.line else frame.function
+        """Of the innermost frame."""
+        return self.innermost(pc).text()
 
     def where(self, pc: int) -> str:
         """The same, or else the address."""
@@ -206,8 +208,7 @@ class Places:
     def chain(self, pcs: Iterable[int], most: int) -> str:
         """The places of a row and of the calls over it, innermost first: so many at most."""
         frames = [frame for pc in pcs for frame in self.frames(pc) or [Frame(f"{pc:08x}", "", 0, "")]]
-        return CALLED_FROM.join(f"{frame.function} {frame.file}:{frame.line}" if frame.line else frame.function
-                                for frame in frames[:most])
+        return CALLED_FROM.join(frame.text() for frame in frames[:most])
 
     def line(self, pc: int) -> str:
         """FILE:LINE, or else the address."""

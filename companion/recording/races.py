@@ -6,7 +6,8 @@ from __future__ import annotations
 
 import bisect
 from array import array
-from typing import NamedTuple, Optional, Sequence
+from functools import lru_cache, partial
+from typing import NamedTuple, Optional, Sequence, Tuple
 
 from ..call import streams
 from ..call.program import Output
@@ -22,7 +23,7 @@ FENCED, ORDERED = "fenced", "ordered by fences"
 FIRST_PAIRS = 8                     # so many pairs of each group are kept with their rows
 
 
-class Access:
+class RacingAccess:
     """One access of a pair: hart, count, address of its code, and its row as text."""
     __slots__ = ("hart", "count", "pc", "row")
 
@@ -48,10 +49,7 @@ class Access:
         return At(self.hart, self.count)
 
 
-class AccessPair(NamedTuple):
-    """The two accesses of a race, in the order of the joint replay."""
-    one: Access
-    other: Access
+AccessPair = Tuple[RacingAccess, RacingAccess]          # of a race, in the order of the joint replay
 
 
 class Way(NamedTuple):
@@ -96,8 +94,8 @@ class Races:
     def __init__(self, named: Elf, places: Places) -> None:
         self.named, self.places = named, places
         self.by_key: dict[tuple[int, str, str, bool], Group] = {}
-        self.fence_known: dict[int, bool] = {}
-        self.key_known: dict[int, str] = {}
+        self.place_of = lru_cache(maxsize=None)(places.where)
+        self.is_fenced = lru_cache(maxsize=None)(partial(fences.is_fenced, named.word))
         self.pairs = Columns(array("B"), array("Q"), array("B"), array("Q"), array("I"), array("B"))
         self.total, self.over = 0, False
         self.groups: list[Group] = []
@@ -129,11 +127,11 @@ class Races:
                 elif head:
                     rows.append(text)
                     if len(rows) == 2:
-                        self.add(Access(rows[0]), Access(rows[1]), int(head[5], 16))
+                        self.add(RacingAccess(rows[0]), RacingAccess(rows[1]), int(head[5], 16))
                         head = None
         return lines.status == 0
 
-    def add(self, one: Access, other: Access, word: int) -> None:
+    def add(self, one: RacingAccess, other: RacingAccess, word: int) -> None:
         names = sorted((self.place_of(one.pc), self.place_of(other.pc)))
         fenced = self.is_fenced(one.pc) and self.is_fenced(other.pc)
         key = word, names[0], names[1], fenced
@@ -142,7 +140,7 @@ class Races:
             group = self.by_key[key] = Group(len(self.by_key), word, names, fenced)
         group.pairs += 1
         if len(group.first) < FIRST_PAIRS:
-            group.first.append(AccessPair(one, other))
+            group.first.append((one, other))
         hands_over = fenced and one.stores and other.loads
         for column, value in zip(self.pairs, (one.hart, one.count, other.hart, other.count, group.number, hands_over)):
             column.append(value)
@@ -152,16 +150,6 @@ class Races:
         """The pairs that no fences order either."""
         return {frozenset((At(hart, count), At(other, other_count)))
                 for hart, count, other, other_count, number, _ in zip(*self.pairs) if not self.groups[number].kind}
-
-    def place_of(self, pc: int) -> str:
-        if pc not in self.key_known:
-            self.key_known[pc] = self.places.where(pc)
-        return self.key_known[pc]
-
-    def is_fenced(self, pc: int) -> bool:
-        if pc not in self.fence_known:
-            self.fence_known[pc] = fences.is_fenced(self.named.word, pc)
-        return self.fence_known[pc]
 
     def find_ordered(self) -> None:
         """Sets `ordered` of each group that fences may order."""

@@ -3,7 +3,7 @@ that does to a word that the one that stopped had loaded."""
 from __future__ import annotations
 
 import re
-from typing import Any, Iterator, Mapping, NamedTuple, Optional, Sequence
+from typing import Any, Iterator, Mapping, NamedTuple, Optional, Sequence, Tuple
 
 from ..call.text import counted
 from .answers import place_of
@@ -22,12 +22,7 @@ STORY_HEAD = "SWITCHES between harts, in the order of BOOK"
 MOST_INLINED = 1            # lines into which a row is inlined are told
 STORE = re.compile(rb"^.*\| store (\w{8})=.*\n", re.M)
 LOAD = re.compile(rb"\| load (\w{8})=")
-
-
-class Clash(NamedTuple):
-    """A store to a word, and the load of it by the hart that had stopped."""
-    store: Row
-    load: Row
+Clash = Tuple[Row, Row]     # a store to a word, and the load of it by the hart that had stopped
 
 
 class Switch(NamedTuple):
@@ -84,7 +79,7 @@ def clash_of(before: Sequence[bytes], between: bytes) -> Optional[Clash]:
         store = parse_row(stored.get(int(load[1], 16) & ~3, b"")) if load else None
         row = parse_row(line) if store else None
         if store and row:
-            return Clash(store, row)
+            return store, row
     return None
 
 
@@ -144,13 +139,11 @@ class Teller:
         return said
 
     def story(self, story: Story) -> list[str]:
-        """All that is told of an order."""
         if story.left:
             return [story.left]
         return [story.order()] + [line for at, switch in enumerate(story.switches, 1) for line in self.lines(at, switch)]
 
     def answer(self, switch: Switch) -> dict[str, Any]:
-        """A switch for other programs."""
         store, load = switch.clash or (None, None)
         return {"hart": switch.hart, "other": switch.other, "stopped": self.point(switch.stopped), "next": self.point(switch.next),
                 "store": self.point(store), "load": self.point(load)}

@@ -24,7 +24,7 @@ def json_text(table: Table) -> str:
     return json.dumps({
         "answer": "triage", "version": VERSION, "logs": table.logs, "others": table.others, "causes": len(groups),
         "buckets": [group_answer(group) for group in groups[:LONGEST]],
-        "unread": [{"why": why, "count": one.count, "first": file_answer(one.first)} for why, one in unread[:LONGEST]]}) + "\n"
+        "unread": [{"why": why, "count": len(files), "first": file_answer(files[0])} for why, files in unread[:LONGEST]]}) + "\n"
 
 
 def group_answer(group: Group) -> dict[str, Any]:
@@ -47,9 +47,9 @@ def junit_text(table: Table) -> str:
             said = "\n".join(filter(None, [group.suspect, group.command()]))
             lines.append(f"<failure message={quoted(counted(group.count, 'log'))}>{cleaned(said)}</failure>")
         lines.append("</testcase>")
-    for why, one in unread:
-        lines.append(f"<testcase classname=\"unread\" name={quoted(why)}><error message={quoted(counted(one.count, 'log'))}>"
-                     f"{cleaned(one.first.name)}</error></testcase>")
+    for why, files in unread:
+        lines.append(f"<testcase classname=\"unread\" name={quoted(why)}><error message={quoted(counted(len(files), 'log'))}>"
+                     f"{cleaned(files[0].name)}</error></testcase>")
     return "\n".join(lines + ["</testsuite>", ""])
 
 

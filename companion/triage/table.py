@@ -37,20 +37,14 @@ class Group:
         return f"zelkuma salvage {log} {log}.salvaged && zelkuma why {log}.salvaged {elf}"
 
 
-@dataclass
-class Unread:
-    """Logs that aren't read for one reason."""
-    first: File
-    count: int = 0
-
-
 class Table:
-    """logs, others  how many logs there are, and how many files that are none"""
+    """logs, others  how many logs there are, and how many files that are none
+    unread        {why they aren't read: logs}"""
 
     def __init__(self, logs: int, others: int) -> None:
         self.logs, self.others = logs, others
         self.groups: dict[Bucket, Group] = {}
-        self.unread: dict[str, Unread] = {}
+        self.unread: dict[str, list[File]] = {}
 
     def add(self, answer: Answer, file: File, elf: str) -> None:
         """A log. They come in the order of their dates."""
@@ -66,17 +60,17 @@ class Table:
         group.harts.add(answer.harts)
 
     def add_unread(self, why: str, file: File) -> None:
-        self.unread.setdefault(why, Unread(file)).count += 1
+        self.unread.setdefault(why, []).append(file)
 
     def sorted(self) -> list[Group]:
         return sorted(self.groups.values(), key=lambda group: (-group.count, group.bucket))
 
-    def sorted_unread(self) -> list[tuple[str, Unread]]:
-        return sorted(self.unread.items(), key=lambda item: (-item[1].count, item[0]))
+    def sorted_unread(self) -> list[tuple[str, list[File]]]:
+        return sorted(self.unread.items(), key=lambda item: (-len(item[1]), item[0]))
 
     def heading(self) -> str:
         salvaged = sum(group.salvaged for group in self.groups.values())
-        left = sum(one.count for one in self.unread.values())
+        left = sum(map(len, self.unread.values()))
         said = [f"{counted(self.logs, 'log')}: {counted(len(self.groups), 'cause')}"]
         said += [f"{number(salvaged)} salvaged"] * bool(salvaged) + [f"{number(left)} not read"] * bool(left)
         said += [f"{counted(self.others, 'other file')}"] * bool(self.others)

@@ -4,7 +4,7 @@ from __future__ import annotations
 import os
 import shlex
 from contextlib import closing
-from typing import Mapping
+from typing import Mapping, Sequence
 
 from ..call import streams
 from ..call.errors import MISSING, CompanionError
@@ -15,8 +15,8 @@ from ..call.text import clean, counted, number
 from ..recording.cause import EXITS
 from .forms import JSON, JUNIT, json_text, junit_text
 from .pool import answers
-from .store import MOST_LOGS, Logs, Store, find_logs, missing_elf
-from .table import Group, Table, Unread, day
+from .store import MOST_LOGS, File, Logs, Store, find_logs, missing_elf
+from .table import Group, Table, day
 from .work import MOST_BYTES, MOST_SECONDS, READ, UNREAD, Answer, Task
 
 MOST_SUSPECTS = 20
@@ -89,12 +89,12 @@ def parts_of(table: Table) -> list[Part]:
     parts = [Part("", [table.heading()])]
     parts += [Part(f"{number(group.count)}  {group.bucket.line()}", lines_of(group)) for group in table.sorted()]
     if table.unread:
-        parts.append(Part("NOT READ", [unread_line(why, one) for why, one in table.sorted_unread()]))
+        parts.append(Part("NOT READ", [unread_line(why, files) for why, files in table.sorted_unread()]))
     return parts
 
 
-def unread_line(why: str, one: Unread) -> str:
-    return f"{number(one.count)}  {clean(why)}: {clean(one.first.name)}" + (" and others" if one.count > 1 else "")
+def unread_line(why: str, files: Sequence[File]) -> str:
+    return f"{number(len(files))}  {clean(why)}: {clean(files[0].name)}" + (" and others" if len(files) > 1 else "")
 
 
 def saved_text(option: str, table: Table, parts: list[Part]) -> str:

@@ -13,7 +13,7 @@ EDGES_WITH_ROWS = 400
 
 
 @dataclass
-class Window:
+class RowWindow:
     """Rows of a hart that follow each other: the numbers of their codes, the ends of their texts, and the nodes of their
     calls, as [offset, node] at each change."""
     hart: int
@@ -31,7 +31,7 @@ class PageRows:
     def __init__(self, page: Page) -> None:
         self.page, self.rows, self.calls = page, page.rows, page.calls
         self.wanted: set[int] = set()
-        self.windows: list[Window] = []
+        self.windows: list[RowWindow] = []
         self.nodes: dict[tuple[int, int], int] = {}
         self.top_known = {0: 0}
 
@@ -79,11 +79,11 @@ class PageRows:
             self.read_hart(hart, rows)
 
     def read_hart(self, hart: int, rows: Sequence[int]) -> None:
-        window, before, expected = Window(hart, 0), -1, -1
+        window, before, expected = RowWindow(hart, 0), -1, -1
         for row in rows:
             count, node = self.rows.count_of(row), self.calls.node_of(row)
             if count != expected:
-                window, before = Window(hart, count), -1
+                window, before = RowWindow(hart, count), -1
                 self.windows.append(window)
             window.tails.append(self.rows.text(row).partition(" | ")[2])
             window.codes.append(self.page.code(self.rows.code[row]))

@@ -108,7 +108,7 @@ class View:
         """A family of groups for the page; the pair that tells most comes first."""
         one, other = judged.pair(family[0])
         pairs = [pair for group in family for pair in group.first if pair[0] is not one or pair[1] is not other]
-        arcs = [self.arc(pair) for pair in [AccessPair(one, other)] + pairs[:ARCS - 1]]
+        arcs = [self.arc(pair) for pair in [(one, other)] + pairs[:ARCS - 1]]
         return dict(pairs=pairs_of(family), word=family_word(races, family), kind=family[0].kind,
                     judged=judged.reason(family[0]), first=self.page.place(one.pc), second=self.page.place(other.pc), arcs=arcs)
 

@@ -4,7 +4,7 @@ from __future__ import annotations
 from array import array
 from collections import Counter
 from itertools import compress
-from typing import NamedTuple, Optional
+from typing import NamedTuple
 
 from ..call.text import number
 from .facts import Facts
@@ -20,17 +20,6 @@ MOST = 40                   # branches that are looked at
 ORDERS = "blt", "bge"
 BEFORE = {"control": "before", "kept": "so this kept its value in", "spared": "so a word beside what it compared kept its value in",
           "awaited": "so this goes on waiting in"}
-
-
-class Compared(NamedTuple):
-    """The two values that a branch compared; None if the log doesn't tell one."""
-    one: Optional[int]
-    other: Optional[int]
-
-
-def compared(facts: Facts, row: int) -> Compared:
-    rows, writers, ins = facts.rows, facts.writers, facts.rows.code_of(row)
-    return Compared(rows.result_of(writers.first[row]) if ins.rs1 else 0, rows.result_of(writers.second[row]) if ins.rs2 else 0)
 
 
 def branch_suspects(facts: Facts, history: History, ways: Ways) -> list[Suspect]:
@@ -58,16 +47,16 @@ def branch_suspects(facts: Facts, history: History, ways: Ways) -> list[Suspect]
 
 
 def judge_values(facts: Facts, suspect: Suspect) -> None:
-    """The signs of what a branch compared."""
-    rows, row = facts.rows, suspect.guilty
-    one, other = compared(facts, row)
+    rows, row, writers = facts.rows, suspect.guilty, facts.writers
+    one = rows.result_of(writers.first[row]) if rows.code_of(row).rs1 else 0
+    other = rows.result_of(writers.second[row]) if rows.code_of(row).rs2 else 0
     if one is not None and other is not None:
         words = f"it compared {one:08x} with {other:08x}"
         if one == other and rows.code_of(row).name.startswith(ORDERS):
             suspect.sign(EQUAL, words + ", which are the same: is the bound one off?")
         else:
             suspect.why.append(words)
-    cut = cut_behind(facts.trace, facts.writers.first[row]) or cut_behind(facts.trace, facts.writers.second[row])
+    cut = cut_behind(facts.trace, writers.first[row]) or cut_behind(facts.trace, writers.second[row])
     if cut:
         suspect.sign(CUT, "of which one had lost bits")
         suspect.extra.append(Extra(cut.words + " in", cut.row))
@@ -90,7 +79,6 @@ class Way(NamedTuple):
 
 
 def judge_way(suspect: Suspect, way: Way) -> None:
-    """The signs of the way that a branch went."""
     if way.is_back:
         suspect.shown = bool(suspect.extra)
     elif way.all_times >= USUAL_ROWS and way.times * 10 >= way.all_times * 9:

@@ -4,7 +4,7 @@ A row depends on the nearest branch before it, in its function or in those that 
 function can end without coming to the row's place. The code is read from the ELF file as far as it can be reached."""
 from __future__ import annotations
 
-from typing import Callable, Mapping, Optional
+from typing import Callable, Iterator, Mapping, Optional
 
 from ..recording.elf import Elf
 from ..recording.instruction import BRANCH, JUMP, Instruction
@@ -69,21 +69,22 @@ class Control:
         """Whether a function can end from `start` on without coming to `place`."""
         key = start, place
         if key not in self.ways:
-            self.ways[key] = self.find_way(start, place)
+            self.ways[key] = any(at != place and not following for at, following in self.places_from(start, place))
         return self.ways[key]
 
-    def find_way(self, start: int, place: int) -> bool:
+    def can_reach(self, start: int, place: int) -> bool:
+        """Whether a function can come from `start` to `place`."""
+        return any(at == place for at, _ in self.places_from(start, place))
+
+    def places_from(self, start: int, end: int) -> Iterator[tuple[int, list[int]]]:
+        """The places of a function from `start` on, each with those that can come next: none behind `end`."""
         seen, todo = {start}, [start]
         while todo and len(seen) < MOST_PLACES:
             at = todo.pop()
-            if at == place:
-                continue
-            following = self.following(at)
-            if not following:
-                return True
+            following = [] if at == end else self.following(at)
+            yield at, following
             todo += [other for other in following if other not in seen]
             seen.update(following)
-        return False
 
     def following(self, pc: int) -> list[int]:
         """The places that can come next in the same function: none at its end."""
@@ -157,18 +158,6 @@ class Control:
     def is_left(self, n: int, went: int, place: int) -> bool:
         other = other_side(self.rows.code_of(n), went)
         return other is not None and self.can_reach(other, place) and not self.can_reach(went, place)
-
-    def can_reach(self, start: int, place: int) -> bool:
-        """Whether a function can come from `start` to `place`."""
-        seen, todo = {start}, [start]
-        while todo and len(seen) < MOST_PLACES:
-            at = todo.pop()
-            if at == place:
-                return True
-            following = self.following(at)
-            todo += [other for other in following if other not in seen]
-            seen.update(following)
-        return False
 
     def is_past(self, n: int, went: int, place: int) -> bool:
         """Whether a branch could have gone on to a place that its way doesn't come to. A way back is a loop's."""

@@ -18,7 +18,6 @@ VERBS = {"Load": "loads from", "Store": "stores to", "Fetch": "jumps to", "Targe
 
 
 def fault_words(rows: Rows, fault: Fault, elf: Elf) -> list[str]:
-    """The fault in words, as lines."""
     value, ins = fault.value, fault.instruction
     said = [reason(rows, elf, fault)]
     if fault.name in ("Breakpoint", "Illegal"):

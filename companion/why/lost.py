@@ -1,11 +1,12 @@
 """Whether a value had lost bits: it was stored in fewer bytes, masked, or shifted up and down again."""
 from __future__ import annotations
 
-from typing import Mapping, NamedTuple, Optional
+from typing import Mapping, Optional
 
 from ..recording.instruction import STORE, Instruction
 from ..recording.rows import LOADS, STORES
 from ..recording.trace import Trace
+from .suspect import Extra
 
 SMALL = 1 << 16             # how far below zero a difference may be
 MASKS = {(1 << width) - 1: width for width in range(4, 12)}
@@ -15,20 +16,8 @@ UNSIGNED = "bltu", "bgeu", "sltu", "sltiu"      # what compares without signs
 STEPS, MOST_SUMS = 14, 8    # rows that are looked at behind a value, and on the way to its use
 
 
-class Narrowing(NamedTuple):
-    """The row of a value, and how many of its lowest bits are kept."""
-    source: int
-    width: int
-
-
-class Cut(NamedTuple):
-    """A row that lost bits, and what, in words."""
-    row: int
-    words: str
-
-
-def cut_behind(trace: Trace, row: int) -> Optional[Cut]:
-    """The nearest row behind a row's value that kept only some bits of a value, if it lost one."""
+def cut_behind(trace: Trace, row: int) -> Optional[Extra]:
+    """The nearest row behind a row's value that kept only some bits of a value, if it lost one, and what it lost, in words."""
     todo, seen = [row], {0}
     users: dict[int, int] = {}
     for n in todo:
@@ -37,7 +26,7 @@ def cut_behind(trace: Trace, row: int) -> Optional[Cut]:
         seen.add(n)
         words = loss(trace, n, users)
         if words:
-            return Cut(n, words)
+            return Extra(words, n)
         if trace.rows.flags[n] & LOADS:
             behind = trace.writers.stores(n).rows
         else:
@@ -61,18 +50,19 @@ def loss(trace: Trace, n: int, users: Mapping[int, int]) -> str:
     return "" if before in (after, signed) else f"{before:08x} was cut to {width} bits, and became {after:08x}"
 
 
-def narrowing(trace: Trace, n: int) -> Narrowing:
-    """Of what a row keeps the lowest bits: it stores some bytes, is a mask, or the second of two shifts. Or row 0."""
+def narrowing(trace: Trace, n: int) -> tuple[int, int]:
+    """The row of whose value a row keeps the lowest bits, and how many: it stores some bytes, is a mask, or the second of two
+    shifts. Or row 0."""
     ins = trace.rows.code_of(n)
     if ins.kind == STORE and ins.width < 4:
-        return Narrowing(trace.writers.second[n], 8 * ins.width)
+        return trace.writers.second[n], 8 * ins.width
     if ins.name == "andi" and ins.word >> 20 in MASKS:
-        return Narrowing(trace.writers.first[n], MASKS[ins.word >> 20])
+        return trace.writers.first[n], MASKS[ins.word >> 20]
     if ins.name in ("srli", "srai") and trace.rows.code_of(trace.writers.first[n]).name == "slli":
         width, left = (KEPT.get(each.word >> 20 & 31, 0) for each in (ins, trace.rows.code_of(trace.writers.first[n])))
         if width and width == left:
-            return Narrowing(trace.writers.first[trace.writers.first[n]], width)
-    return Narrowing(0, 32)
+            return trace.writers.first[trace.writers.first[n]], width
+    return 0, 32
 
 
 def user_of(trace: Trace, n: int, users: Mapping[int, int]) -> int:

@@ -24,15 +24,10 @@ class Loads(NamedTuple):
     nearest: int
 
 
-def nearest_before(history: History) -> list[int]:
-    """The loads of what no row stored, nearest to the fault first."""
-    return sorted(history.before, key=lambda n: history.cost[n])[:MOST_LOADS]
-
-
 def origins(facts: Facts, history: History) -> dict[Origin, Loads]:
-    """The history's loads from before the rows."""
+    """The history's loads of what no row stored, nearest to the fault first."""
     found: dict[Origin, Loads] = {}
-    for n in nearest_before(history):
+    for n in sorted(history.before, key=lambda n: history.cost[n])[:MOST_LOADS]:
         key = Origin(came_from(facts, n), facts.where(n))
         times, first = found.get(key, (0, n))
         found[key] = Loads(times + 1, first)

@@ -172,7 +172,6 @@ class Ranking:
         return latest
 
     def judge(self, item: Suspect, history: History) -> None:
-        """The signs of a load and its store."""
         rows, writers, load, store = self.rows, self.writers, item.load, item.store
         if rows.hart[store] != rows.hart[load]:
             item.sign(OTHER_HART, "another hart stored it")

@@ -1,9 +1,9 @@
 //! The recording of a run: its log file, its list of turns, and what its outputs get.
-ghost use Rattle.std.specs.Prelude.{◌≡◌, ◌++◌, [], ℕ, List, IfOk, Some, None, false, option_map};
+ghost use Rattle.std.specs.Prelude.{◌≡◌, ◌++◌, [], ℕ, List, IfOk, Some, None, false};
 ghost use Rattle.std.specs.List.{list_any};
 ghost use Rattle.bus_core.specs.Bus.{began_of};
-ghost use Rattle.whole_runs.specs.Closed.{IsClosed};
-ghost use Rattle.bugnet.specs.Recordings.{count_of, instructions_of, is_fault, is_limit, end_by, AreScheduled};
+ghost use Rattle.whole_runs.specs.Chosen.{IsListed};
+ghost use Rattle.bugnet.specs.Recordings.{count_of, instructions_of, is_fault, is_limit, end_by, book_if, AreScheduled};
 ghost use Rattle.log_commands.specs.RunEnds.{end_word};
 ghost use Rattle.log_commands.specs.Texts.{summary_text};
 ghost use Rattle.bugnet.specs.ClosedRuns.{IsRecordingOf, IsRecordingBy};
@@ -11,7 +11,6 @@ ghost use Rattle.bugnet.specs.ClosedRuns.{IsRecordingOf, IsRecordingBy};
 use bn_base::EndMark;
 use bn_base::end_mark::{FAULT, LIMIT};
 use bn_outside::{Book, Gate, LeanBook, Schedule};
-use bus_core::Closed;
 use log_commands::answer::{RunEnd, RunToTell};
 use log_commands::texts::{RunCounts, push_summary};
 use run_files::saved_file;
@@ -20,9 +19,7 @@ use rv_text::Text;
 use std::alloc::{AllocError, Global};
 use std::sync::Wait;
 use std::thread::Threads;
-use whole_runs::{
-    Listed, run_listed, run_scheduled, run_seeded, run_threads_lean, run_threads_listed,
-};
+use whole_runs::{Listed, run_listed, run_scheduled, run_threads_listed};
 
 fn count_of(mark: &Option<EndMark>) -> u64
     ensures { result ≡ count_of mark.now }
@@ -104,16 +101,17 @@ fn err_of(
     Ok(err)
 }
 
-// The recording of a closed run, and of the list of its turns if that is saved.
+// The recording of a closed run, and of the list of its turns unless it is lean.
 fn recording_of<B: Book>(
     alloc: Global,
     start: &Start,
-    closed: Closed<B>,
-    book: Option<Vec<u8>>,
+    run: Listed<B>,
+    lean: bool,
 ) -> Result<RunToTell, AllocError>
-    requires { closed.ring.size ≡ start.now.settings.log_size }
-    ensures { IfOk result (λ r. IsRecordingOf start.now closed (option_map (λ list. list.items) book) r) }
+    requires { run.closed.ring.size ≡ start.now.settings.log_size }
+    ensures { IfOk result (λ r. IsRecordingOf start.now run.closed (book_if lean run.list.items) r) }
 {
+    let Listed { closed, list } = run;
     let end = end_by(&closed.ends);
     let counts = RunCounts {
         turns: closed.turns,
@@ -128,71 +126,40 @@ fn recording_of<B: Book>(
         out: closed.out,
         err,
         log,
-        book,
+        book: if lean { None } else { Some(list) },
     })
 }
 
-// A run of harts in threads of their own, with the list of its turns. The turns of one hart have one order alone, so it
-// needs no thread.
+// A run of harts in threads of their own. The turns of one hart have one order alone, so it needs no thread.
 fn run_free<G: Gate, R: Threads + Wait + Sync>(
     rt: &R,
     alloc: Global,
     start: &Start,
     gate: &G,
+    keeps: bool,
 ) -> Result<Listed<LeanBook>, AllocError>
-    ensures { IfOk result (λ run. IsClosed false (began_of start.now) run.list.items run.closed []) }
+    ensures { IfOk result (λ run. (list : List ℕ) × IsListed false keeps (began_of start.now) list run []) }
 {
     if start.settings.harts() == 1 {
-        return run_listed(alloc, start, LeanBook, 0);
+        return run_listed(alloc, start, LeanBook, 0, keeps);
     }
-    run_threads_listed(rt, alloc, start, LeanBook, gate)
+    run_threads_listed(rt, alloc, start, LeanBook, gate, keeps)
 }
 
-// The same without its list. In threads nothing is kept of a turn.
-fn run_free_lean<G: Gate, R: Threads + Wait + Sync>(
-    rt: &R,
-    alloc: Global,
-    start: &Start,
-    gate: &G,
-) -> Result<Closed<LeanBook>, AllocError>
-    ensures { IfOk result (λ closed. (list : List ℕ) × IsClosed false (began_of start.now) list closed []) }
-{
-    if start.settings.harts() == 1 {
-        return run_seeded(alloc, start, LeanBook, 0);
-    }
-    run_threads_lean(rt, alloc, start, LeanBook, gate)
-}
-
-// A run by the schedule, if there is one, with the list of its turns.
+// A run by the schedule, if there is one.
 fn run_unseeded<G: Gate, R: Threads + Wait + Sync>(
     rt: &R,
     alloc: Global,
     start: &Start,
     gate: &G,
     schedule: Option<Schedule>,
+    keeps: bool,
 ) -> Result<Listed<LeanBook>, AllocError>
-    ensures run { IfOk result (λ run. IsClosed false (began_of start.now) run.list.items run.closed []) }
-    ensures given { IfOk result (λ run. AreScheduled schedule.entry (began_of start.now) run.list.items) }
+    ensures { IfOk result (λ run. (list : List ℕ) × IsListed false keeps (began_of start.now) list run [] × AreScheduled schedule.entry (began_of start.now) list) }
 {
     match schedule {
-        Some(schedule) => run_scheduled(alloc, start, LeanBook, schedule),
-        None => run_free(rt, alloc, start, gate),
-    }
-}
-
-// The same without its list.
-fn run_unseeded_lean<G: Gate, R: Threads + Wait + Sync>(
-    rt: &R,
-    alloc: Global,
-    start: &Start,
-    gate: &G,
-    schedule: Option<Schedule>,
-) -> Result<Closed<LeanBook>, AllocError>
-    ensures { IfOk result (λ closed. (list : List ℕ) × IsClosed false (began_of start.now) list closed [] × AreScheduled schedule.entry (began_of start.now) list) }
-{
-    match schedule {
-        Some(schedule) => Ok(run_scheduled(alloc, start, LeanBook, schedule)?.closed),
-        None => run_free_lean(rt, alloc, start, gate),
+        Some(schedule) => run_scheduled(alloc, start, LeanBook, schedule, keeps),
+        None => run_free(rt, alloc, start, gate, keeps),
     }
 }
 
@@ -206,13 +173,8 @@ pub fn record_by_seed(
 ) -> Result<RunToTell, AllocError>
     ensures { IfOk result (λ r. IsRecordingBy start.now (record { seed = Some seed; lean = lean; schedule = None }) r) }
 {
-    if lean {
-        let closed = run_seeded(alloc, start, LeanBook, seed)?;
-        recording_of(alloc, start, closed, None)
-    } else {
-        let listed = run_listed(alloc, start, LeanBook, seed)?;
-        recording_of(alloc, start, listed.closed, Some(listed.list))
-    }
+    let run = run_listed(alloc, start, LeanBook, seed, !lean)?;
+    recording_of(alloc, start, run, lean)
 }
 
 /// The recording of a run without a seed: by a schedule, or else several harts are in threads of their own. As much of a
@@ -227,11 +189,6 @@ pub fn record_unseeded<G: Gate, R: Threads + Wait + Sync>(
 ) -> Result<RunToTell, AllocError>
     ensures { IfOk result (λ r. IsRecordingBy start.now (record { seed = None; lean = lean; schedule = schedule.entry }) r) }
 {
-    if lean {
-        let closed = run_unseeded_lean(rt, alloc, start, gate, schedule)?;
-        recording_of(alloc, start, closed, None)
-    } else {
-        let whole = run_unseeded(rt, alloc, start, gate, schedule)?;
-        recording_of(alloc, start, whole.closed, Some(whole.list))
-    }
+    let run = run_unseeded(rt, alloc, start, gate, schedule, !lean)?;
+    recording_of(alloc, start, run, lean)
 }

@@ -42,7 +42,7 @@ pub fn with_list<R: Print>(
     start: &Start,
     seed: u64,
 ) -> anyhow::Result<Vec<u8>> {
-    let run = run_listed(alloc, start, LeanBook, seed)?;
+    let run = run_listed(alloc, start, LeanBook, seed, true)?;
     print_numbers(rt, "list", &run.list)?;
     print_closed(rt, alloc, &run.closed)
 }

@@ -13,8 +13,8 @@ use Rattle.run_model.specs.declared.turn_end.TurnEnd.TheVariants.{GoesOn, NewInt
 use Rattle.run_model.specs.Machine.{Answered, answer, call_of}
 use Rattle.run_model.specs.Turn.{Run, ask_at, is_orderly, is_guarded, guarded_run, by_guard, hart_after, harts_after, other_after, next_of, serve, serve_answered, served_if, turn}
 use Rattle.run_model.specs.Runs.{live_harts}
-use Rattle.run_model.specs.Runs as runs
-use Rattle.bus_core.specs.Bus.{Began, Seen, IsState, first_run}
+use Rattle.bus_core.specs.Bus.{Began, first_run}
+use Rattle.whole_runs.specs.Chosen.{IsCounted}
 use Rattle.whole_runs.specs.Lists.{list_run, live_harts_of, IsLiveCount}
 use Rattle.whole_runs.proofs.Live.{decide, live_first, over_first, live_of}
 use Rattle.whole_runs.proofs.Rows.{run_snoc}
@@ -98,21 +98,11 @@ same_live k (suc n) f g same =
     ap (λ (b : Bool). elim b as (λ z. List ℕ) [ true ↦ k ∷ live_harts (k + 1) n g | false ↦ live_harts (k + 1) n g ]) (same k)
     ∙ ap (λ (xs : List ℕ). elim (f k).live as (λ z. List ℕ) [ true ↦ k ∷ xs | false ↦ xs ]) (same_live (k + 1) n f g same)
 
--- so many harts are live after a list of turns
-abbrev pub IsCount : Began → List ℕ → ℕ → Type 0
-IsCount b list count = IsLiveCount b (list_run b list) count
-
--- what is counted after one turn more, if as many are live where its hart still is
-pub count_next : (old new : Seen) (list : List ℕ) (k count after : ℕ) → new.began ≡ old.began → IsCount old.began list count → IsState new (list_run new.began (list ++ k ∷ []))
-    → ((run : Run) → IsState new run → (runs.is_live new.began.settings run k ≡ true → IsLiveCount new.began run count) → IsLiveCount new.began run after)
-    → IsCount new.began (list ++ k ∷ []) after
-count_next old new list k count after e counted state from =
-    let b = new.began in
-    let run = list_run b (list ++ k ∷ []) in
+-- as many are live after one turn more, if its hart still is
+pub count_stays : (b : Began) (list : List ℕ) (k count : ℕ) → IsLiveCount b (list_run b list) count → IsCounted b (list ++ k ∷ []) k count
+count_stays b list k count was = λ known live.
     let before = list_run b list in
     let is = run_snoc b.settings b.image (first_run b) list k in
-    let was : IsCount b list count = subst (λ (x : Began). IsCount x list count) (sym e) counted in
-    from run state (λ live.
-    let alive = subst (λ (r : Run). (r.harts k).live ≡ true) is (live_of b.settings run k live) in
+    let alive = subst (λ (r : Run). (r.harts k).live ≡ true) is (live_of b.settings (list_run b (list ++ k ∷ [])) k live) in
     let same = same_live 0 b.settings.harts before.harts (turn b.settings b.image before k).harts (λ j. turn_same b.settings b.image before k j alive) in
-    λ several. was several ∙ ap length (sym (ap (λ (r : Run). live_harts_of b r) is ∙ same)))
+    λ several. was several ∙ ap length (sym (ap (λ (r : Run). live_harts_of b r) is ∙ same))

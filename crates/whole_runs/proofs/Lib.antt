@@ -4,6 +4,7 @@ pub mod Counted
 pub mod Seeds
 pub mod Taken
 pub mod Draws
+pub mod Chosen
 pub mod Errors
 pub mod Follows
 pub mod Whole

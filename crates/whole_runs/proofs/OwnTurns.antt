@@ -9,7 +9,8 @@ use Rattle.run_model.specs.Turn.{Run, ask_at, is_orderly}
 use Rattle.run_laws.specs.Laws.{OwnAsksAreOrderly}
 use Rattle.bus_core.specs.Bus.{Began, Seen, IsState, is_live, row, turn_row, served_reply, served_guarded, served_run}
 use Rattle.whole_runs.specs.Lists.{HasTaken, list_run, seeded_after}
-use Rattle.whole_runs.specs.Taking.{StaysTaken, kept_after, kept_with}
+use Rattle.whole_runs.specs.Chosen.{kept_after, kept_with}
+use Rattle.whole_runs.specs.Taking.{StaysTaken}
 use Rattle.whole_runs.proofs.Taken.{live_is, taken_more}
 
 -- the row of a turn in which a hart asks what it asks next

@@ -2,7 +2,6 @@
 use Rattle.std.proofs.Common.{◌≡◌, ℕ, suc, ◌-◌, ◌<◌, Bool, true, false, ◌&&◌, nat_lt, List, [], ◌∷◌, ◌++◌, length, length-append, refl, sym, ◌∙◌, ap, subst, arith}
 use Rattle.std.specs.Prelude.{Option, Some, None, slice_get}
 use Rattle.std.proofs.lemmas.Option.{slice_get_within}
-use Rattle.std.proofs.lemmas.List.{append_assoc, append-nil}
 use Rattle.bn_outside.specs.declared.turn_row.TurnRow.{TurnRow}
 use Rattle.run_model.specs.declared.hart.Hart.{Hart}
 use Rattle.run_model.specs.Represents.Harts.{is_live_hart}
@@ -12,7 +11,7 @@ use Rattle.run_model.specs.Runs as runs
 use Rattle.bus_core.specs.Bus.{Began, Seen, IsState, first_run, turned_run, turn_row, is_live}
 use Rattle.whole_runs.specs.Lists.{HasTaken, list_run, list_rows, is_legal, live_harts_of, seeded_after}
 use Rattle.whole_runs.proofs.Rows.{run_snoc, rows_snoc, legal_snoc, turns_count}
-use Rattle.whole_runs.proofs.Seeds.{seeded_first, seeded_none}
+use Rattle.whole_runs.proofs.Seeds.{seeded_first}
 
 -- ---- a hart that is live in the bus
 
@@ -91,32 +90,3 @@ drawn_more b list s k few any is =
     ∙ seeded_first b.settings b.image run s (most_turns b.settings - length (list ++ k ∷ [])) any
     ∙ ap (λ (j : ℕ). j ∷ seeded_from b.settings b.image (turn b.settings b.image run j) (draw s) (most_turns b.settings - length (list ++ k ∷ []))) (sym is)
     ∙ ap (λ (r : Run). k ∷ seeded_from b.settings b.image r (draw s) (most_turns b.settings - length (list ++ k ∷ []))) (sym (run_snoc b.settings b.image (first_run b) list k))
-
--- after the turns of a list the bus took some that a number chose, and those to come are the ones that are left
-pub record IsDrawn (tells : Bool) (b : Began) (list : List ℕ) (seed : ℕ) (new : Seen) (now : ℕ) (rest : List ℕ) : Type 0 where
-  pub taken : HasTaken tells new (list ++ rest)
-  pub left : seeded_after b list seed ≡ rest ++ seeded_after b (list ++ rest) now
-
-pub drawn_first : (tells : Bool) (s : Seen) (list : List ℕ) (seed : ℕ) → HasTaken tells s list → IsDrawn tells s.began list seed s seed []
-drawn_first tells s list seed h = record { taken = subst (λ (xs : List ℕ). HasTaken tells s xs) (sym (append-nil list)) h; left = ap (λ (xs : List ℕ). seeded_after s.began xs seed) (sym (append-nil list)) }
-
-pub drawn_next : (tells : Bool) (b : Began) (list : List ℕ) (seed : ℕ) (old new : Seen) (now k : ℕ) (rest : List ℕ) → IsDrawn tells b list seed old now rest → old.began ≡ b → old.turns < most_turns b.settings
-    → any_live b.settings.harts (list_run b (list ++ rest)).harts ≡ true → k ≡ chosen (draw now) (live_harts_of b (list_run b (list ++ rest))) → HasTaken tells new ((list ++ rest) ++ k ∷ []) → IsDrawn tells b list seed new (draw now) (rest ++ k ∷ [])
-drawn_next tells b list seed old new now k rest h eb few any is taken =
-    let short : length (list ++ rest) < most_turns b.settings = omega (arith, few, turns_are tells old (list ++ rest) h.taken) in
-    let joined = append_assoc list rest (k ∷ []) in
-    record {
-      taken = subst (λ (xs : List ℕ). HasTaken tells new xs) joined taken;
-      left =
-          h.left
-          ∙ ap (λ (xs : List ℕ). rest ++ xs) (drawn_more b (list ++ rest) now k short any is)
-          ∙ sym (append_assoc rest (k ∷ []) (seeded_after b ((list ++ rest) ++ k ∷ []) (draw now)))
-          ∙ ap (λ (xs : List ℕ). (rest ++ k ∷ []) ++ seeded_after b xs (draw now)) joined;
-    }
-
--- if no hart is live, all turns were taken
-pub drawn_all : (tells : Bool) (b : Began) (list : List ℕ) (seed : ℕ) (new : Seen) (now : ℕ) (rest : List ℕ) → IsDrawn tells b list seed new now rest → any_live b.settings.harts (list_run b (list ++ rest)).harts ≡ false → rest ≡ seeded_after b list seed
-drawn_all tells b list seed new now rest h none =
-    sym (h.left
-    ∙ ap (λ (xs : List ℕ). rest ++ xs) (seeded_none b.settings b.image (list_run b (list ++ rest)) now (most_turns b.settings - length (list ++ rest)) none)
-    ∙ append-nil rest)

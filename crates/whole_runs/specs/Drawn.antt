@@ -1,6 +1,6 @@
 -- Schedules that a number draws. In bursts one hart keeps its turns for a while. With a sleeper one hart takes none for a
 -- while, and each turn is of one of the others.
-use Rattle.std.specs.Prelude.{◌≡◌, ℕ, zero, suc, ◌+◌, ◌-◌, ◌/◌, ◌%◌, ◌^◌, nat_lt, Bool, true, false, ◌&&◌, List, [], ◌∷◌, length, Option, Some, MatchOption}
+use Rattle.std.specs.Prelude.{◌≡◌, ℕ, zero, suc, ◌+◌, ◌-◌, ◌/◌, ◌%◌, ◌^◌, nat_lt, true, false, ◌&&◌, List, [], ◌∷◌, length, Option, Some, MatchOption}
 use Rattle.bn_base.specs.Programs.{Program}
 use Rattle.bn_base.specs.declared.settings.RawSettings.{RawSettings}
 use Rattle.run_model.specs.Turn.{Run, turn}

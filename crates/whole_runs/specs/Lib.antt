@@ -3,6 +3,7 @@ pub mod Drawn
 pub mod Followed
 pub mod Scheduled
 pub mod Closed
+pub mod Chosen
 pub mod Laws
 pub mod HartTurns
 pub mod Taking

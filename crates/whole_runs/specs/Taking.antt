@@ -6,7 +6,8 @@ use Rattle.rv_meaning.specs.declared.asks.Reply.{Reply}
 use Rattle.bus_core.specs.Bus.{Began, Seen, turn_row}
 use Rattle.bus_core.specs.declared.closed.Closed.{Closed}
 use Rattle.whole_runs.specs.Closed.{IsClosed}
-use Rattle.whole_runs.specs.Lists.{HasTaken, list_run, is_legal, is_finished, seeded_after}
+use Rattle.whole_runs.specs.Chosen.{kept_after}
+use Rattle.whole_runs.specs.Lists.{HasTaken, list_run, is_legal, seeded_after}
 use Rattle.whole_runs.specs.HartTurns.{IsServed, row_of}
 
 -- what is seen of it: the bus, whether the list is kept, what is kept of it, and whether some hart found no memory
@@ -38,11 +39,6 @@ pub record StaysTaken (tells : Bool) (old : Seen) (before : List ℕ) (new : See
   pub running : old.halted ≡ false
   pub more : (list : List ℕ) → AreTaken tells old keeps before list → (all : List ℕ) × AreTaken tells new keeps after all
 
--- what is kept of a list after one turn more
-abbrev pub kept_after : Bool → List ℕ → ℕ → List ℕ
-kept_after true list hart = list ++ hart ∷ []
-kept_after false list hart = list
-
 -- hart h took its own turn, in which it asked this: the bus served it, it is answered as it is after some legal list,
 -- and the turn is kept
 pub record IsOwnTurn (b : Began) (old new : Taking) (h : ℕ) (ask : Ask) (answered : Reply × Bool) : Type 0 where
@@ -50,30 +46,11 @@ pub record IsOwnTurn (b : Began) (old new : Taking) (h : ℕ) (ask : Ask) (answe
   pub answers : AnswersTurn b h ask answered
   pub kept : new.list ≡ kept_after old.keeps old.list h
 
--- what is kept of a list after more turns
-abbrev pub kept_with : Bool → List ℕ → List ℕ → List ℕ
-kept_with true list more = list ++ more
-kept_with false list more = list
-
--- the turns of seed 0 finish the run of a bus; they are added to a list
-pub record Finishes (tells : Bool) (old new : Seen) (keeps : Bool) (before after : List ℕ) : Type 0 where
-  pub more : List ℕ
-  pub kept : after ≡ kept_with keeps before more
-  pub chosen : (list : List ℕ) → HasTaken tells old list → more ≡ seeded_after old.began list 0
-  pub taken : (list : List ℕ) → HasTaken tells old list → HasTaken tells new (list ++ more)
-  pub finished : (list : List ℕ) → HasTaken tells old list → is_finished new.began (list ++ more) ≡ true
-
 -- A run continues by seed 0 from a bus. Whatever list led to the bus, it is closed after that list and the turns of seed 0. If a
 -- list is kept, these are kept after it
 pub record ContinuesBySeed0 {B : _} (tells : Bool) (b : Began) (own : Taking) (closed : Closed B) (kept : List ℕ) (rows : List TurnRow) : Type 0 where
   pub closed_is : (list : List ℕ) → HasTaken tells own.bus list → IsClosed tells b (list ++ seeded_after b list 0) closed rows
   pub kept_is : own.keeps ≡ true → kept ≡ own.list ++ seeded_after b own.list 0
-
--- a closed bus after the turns of a legal and finished list, which is the one that is kept, if one is
-pub record IsClosedBy {B : _} (tells : Bool) (b : Began) (keeps : Bool) (closed : Closed B) (kept : List ℕ) (rows : List TurnRow) : Type 0 where
-  pub list : List ℕ
-  pub closed_is : IsClosed tells b list closed rows
-  pub kept_is : keeps ≡ true → kept ≡ list
 
 -- what stands if no call has picked what it began with
 abbrev pub nothing_begun : Began

@@ -97,13 +97,17 @@ fn choose_alone<B: Book>(bus: &Bus<B>) -> Option<HartId>
 }
 
 /// How many harts are live after a turn of a hart, before which so many were: as many, if that hart still
-/// is, since only its own end ends others. So few turns need a new count, and one hart alone needs none.
+/// is, since only its own end ends others. So few turns need a new count, and one hart alone needs none. Of
+/// 0 harts nothing was known.
 #[inline(always)]
 pub fn count_after<B: Book>(bus: &Bus<B>, hart: HartId, count: u8) -> u8
-    ensures { (run : Run) → IsState bus.now run → (runs.is_live bus.now.began.settings run hart ≡ true → IsLiveCount bus.now.began run count) → IsLiveCount bus.now.began run result }
+    ensures { (run : Run) → IsState bus.now run → (0 < count → runs.is_live bus.now.began.settings run hart ≡ true → IsLiveCount bus.now.began run count) → IsLiveCount bus.now.began run result }
 {
     if bus.start().settings.harts() == 1 {
         return count;
+    }
+    if count == 0 {
+        return count_live(bus);
     }
     if bus.live(hart) {
         count

@@ -2,11 +2,11 @@
 //! a thread of its own.
 #![tactic(auto)]
 
+mod chooser;
+mod choosers;
 mod choosing;
 mod drawing;
-mod drawn_turns;
 mod examples;
-mod followed_turns;
 mod hart_place;
 mod laws;
 mod listed;
@@ -15,7 +15,6 @@ mod listed_end;
 mod listed_threads;
 mod listed_worker;
 mod runs;
-mod scheduled;
 mod turn_port;
 mod turns;
 
@@ -26,9 +25,8 @@ pub use laws::{
 };
 pub use listed::Listed;
 pub use listed_bus::{Beginning, ListedBus};
-pub use listed_threads::{run_threads_lean, run_threads_listed};
+pub use listed_threads::run_threads_listed;
 pub use listed_worker::{ListedPort, work_listed};
-pub use runs::{run_listed, run_seeded, run_turns};
-pub use scheduled::run_scheduled;
+pub use runs::{run_listed, run_scheduled, run_seeded, run_turns};
 pub use turn_port::{MemoryPort, TurnPort, drive};
-pub use turns::{close, finish_unlisted};
+pub use turns::{close, finish};

@@ -5,9 +5,11 @@ ghost use Rattle.run_model.specs.Turn.{Run, ask_at};
 ghost use Rattle.run_laws.specs.History.{ask_from, place_of};
 ghost use Rattle.bus_core.specs.Bus.{is_live, IsState};
 ghost use Rattle.whole_runs.specs.Lists.{HasTaken};
-ghost use Rattle.whole_runs.specs.Taking.{kept_after, AnswersTurn, IsOwnTurn, StaysTaken};
+ghost use Rattle.whole_runs.specs.Chosen.{kept_after};
+ghost use Rattle.whole_runs.specs.Taking.{AnswersTurn, IsOwnTurn, StaysTaken};
 ghost use Rattle.whole_runs.specs.HartTurns.{place_at, IsServed};
 
+use crate::chooser::keep;
 use crate::hart_place::HartPlace;
 use bn_base::HartId;
 use bn_outside::Book;
@@ -91,16 +93,6 @@ fn serve_own<B: Book>(
     let _within = bus.live(hart);
     let _settings = bus.start().settings.raw();
     bus.serve(hart, ask)
-}
-
-// Appends the hart of a turn, unless the recording keeps no list.
-fn keep(list: &mut Vec<u8>, keeps: bool, hart: HartId) -> Result<(), AllocError>
-    ensures { OnOk result (list.new.items ≡ kept_after keeps list.old.items hart) }
-{
-    if keeps {
-        list.push(hart)?;
-    }
-    Ok(())
 }
 
 // Serves what a live hart asks next, and keeps its turn.

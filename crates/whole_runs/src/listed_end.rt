@@ -1,49 +1,21 @@
 //! The end of a run whose harts ran in threads on a listed bus, once all threads have ended.
-ghost use Rattle.std.specs.Prelude.{◌≡◌, true, false, List, length, is_err, IfOk, OnOk};
+ghost use Rattle.std.specs.Prelude.{◌≡◌, true, false, List, ℕ, length, is_err, IfOk, OnOk};
 ghost use Rattle.std.specs.List.{list_any};
 ghost use Rattle.bn_outside.specs.declared.turn_row.TurnRow.{TurnRow};
 ghost use Rattle.run_model.specs.Runs.{seeded};
 ghost use Rattle.bus_core.specs.Bus.{began_of};
 ghost use Rattle.whole_runs.specs.Closed.{IsOfRows};
-ghost use Rattle.whole_runs.specs.Taking.{kept_with, Finishes, ContinuesBySeed0, IsClosedBy};
+ghost use Rattle.whole_runs.specs.Chosen.{IsListed};
+ghost use Rattle.whole_runs.specs.Taking.{ContinuesBySeed0};
 
 use crate::listed::Listed;
 use crate::listed_bus::{Beginning, ListedBus};
 use crate::runs::run_listed;
 use crate::turns::{close, finish};
 use bn_outside::Book;
-use bus_core::Bus;
 use run_model::Start;
 use rv_meaning::DecodedImage;
 use std::alloc::{AllocError, Global};
-
-// The list with more turns, or as it was if the recording keeps none.
-fn joined(list: Vec<u8>, keeps: bool, more: &[u8]) -> Result<Vec<u8>, AllocError>
-    ensures { IfOk result (λ all. all.items ≡ kept_with keeps list.items more.now) }
-{
-    let mut list = list;
-    if keeps {
-        list.extend_from_slice(more)?;
-    }
-    Ok(list)
-}
-
-// Finishes the run of a bus by the turns of seed 0, and adds them to a list.
-fn finish_kept<B: Book>(
-    alloc: Global,
-    code: &DecodedImage,
-    bus: &mut Bus<B>,
-    list: Vec<u8>,
-    keeps: bool,
-) -> Result<Vec<u8>, AllocError>
-    requires { code.now ≡ bus.old.began.image }
-    ensures finished { IfOk result (λ all. Finishes B.tells bus.old bus.new keeps list.items all.items) }
-    ensures began { bus.new.began ≡ bus.old.began }
-    ensures halted { bus.new.halted ≡ bus.old.halted }
-{
-    let more = finish(alloc, code, bus, 0)?;
-    joined(list, keeps, &more)
-}
 
 // Whether some hart ran out of memory.
 fn any_failed(worked: &[Result<(), AllocError>]) -> bool
@@ -68,7 +40,7 @@ pub fn finish_listed<J: Beginning, B: Book>(
     requires code { code.now ≡ from.now.image }
     requires all { length worked.now ≡ from.now.settings.harts }
     ensures found { OnOk result ((list_any is_err worked.now ≡ false) × (own.out_of_memory ≡ false)) }
-    ensures run { IfOk result (λ run. IsClosedBy B.tells (began_of from.now) J.keeps run.closed run.list.items (B.told run.closed.book)) }
+    ensures run { IfOk result (λ run. (list : List ℕ) × IsListed B.tells J.keeps (began_of from.now) list run (B.told run.closed.book)) }
     ensures of_rows { IfOk result (λ run. (rows : List TurnRow) × IsOfRows (began_of from.now) run.closed rows) }
     ensures again { own.bus.halted ≡ true → IfOk result (λ run. run.list.items ≡ seeded from.now.settings from.now.image from.now.input.items 0) }
     ensures keeps { own.bus.halted ≡ false → IfOk result (λ run. ContinuesBySeed0 B.tells (began_of from.now) own run.closed run.list.items (B.told run.closed.book)) }
@@ -87,10 +59,11 @@ pub fn finish_listed<J: Beginning, B: Book>(
         return Err(AllocError);
     }
     let mut bus = bus;
-    let list = finish_kept(alloc, code, &mut bus, list, keeps)?;
+    let mut list = list;
+    finish(code, &mut bus, 0, &mut list, keeps)?;
     let closed = close(bus);
     if closed.finished {
         return Ok(Listed { closed, list });
     }
-    run_listed(alloc, from, closed.book, 0)
+    run_listed(alloc, from, closed.book, 0, true)
 }

@@ -2,9 +2,9 @@
 ghost use Rattle.std.specs.Prelude.{◌≡◌, ◌<◌, ℕ, List, vec_len, IfOk};
 ghost use Rattle.bn_outside.specs.declared.turn_row.TurnRow.{TurnRow};
 ghost use Rattle.bus_core.specs.Bus.{began_of};
-ghost use Rattle.whole_runs.specs.Closed.{IsClosed, IsOfRows};
+ghost use Rattle.whole_runs.specs.Chosen.{IsListed};
+ghost use Rattle.whole_runs.specs.Closed.{IsOfRows};
 ghost use Rattle.whole_runs.specs.HartTurns.{place_at, first_place};
-ghost use Rattle.whole_runs.specs.Taking.{IsClosedBy};
 
 use crate::hart_place::HartPlace;
 use crate::listed::Listed;
@@ -13,7 +13,7 @@ use crate::listed_end::finish_listed;
 use crate::listed_worker::work_listed;
 use bn_base::HartId;
 use bn_outside::{Book, Gate};
-use bus_core::{Bus, Closed};
+use bus_core::Bus;
 use run_model::Start;
 use rv_meaning::DecodedImage;
 use std::alloc::{AllocError, Global};
@@ -88,7 +88,7 @@ fn run_named<J: Beginning + Send, B: Book + Send, G: Gate, R: Threads + Wait + S
 ) -> Result<Listed<B>, AllocError>
     requires began { began_of from.now ≡ J.began }
     requires keeps { keeps ≡ J.keeps }
-    ensures run { IfOk result (λ run. IsClosedBy B.tells (began_of from.now) keeps run.closed run.list.items (B.told run.closed.book)) }
+    ensures run { IfOk result (λ run. (list : List ℕ) × IsListed B.tells keeps (began_of from.now) list run (B.told run.closed.book)) }
     ensures of_rows { IfOk result (λ run. (rows : List TurnRow) × IsOfRows (began_of from.now) run.closed rows) }
 {
     let code = DecodedImage::new(alloc, &from.image)?;
@@ -98,8 +98,9 @@ fn run_named<J: Beginning + Send, B: Book + Send, G: Gate, R: Threads + Wait + S
     finish_listed(alloc, &code, from, own.into_inner(), &worked)
 }
 
-/// Runs each hart in a thread of its own, on one bus under its lock, and gives the list of the turns. The
-/// run is whole, the one of that list. Which list it is isn't determined. The list takes one byte a turn.
+/// Runs each hart in a thread of its own, on one bus under its lock. The run is whole, that of some legal and
+/// finished list of turns. Which list it is isn't determined. If it is kept, it takes one byte a turn; else nothing
+/// is kept of a turn but what the book keeps.
 ///
 /// The only error is out of memory, of a hart too.
 pub fn run_threads_listed<B: Book + Send, G: Gate, R: Threads + Wait + Sync>(
@@ -108,27 +109,10 @@ pub fn run_threads_listed<B: Book + Send, G: Gate, R: Threads + Wait + Sync>(
     from: &Start,
     book: B,
     gate: &G,
+    keeps: bool,
 ) -> Result<Listed<B>, AllocError>
-    ensures run { IfOk result (λ run. IsClosed B.tells (began_of from.now) run.list.items run.closed (B.told run.closed.book)) }
+    ensures run { IfOk result (λ run. (list : List ℕ) × IsListed B.tells keeps (began_of from.now) list run (B.told run.closed.book)) }
     ensures of_rows { IfOk result (λ run. (rows : List TurnRow) × IsOfRows (began_of from.now) run.closed rows) }
 {
-    run_named::<Brand, B, G, R>(rt, alloc, from, book, gate, true)
-}
-
-/// Runs each hart in a thread of its own, on one bus under its lock, and keeps nothing of a turn but what
-/// the book keeps. The run is whole, that of some legal and finished list of turns. Which list it is isn't
-/// determined.
-///
-/// The only error is out of memory, of a hart too.
-pub fn run_threads_lean<B: Book + Send, G: Gate, R: Threads + Wait + Sync>(
-    rt: &R,
-    alloc: Global,
-    from: &Start,
-    book: B,
-    gate: &G,
-) -> Result<Closed<B>, AllocError>
-    ensures run { IfOk result (λ closed. (list : List ℕ) × IsClosed B.tells (began_of from.now) list closed (B.told closed.book)) }
-    ensures of_rows { IfOk result (λ closed. (rows : List TurnRow) × IsOfRows (began_of from.now) closed rows) }
-{
-    Ok(run_named::<Brand, B, G, R>(rt, alloc, from, book, gate, false)?.closed)
+    run_named::<Brand, B, G, R>(rt, alloc, from, book, gate, keeps)
 }

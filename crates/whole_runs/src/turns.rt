@@ -1,12 +1,16 @@
 //! The turns of harts on the caller's thread.
-ghost use Rattle.std.specs.Prelude.{◌≡◌, ◌+◌, ◌<◌, ◌∷◌, ◌++◌, [], ℕ, true, false, List, Some, OnOk, IfOk, IfErr, ◌⊎◌, replicate};
-ghost use Rattle.whole_runs.specs.Lists.{HasTaken, is_finished, seeded_after, list_run, error_of};
+ghost use Rattle.std.specs.Prelude.{◌≡◌, ◌++◌, [], ℕ, true, false, List, Some, OnOk, IfOk, IfErr, ◌⊎◌, replicate};
+ghost use Rattle.whole_runs.specs.Chosen.{AreAdded};
+ghost use Rattle.whole_runs.specs.Scheduled.{scheduled};
+ghost use Rattle.whole_runs.specs.Lists.{HasTaken, is_finished, seeded_after, error_of};
 ghost use Rattle.bn_outside.specs.declared.turn_row.TurnRow.{TurnRow};
 ghost use Rattle.whole_runs.specs.Closed.{IsClosed, IsOfRows};
 ghost use Rattle.run_model.specs.declared.error.TurnError.TheVariants.{OutOfMemory};
 
-use crate::choosing::{choose, count_after, count_live, draw};
-use bn_outside::Book;
+use crate::chooser::take_chosen;
+use crate::choosers::{Bursts, Draws, GivenTurns};
+use crate::choosing::live_at;
+use bn_outside::{Book, Schedule};
 use bus_core::{Bus, Closed};
 use run_laws::runs_end;
 use run_model::TurnError;
@@ -32,91 +36,90 @@ pub fn finish_lone<B: Book>(code: &DecodedImage, bus: Bus<B>) -> Result<Bus<B>, 
     Ok(now)
 }
 
-/// The list of so many turns of hart 0.
-pub fn turns_alone(alloc: Global, count: u64) -> Result<Vec<u8>, AllocError>
-    ensures { IfOk result (λ list. list.items ≡ replicate count 0) }
+/// The list of so many turns of hart 0, if a list is kept.
+pub fn turns_alone(alloc: Global, count: u64, keeps: bool) -> Result<Vec<u8>, AllocError>
+    ensures { IfOk result (λ list. keeps ≡ true → list.items ≡ replicate count 0) }
 {
+    if !keeps {
+        return Ok(Vec::new(alloc));
+    }
     vec![in alloc; 0; count as usize]
 }
 
-/// Turns chosen by the draws after a number, until no hart is live. What is given is their list: a byte
-/// for each, the number of its hart.
+/// Turns chosen by the draws after a number, until no hart is live. They are appended to a list, if that is kept.
 pub fn finish<B: Book>(
+    code: &DecodedImage,
+    bus: &mut Bus<B>,
+    seed: u64,
+    list: &mut Vec<u8>,
+    keeps: bool,
+) -> Result<(), AllocError>
+    requires { code.now ≡ bus.old.began.image }
+    ensures added { OnOk result ((l : List ℕ) → HasTaken B.tells bus.old l → AreAdded B.tells keeps l (seeded_after bus.old.began l seed) list.old.items bus.new list.new.items) }
+    ensures finished { OnOk result ((l : List ℕ) → HasTaken B.tells bus.old l → is_finished bus.new.began (l ++ seeded_after bus.old.began l seed) ≡ true) }
+    ensures began { bus.new.began ≡ bus.old.began }
+    ensures halted { bus.new.halted ≡ bus.old.halted }
+{
+    take_chosen(code, bus, Draws::of_seed(seed), list, keeps)
+}
+
+/// All turns of a schedule. They are appended to a list, if that is kept.
+pub fn take_scheduled<B: Book>(
+    code: &DecodedImage,
+    bus: &mut Bus<B>,
+    schedule: Schedule,
+    list: &mut Vec<u8>,
+    keeps: bool,
+) -> Result<(), AllocError>
+    requires code { code.now ≡ bus.old.began.image }
+    requires start { HasTaken B.tells bus.old [] }
+    ensures added { OnOk result (AreAdded B.tells keeps [] (scheduled schedule.entry bus.old.began) list.old.items bus.new list.new.items) }
+    ensures finished { OnOk result (is_finished bus.new.began (scheduled schedule.entry bus.old.began) ≡ true) }
+    ensures began { bus.new.began ≡ bus.old.began }
+{
+    match schedule {
+        Schedule::Drawn { manner, number } => {
+            take_chosen(code, bus, Bursts::of_number(manner, number), list, keeps)
+        }
+        Schedule::Listed(given) => {
+            take_chosen(code, bus, GivenTurns::of_list(given), list, keeps)?;
+            finish(code, bus, 0, list, keeps)
+        }
+    }
+}
+
+/// The turns of a list that leaves no hart live.
+pub fn follow<B: Book>(
     alloc: Global,
     code: &DecodedImage,
     bus: &mut Bus<B>,
-    seed: u64,
-) -> Result<Vec<u8>, AllocError>
-    requires { code.now ≡ bus.old.began.image }
-    ensures list { IfOk result (λ more. (list : List ℕ) → HasTaken B.tells bus.old list → more.items ≡ seeded_after bus.old.began list seed) }
-    ensures taken { IfOk result (λ more. (list : List ℕ) → HasTaken B.tells bus.old list → HasTaken B.tells bus.new (list ++ more.items)) }
-    ensures finished { IfOk result (λ more. (list : List ℕ) → HasTaken B.tells bus.old list → is_finished bus.new.began (list ++ more.items) ≡ true) }
-    ensures began { bus.new.began ≡ bus.old.began }
-    ensures halted { bus.new.halted ≡ bus.old.halted }
-{
-    let mut list = Vec::new(alloc);
-    let mut state = seed;
-    let mut count = count_live(bus);
-    'drawing: loop {
-        state = draw(state);
-        match choose(bus, count, state) {
-            None => return Ok(list),
-            Some(hart) => {
-                bus.take_turn(code, hart)?;
-                // After the turn: if memory runs out the whole run is dropped, so no room is made first.
-                count = count_after(bus, hart, count);
-                list.push(hart)?;
-            }
-        }
-    }
-}
-
-/// Turns chosen by the draws after a number, until no hart is live. Nothing is kept of a turn but what the
-/// bus keeps.
-pub fn finish_unlisted<B: Book>(
-    code: &DecodedImage,
-    bus: &mut Bus<B>,
-    seed: u64,
-) -> Result<(), AllocError>
-    requires { code.now ≡ bus.old.began.image }
-    ensures taken { OnOk result ((list : List ℕ) → HasTaken B.tells bus.old list → HasTaken B.tells bus.new (list ++ seeded_after bus.old.began list seed)) }
-    ensures finished { OnOk result ((list : List ℕ) → HasTaken B.tells bus.old list → is_finished bus.new.began (list ++ seeded_after bus.old.began list seed) ≡ true) }
-    ensures began { bus.new.began ≡ bus.old.began }
-    ensures halted { bus.new.halted ≡ bus.old.halted }
-{
-    let mut state = seed;
-    let mut count = count_live(bus);
-    'drawing: loop {
-        state = draw(state);
-        match choose(bus, count, state) {
-            None => return Ok(()),
-            Some(hart) => {
-                bus.take_turn(code, hart)?;
-                count = count_after(bus, hart, count);
-            }
-        }
-    }
-}
-
-/// The turns of a list, up to the first whose hart isn't live then.
-pub fn follow<B: Book>(code: &DecodedImage, bus: &mut Bus<B>, list: &[u8]) -> Result<(), TurnError>
+    list: &[u8],
+) -> Result<(), TurnError>
     requires code { code.now ≡ bus.old.began.image }
     requires start { HasTaken B.tells bus.old [] }
     ensures taken { OnOk result (HasTaken B.tells bus.new list.now) }
-    ensures illegal { IfErr result (λ e. (e ≡ OutOfMemory) ⊎ (error_of bus.old.began list.now ≡ Some e)) }
+    ensures over { OnOk result (is_finished bus.new.began list.now ≡ true) }
+    ensures refused { IfErr result (λ e. (e ≡ OutOfMemory) ⊎ (error_of bus.old.began list.now ≡ Some e)) }
     ensures began { bus.new.began ≡ bus.old.began }
 {
-    for at in 0..list.len() {
-        let hart = list[at];
-        if !bus.live(hart) {
-            return Err(TurnError::IllegalTurn {
-                at: at as u64,
-                hart,
-            });
-        }
-        bus.take_turn(code, hart)?;
+    take_chosen(
+        code,
+        bus,
+        GivenTurns::of_list(list),
+        &mut Vec::new(alloc),
+        false,
+    )?;
+    let at = bus.turns();
+    if at < list.len() as u64 {
+        return Err(TurnError::IllegalTurn {
+            at,
+            hart: list[at as usize],
+        });
     }
-    Ok(())
+    match live_at(bus, 0) {
+        Some(live) => Err(TurnError::NotFinished { live }),
+        None => Ok(()),
+    }
 }
 
 /// What the bus hands over after the turns of a list that leaves no hart live.

@@ -1,5 +1,4 @@
 use Rattle.std.proofs.Common.{◌∙◌, sym, subst}
-use Rattle.std.specs.Prelude.{Option}
 use Rattle.whole_runs.specs.Drawn.{IsDrawing}
 use Rattle.whole_runs.specs.declared.drawing.Drawing.{Drawing}
 use Rattle.whole_runs.proofs.Draws.{goes_on_any, current_same, current_other}

@@ -7,4 +7,4 @@ pub returns-in-Ok-clause-run : goal.returns-in-Ok-clause-run
 returns-in-Ok-clause-run g c =
     let list = c.args.list.now in
     let e = c.in-Ok.ensures in
-    subst (λ (x : Began). IsClosed g.B.Book.tells x list c.close.result (g.B.Book.told c.close.result.book)) c.follow_all.ensures.began (c.close.ensures.closed list e.taken e.over)
+    subst (λ (x : Began). IsClosed g.B.Book.tells x list c.close.result (g.B.Book.told c.close.result.book)) c.follow.ensures.began (c.close.ensures.closed list e.taken e.over)

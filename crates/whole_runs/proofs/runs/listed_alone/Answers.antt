@@ -1,21 +1,19 @@
-use Rattle.std.proofs.Common.{◌≡◌, ◌∙◌, ℕ, List, true, ap, subst, sym}
+use Rattle.std.proofs.Common.{◌∙◌, ℕ, List, ap, subst}
 use Rattle.std.specs.Prelude.{replicate}
 use Rattle.bus_core.specs.Bus.{Began}
-use Rattle.whole_runs.specs.Lists.{HasTaken, is_finished}
 use Rattle.whole_runs.specs.Closed.{IsClosed, IsOfRows}
 use Rattle.whole_runs.proofs.runs.listed_alone.Goals as goal
 
-pub returns-clause-list : goal.returns-clause-list
-returns-clause-list g c = c.in_ok-list.ensures ∙ ap (λ (n : ℕ). replicate n 0) c.turns.ensures ∙ c.in_ok-now.ensures.drawn c.args.seed
-
 pub returns-clause-run : goal.returns-clause-run
-returns-clause-run g c =
+returns-clause-run g c = λ seed.
     let e = c.in_ok-now.ensures in
-    let list = c.in_ok-list.list.items in
-    let is : replicate c.in_ok-now.now.turns 0 ≡ list = sym (c.in_ok-list.ensures ∙ ap (λ (n : ℕ). replicate n 0) c.turns.ensures) in
-    let taken = subst (λ (xs : List ℕ). HasTaken g.B.Book.tells c.in_ok-now.now xs) is e.taken in
-    let over = subst (λ (xs : List ℕ). is_finished c.in_ok-now.now.began xs ≡ true) is e.finished in
-    subst (λ (x : Began). IsClosed g.B.Book.tells x list c.close.result (g.B.Book.told c.close.result.book)) e.began (c.close.ensures.closed list taken over)
+    let rows = g.B.Book.told c.close.result.book in
+    let list : List ℕ = replicate c.in_ok-now.now.turns 0 in
+    let closed = subst (λ (x : Began). IsClosed g.B.Book.tells x list c.close.result rows) e.began (c.close.ensures.closed list e.taken e.finished) in
+    record {
+      closed_is = subst (λ (xs : List ℕ). IsClosed g.B.Book.tells c.args.bus.began xs c.close.result rows) (e.drawn seed) closed;
+      kept_is = λ t. c.in_ok-list.ensures t ∙ ap (λ (n : ℕ). replicate n 0) c.turns.ensures ∙ e.drawn seed;
+    }
 
 pub returns-clause-of_rows : goal.returns-clause-of_rows
 returns-clause-of_rows g c =

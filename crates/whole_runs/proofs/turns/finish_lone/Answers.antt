@@ -1,4 +1,4 @@
-use Rattle.std.proofs.Common.{[], ◌∙◌, true, false, refl, sym, ap, subst, arith}
+use Rattle.std.proofs.Common.{[], ◌∙◌, refl, sym, ap, subst, arith}
 use Rattle.std.specs.Prelude.{replicate}
 use Rattle.bn_base.specs.Ranges.{IsSetting}
 use Rattle.run_model.specs.Turn.{Run}
