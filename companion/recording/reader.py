@@ -6,11 +6,12 @@ import re
 import sys
 from array import array
 from binascii import unhexlify
-from itertools import compress, repeat
-from operator import ne
-from typing import Callable, Dict, Iterable, Iterator, NamedTuple, Optional, Sequence
+from itertools import compress
+from operator import itemgetter, ne
+from typing import Dict, Iterable, Iterator, NamedTuple, Optional, Sequence
 
 from .calls import Calls
+from .chunks import places
 from .instruction import A0, A1, A7, AMO, CALL, JUMP, LOAD, NAMES, STORE, Instruction
 from .log import FAILED, LONGEST_CALL, READ_CALL
 from .rows import CHANGED, FAULTS, KEEPS, LOADS, OFFSET, STORES, UNSTORED, Fault, ReadCall, Rows
@@ -19,7 +20,6 @@ from .writers import Writers
 # What a row does beside LOADS and STORES: it writes a register; it is a call, a return or a jump to a function; it is a
 # system call; it stores only if it succeeds.
 WRITES, GOES, ASKS, TRIES = 1, 2, 16, 32
-NEW = -1                    # in place of the number of an instruction that hasn't one
 NO_REGISTER = 32            # in place of the register of what writes none
 WORD = ~OFFSET
 SPECIAL, RESULT = re.compile(rb"[\x10-\x3f]"), re.compile(rb"\n(\d+) [^|\n]*\| (\w+)=(\w{8})")
@@ -27,6 +27,7 @@ LAST = 1 << 12              # letters of the last rows
 REGISTERS = {name.encode(): register for register, name in enumerate(NAMES)}
 FAULT = b" | fault "
 KEY, ZERO = 17, b"0" * 8    # letters of an address and a word; the value of what writes no register
+NOTHING = 0, -1             # in place of the row that stored a word last, and its value
 
 
 def of_shapes(bits: int) -> bytes:
@@ -75,16 +76,16 @@ class Codes(Dict[bytes, int]):
 
     def of(self, lines: Sequence[bytes], turns: Sequence[Turn]) -> list[int]:
         found: list[int] = []
-        get: Callable[[bytes, int], int] = self.get
         for _, begin, end, _, letters in turns:
-            keys = [line[letters:letters + KEY] for line in lines[begin:end]]
-            numbered = list(map(get, keys, repeat(NEW)))
-            if NEW in numbered:
+            keys = list(map(itemgetter(slice(letters, letters + KEY)), lines[begin:end]))
+            try:
+                found += map(self.__getitem__, keys)
+            except KeyError:
+                del found[begin:]
                 for key, line in zip(keys, lines[begin:end]):
                     if key not in self:
                         self.add(key, line[letters:])
-                numbered = list(map(self.__getitem__, keys))
-            found += numbered
+                found += map(self.__getitem__, keys)
         return found
 
     def add(self, key: bytes, row: bytes) -> None:
@@ -105,16 +106,15 @@ class Codes(Dict[bytes, int]):
 
 class Reader:
     """start   the number of the chunk's first row
-    writer_of, held     of the address of a word the row that stored it last, and its value"""
+    latest  of the address of a word the row that stored it last, and its value"""
 
     def __init__(self, rows: Rows, writers: Writers, calls: Calls) -> None:
         self.rows, self.writers, self.calls, self.codes = rows, writers, calls, Codes(rows, calls)
         first = rows.log.first_intervals()
         self.harts = {i: State(i, first[i].registers if i in first else (0,) * 32) for i in range(rows.log.harts)}
         self.numbers = {b"%-2d" % hart: hart for hart in self.harts}
-        self.latest: Optional[State] = None     # whose row was read last
-        self.writer_of: dict[int, int] = {}
-        self.held: dict[int, int] = {}
+        self.hart: Optional[State] = None       # whose row was read last
+        self.latest: dict[int, tuple[int, int]] = {}
         self.start = 0
 
     def skip(self, text: bytes) -> None:
@@ -136,14 +136,14 @@ class Reader:
         alone = self.alone(text, lines, shapes)
         here = range(self.start, self.start + len(codes))
         rows.hart.frombytes(harts)
-        rows.code.extend(codes)
+        rows.code.fromlist(codes)
         cuts = map(RESULTS.__getitem__, shapes)
         rows.values.extend(numbers([line[cut] if cut else ZERO for line, cut in zip(lines, cuts)]))
         rows.flags.frombytes(shapes.translate(ACCESSED))
         self.writers.word.frombytes(bytes(self.writers.word.itemsize * len(codes)))
         self.link(turns, codes, alone)
-        for n in compress(here, shapes.translate(WENT)):
-            self.go(n)
+        for place in places(shapes.translate(WENT), bytes([GOES])):
+            self.go(self.start + place)
         self.access(lines, shapes, here)
 
     def finish(self, seconds: float) -> None:
@@ -163,9 +163,10 @@ class Reader:
 
     def turns(self, lines: Sequence[bytes], harts: bytes) -> list[Turn]:
         """The turns of a chunk. A turn is cut where its counts get a digit more."""
-        places = [0, *compress(range(1, len(harts)), map(ne, harts, harts[1:])), len(harts)]
+        changes = compress(range(1, len(harts)), map(ne, harts, harts[1:])) if len(self.harts) > 1 else ()
+        begins = [0, *changes, len(harts)]
         found = []
-        for begin, end in zip(places, places[1:]):
+        for begin, end in zip(begins, begins[1:]):
             hart = self.harts[harts[begin]]
             while begin < end:
                 head = b"%d %d " % (hart.number, hart.count)
@@ -198,17 +199,17 @@ class Reader:
 
     def link(self, turns: Sequence[Turn], codes: Sequence[int], alone: dict[int, list[bytes]]) -> None:
         """Finds of each row the rows that wrote its registers."""
-        places = iter([*alone, len(codes)])
-        place = next(places)
+        stops = iter([*alone, len(codes)])
+        place = next(stops)
         for turn in turns:
             hart, at, kept = turn.hart, turn.begin, self.rows.harts[turn.hart.number]
-            if hart is not self.latest:
-                self.latest = hart
+            if hart is not self.hart:
+                self.hart = hart
                 kept.begin(self.start + at, turn.first)
             while place < turn.end:
                 self.link_rows(hart, codes[at:place], self.start + at)
                 self.link_alone(hart, self.start + place, alone[place])
-                at, place = place + 1, next(places)
+                at, place = place + 1, next(stops)
             self.link_rows(hart, codes[at:turn.end], self.start + at)
             kept.last = self.start + turn.end - 1
 
@@ -274,28 +275,27 @@ class Reader:
         self.follow(which, kinds, told, iter(stored))
 
     def follow(self, which: Iterable[int], kinds: bytes, told: Sequence[int], stored: Iterator[int]) -> None:
-        writer_of, held, flags = self.writer_of, self.held, self.rows.flags
-        second, words = self.writers.second, self.writers.word
+        latest, flags, second, words = self.latest, self.rows.flags, self.writers.second, self.writers.word
         for n, kind, address, value in zip(which, kinds, told[::2], told[1::2]):
             word, flag = address & WORD, address & OFFSET
-            writer = writer_of.get(word, 0)
+            writer, held = latest.get(word, NOTHING)
             if kind & LOADS:
-                if held.get(word) != value:
-                    if word in held:            # changed, and no row did it: a `read` call
+                if held != value:
+                    if held >= 0:               # changed, and no row did it: a `read` call
                         flag |= CHANGED
-                    writer = writer_of[word] = 0
-                    held[word] = value
+                    writer, held = 0, value
+                    latest[word] = writer, held
                 if not writer:
                     flag |= UNSTORED
                 if kind == BOTH:
                     value = next(stored)
-            if kind > STORES and held.get(word) == value and (kind == BOTH or not flags[second[n]] & LOADS):
+            if kind > STORES and held == value and (kind == BOTH or not flags[second[n]] & LOADS):
                 flag |= KEEPS                   # of an atomic, but for a value that another word gave a store-conditional
             words[n] = writer
             if flag:
                 flags[n] |= flag
             if kind != LOADS:
-                writer_of[word], held[word] = n, value
+                latest[word] = n, value
 
 
 def numbers(told: Iterable[bytes]) -> array[int]:

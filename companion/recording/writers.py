@@ -1,6 +1,7 @@
 """Who wrote what: of each row the rows that wrote its registers and its word. 12 bytes a row."""
 from __future__ import annotations
 
+import sys
 from array import array
 from collections import Counter
 from itertools import compress
@@ -37,8 +38,10 @@ class Writers:
     def count_pairs(self) -> None:
         code = self.rows.code
         loads = list(compress(range(len(code)), self.rows.flags.tobytes().translate(LOADING)))
-        stores = [code[writer] + 1 if writer else 0 for writer in map(self.word.__getitem__, loads)]
-        self.pairs = Counter(load << 32 | store for load, store in zip(map(code.__getitem__, loads), stores))
+        pairs, high = array("I", bytes(8 * len(loads))), sys.byteorder == "little"
+        pairs[high::2] = array("I", map(code.__getitem__, loads))
+        pairs[not high::2] = array("I", [code[writer] + 1 if writer else 0 for writer in map(self.word.__getitem__, loads)])
+        self.pairs = Counter(memoryview(pairs).cast("B").cast("Q"))
 
     def givers(self, load: int) -> dict[int, int]:
         """The codes of the stores from which a load's instruction got its words, each with how often."""
