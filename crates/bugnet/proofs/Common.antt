@@ -1,10 +1,8 @@
 -- What several files of proofs/ cite of other crates and of specs/. They import it from here, by one line.
-pub use Rattle.std.proofs.Common.{Bool, Err, Global, IfOk, IfSome, IsErrAnd, IsSome, List, None, Ok, Option, Result, Some, Vec, [], ap, append-nil, append_assoc, arith, codes, drop, false, if◌then◌else◌, inl, inr, is_some, length, map, nat_le, nat_lt, not, option_map, refl, replicate, rules, slice_get, slice_index, slice_set, subst, suc, sym, take, take-append-drop, true, unwrap_or, zero, ℕ, ◌%◌, ◌&&◌, ◌*◌, ◌++◌, ◌+◌, ◌-◌, ◌<◌, ◌==◌, ◌^◌, ◌||◌, ◌∙◌, ◌∷◌, ◌≡◌, ◌≢◌, ◌≤◌, ◌⊎◌}
+pub use Rattle.std.proofs.Common.{Bool, Err, Global, IfOk, IfSome, IsErrAnd, IsSome, List, None, Ok, Option, Result, Some, Vec, [], ap, append-nil, append_assoc, arith, bytes_eq, codes, drop, false, filter, if◌then◌else◌, inl, inr, is_some, length, map, nat_le, nat_lt, not, option_map, refl, replicate, rules, slice_get, slice_index, slice_set, subst, suc, sym, take, take-append-drop, true, unwrap_or, zero, ℕ, ◌%◌, ◌&&◌, ◌*◌, ◌++◌, ◌+◌, ◌-◌, ◌<◌, ◌==◌, ◌^◌, ◌||◌, ◌∙◌, ◌∷◌, ◌≡◌, ◌≢◌, ◌≤◌, ◌⊎◌}
 pub use Rattle.std.proofs.lemmas.Bool.Decides.{nat_tests}
 pub use Rattle.std.proofs.lemmas.Slice.Eq.{bytes_eq-Decides}
 pub use Rattle.std.specs.Io.KnownBytes.{Appends, Consumes}
-pub use Rattle.std.specs.List.{filter, list_any}
-pub use Rattle.std.specs.Str.{bytes_eq}
 pub use Rattle.back_step.specs.Traces.{Trace, Trailed, at_start, cut, entry_of, harts_of, trace_step, with_entry}
 pub use Rattle.bn_base.specs.Faults.{fault_number}
 pub use Rattle.bn_base.specs.Programs.{Program}

@@ -1,5 +1,6 @@
 -- A run that ended by a fault ended with the turn of that fault.
-use Rattle.bugnet.proofs.Common.{◌≡◌, ℕ, zero, suc, ◌+◌, ◌-◌, ◌==◌, ◌&&◌, Bool, true, false, List, [], ◌∷◌, ◌++◌, nat_le, nat_lt, Option, Some, None, ◌∙◌, ap, subst, sym, refl, inl, inr, ◌⊎◌, if◌then◌else◌, list_any, fault_number, Program, IsSetting, RawSettings, absorbed, Ask, Want, Faulted, total, start, run_from, is_live, legal_from, Run, counted, after_call, after_access, next_of, mark, hart_after, stopped, other_after, harts_after, is_guarded, by_guard, guard_records, guarded_run, serve_orderly, served_if, is_orderly, serve, ask_at, turn, OwnAsksAreOrderly, marks, IsCrash, marks_of, is_fault, is_limit, end_by, ◌||◌}
+use Rattle.bugnet.proofs.Common.{◌≡◌, ℕ, zero, suc, ◌+◌, ◌-◌, ◌==◌, ◌&&◌, Bool, true, false, List, [], ◌∷◌, ◌++◌, nat_le, nat_lt, Option, Some, None, ◌∙◌, ap, subst, sym, refl, inl, inr, ◌⊎◌, if◌then◌else◌, fault_number, Program, IsSetting, RawSettings, absorbed, Ask, Want, Faulted, total, start, run_from, is_live, legal_from, Run, counted, after_call, after_access, next_of, mark, hart_after, stopped, other_after, harts_after, is_guarded, by_guard, guard_records, guarded_run, serve_orderly, served_if, is_orderly, serve, ask_at, turn, OwnAsksAreOrderly, marks, IsCrash, marks_of, is_fault, is_limit, end_by, ◌||◌}
+use Rattle.std.specs.List.{list_any}
 use Rattle.bn_base.specs.declared.fault.Fault.{Fault}
 use Rattle.bn_base.specs.declared.state.HartState.{HartState}
 use Rattle.rv_meaning.specs.declared.asks.Reply.{Reply}

@@ -1,8 +1,7 @@
 -- What several files of proofs/ cite of other crates and of specs/. They import it from here, by one line.
-pub use Rattle.std.proofs.Common.{AllPairs, Bool, Contains, IsTrue, List, None, Option, Some, [], ap, append-nil, append_assoc, arith, drop, false, if◌then◌else◌, inl, inr, length, length-append, length-set, map, nat_le, nat_lt, not, refl, slice_get, subst, suc, sym, true, zero, ℕ, ◌%◌, ◌&&◌, ◌*◌, ◌++◌, ◌+◌, ◌-◌, ◌/◌, ◌<◌, ◌==◌, ◌^◌, ◌||◌, ◌↔◌, ◌∙◌, ◌∷◌, ◌≡◌, ◌≢◌, ◌≤◌, ◌⊎◌}
+pub use Rattle.std.proofs.Common.{AllPairs, Bool, Contains, IsTrue, List, None, Option, Some, [], ap, append-nil, append_assoc, arith, drop, false, flat_map, if◌then◌else◌, inl, inr, length, length-append, length-set, map, nat_le, nat_lt, not, refl, slice_get, subst, suc, sym, true, zero, ℕ, ◌%◌, ◌&&◌, ◌*◌, ◌++◌, ◌+◌, ◌-◌, ◌/◌, ◌<◌, ◌==◌, ◌^◌, ◌||◌, ◌↔◌, ◌∙◌, ◌∷◌, ◌≡◌, ◌≢◌, ◌≤◌, ◌⊎◌}
 pub use Rattle.std.proofs.lemmas.Bool.Decides.{eqb_tells}
 pub use Rattle.std.proofs.lemmas.Grind.{common_steps}
-pub use Rattle.std.specs.List.{AllByRecursion, IsDistinct, flat_map, list_any}
 pub use Rattle.std.specs.Option.{option_or}
 pub use Rattle.bn_base.specs.Programs.{Program, code_at}
 pub use Rattle.bn_base.specs.Ranges.{IsSetting}

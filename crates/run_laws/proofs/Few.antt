@@ -1,5 +1,6 @@
 -- A point has at most one Edge from each hart.
-use Rattle.run_laws.proofs.Common.{◌≡◌, ℕ, zero, suc, ◌<◌, Bool, true, false, ◌||◌, Option, Some, List, [], ◌∷◌, ◌++◌, length, map, refl, sym, ◌∙◌, ap, subst, arith, inl, inr, ◌==◌, ◌↔◌, slice_get, Contains, AllPairs, AllByRecursion, IsDistinct, list_any, eqb_tells, Point, after, edges_into, name_of, ArePointsOf, EdgesAreFew}
+use Rattle.run_laws.proofs.Common.{◌≡◌, ℕ, zero, suc, ◌<◌, Bool, true, false, ◌||◌, Option, Some, List, [], ◌∷◌, ◌++◌, length, map, refl, sym, ◌∙◌, ap, subst, arith, inl, inr, ◌==◌, ◌↔◌, slice_get, Contains, AllPairs, eqb_tells, Point, after, edges_into, name_of, ArePointsOf, EdgesAreFew}
+use Rattle.std.specs.List.{AllByRecursion, IsDistinct, list_any}
 use Rattle.std.proofs.lemmas.List.{length-map}
 use Rattle.std.proofs.lemmas.Map.Steps.{length-le_from_distinct_below}
 use Rattle.race_log.specs.Netzer.{IsEdge, ProgramOrder, one}

@@ -1,5 +1,6 @@
 -- Each hart's present Header stands among the records, and a run counts the bytes after it.
-use Rattle.run_laws.proofs.Common.{◌≡◌, ℕ, zero, suc, ◌+◌, ◌*◌, ◌<◌, ◌≤◌, Bool, true, false, Option, Some, None, List, [], ◌∷◌, ◌++◌, length, refl, sym, ◌∙◌, ap, subst, arith, append_assoc, inl, inr, ◌≢◌, ◌==◌, not, ◌&&◌, slice_get, nat_lt, AllByRecursion, eqb_tells, Program, RawSettings, HartState, absorbed, Ask, Plan, Point, after, sources_into, Warm, Reply, Record, Header, End, total, Hart, TurnEnd, GoesOn, NewInterval, HartOver, RunOver, Span, IsRested, anew, Answered, answer, call_of, Run, Served, serve, turn, ask_at, is_orderly, after_ask, budget, by_guard, guarded_run, guard_records, header, mark, hart_after, other_after, next_records, stopped_records, run_over_records, span_of, point_of, points_after, loading, warmth, skipped_after, edges_from, edge_records, load_record, sc_record, word_before, header_size, start, start_state, first_headers, run_from, legal_from, ArePointsOf, is_header_of}
+use Rattle.run_laws.proofs.Common.{◌≡◌, ℕ, zero, suc, ◌+◌, ◌*◌, ◌<◌, ◌≤◌, Bool, true, false, Option, Some, None, List, [], ◌∷◌, ◌++◌, length, refl, sym, ◌∙◌, ap, subst, arith, append_assoc, inl, inr, ◌≢◌, ◌==◌, not, ◌&&◌, slice_get, nat_lt, eqb_tells, Program, RawSettings, HartState, absorbed, Ask, Plan, Point, after, sources_into, Warm, Reply, Record, Header, End, total, Hart, TurnEnd, GoesOn, NewInterval, HartOver, RunOver, Span, IsRested, anew, Answered, answer, call_of, Run, Served, serve, turn, ask_at, is_orderly, after_ask, budget, by_guard, guarded_run, guard_records, header, mark, hart_after, other_after, next_records, stopped_records, run_over_records, span_of, point_of, points_after, loading, warmth, skipped_after, edges_from, edge_records, load_record, sc_record, word_before, header_size, start, start_state, first_headers, run_from, legal_from, ArePointsOf, is_header_of}
+use Rattle.std.specs.List.{AllByRecursion}
 use Rattle.first_load_bits.specs.declared.warm.Warm.TheVariants as answers
 use Rattle.rv_meaning.specs.declared.asks.Reply.TheVariants as replies
 use Rattle.run_laws.proofs.Bytes.{total_append, headers_have}
