@@ -14,8 +14,8 @@ from .log import End, Log, is_fault
 
 LOOP_ROWS, MOST_FRAMES = 300, 200
 EXITS = "exit", "group"
-# The place of a call, or a return and the place of the next row.
-GOES = re.compile(rb" jal(?<=(\w{8}) \w{8} jal)(?:r? (?:ra|t0),|(r zero,-?\d+\((?:ra|t0)\))(?:[^\n]*\n\d+ \d+ (\w{8}))?)")
+# The place of a call, or a return and the place of the next row. No other rows have the letter j.
+GOES = re.compile(rb"j(?<=(\w{8}) \w{8} j)al(?:r? (?:ra|t0),|(r zero,-?\d+\((?:ra|t0)\))(?:[^\n]*\n\d+ \d+ (\w{8}))?)")
 
 
 class Cause(NamedTuple):

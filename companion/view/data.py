@@ -119,12 +119,12 @@ class Page:
     def strips(self) -> tuple[list[list[Any]], list[list[Any]]]:
         """Of each hart its number, the count behind its last, and its functions as [first count, the function's number]..; and
         of each function its name and its share in percent."""
-        spots = dict(self.strip_spots())
+        spots = list(self.strip_spots())
         found: list[list[Any]] = []
         numbers: dict[str, int] = {}
         shares: dict[str, int] = {}
-        self.places.fetch({self.rows.code_of(row).pc for _, rows in spots.values() for _, row in rows if row})
-        for hart, (end, rows) in spots.items():
+        self.places.fetch({self.rows.code_of(row).pc for _, _, rows in spots for _, row in rows if row})
+        for hart, end, rows in spots:
             runs: list[list[int]] = []
             for count, row in rows:
                 name = self.places.function(self.rows.code_of(row).pc) if row else "?"
@@ -136,7 +136,7 @@ class Page:
         total = sum(shares.values()) or 1
         return found, [[name, round(100 * shares[name] / total, 1)] for name in numbers]
 
-    def strip_spots(self) -> Iterator[tuple[int, tuple[int, list[tuple[int, int]]]]]:
+    def strip_spots(self) -> Iterator[tuple[int, int, list[tuple[int, int]]]]:
         """Of each hart the count behind its last, and for each of so many equal parts of it the first count and a row in the middle."""
         rows = self.rows
         most = max(200, min(3000, STRIP_SPOTS // max(1, len(rows.last))))
@@ -144,7 +144,7 @@ class Page:
             first, last = rows.harts[hart].counts[0], rows.count_of(last_row)
             spots = min(most, last - first + 1)
             size = (last - first + 1) / spots
-            yield hart, (last + 1, [(int(first + i * size), rows.row_of(hart, int(first + (i + 0.5) * size))) for i in range(spots)])
+            yield hart, last + 1, [(int(first + i * size), rows.row_of(hart, int(first + (i + 0.5) * size))) for i in range(spots)]
 
 
 def story_data(story: Optional[Story], teller: Teller, log: Log, rows: Rows) -> Optional[dict[str, Any]]:

@@ -124,8 +124,8 @@ class Blocks:
     def givers(self, found: list[Given]) -> set[int]:
         """The functions whose addresses come again only after a call with them."""
         latest: dict[tuple[int, int], int] = {}
-        again: dict[int, int] = {}
-        alone: dict[int, int] = {}
+        again: Counter[int] = Counter()
+        alone: Counter[int] = Counter()
         calls: dict[int, list[int]] = {}
         for at in range(self.first, len(self.calls.jumps)):
             n = self.calls.jumps[at]
@@ -139,9 +139,9 @@ class Blocks:
                 place = bisect.bisect_right(rows, before)
                 between = place < len(rows) and rows[place] < block.call
                 kind = again if between else alone
-                kind[block.giver] = kind.get(block.giver, 0) + 1
+                kind[block.giver] += 1
             latest[key] = block.back
-        return {giver for giver, _ in latest if alone.get(giver, 0) <= again.get(giver, 0)}
+        return {giver for giver, _ in latest if alone[giver] <= again[giver]}
 
     def collect_arguments(self) -> None:
         rows, calls = self.rows, self.calls

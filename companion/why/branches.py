@@ -1,15 +1,13 @@
 """Branches as suspects: the one before which a value was chosen, and the one that would have ended a loop."""
 from __future__ import annotations
 
-from array import array
 from collections import Counter
-from itertools import compress
 from typing import NamedTuple
 
 from ..call.text import number
 from .facts import Facts
 from .history import History
-from .loops import operands_of, pairs_of, rows_of, times_of
+from .loops import codes_of, operands_of, pairs_of, times_of
 from .lost import cut_behind
 from .suspect import Extra, Suspect
 
@@ -94,9 +92,7 @@ class Ways:
         for loop in facts.loops:
             self.times.update(loop.pairs + pairs_of(loop.codes[:loop.begin + 1]))
         for hart in set(self.rows.last) - {loop.hart for loop in facts.loops}:
-            is_alone = len(self.rows.last) == 1         # else its rows are picked
-            codes = self.rows.code if is_alone else array("I", compress(self.rows.code, rows_of(self.rows, hart)))
-            self.times.update(pairs_of(codes, int(is_alone)))
+            self.times.update(pairs_of(codes_of(self.rows, hart)))
         self.all_times = times_of(self.times)
 
     def of(self, row: int) -> Way:

@@ -90,6 +90,7 @@ class History:
         self.start, self.most = starts[0], most
         self.cost: dict[int, int] = {}
         self.copied: dict[int, int] = {}        # {load: the first copied load behind it}
+        self.again: dict[tuple[int, int, int], tuple[int, list[int], bool]] = {}
         self.roots: dict[int, int] = {}
         self.parent: dict[int, Step] = {}
         self.far: dict[Pair, int] = {}
@@ -150,7 +151,7 @@ class History:
 
     def visit(self, n: int, price: int) -> None:
         rows, writers = self.rows, self.writers
-        ins, flag = rows.code_of(n), rows.flags[n]
+        ins, flag = rows.codes[rows.code[n]], rows.flags[n]
         if flag & FAULTS:                       # its address is the bad value
             self.step(writers.first[n], price + 1, n, "address")
         elif flag & LOADS and not (ins.kind == AMO and ins.name.startswith(STORES_ANOTHER) and self.is_for_memory(n)):
@@ -198,11 +199,25 @@ class History:
         """Whether a row is needed as the store that a load got."""
         return n in self.parent and self.parent[n].how == "memory"
 
+    def given(self, n: int) -> tuple[int, list[int], bool]:
+        """The first copied load behind a load, the stores that it got, and whether they gave all of its bytes. Of a store far
+        back it is kept, since the rounds of a loop get the same again."""
+        writers, word = self.writers, self.writers.word[n]
+        key = self.rows.code[n], word, self.rows.flags[n]
+        if key in self.again:
+            first, found, is_whole = self.again[key]
+            return first or n, found, is_whole
+        first = self.first_copied(n)
+        stores, rest = writers.stores(first)
+        found = [row for row in map(writers.changed_by, stores) if row]
+        is_whole = not rest and len(found) == len(stores)
+        if n - word > FAR:
+            self.again[key] = 0 if first == n else first, found, is_whole
+        return first, found, is_whole
+
     def loaded(self, n: int, price: int) -> bool:
         """A load, and the stores that it got, if there are any."""
-        first = self.first_copied(n)
-        stores, rest = self.writers.stores(first)
-        found = [row for row in map(self.writers.changed_by, stores) if row]
+        first, found, is_whole = self.given(n)
         for store in found:
             is_spill = self.rows.is_spill(n, store)
             cost = price if is_spill else price + 1
@@ -212,7 +227,7 @@ class History:
                 self.far[key] = cost
             if self.control and price <= DEAREST_CONTROL:
                 self.not_stored(self.control, n, key, price, is_spill)
-        if rest or len(found) < len(stores):
+        if not is_whole:
             self.before.append(n)
             self.leave(n, price, NO_REGISTER)
         if not found and price <= DEAREST_FILLED and self.filled < MOST_FILLED and not self.rows.access(n).value:

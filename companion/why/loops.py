@@ -61,7 +61,7 @@ class Loop:
         self.trace, self.rows, self.hart, self.last = trace, trace.rows, hart, trace.rows.last[hart]
         mine = rows_of(trace.rows, hart)
         self.of_hart = array("I", compress(range(len(mine)), mine))
-        self.codes = array("I", compress(trace.rows.code, mine))
+        self.codes = codes_of(trace.rows, hart)
         self.latest: dict[int, int] = {}        # {code: its last place among the hart's rows}
         for begin in range(0, len(self.codes), AT_ONCE):
             self.latest.update(zip(self.codes[begin:begin + AT_ONCE], range(begin, len(self.codes))))
@@ -125,10 +125,15 @@ class Loop:
                        if at not in self.places and times[at] >= OFTEN), reverse=True)
 
 
-def pairs_of(codes: array[int], start: int = 0) -> Counter[tuple[int, int]]:
-    """How often each code followed each, from a place on. Two neighbours are one number of twice as many bytes."""
+def codes_of(rows: Rows, hart: int) -> array[int]:
+    """The codes of a hart's rows."""
+    return rows.code[1:] if len(rows.last) == 1 else array("I", compress(rows.code, rows_of(rows, hart)))
+
+
+def pairs_of(codes: array[int]) -> Counter[tuple[int, int]]:
+    """How often each code followed each. Two neighbours are one number of twice as many bytes."""
     found: Counter[int] = Counter()
-    for begin in range(start, len(codes), AT_ONCE):
+    for begin in range(0, len(codes), AT_ONCE):
         data = codes[begin:begin + AT_ONCE + 1].tobytes()
         for at in (0, codes.itemsize):
             found.update(array("Q", data[at:at + (len(data) - at) // 8 * 8]))

@@ -1,6 +1,7 @@
 """A call stack that is so deep that it may have overflowed."""
 from __future__ import annotations
 
+from collections import Counter
 from typing import NamedTuple
 
 from ..call.text import number
@@ -22,16 +23,13 @@ def find_recursion(trace: Trace, start: int) -> Recursion:
     made, calls = trace.calls, live_calls(trace, trace.rows.hart[start])
     if len(calls) < DEEP:
         return Recursion([], [])
-    times: dict[int, int] = {}
-    for at in calls:
-        pc = trace.rows.code_of(made.jumps[at]).pc
-        times[pc] = times.get(pc, 0) + 1
-    place = max(times, key=lambda pc: times[pc])
-    if times[place] * 4 < len(calls):
+    places = [trace.rows.code_of(made.jumps[at]).pc for at in calls]
+    (place, times), = Counter(places).most_common(1)
+    if times * 4 < len(calls):
         return Recursion([], [])
-    latest = max(made.jumps[at] for at in calls if trace.rows.code_of(made.jumps[at]).pc == place)
+    latest = max(made.jumps[at] for at, pc in zip(calls, places) if pc == place)
     suspect = Suspect("calls", latest, latest, COST)
-    suspect.why.append(f"the stack is {number(len(calls))} calls deep, and {number(times[place])} of them are this one")
+    suspect.why.append(f"the stack is {number(len(calls))} calls deep, and {number(times)} of them are this one")
     asked = calls[ASKED_FROM:ASKED_FROM + ASKED_CALLS]
     return Recursion([suspect], [made.writers[at] for at in asked if made.writers[at]])
 

@@ -14,14 +14,14 @@ from typing import Any, Dict
 HERE = os.path.dirname(os.path.abspath(__file__))
 sys.path[:0] = [os.path.join(HERE, "..", "companions", part) for part in ("lib", "why")]
 from common import crashes, record                  # noqa: E402
-from companion.why import analysis, branches, facts, locks, memory_use, report, suspects       # noqa: E402
+from companion.why import analysis, facts, locks, memory_use, report, suspects       # noqa: E402
 from companion.why.history import History               # noqa: E402
 from companion.recording.places import Places                 # noqa: E402
 from crashes_test import FIRST, rank_of              # noqa: E402
 
 AT_ONCE = 2
 ALL = "all rules"
-PURE = (facts, "Loop"), (locks, "setting"), (locks, "accesses"), (memory_use, "Blocks"), (branches, "Ways")
+PURE = (facts, "Loop"), (locks, "setting"), (locks, "accesses"), (memory_use, "Blocks"), (suspects, "Ways")
 SEARCHES = (analysis, "History"), (suspects, "History")
 FINDERS = (suspects, "unlocked"), (suspects, "circle"), (suspects, "failed_stores"), (suspects, "unset")
 

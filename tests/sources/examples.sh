@@ -1,25 +1,20 @@
 #!/usr/bin/env bash
 # Are the ELF files of examples/ those that its script builds? That holds for one version of the compiler.
-set -eu
-top=$(cd "$(dirname "$0")/../.." && pwd)
+. "$(dirname "$0")/../asserts.sh"
 version=$(riscv64-unknown-elf-gcc -dumpfullversion 2>/dev/null) || version=no
-if [ "$version" != 12.2.0 ]; then
-    echo "skipped examples.sh: the ELF files were built by GCC 12.2.0, here is $version"
-    exit 0
-fi
-work=$(mktemp -d)
-trap 'rm -rf "$work"' EXIT
-"$top/examples/build.sh" "$work"
-for elf in "$top"/examples/*.elf; do
-    cmp "$elf" "$work/$(basename "$elf")"
-done
-echo "the ELF files of examples/ are those of the sources"
+[ "$version" = 12.2.0 ] || end_skipped "the ELF files of examples/ were built by GCC 12.2.0, here is $version"
 
-# the guide's line gives the same file twice, though the assembler names its objects each time otherwise
-cd "$top"
+what="the ELF files of examples/"
+runs 0 "$top/examples/build.sh" "$work/built"
+for elf in "$top"/examples/*.elf; do
+    equals "$elf" "$work/built/${elf##*/}"
+done
+
+what="the guide's line, by which the same file comes twice" # (the assembler names its objects each time otherwise)
+cd "$top" || exit 1
 line=$(sed -n '/^riscv64-unknown-elf-gcc /,/heap\.c$/p' docs/GUIDE.md)
 for name in once twice; do
-    bash -c "$(sed -E "s# -o [^ ]+# -o $work/$name#" <<<"$line")"
+    runs 0 bash -c "$(sed -E "s# -o [^ ]+# -o $work/$name#" <<<"$line")"
 done
-cmp "$work/once" "$work/twice"
-echo "the guide's line gives the same ELF file twice"
+equals "$work/once" "$work/twice"
+end
