@@ -27,24 +27,21 @@ def chunks(log_name: str, elf_name: str, command: str = "joint", *words: str, lo
     of_all = f" of {number(log.rows())}" if log else ""
     ends = [interval.end for interval in reversed(log.intervals)] if log and log.harts == 1 else []
     with Output(command, log_name, elf_name, *words) as out, streams.Progress() as progress:
-        rest, behind, passed = b"\n", b"", 0
+        rest, is_behind, passed = b"\n", False, 0
         while True:
             read = out.out.read(CHUNK)
-            text = rest + read
-            end = text.rfind(b"\n")
-            rest, text = text[end:], text[:end]
-            if can_have_others(text, ends) and OTHER_LINES.search(text):
-                rows, behind, _ = text.partition(WORDS)
-                text = OTHER_LINES.sub(b"", rows)
-                if behind:              # they come behind all rows
-                    read = b""
+            end = read.rfind(b"\n")
+            text, rest = (rest + memoryview(read)[:end], read[end:]) if end >= 0 else (b"", rest + read)
+            if can_have_others(text, ends):
+                is_behind = text.startswith(WORDS, text.rfind(b"\n"))      # words come behind all rows
+                text = OTHER_LINES.sub(b"", text)
             if text:
                 passed += text.count(b"\n") if progress.is_shown else 0
                 progress.tell(f"{number(passed)}{of_all} rows are read")
                 yield text
-            if not read:
+            if not read or is_behind:
                 break
-        if not behind:
+        if not is_behind:
             out.finish()
 
 
