@@ -66,6 +66,7 @@ impl MemorySource {
     }
 
     // Moves the bytes that one read may take to the front of `buffer`, and answers how many.
+    #[tactic(auto, using(crate::proofs::Pieces::source_gives))]
     fn give(&mut self, buffer: &mut [u8]) -> usize
         ensures bound { result ≤ length buffer.new }
         ensures count { result ≡ min self.old.most (min (length buffer.old) (length self.old.left)) }

@@ -9,6 +9,7 @@ use bn_base::Image;
 use std::alloc::{AllocError, Global};
 
 /// The page of a number before the run. It gets memory only if a segment touches it.
+#[tactic(auto, using(crate::proofs::Touched::untouched))]
 pub(crate) fn first_page(alloc: Global, image: &Image, number: u32) -> Result<Page, AllocError>
     requires { number < 2 ^ 20 }
     ensures { IfOk result (λ p. IsFirstFrame image.now number p) }

@@ -45,6 +45,7 @@ fn number_word<'a>(alloc: Global, id: &'a str) -> Arg<'a>
 }
 
 // the most races that are listed, from 1 to 1,000,000, which has to be there
+#[tactic(auto, using(crate::proofs::Chain::parsed))]
 fn most_word<'a>(alloc: Global, id: &'a str) -> Arg<'a>
     ensures { IsRule (most_word id.entry.now) result }
 {

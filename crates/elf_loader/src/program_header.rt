@@ -181,6 +181,7 @@ impl ProgramHeader {
     }
 
     /// The segment in whole aligned words, its bytes out of the file.
+    #[tactic(auto, using(crate::proofs::Words::words_touched_more))]
     pub fn segment(&self, alloc: Global, bytes: &[u8]) -> Result<Segment, AllocError>
         requires { IsLoadable (length bytes.now) self.now }
         ensures { IfOk result (λ s. s ≡ part_of bytes.now self.now) }

@@ -1,5 +1,5 @@
 -- What is kept of a recording is what a log says.
-use Rattle.file_laws.proofs.Common.{◌≡◌, ℕ, zero, suc, ◌+◌, ◌-◌, ◌*◌, ◌%◌, ◌<◌, ◌≤◌, ◌^◌, Bool, true, false, nat_lt, Option, Some, None, List, [], ◌∷◌, ◌++◌, length, replicate, set, refl, sym, ◌∙◌, ap, subst, arith, inl, inr, mod-lt, pow_pos, mul-le-mul, ◌==◌, if◌then◌else◌, slice_set, IsTrue, AllByRecursion, eqb_tells, length-append, Program, IsSetting, RawSettings, HartState, ask_of, absorbed, orderly, passes, is_counted, AreWords, Ask, Plan, Point, IsImage, Record, Fits, total, IsContent, broken_by, kept, Hart, TurnEnd, Span, Answered, answer, call_of, Run, Served, turn, ask_at, is_guarded, begun_anew, guarded_run, guard_records, after_ask, span_of, next_of, loading, warmth, word_before, budget, point_of, edge_records, load_record, sc_record, next_records, run_over_records, harts_after, is_orderly, start, start_state, first_headers, run_from, legal_from, is_live, most_turns, IsFit, MovesOn, kept_of, dropped_of, content_of, counts_of, EdgesAreFew}
+use Rattle.file_laws.proofs.Common.{◌≡◌, ℕ, zero, suc, ◌+◌, ◌-◌, ◌*◌, ◌%◌, ◌<◌, ◌≤◌, ◌^◌, Bool, true, false, nat_lt, Option, Some, None, List, [], ◌∷◌, ◌++◌, length, replicate, set, refl, sym, ◌∙◌, ap, subst, arith, inl, inr, mod-lt, pow_pos, mul-le-mul, ◌==◌, if◌then◌else◌, slice_set, IsTrue, AllByRecursion, eqb_tells, length-append, Program, IsSetting, RawSettings, HartState, ask_of, absorbed, orderly, passes, is_counted, AreWords, Ask, Plan, Point, IsImage, Record, Fits, total, IsContent, broken_by, kept, Hart, TurnEnd, Span, Answered, answer, call_of, Run, Served, turn, ask_at, is_guarded, begun_anew, guarded_run, guard_records, after_ask, span_of, next_of, loading, warmth, word_before, budget, point_of, edge_records, load_record, sc_record, next_records, run_over_records, harts_after, is_orderly, start, start_state, first_headers, run_from, legal_from, most_turns, IsFit, MovesOn, kept_of, dropped_of, content_of, counts_of, EdgesAreFew}
 use Rattle.file_laws.proofs.Asks.{StepsKeepWords, asks_well}
 use Rattle.file_laws.proofs.Machines.{HoldsMachine, IsWordState, EndIsWord, answer_well, state_after, end_word, code_words, first_words, heap_word}
 use Rattle.file_laws.proofs.Nexts.{EndsAs, next_ends}
@@ -7,6 +7,7 @@ use Rattle.file_laws.proofs.Few.{few_edges}
 use Rattle.file_laws.proofs.Fields.{header_fits, edge_records_fit, load_fits, conditional_fits, next_fits, over_fits, fits_any, guard_fits, load_few, conditional_few, next_few, over_few}
 use Rattle.file_laws.proofs.Turns.{Laws, Recording, Underway, all_both, own_hart, own_is, other_is, own_state, other_state, turn_within, asking, guard_is, uncut, anew_is, anew_other, asking_kept, asks, served, turn_kept}
 use Rattle.file_laws.proofs.Rows.{SuffixIsKept, both, below_of, last_part}
+use Rattle.run_laws.proofs.Turns.{legal_first}
 
 abbrev pub AsksAreOrderly : Type 0
 AsksAreOrderly = (i : Program) (b : ℕ) (s : HartState) → s.ic + b < 2 ^ 64 → IsTrue (orderly i s.ic b (ask_of i b s))
@@ -166,14 +167,10 @@ pub record After (c : RawSettings) (turns : ℕ) (run : Run) : Type 0 where
   pub words : Worded c 0 run
   pub count : run.turns ≡ turns
 
-live_by : (b : Bool) (x : Bool) → elim b as (λ z. Bool) [ true ↦ x | false ↦ false ] ≡ true → (b ≡ true) × (x ≡ true)
-live_by true x e = (refl, e)
-live_by false x e = cc
-
 pub turns_after : AllLaws → (c : RawSettings) (i : Program) (run : Run) (b : List ℕ) (n : ℕ) → IsSetting c → IsImage i → After c n run → legal_from c i run b ≡ true → After c (n + length b) (run_from c i run b)
 turns_after laws c i run [] n setting image a e = (let z : n ≡ n + 0 = omega arith in subst (λ (m : ℕ). After c m run) z a)
 turns_after laws c i run (k ∷ ks) n setting image a e =
-    let first = live_by (is_live c run k) (legal_from c i (turn c i run k) ks) e in
+    let first = legal_first c i run k ks e in
     let live = both (nat_lt k c.harts) (run.harts k).live first.0 in
     let there = below_of k c.harts live.0 in
     let o = ordered laws.asks c i (run.harts k) (omega (arith, setting.limit_high)) (a.known.fit k).fit in

@@ -1,5 +1,5 @@
 -- What a ring holds after lawful rows is what a log says.
-use Rattle.file_laws.proofs.Common.{◌≡◌, ℕ, zero, suc, ◌+◌, ◌*◌, ◌<◌, ◌≤◌, ◌^◌, Bool, true, false, not, ◌&&◌, nat_lt, Option, Some, None, List, [], ◌∷◌, ◌++◌, length, refl, sym, ◌∙◌, ap, subst, arith, inl, inr, ◌≢◌, ◌==◌, AllByRecursion, eqb_tells, length-append, Program, IsSetting, RawSettings, HartState, absorbed, Ask, Reply, Plan, Warm, Point, after, sources_into, TurnRow, Record, End, Fits, is_mark, is_marked, total, IsContent, broken_by, Held, kept, Hart, TurnEnd, GoesOn, NewInterval, HartOver, RunOver, Span, Answered, answer, call_of, is_marked_next, Run, Served, serve, after_ask, span_of, next_of, loading, warmth, word_before, point_of, edges_from, edge_records, load_record, sc_record, next_records, stopped_records, run_over_records, harts_after, is_orderly, mark, is_guarded, by_guard, begun_anew, guarded_run, guard_records, start, start_hart, start_state, first_headers, most_turns, MovesOn, turns_left, IsRested, kept_of, dropped_of, after_rows, are_orderly, IsLawful, counts_of, HoldsLogOfRows, ring_content, EdgesAreFew}
+use Rattle.file_laws.proofs.Common.{◌≡◌, ℕ, zero, suc, ◌+◌, ◌*◌, ◌<◌, ◌≤◌, ◌^◌, Bool, true, false, not, ◌&&◌, nat_lt, Option, Some, None, List, [], ◌∷◌, ◌++◌, length, refl, sym, ◌∙◌, ap, subst, arith, inl, inr, ◌==◌, AllByRecursion, eqb_tells, length-append, Program, IsSetting, RawSettings, HartState, absorbed, Ask, Reply, Plan, Warm, Point, after, sources_into, TurnRow, Record, End, Fits, is_mark, is_marked, total, IsContent, broken_by, Held, kept, Hart, TurnEnd, GoesOn, NewInterval, HartOver, RunOver, Span, Answered, answer, call_of, is_marked_next, Run, Served, serve, after_ask, span_of, next_of, loading, warmth, word_before, point_of, edges_from, edge_records, load_record, sc_record, next_records, stopped_records, run_over_records, harts_after, is_orderly, mark, is_guarded, by_guard, begun_anew, guarded_run, guard_records, start, first_headers, most_turns, MovesOn, turns_left, IsRested, kept_of, dropped_of, after_rows, are_orderly, IsLawful, counts_of, HoldsLogOfRows, ring_content, EdgesAreFew}
 use Rattle.rv_meaning.specs.declared.asks.Reply.TheVariants as replies
 use Rattle.first_load_bits.specs.declared.warm.Warm.TheVariants as answers
 use Rattle.run_model.specs.Represents.Harts.{all_left}
@@ -9,6 +9,7 @@ use Rattle.file_laws.proofs.Fields.{plain_mark, load_few, conditional_few, next_
 use Rattle.file_laws.proofs.Turns.{Laws, Recording, Underway, IsAsking, all_both, own_hart, own_is, other_is, asking, guard_is, uncut, asking_kept, asks, served, turn_kept}
 use Rattle.file_laws.proofs.Rows.{SuffixIsKept, both, below_of, last_part, orderly_first, held_records, held_dropped}
 use Rattle.file_laws.proofs.Contents.{KeptFit, few_harts, five_parts, headers_count, turns_bound}
+use Rattle.run_laws.proofs.Turns.{all_less, one_less, all_first}
 
 -- ---- records that a log of version 1 has, but for the size of their numbers
 
@@ -85,26 +86,6 @@ of_fits : (format : ℕ) (rs : List Record) → AllByRecursion (Fits 2) rs → A
 unfolding IsOf
 of_fits format [] fit plain = tt
 of_fits format (r ∷ rs) fit plain = (record { fields = fit.0.fields; mark = plain.0 }, of_fits format rs fit.1 plain.1)
-
--- ---- how many turns are left
-
-all_less : (c : RawSettings) (n : ℕ) (f g : ℕ → Hart) → ((k : ℕ) → turns_left c (g k) ≤ turns_left c (f k)) → all_left c n g ≤ all_left c n f
-all_less c zero f g each = omega arith
-all_less c (suc n) f g each = omega (arith, each n, all_less c n f g each)
-
-one_less : (c : RawSettings) (n own : ℕ) (f g : ℕ → Hart) → own < n → ((k : ℕ) → turns_left c (g k) ≤ turns_left c (f k)) → turns_left c (g own) < turns_left c (f own) → all_left c n g < all_left c n f
-one_less c zero own f g within each less = omega (arith, within)
-one_less c (suc n) own f g within each less = elim (eqb_tells own n) [
-  | inl p ↦ omega (arith, all_less c n f g each, subst (λ (k : ℕ). turns_left c (g k) < turns_left c (f k)) p.1 less)
-  | inr p ↦ omega (arith, each n, one_less c n own f g (lower own n within p.1) each less)
-]
-  where
-    lower : (j n : ℕ) → j < suc n → j ≢ n → j < n
-    lower j n h e = omega (arith, h, e)
-
-all_first : (c : RawSettings) (i : Program) (n : ℕ) → all_left c n (λ k. start_hart k (start_state c i k)) ≡ n * (c.limit + 1)
-all_first c i zero = omega arith
-all_first c i (suc n) = omega (arith, all_first c i n)
 
 -- ---- a turn
 

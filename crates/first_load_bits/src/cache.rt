@@ -258,6 +258,7 @@ impl Cache {
     /// Drops the line that has the byte at an address from both levels, with the bits of all its words. A line that isn't
     /// listed or below stays so.
     #[inline(always)]
+    #[tactic(auto, using(crate::proofs::Both::drop_goes))]
     pub fn drop_line(&mut self, addr: Addr)
         ensures stands { (es : List Event) → RepresentsEvents self.old es → RepresentsEvents self.new (Drop addr ∷ es) }
         ensures geometry { self.new.geometry ≡ self.old.geometry }

@@ -294,6 +294,7 @@ fn settle<R: Files>(rt: &R, name: &str, named: io::Result<bool>) -> Result<bool,
 }
 
 /// Gives these bytes to a new file, and to that a name that nothing had. If something has it by now, nothing is done.
+#[tactic(auto, using(crate::proofs::Tries::settled, crate::proofs::Tries::wrote))]
 pub fn put_first<R: Files, C: FileChanger>(
     rt: &R,
     changer: &mut C,
@@ -321,6 +322,7 @@ pub fn put_first<R: Files, C: FileChanger>(
 
 /// Gives these bytes to a new file, and to that the name of an old one, which is then gone: so it must be none that is
 /// spared. If no other file can have the name, nothing is done.
+#[tactic(auto, using(crate::proofs::Tries::settled, crate::proofs::Tries::wrote))]
 pub fn put_over<R: Files, C: FileChanger>(
     rt: &R,
     changer: &mut C,

@@ -45,9 +45,12 @@ fn is_refused<S: Store>(alloc: Global, files: &mut S, folder: &str) -> bool {
         && files.save(folder, b"text") == Err(SaveError::Failed)
 }
 
-// The name of a file of this process in a folder.
-fn name_in(alloc: Global, folder: &str, word: &str, process: u32) -> Result<String, AllocError> {
-    format!(in alloc; "{folder}/host_outside_{word}_{process}")
+// The name of a file or folder of this process among temporary files.
+fn fresh_name(rt: &HostRuntime, word: &str) -> Result<String, Fail> {
+    let folder = env::temp_dir(rt)?;
+    let process = process::id(rt.process());
+    let folder = folder.as_str();
+    Ok(format!(in rt.alloc(); "{folder}/host_outside_{word}_{process}")?)
 }
 
 // Whether a longer file is saved, and a shorter one in its place that is kept; whether it is missing once it was
@@ -70,12 +73,7 @@ fn replaced<R: Files + RandomSource + AllocGlobal>(
 #[test]
 fn files_are_saved_whole_and_loaded_within_the_limit(rt: HostRuntime) -> Result<(), Fail> {
     let folder = env::temp_dir(&rt)?;
-    let name = name_in(
-        rt.alloc(),
-        folder.as_str(),
-        "test",
-        process::id(rt.process()),
-    )?;
+    let name = fresh_name(&rt, "test")?;
     let told = replaced(&rt, rt.alloc(), name.as_str(), folder.as_str());
     assert_eq!(rt; told, [true; 5]);
     Ok(())
@@ -97,13 +95,7 @@ fn kept_and_removed<R: Files + RandomSource + AllocGlobal>(
 
 #[test]
 fn a_file_of_several_pieces_is_loaded_whole(rt: HostRuntime) -> Result<(), Fail> {
-    let folder = env::temp_dir(&rt)?;
-    let name = name_in(
-        rt.alloc(),
-        folder.as_str(),
-        "pieces",
-        process::id(rt.process()),
-    )?;
+    let name = fresh_name(&rt, "pieces")?;
     let bytes = vec![in rt.alloc(); 7u8; 200_000]?;
     let well = kept_and_removed(&rt, rt.alloc(), name.as_str(), &bytes);
     assert!(rt; well);
@@ -172,13 +164,7 @@ fn others_are_saved<R: Files + RandomSource + AllocGlobal>(
 
 #[test]
 fn a_save_never_destroys_what_was_loaded(rt: HostRuntime) -> Result<(), Fail> {
-    let temporary = env::temp_dir(&rt)?;
-    let folder = name_in(
-        rt.alloc(),
-        temporary.as_str(),
-        "spelled",
-        process::id(rt.process()),
-    )?;
+    let folder = fresh_name(&rt, "spelled")?;
     make_links(&rt, folder.as_str())?;
     let spared = each_is_spared(&rt, folder.as_str())?;
     let others = others_are_saved(&rt, folder.as_str())?;
@@ -229,13 +215,7 @@ fn each_is_saved_once<R: Files + RandomSource + AllocGlobal>(
 
 #[test]
 fn a_save_never_destroys_what_was_saved(rt: HostRuntime) -> Result<(), Fail> {
-    let temporary = env::temp_dir(&rt)?;
-    let folder = name_in(
-        rt.alloc(),
-        temporary.as_str(),
-        "saved_once",
-        process::id(rt.process()),
-    )?;
+    let folder = fresh_name(&rt, "saved_once")?;
     make_links(&rt, folder.as_str())?;
     let once = each_is_saved_once(&rt, folder.as_str())?;
     fs::remove_dir_all(&rt, folder.as_str())?;
@@ -404,13 +384,7 @@ fn taken_meanwhile<R: Files + RandomSource + AllocGlobal>(
 
 #[test]
 fn a_save_replaces_the_bytes_alone(rt: HostRuntime) -> Result<(), Fail> {
-    let temporary = env::temp_dir(&rt)?;
-    let folder = name_in(
-        rt.alloc(),
-        temporary.as_str(),
-        "hostile",
-        process::id(rt.process()),
-    )?;
+    let folder = fresh_name(&rt, "hostile")?;
     make_hostile(&rt, folder.as_str())?;
     let told = replaced_alone(&rt, folder.as_str())?;
     let taken = taken_meanwhile(&rt, folder.as_str())?;

@@ -1,8 +1,7 @@
 -- In each beginning of an allowed order the harts' rows follow the run's.
 use Rattle.joint_laws.proofs.Common.{◌≡◌, ℕ, zero, suc, ◌+◌, ◌<◌, Bool, true, false, ◌&&◌, ◌==◌, inl, inr, refl, sym, ap, ◌∙◌, subst, arith, List, [], ◌∷◌, ◌++◌, slice_get, slice_set, is_some, Option, Some, None, AllByRecursion, flat_map, eq-eqb, ne_eqb, eqb_tells, append_assoc, Program, Row, HartState, Record, Header, FirstLoad, ScOk, ScFailed, Edge, End, Interval, Replayed, Done, interval_of, replayed, after_row, intervals_in, Cursor, Lane, Item, Passing, Doing, Ending, with_cursor, cursors_of, lane_of, row_given, lane_step, Joining, Taken, Walk, begun, longer, lanes_from, IsBegun, EndsSuffice, IsWhole, IntervalRowsAreOfTurns, state_after, IsRowOfTurn, Recording, IsLogOf, begin, interval_rows, row_in, rows_done}
-use Rattle.joint_laws.proofs.Lists.{after_append}
-use Rattle.joint_laws.proofs.Lists.{get_same, get_other}
-use Rattle.joint_laws.proofs.Lists.{some_is}
+use Rattle.joint_laws.proofs.Lists.{after_append, some_is}
+use Rattle.joint_replay.proofs.Soundness.{get_same, get_other}
 use Rattle.joint_laws.proofs.Moves.{IsMove, StepOf, along, by_kind}
 
 -- ---- the retained intervals are there

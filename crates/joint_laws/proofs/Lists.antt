@@ -1,5 +1,5 @@
 -- Lists, tests and states along rows.
-use Rattle.joint_laws.proofs.Common.{arith, ◌≡◌, ℕ, zero, suc, ◌<◌, true, nat_lt, refl, sym, ap, ◌∙◌, List, [], ◌∷◌, ◌++◌, slice_get, slice_set, Option, Some, None, Program, Row, HartState, after_row, state_after}
+use Rattle.joint_laws.proofs.Common.{arith, ◌≡◌, ℕ, ◌<◌, true, nat_lt, refl, sym, ap, ◌∙◌, List, [], ◌∷◌, ◌++◌, Option, Some, None, Program, Row, HartState, after_row, state_after}
 
 pub lt_true : (m n : ℕ) → m < n → nat_lt m n ≡ true
 lt_true m n h = grind arith
@@ -12,18 +12,6 @@ not_some x e = cc
 
 pub some_is : {X : Type 0} (x y : X) (o : Option X) → o ≡ Some x → o ≡ Some y → x ≡ y
 some_is {X = X} x y o e f = let g : ◌≡◌ {A = Option X} (Some x) (Some y) = sym e ∙ f in cc
-
-pub get_same : {X : Type 0} (xs : List X) (h : ℕ) (x y : X) → slice_get xs h ≡ Some x → slice_get (slice_set xs h y) h ≡ Some y
-get_same [] h x y e = cc
-get_same (z ∷ xs) zero x y e = refl
-get_same (z ∷ xs) (suc h) x y e = get_same xs h x y e
-
-pub get_other : {X : Type 0} (xs : List X) (h k : ℕ) (y : X) → (h ≡ k → ⊥) → slice_get (slice_set xs h y) k ≡ slice_get xs k
-get_other [] h k y apart = refl
-get_other (z ∷ xs) zero zero y apart = absurd (apart refl)
-get_other (z ∷ xs) zero (suc k) y apart = refl
-get_other (z ∷ xs) (suc h) zero y apart = refl
-get_other (z ∷ xs) (suc h) (suc k) y apart = get_other xs h k y (λ e. apart (ap suc e))
 
 head_or : {X : Type 0} → X → List X → X
 head_or d [] = d

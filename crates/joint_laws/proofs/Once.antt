@@ -2,7 +2,8 @@
 use Rattle.joint_laws.proofs.Common.{nat_lt, Bool, false, not, ◌&&◌, ◌||◌, ◌≡◌, ℕ, zero, suc, ◌<◌, ◌≤◌, true, ◌⊎◌, inl, inr, refl, sym, ap, ◌∙◌, subst, arith, List, [], ◌∷◌, slice_get, slice_set, is_some, Option, Some, None, false≢true, eqb_tells, Program, Row, HartState, Record, after_row, Coming, RowAt, EndAt, count_of, has_row, is_within, Cursor, Lane, Item, Doing, row_given, Joining, Taken, Walk, begun, longer, is_passed, IsBegun, AreFrom, AreCursors, IsLane, last_count, InCursors, IsRowAt, Passes, PassesIf, IsSound, SoundIf, Did, IsLeft, IsToDo, StepsPass, SoundnessStays, Recording, begin}
 use Rattle.joint_replay.specs.Counts.{RowsFrom}
 use Rattle.joint_replay.specs.Ways.{GoesOn}
-use Rattle.joint_laws.proofs.Lists.{some_is, lt_true, true_lt, get_same, get_other}
+use Rattle.joint_replay.proofs.Soundness.{get_same, get_other}
+use Rattle.joint_laws.proofs.Lists.{some_is, lt_true, true_lt}
 use Rattle.joint_laws.proofs.Moves.{IsMove, StepOf, along, by_kind}
 
 -- ---- a step of one hart

@@ -1,32 +1,10 @@
 -- The states that are shown of harts.
-use Rattle.joint_laws.proofs.Common.{◌≡◌, ℕ, Bool, true, false, ◌==◌, refl, sym, ap, ◌∙◌, subst, arith, List, [], ◌∷◌, ◌++◌, slice_get, Option, Some, None, false≢true, append_assoc, Program, Row, RawSettings, HartState, Record, start, run_of, run_from, legal_from, is_live, Run, turn, BeginsIn, IntervalsBegin, BeginningsTellStates, RowsTellRuns, state_after, Cursor, Lane, state_of, Recording, IsLogOf, OfBeginnings, first_state, IsStateOfRun, HasShownStates}
-use Rattle.run_model.specs.Rows.{rows_of, turn_rows}
+use Rattle.joint_laws.proofs.Common.{◌≡◌, ℕ, true, refl, sym, ap, ◌∙◌, subst, arith, List, [], ◌∷◌, ◌++◌, slice_get, Option, Some, None, append_assoc, Row, HartState, Record, start, run_of, legal_from, Run, BeginsIn, IntervalsBegin, BeginningsTellStates, RowsTellRuns, state_after, Cursor, Lane, state_of, Recording, IsLogOf, OfBeginnings, first_state, IsStateOfRun, HasShownStates}
+use Rattle.run_model.specs.Rows.{rows_of}
 use Rattle.joint_laws.proofs.Lists.{some_is, not_some, after_append}
 use Rattle.joint_laws.proofs.Follows.{IsOf, AreOf, IsFollowed}
-
--- ---- the first turns of a list
-
-at_true : (x b : Bool) → elim x as (λ y. Bool) [ true ↦ b | false ↦ false ] ≡ true → (x ≡ true) × (b ≡ true)
-at_true true b e = (refl, e)
-at_true false b e = absurd (false≢true e)
-
-legal_front : (c : RawSettings) (i : Program) (run : Run) (a b : List ℕ) → legal_from c i run (a ++ b) ≡ true → legal_from c i run a ≡ true
-legal_front c i run [] b e = refl
-legal_front c i run (k ∷ ks) b e =
-    let p = at_true (is_live c run k) (legal_from c i (turn c i run k) (ks ++ b)) e in
-    ap (λ x. elim x as (λ y. Bool) [ true ↦ legal_from c i (turn c i run k) ks | false ↦ false ]) p.0 ∙ legal_front c i (turn c i run k) ks b p.1
-
-abbrev rows_by : Bool → List Row → List Row → List Row
-rows_by x now more = elim x [ true ↦ now ++ more | false ↦ more ]
-
-rows_append : (c : RawSettings) (i : Program) (h : ℕ) (a b : List ℕ) (run : Run) → rows_of c i run (a ++ b) h ≡ rows_of c i run a h ++ rows_of c i (run_from c i run a) b h
-rows_append c i h [] b run = refl
-rows_append c i h (k ∷ ks) b run = by (k == h) (rows_append c i h ks b (turn c i run k))
-  where
-    by : (x : Bool) → rows_of c i (turn c i run k) (ks ++ b) h ≡ rows_of c i (turn c i run k) ks h ++ rows_of c i (run_from c i (turn c i run k) ks) b h
-        → rows_by x (turn_rows c i run h) (rows_of c i (turn c i run k) (ks ++ b) h) ≡ rows_by x (turn_rows c i run h) (rows_of c i (turn c i run k) ks h) ++ rows_of c i (run_from c i (turn c i run k) ks) b h
-    by true e = ap (λ x. turn_rows c i run h ++ x) e ∙ sym (append_assoc (turn_rows c i run h) (rows_of c i (turn c i run k) ks h) (rows_of c i (run_from c i (turn c i run k) ks) b h))
-    by false e = e
+use Rattle.row_laws.proofs.Whole.{rows_append}
+use Rattle.run_laws.proofs.Converse.{legal_front}
 
 -- ---- an interval under way
 

@@ -159,6 +159,7 @@ impl<'a> Joint<'a> {
     }
 
     // Moves past those of them that lead into a hart.
+    #[tactic(auto, using(crate::proofs::MetSources::met_passed, crate::proofs::MetSources::met_more))]
     fn pass_sources_into(&mut self, hart: HartId, moved: HartId)
         requires { hart < length self.old.lanes }
         ensures { self.new ≡ self.old }

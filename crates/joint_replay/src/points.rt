@@ -45,6 +45,7 @@ fn is_below(first: Option<Ic>, ic: Ic) -> bool
 }
 
 // Adds a number, if that is wanted.
+#[tactic(auto, using(crate::proofs::InsertedKeys::key_inserted))]
 fn insert_if(wanted: bool, number: Ic, points: &mut BTreeSet<Ic>) -> Result<(), AllocError>
     ensures { OnOk result (points.new.keys ≡ insert_if wanted number points.old.keys) }
 {

@@ -44,6 +44,7 @@ impl ReplayMemory {
     }
 
     /// The word at an address, if the log or a row before gave it; an address that isn't a multiple of 4 has none.
+    #[tactic(auto, using(crate::proofs::WordLists::word_found, crate::proofs::WordLists::no_word))]
     pub(crate) fn word(&self, addr: Addr) -> Option<u32>
         ensures { result ≡ word_in self.now.words addr }
     {
@@ -75,6 +76,7 @@ impl ReplayMemory {
     }
 
     // Makes the aligned word of an address known.
+    #[tactic(auto, using(crate::proofs::WordLists::word_put))]
     fn put(&mut self, addr: Addr, word: u32)
         requires { 0 < self.old.room }
         ensures word { self.new.words ≡ put_word (aligned addr) word self.old.words }

@@ -1,5 +1,5 @@
 -- What several files of proofs/ cite of other crates and of specs/. They import it from here, by one line.
-pub use Rattle.std.proofs.Common.{Bool, Err, IfErr, IfOk, IsTrue, List, MatchResult, None, Ok, Option, Result, Some, [], add-one, ap, append-nil, append_assoc, ap₂, arith, cond, drop, drop-drop, drop_at, eq-eqb, eqb, eqb-true, false, get_or, get_or-drop, if◌then◌else◌, inl, inr, length, length-append, length-drop, length-take-le, ltb, ltb-false, nat_le, nat_lt, not, refl, rules, slice_index, subst, suc, sym, take, take-append-drop, take_at, true, zero, ℕ, ◌%◌, ◌&&◌, ◌*◌, ◌++◌, ◌+◌, ◌-◌, ◌<◌, ◌==◌, ◌^◌, ◌||◌, ◌∙◌, ◌∷◌, ◌≡◌, ◌≢◌, ◌≤◌, ◌⊎◌}
+pub use Rattle.std.proofs.Common.{Bool, Err, IfErr, IfOk, IsTrue, List, MatchResult, None, Ok, Option, Result, Some, [], add-one, ap, append-nil, append_assoc, ap₂, arith, cond, drop, drop-drop, drop_at, eq-eqb, eqb, eqb-true, false, get_or, get_or-drop, if◌then◌else◌, inl, inr, le-ltb, length, length-append, length-drop, length-take-le, ltb, ltb-false, nat_le, nat_lt, not, refl, rules, slice_index, subst, suc, sym, take, take-append-drop, take_at, true, zero, ℕ, ◌%◌, ◌&&◌, ◌*◌, ◌++◌, ◌+◌, ◌-◌, ◌<◌, ◌==◌, ◌^◌, ◌||◌, ◌∙◌, ◌∷◌, ◌≡◌, ◌≢◌, ◌≤◌, ◌⊎◌}
 pub use Rattle.std.proofs.Math.Seq.{drop-cons, take-length}
 pub use Rattle.std.proofs.lemmas.Grind.{flat_map-append}
 pub use Rattle.std.proofs.lemmas.List.{drop-take, drop_all, get_or_append_left, get_or_past, take_more}

@@ -6,7 +6,7 @@ use Rattle.log_file.specs.Readings.{TestsTell}
 use Rattle.log_file.specs.Readings as of_first
 use Rattle.log_blocks.specs.declared.damage.SalvageError.TheVariants as salvage
 use Rattle.log_blocks.proofs.Goods.{good, front_are}
-use Rattle.log_blocks.proofs.Parted.{Parted, Stuck, parted}
+use Rattle.log_file.proofs.Parted.{Parted, Stuck, parted}
 use Rattle.log_blocks.proofs.Salvaged.{no_memory}
 use Rattle.log_blocks.proofs.Sealed.{TagsTell, read_is_spelled}
 use Rattle.log_blocks.proofs.Tested.{no_fault, head-named}

@@ -1,5 +1,6 @@
 -- What the last blocks of a file say.
-use Rattle.log_blocks.proofs.Common.{◌≡◌, ℕ, ◌+◌, ◌≤◌, Bool, true, false, nat_le, List, [], ◌∷◌, ◌++◌, length, refl, sym, ◌∙◌, ap, arith, append_assoc, append-nil, length-append, Record, bytes_of, Block, block_size, cut_from, last_block, numbered, records_in, AreSmall, LastBlocksAreAnEnd}
+use Rattle.log_blocks.proofs.Common.{◌≡◌, ℕ, ◌+◌, Bool, true, false, nat_le, List, [], ◌∷◌, ◌++◌, length, refl, sym, ◌∙◌, ap, arith, append_assoc, append-nil, length-append, Record, bytes_of, Block, block_size, cut_from, last_block, numbered, records_in, AreSmall, LastBlocksAreAnEnd}
+use Rattle.log_blocks.proofs.Firsts.{cut_first}
 
 -- all records of the parts
 joined : List (List Record) → List Record
@@ -28,16 +29,6 @@ joined_cut (r ∷ rs) block used =
 Again : List (List Record) → Type 0
 Again rest = cut_from [] 0 (joined rest) ≡ rest
 
-le_is : (a b : ℕ) → a ≤ b → nat_le a b ≡ true
-le_is a b e = grind arith
-
-first_fits : (r : Record) (rs : List Record) → length (bytes_of r) ≤ block_size → cut_from [] 0 (r ∷ rs) ≡ cut_from (r ∷ []) (length (bytes_of r)) rs
-first_fits r rs small =
-    let size = length (bytes_of r) in
-    let zero_more : 0 + size ≡ size = omega arith in
-    ap (λ (b : Bool). elim b as (λ z. List (List Record)) [ true ↦ cut_from ([] ++ r ∷ []) (0 + size) rs | false ↦ [] ∷ cut_from (r ∷ []) size rs ]) (le_is (0 + size) block_size (omega (arith, zero_more, small)))
-    ∙ ap (λ (n : ℕ). cut_from (r ∷ []) n rs) zero_more
-
 tails : List (List Record) → Type 0
 tails [] = Unit {0}
 tails (rs ∷ rest) = Again rest × tails rest
@@ -59,7 +50,7 @@ tails_cut (r ∷ rs) block used small =
     let size = length (bytes_of r) in
     let y = cut_from (r ∷ []) size rs in
     tails_by (nat_le (used + size) block_size) block _ y (tails_cut rs (block ++ r ∷ []) (used + size) small.1) (tails_cut rs (r ∷ []) size small.1)
-    (ap (cut_from [] 0) (joined_cut rs (r ∷ []) size) ∙ first_fits r rs small.0)
+    (ap (cut_from [] 0) (joined_cut rs (r ∷ []) size) ∙ cut_first r rs small.0)
 
 -- ---- the blocks
 

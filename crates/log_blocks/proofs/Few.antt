@@ -1,38 +1,19 @@
 -- How many blocks a log has.
-use Rattle.log_blocks.proofs.Common.{◌≡◌, ℕ, suc, ◌+◌, ◌*◌, ◌^◌, ◌<◌, ◌≤◌, Bool, true, false, nat_le, List, [], ◌∷◌, ◌++◌, length, Option, Some, refl, ap, arith, ◌==◌, AllByRecursion, Record, Header, FirstLoad, ScOk, ScFailed, Edge, End, bytes_of, total, FitsFields, Fits, Content, block_size, cut_from, last_block, numbered, blocks_of, file_bytes, file_bytes2, AreFew, HaveTheirSize, SavedHaveTheirLimit}
+use Rattle.log_blocks.proofs.Common.{◌≡◌, ℕ, suc, ◌+◌, ◌*◌, ◌^◌, ◌≤◌, Bool, true, false, nat_le, List, [], ◌∷◌, ◌++◌, length, refl, ap, arith, ◌==◌, AllByRecursion, Record, bytes_of, total, Fits, Content, block_size, cut_from, last_block, numbered, blocks_of, file_bytes, file_bytes2, AreFew, HaveTheirSize, SavedHaveTheirLimit}
+use Rattle.std.proofs.lemmas.Bool.{leb-false}
 use Rattle.log_file.specs.Laws as of_first
+use Rattle.log_blocks.proofs.Firsts.{cut_by}
 use Rattle.log_blocks.proofs.Pushed.{total_first}
-use Rattle.log_blocks.proofs.Sealed.{TagsTell}
-
-abbrev some_size : ℕ → Option ℕ
-some_size n = Some n
-
-size_is : (m n : ℕ) → some_size m ≡ some_size n → m ≡ n
-size_is m n e = cc
-
--- the longest record is a Header
-short : TagsTell → (r : Record) → FitsFields r → length (bytes_of r) ≤ 146
-short tell (Header h n ic pc x) f = omega (arith, size_is 146 (length (bytes_of (Header h n ic pc x))) (tell (Header h n ic pc x) f))
-short tell (FirstLoad h skip value) f = omega (arith, size_is 10 (length (bytes_of (FirstLoad h skip value))) (tell (FirstLoad h skip value) f))
-short tell (ScOk h) f = omega (arith, size_is 2 (length (bytes_of (ScOk h))) (tell (ScOk h) f))
-short tell (ScFailed h) f = omega (arith, size_is 2 (length (bytes_of (ScFailed h))) (tell (ScFailed h) f))
-short tell (Edge h ic s j) f = omega (arith, size_is 19 (length (bytes_of (Edge h ic s j))) (tell (Edge h ic s j) f))
-short tell (End h mark) f = omega (arith, size_is 15 (length (bytes_of (End h mark))) (tell (End h mark) f))
+use Rattle.log_blocks.proofs.Sealed.{TagsTell, short}
 
 few_last : (block : List Record) → length (last_block block) ≤ 1
 few_last [] = omega arith
 few_last (r ∷ rs) = omega arith
 
-abbrev cut_by : Bool → List Record → Record → ℕ → ℕ → List Record → List (List Record)
-cut_by b block r used size rs = elim b as (λ z. List (List Record)) [ true ↦ cut_from (block ++ r ∷ []) (used + size) rs | false ↦ block ∷ cut_from (r ∷ []) size rs ]
-
 few_by : (b : Bool) (block : List Record) (r : Record) (used size : ℕ) (rs : List Record) (n : ℕ) → (b ≡ true → 3951 * length (cut_from (block ++ r ∷ []) (used + size) rs) ≤ n)
     → (b ≡ false → 3951 * length (cut_from (r ∷ []) size rs) + 3951 ≤ n) → 3951 * length (cut_by b block r used size rs) ≤ n
 few_by true block r used size rs n x y = x refl
 few_by false block r used size rs n x y = omega (arith, y refl)
-
-past : (a b : ℕ) → nat_le a b ≡ false → b < a
-past a b e = grind arith
 
 -- each block but the last has no room for one more record
 few_cut : TagsTell → (format : ℕ) (rs block : List Record) (used : ℕ) → AllByRecursion (Fits format) rs → 3951 * length (cut_from block used rs) ≤ used + total rs + 3951
@@ -40,7 +21,7 @@ few_cut tell format [] block used fit = omega (arith, few_last block)
 few_cut tell format (r ∷ rs) block used fit =
     let size = length (bytes_of r) in
     few_by (nat_le (used + size) block_size) block r used size rs (used + total (r ∷ rs) + 3951) (λ fits. omega (arith, few_cut tell format rs (block ++ r ∷ []) (used + size) fit.1, total_first r rs))
-    (λ full. omega (arith, few_cut tell format rs (r ∷ []) size fit.1, total_first r rs, short tell r fit.0.fields, past (used + size) block_size full))
+    (λ full. omega (arith, few_cut tell format rs (r ∷ []) size fit.1, total_first r rs, short tell r fit.0.fields, leb-false (used + size) block_size full))
 
 as_many : (before : ℕ) (parts : List (List Record)) → length (numbered before parts) ≡ length parts
 as_many before [] = refl

@@ -1,30 +1,19 @@
 -- The first block of some records.
-use Rattle.log_blocks.proofs.Common.{◌≡◌, ℕ, ◌+◌, ◌<◌, ◌≤◌, Bool, true, false, nat_le, List, [], ◌∷◌, ◌++◌, length, length-append, append_assoc, append-nil, drop, Option, Some, None, refl, sym, ap, ◌∙◌, arith, slice_index, flat_map, AllByRecursion, drop-drop, drop_at, drop_all, get_or-drop, length-drop, flat_map-cons, Record, Header, FirstLoad, ScOk, ScFailed, Edge, End, size_of, bytes_of, total, Fits, TellTheirSize, block_size, cut_from, last_block, IsNext}
+use Rattle.log_blocks.proofs.Common.{◌≡◌, ℕ, ◌+◌, ◌<◌, ◌≤◌, Bool, true, false, List, [], ◌∷◌, ◌++◌, length, length-append, append_assoc, append-nil, drop, Some, None, refl, sym, ap, ◌∙◌, arith, slice_index, flat_map, AllByRecursion, drop-drop, drop_at, drop_all, get_or-drop, length-drop, flat_map-cons, Record, size_of, bytes_of, total, Fits, TellTheirSize, block_size, cut_from, last_block, IsNext}
+use Rattle.std.proofs.lemmas.Bool.{le-leb, lt-leb}
+use Rattle.log_file.proofs.Again.{some_bytes}
+use Rattle.log_file.proofs.Causes.{same_some, none_some}
 
-pub some_bytes : (r : Record) → 0 < length (bytes_of r)
-some_bytes (Header h n ic pc x) = omega arith
-some_bytes (FirstLoad h skip value) = omega arith
-some_bytes (ScOk h) = omega arith
-some_bytes (ScFailed h) = omega arith
-some_bytes (Edge h ic s j) = omega arith
-some_bytes (End h mark) = omega arith
-
-le_is : (a b : ℕ) → a ≤ b → nat_le a b ≡ true
-le_is a b e = grind arith
-
-le_is_not : (a b : ℕ) → b < a → nat_le a b ≡ false
-le_is_not a b e = grind arith
-
-abbrev chosen : Bool → List Record → Record → ℕ → ℕ → List Record → List (List Record)
-chosen b block r used size rs = elim b as (λ z. List (List Record)) [ true ↦ cut_from (block ++ r ∷ []) (used + size) rs | false ↦ block ∷ cut_from (r ∷ []) size rs ]
+abbrev pub cut_by : Bool → List Record → Record → ℕ → ℕ → List Record → List (List Record)
+cut_by b block r used size rs = elim b as (λ z. List (List Record)) [ true ↦ cut_from (block ++ r ∷ []) (used + size) rs | false ↦ block ∷ cut_from (r ∷ []) size rs ]
 
 -- a record that fits is taken
 cut_step : (block : List Record) (used : ℕ) (r : Record) (rs : List Record) → used + length (bytes_of r) ≤ block_size → cut_from block used (r ∷ rs) ≡ cut_from (block ++ r ∷ []) (used + length (bytes_of r)) rs
-cut_step block used r rs le = ap (λ (b : Bool). chosen b block r used (length (bytes_of r)) rs) (le_is (used + length (bytes_of r)) block_size le)
+cut_step block used r rs le = ap (λ (b : Bool). cut_by b block r used (length (bytes_of r)) rs) (le-leb (used + length (bytes_of r)) block_size le)
 
 -- and one that doesn't begins the next block
 cut_stop : (block : List Record) (used : ℕ) (r : Record) (rs : List Record) → block_size < used + length (bytes_of r) → cut_from block used (r ∷ rs) ≡ block ∷ cut_from (r ∷ []) (length (bytes_of r)) rs
-cut_stop block used r rs lt = ap (λ (b : Bool). chosen b block r used (length (bytes_of r)) rs) (le_is_not (used + length (bytes_of r)) block_size lt)
+cut_stop block used r rs lt = ap (λ (b : Bool). cut_by b block r used (length (bytes_of r)) rs) (lt-leb (used + length (bytes_of r)) block_size lt)
 
 pub cut_first : (r : Record) (rs : List Record) → length (bytes_of r) ≤ block_size → cut_from [] 0 (r ∷ rs) ≡ cut_from (r ∷ []) (length (bytes_of r)) rs
 cut_first r rs le =
@@ -45,18 +34,6 @@ pub record Begun (format : ℕ) (bytes : List ℕ) (rs : List Record) (at count 
 pub begun_none : (format : ℕ) (bytes : List ℕ) (rs : List Record) → AllByRecursion (Fits format) rs → bytes ≡ flat_map bytes_of rs → Begun format bytes rs 0 0
 begun_none format bytes rs fit parts = record { block = []; rest = rs; parts = refl; count_is = refl; size_is = refl; left = parts; cut = refl; fit = fit }
 
-abbrev some : ℕ → Option ℕ
-some n = Some n
-
-abbrev none : Option ℕ
-none = None
-
-same_some : (a b : ℕ) → some a ≡ some b → a ≡ b
-same_some a b e = cc
-
-no_some : {P : Type 0} (a : ℕ) → none ≡ some a → P
-no_some a e = absurd cc
-
 none_left : (left : List Record) → flat_map bytes_of left ≡ [] → left ≡ []
 none_left [] e = refl
 none_left (r ∷ left) e = absurd (omega (arith, ap length (sym (flat_map-cons bytes_of r left) ∙ e), length-append (bytes_of r) (flat_map bytes_of left), some_bytes r))
@@ -71,13 +48,13 @@ some_block [] lt = absurd (omega (arith, lt))
 some_block (r ∷ block) lt = omega arith
 
 module _ (tell : TellTheirSize) (format : ℕ) (bytes : List ℕ) (rs : List Record) where
-  tag_here : (at : ℕ) (r : Record) (rest : List ℕ) → Fits format r → drop at bytes ≡ bytes_of r ++ rest → size_of (slice_index bytes at) ≡ some (length (bytes_of r))
+  tag_here : (at : ℕ) (r : Record) (rest : List ℕ) → Fits format r → drop at bytes ≡ bytes_of r ++ rest → size_of (slice_index bytes at) ≡ Some (length (bytes_of r))
   tag_here at r rest fits e =
       let place : at ≡ at + 0 = omega arith in
       let here : slice_index bytes at ≡ slice_index (bytes_of r ++ rest) 0 = ap (slice_index bytes) place ∙ sym (get_or-drop at bytes 0 0) ∙ ap (λ (t : List ℕ). slice_index t 0) e in
       ap size_of here ∙ tell r rest fits.fields
 
-  more : (block left : List Record) (at next size count : ℕ) → at < length bytes → some size ≡ size_of (slice_index bytes at) → next ≡ at + size → next ≤ block_size
+  more : (block left : List Record) (at next size count : ℕ) → at < length bytes → Some size ≡ size_of (slice_index bytes at) → next ≡ at + size → next ≤ block_size
       → rs ≡ block ++ left → count ≡ length block → at ≡ total block → drop at bytes ≡ flat_map bytes_of left → cut_from [] 0 rs ≡ cut_from block at left → AllByRecursion (Fits format) left → Begun format bytes rs next (count + 1)
   more block [] at next size count lt told is fits parts n t d cut fit = absurd (omega (arith, ap length d, length-drop at bytes, lt))
   more block (r ∷ left) at next size count lt told is fits parts n t d cut fit =
@@ -95,7 +72,7 @@ module _ (tell : TellTheirSize) (format : ℕ) (bytes : List ℕ) (rs : List Rec
         fit = fit.1;
       }
 
-  pub begun_more : (at next size count : ℕ) → at < length bytes → some size ≡ size_of (slice_index bytes at) → next ≡ at + size → next ≤ block_size → Begun format bytes rs at count → Begun format bytes rs next (count + 1)
+  pub begun_more : (at next size count : ℕ) → at < length bytes → Some size ≡ size_of (slice_index bytes at) → next ≡ at + size → next ≤ block_size → Begun format bytes rs at count → Begun format bytes rs next (count + 1)
   begun_more at next size count lt told is fits b = more b.block b.rest at next size count lt told is fits b.parts b.count_is b.size_is b.left b.cut b.fit
 
   last : (block : List Record) → 0 < length block → last_block block ≡ block ∷ []
@@ -117,14 +94,14 @@ module _ (tell : TellTheirSize) (format : ℕ) (bytes : List ℕ) (rs : List Rec
         fit = b.fit;
       }
 
-  unknown : (left : List Record) (at : ℕ) → at < length bytes → none ≡ size_of (slice_index bytes at) → drop at bytes ≡ flat_map bytes_of left → AllByRecursion (Fits format) left → ⊥
+  unknown : (left : List Record) (at : ℕ) → at < length bytes → None ≡ size_of (slice_index bytes at) → drop at bytes ≡ flat_map bytes_of left → AllByRecursion (Fits format) left → ⊥
   unknown [] at lt told d fit = omega (arith, ap length d, length-drop at bytes, lt)
-  unknown (r ∷ left) at lt told d fit = no_some (length (bytes_of r)) (told ∙ tag_here at r (flat_map bytes_of left) fit.0 (d ∙ flat_map-cons bytes_of r left))
+  unknown (r ∷ left) at lt told d fit = none_some (length (bytes_of r)) (told ∙ tag_here at r (flat_map bytes_of left) fit.0 (d ∙ flat_map-cons bytes_of r left))
 
-  pub begun_unknown : (at count : ℕ) → at < length bytes → none ≡ size_of (slice_index bytes at) → Begun format bytes rs at count → IsNext format rs count at
+  pub begun_unknown : (at count : ℕ) → at < length bytes → None ≡ size_of (slice_index bytes at) → Begun format bytes rs at count → IsNext format rs count at
   begun_unknown at count lt told b = absurd (unknown b.rest at lt told b.left b.fit)
 
-  over : (block left : List Record) (at size count : ℕ) → at < length bytes → some size ≡ size_of (slice_index bytes at) → (at + size ≤ length bytes → block_size < at + size) → size ≤ block_size
+  over : (block left : List Record) (at size count : ℕ) → at < length bytes → Some size ≡ size_of (slice_index bytes at) → (at + size ≤ length bytes → block_size < at + size) → size ≤ block_size
       → rs ≡ block ++ left → count ≡ length block → at ≡ total block → drop at bytes ≡ flat_map bytes_of left → cut_from [] 0 rs ≡ cut_from block at left → AllByRecursion (Fits format) left → IsNext format rs count at
   over block [] at size count lt told much small parts n t d cut fit = absurd (omega (arith, ap length d, length-drop at bytes, lt))
   over block (r ∷ left) at size count lt told much small parts n t d cut fit =
@@ -143,5 +120,5 @@ module _ (tell : TellTheirSize) (format : ℕ) (bytes : List ℕ) (rs : List Rec
         fit = fit;
       }
 
-  pub begun_over : (at size count : ℕ) → at < length bytes → some size ≡ size_of (slice_index bytes at) → (at + size ≤ length bytes → block_size < at + size) → size ≤ block_size → Begun format bytes rs at count → IsNext format rs count at
+  pub begun_over : (at size count : ℕ) → at < length bytes → Some size ≡ size_of (slice_index bytes at) → (at + size ≤ length bytes → block_size < at + size) → size ≤ block_size → Begun format bytes rs at count → IsNext format rs count at
   begun_over at size count lt told much small b = over b.block b.rest at size count lt told much small b.parts b.count_is b.size_is b.left b.cut b.fit

@@ -1,5 +1,6 @@
 -- A good block, by its test and by its bytes.
 use Rattle.log_blocks.proofs.Common.{◌≡◌, ℕ, zero, suc, ◌+◌, ◌-◌, ◌<◌, ◌≤◌, Bool, true, false, nat_le, ltb, cond, List, [], ◌∷◌, ◌++◌, length, take, drop, length-drop, append_assoc, refl, sym, ap, ap₂, subst, ◌∙◌, arith, inl, inr, ◌==◌, ◌&&◌, slice_index, bytes_eq, eqb-true, drop-drop, take-append-drop, take_at, length-take-le, get_or_append_left, get_or_past, bytes_eq-Decides, sha256, number_bytes, AreBytes, HaveTheirWidth, AreWritten, block_size, Piece, piece_body, piece_bytes, pieces_bytes, gathered, len_in, left_in, before_in, start_in, piece_in, is_sized, is_good, Walked}
+use Rattle.std.proofs.lemmas.Bool.{leb-true}
 use Rattle.std.proofs.lemmas.Bool.{cases_lt}
 use Rattle.log_blocks.proofs.Written.{body_size}
 
@@ -16,9 +17,6 @@ both : (a b : Bool) → (a && b) ≡ true → (a ≡ true) × (b ≡ true)
 both true b e = (refl, e)
 both false b e = absurd cc
 
-le_of : (a b : ℕ) → nat_le a b ≡ true → a ≤ b
-le_of a b e = grind arith
-
 third : (b c e : Bool) → cond b false (cond c e false) ≡ true → (b ≡ false) × (c ≡ true) × (e ≡ true)
 third false true e h = (refl, refl, h)
 third false false e h = absurd cc
@@ -33,11 +31,11 @@ good digest n left bytes h =
     let c = both _ (nat_le (len_in bytes + 48) (length bytes)) b.0 in
     let d = both (nat_le 1 (len_in bytes)) (nat_le (len_in bytes) block_size) c.0 in
     record {
-      low = le_of _ _ d.0;
-      high = le_of _ _ d.1;
-      within = le_of _ _ c.1;
+      low = leb-true _ _ d.0;
+      high = leb-true _ _ d.1;
+      within = leb-true _ _ c.1;
       left_is = eqb-true _ _ b.1;
-      few = le_of _ _ a.1;
+      few = leb-true _ _ a.1;
       seal = (bytes_eq-Decides _ _).0 t.2;
     }
 

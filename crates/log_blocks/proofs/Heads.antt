@@ -1,14 +1,9 @@
 -- The head of a file that is written is read again, and has no fault.
-use Rattle.log_blocks.proofs.Common.{◌≡◌, ℕ, ◌+◌, ◌^◌, ◌<◌, ◌≤◌, Bool, true, false, ltb, List, [], ◌++◌, length, take, drop, length-append, append_assoc, append-nil, None, refl, sym, ap, ◌∙◌, arith, ◌==◌, ◌&&◌, ◌||◌, IsTrue, if◌then◌else◌, eqb-true, eq-eqb, drop-drop, take_at, drop_at, bytes_eq-Decides, sha256, length-sha256, RawSettings, IsSetting, is_between, is_small_power, most_harts, first_bad, number_at, number_bytes, HaveTheirWidth, AreRead, Head, total, Content, IsContent, magic, head_bytes2, file_bytes2, blocks_of, all_sealed, AreNotBad, settings_in, head_in, dropped_in, size_in, kept_digest, head_digest, blocks_in, head_fault}
-use Rattle.log_blocks.proofs.Layouts.{spelled, head_is_spelled}
+use Rattle.log_blocks.proofs.Common.{◌≡◌, ℕ, ◌+◌, ◌^◌, ◌<◌, ◌≤◌, Bool, true, false, List, [], ◌++◌, length, take, drop, length-append, append_assoc, append-nil, None, refl, sym, ap, ◌∙◌, arith, ◌==◌, ◌&&◌, ◌||◌, IsTrue, if◌then◌else◌, eqb-true, eq-eqb, drop-drop, take_at, drop_at, bytes_eq-Decides, sha256, length-sha256, RawSettings, IsSetting, is_between, is_small_power, first_bad, number_at, number_bytes, HaveTheirWidth, AreRead, Head, total, Content, IsContent, magic, head_bytes2, file_bytes2, blocks_of, all_sealed, AreNotBad, settings_in, head_in, dropped_in, size_in, kept_digest, head_digest, blocks_in, head_fault, ap₂, le-ltb}
+use Rattle.log_file.proofs.Again.{head_with}
+use Rattle.log_file.proofs.Shared.{ended_by, first_fields, begun_again, ended_again, number_first, length_begun, length_ended}
+use Rattle.log_blocks.proofs.Layouts.{spelled, later_by, head_is_spelled}
 use Rattle.log_blocks.proofs.Sealed.{small}
-
-most : (s : RawSettings) → most_harts s ≤ 16
-most s = by (s.format == 2)
-  where
-    by : (b : Bool) → (if b then 16 else 8) ≤ 16
-    by true = omega arith
-    by false = omega arith
 
 at_most : (high value : ℕ) → is_small_power high value ≡ true → value ≤ high
 at_most high value h = grind arith
@@ -32,9 +27,6 @@ second_sets s is = few_sets s.sets2 (s.sets2 == 0) (s.format == 2) refl is.secon
 second_ways : (s : RawSettings) → IsSetting s → s.ways2 ≤ 16
 second_ways s is = few_ways s.ways2 (s.sets2 == 0) is.second_ways
 
-abbrev head_with : List ℕ → RawSettings → Head
-head_with digest s = record { settings = s; digest = digest }
-
 -- what stands at the places of the fields
 pub record Again (bytes : List ℕ) (h : Head) (dropped n : ℕ) (rest : List ℕ) : Type 0 where
   pub begins : take 8 bytes ≡ magic
@@ -45,26 +37,15 @@ pub record Again (bytes : List ℕ) (h : Head) (dropped n : ℕ) (rest : List �
   pub rest_is : drop 104 bytes ≡ rest
 
 spelled_again : AreRead → (h : Head) (dropped n : ℕ) (rest bytes : List ℕ) → IsSetting h.settings → length h.digest ≡ 32 → dropped < 2 ^ 64 → n < 2 ^ 32 → bytes ≡ spelled h dropped n rest → Again bytes h dropped n rest
-unfolding spelled magic
 spelled_again read h dropped n rest bytes is len small fits e =
-    let s8 = read 4 8 2 bytes _ (omega arith) (ap (drop 8) e) in
-    let s12 = read 4 12 h.settings.harts bytes _ (omega (arith, most h.settings, is.harts_high)) s8.1 in
-    let s16 = read 4 16 h.settings.interval bytes _ (omega (arith, is.interval_high)) s12.1 in
-    let s20 = read 8 20 h.settings.limit bytes _ (omega (arith, is.limit_high)) s16.1 in
-    let s28 = read 4 28 h.settings.log_size bytes _ (omega (arith, is.log_size_high)) s20.1 in
-    let s32 = read 4 32 h.settings.memory bytes _ (omega (arith, is.memory_high)) s28.1 in
-    let s36 = read 4 36 h.settings.sets bytes _ (omega (arith, is.sets_high)) s32.1 in
-    let s40 = read 4 40 h.settings.ways bytes _ (omega (arith, is.ways_high)) s36.1 in
-    let s44 = read 4 44 h.settings.line bytes _ (omega (arith, is.line_high)) s40.1 in
-    let s48 = read 4 48 h.settings.format bytes _ (omega (arith, is.format_high)) s44.1 in
-    let s52 = read 4 52 h.settings.sets2 bytes _ (omega (arith, second_sets h.settings is)) s48.1 in
-    let s56 = read 4 56 h.settings.ways2 bytes _ (omega (arith, second_ways h.settings is)) s52.1 in
-    let digest : take 32 (drop 60 bytes) ≡ h.digest = ap (take 32) s56.1 ∙ take_at h.digest _ 32 len in
-    let later = sym (drop-drop 32 60 bytes) ∙ ap (drop 32) s56.1 ∙ drop_at h.digest _ 32 len in
-    let s92 = read 8 92 dropped bytes _ small later in
-    let s100 = read 4 100 n bytes rest fits s92.1 in
-    let fields : head_in bytes ≡ head_with h.digest h.settings = rw (s12.0, s16.0, s20.0, s28.0, s32.0, s36.0, s40.0, s44.0, s48.0, s52.0, s56.0, digest) refl in
-    record { begins = ap (take 8) e; version = s8.0; head = fields; dropped_is = s92.0; n_is = s100.0; rest_is = s100.1 }
+    let s = h.settings in
+    let b = begun_again read 2 s bytes (later_by s (ended_by h.digest dropped n rest)) is (omega arith) e in
+    let s48 = read 4 48 s.format bytes _ (omega (arith, is.format_high)) b.rest_is in
+    let s52 = read 4 52 s.sets2 bytes _ (omega (arith, second_sets s is)) s48.1 in
+    let s56 = read 4 56 s.ways2 bytes _ (omega (arith, second_ways s is)) s52.1 in
+    let f = ended_again read 60 bytes h.digest dropped n rest len small fits s56.1 in
+    let settings : settings_in bytes ≡ s = ap (λ (x : RawSettings). first_fields x (number_at 4 48 bytes) (number_at 4 52 bytes) (number_at 4 56 bytes)) b.settings ∙ rw (s48.0, s52.0, s56.0) refl in
+    record { begins = b.begins; version = b.named; head = ap₂ head_with f.digest_is settings; dropped_is = f.dropped_is; n_is = f.n_is; rest_is = f.rest_is }
 
 abbrev pub head_for : Content → List ℕ
 head_for c = head_bytes2 c.head c.dropped (total c.records)
@@ -82,49 +63,24 @@ content_again read c is =
     (append_assoc (head_for c) (sha256 (head_for c)) (sealed_for c) ∙ head_is_spelled c.head c.dropped (total c.records) (sha256 (head_for c) ++ sealed_for c))
 
 module _ (long : HaveTheirWidth) where
-  number_first : (width n : ℕ) (rest : List ℕ) → length (number_bytes width n ++ rest) ≡ width + length rest
-  number_first width n rest = omega (arith, length-append (number_bytes width n) rest, long width n)
-
-  length-spelled : (h : Head) (dropped n : ℕ) (rest : List ℕ) → length (spelled h dropped n rest) ≡ 72 + length h.digest + length rest
-  unfolding spelled magic
-  length-spelled h dropped n rest =
+  length_spelled : (h : Head) (dropped n : ℕ) (rest : List ℕ) → length (spelled h dropped n rest) ≡ 72 + length h.digest + length rest
+  length_spelled h dropped n rest =
       let s = h.settings in
-      let t100 = number_bytes 4 n ++ rest in
-      let t92 = number_bytes 8 dropped ++ t100 in
-      let t60 = h.digest ++ t92 in
+      let t60 = ended_by h.digest dropped n rest in
       let t56 = number_bytes 4 s.ways2 ++ t60 in
       let t52 = number_bytes 4 s.sets2 ++ t56 in
-      let t48 = number_bytes 4 s.format ++ t52 in
-      let t44 = number_bytes 4 s.line ++ t48 in
-      let t40 = number_bytes 4 s.ways ++ t44 in
-      let t36 = number_bytes 4 s.sets ++ t40 in
-      let t32 = number_bytes 4 s.memory ++ t36 in
-      let t28 = number_bytes 4 s.log_size ++ t32 in
-      let t20 = number_bytes 8 s.limit ++ t28 in
-      let t16 = number_bytes 4 s.interval ++ t20 in
-      let t12 = number_bytes 4 s.harts ++ t16 in
       omega (
         arith,
-        number_first 4 2 t12,
-        number_first 4 s.harts t16,
-        number_first 4 s.interval t20,
-        number_first 8 s.limit t28,
-        number_first 4 s.log_size t32,
-        number_first 4 s.memory t36,
-        number_first 4 s.sets t40,
-        number_first 4 s.ways t44,
-        number_first 4 s.line t48,
-        number_first 4 s.format t52,
-        number_first 4 s.sets2 t56,
-        number_first 4 s.ways2 t60,
-        length-append h.digest t92,
-        number_first 8 dropped t100,
-        number_first 4 n rest,
+        length_begun long 2 s (later_by s t60),
+        number_first long 4 s.format t52,
+        number_first long 4 s.sets2 t56,
+        number_first long 4 s.ways2 t60,
+        length_ended long h.digest dropped n rest,
       )
 
   pub head_size : (c : Content) → IsContent c → length (head_for c) ≡ 104
   head_size c is =
-      omega (arith, ap length (sym (append-nil (head_for c)) ∙ head_is_spelled c.head c.dropped (total c.records) []), length-spelled c.head c.dropped (total c.records) [], is.digest)
+      omega (arith, ap length (sym (append-nil (head_for c)) ∙ head_is_spelled c.head c.dropped (total c.records) []), length_spelled c.head c.dropped (total c.records) [], is.digest)
 
   -- what follows the head
   pub record Placed (c : Content) : Type 0 where
@@ -148,19 +104,16 @@ module _ (long : HaveTheirWidth) where
 
 -- ---- a head that is written has no fault
 
-lt_not : (a b : ℕ) → b ≤ a → ltb a b ≡ false
-lt_not a b e = grind arith
-
 faultless : (bytes : List ℕ) → 136 ≤ length bytes → take 8 bytes ≡ magic → number_at 4 8 bytes ≡ 2 → first_bad (settings_in bytes) ≡ None → size_in bytes ≤ (settings_in bytes).log_size → kept_digest bytes ≡ head_digest bytes → head_fault bytes ≡ None
 unfolding head_fault
 faultless bytes long begins version ranges within digest =
     rw (
-      lt_not (length bytes) 124 (omega (arith, long)),
+      le-ltb (length bytes) 124 (omega (arith, long)),
       (bytes_eq-Decides (take 8 bytes) magic).1 begins,
       eq-eqb _ _ version,
-      lt_not (length bytes) 136 long,
+      le-ltb (length bytes) 136 long,
       ranges,
-      lt_not (settings_in bytes).log_size (size_in bytes) within,
+      le-ltb (settings_in bytes).log_size (size_in bytes) within,
       (bytes_eq-Decides (kept_digest bytes) (head_digest bytes)).1 digest,
     ) refl
 

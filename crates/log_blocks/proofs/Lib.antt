@@ -17,7 +17,6 @@ pub mod Versions
 pub mod Uniques
 pub mod Kept
 pub mod Ends
-pub mod Parted
 pub mod Decided
 pub mod Tallied
 pub mod Counted

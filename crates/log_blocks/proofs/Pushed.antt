@@ -1,7 +1,8 @@
 -- Writing blocks.
 use Rattle.log_blocks.proofs.Common.{◌≡◌, ℕ, ◌+◌, ◌%◌, ◌^◌, ◌<◌, Bool, true, false, nat_le, List, [], ◌∷◌, ◌++◌, length, take, drop, length-append, append_assoc, append-nil, refl, sym, ap, ap₂, ◌∙◌, arith, flat_map, AllByRecursion, flat_map-append, take_at, drop_at, flat_map-cons, Record, bytes_of, total, Fits, block_size, cut_from, last_block, total_of, numbered, blocks_of, sealed, all_sealed, Piece, piece, piece_bytes, IsNext}
 use Rattle.log_blocks.proofs.Compared.{add_mod, block_at, some_records}
-use Rattle.log_blocks.proofs.Firsts.{total_more, some_bytes}
+use Rattle.log_file.proofs.Again.{some_bytes}
+use Rattle.log_blocks.proofs.Firsts.{total_more}
 
 -- the parts into which records are cut have as many bytes as the records
 total_last : (block : List Record) → total_of (last_block block) ≡ total block

@@ -1,8 +1,12 @@
 -- A file that is written is read again, and nothing is wrong with it.
-use Rattle.log_blocks.proofs.Common.{◌≡◌, ℕ, ◌+◌, ◌*◌, ◌%◌, ◌^◌, ◌<◌, ◌≤◌, Bool, true, false, nat_le, List, [], ◌∷◌, ◌++◌, length, length-append, append_assoc, append-nil, Option, Some, None, inl, inr, refl, sym, ap, subst, ◌∙◌, arith, ◌==◌, ◌&&◌, if◌then◌else◌, flat_map, AllByRecursion, bytes_eq, eq-eqb, flat_map-append, flat_map-cons, bytes_eq-Decides, sha256, length-sha256, HaveTheirWidth, AreRead, Head, Record, bytes_of, total, Fits, BeginNoOther, OrderBreak, order_break, broken_by, Content, content, IsContent, FileError, Short, BadMagic, BadVersion, BadHead, LengthDiffers, DigestDiffers, BadRecord, BadOrder, OutOfMemory, file_bytes2, AreNotBad, Block, block_size, cut_from, last_block, total_of, numbered, blocks_of, sealed, all_sealed, Damage, File, BadBlock, head_in, dropped_in, size_in, head_digest, blocks_in, head_fault, Piece, piece_of, pieces_bytes, gathered, IsWalk, first_wrong, IsRecordsFault, IsWalkFault, IsHeadFault, dropped_before, pieces_of, SayOneThing, AreNotRefused, HaveTheirSize, WholeAreSalvaged}
-use Rattle.log_blocks.proofs.Firsts.{some_bytes}
+use Rattle.log_blocks.proofs.Common.{◌≡◌, ℕ, ◌+◌, ◌*◌, ◌%◌, ◌^◌, ◌<◌, ◌≤◌, Bool, true, false, nat_le, List, [], ◌∷◌, ◌++◌, length, length-append, append-nil, Option, Some, None, inl, inr, refl, sym, ap, subst, ◌∙◌, arith, ◌==◌, ◌&&◌, if◌then◌else◌, flat_map, AllByRecursion, bytes_eq, eq-eqb, bytes_eq-Decides, sha256, length-sha256, HaveTheirWidth, AreRead, Head, Record, bytes_of, total, Fits, BeginNoOther, order_break, broken_by, Content, content, IsContent, Short, BadMagic, BadVersion, BadHead, LengthDiffers, DigestDiffers, BadRecord, BadOrder, OutOfMemory, file_bytes2, AreNotBad, Block, block_size, cut_from, last_block, total_of, numbered, blocks_of, sealed, all_sealed, Damage, File, BadBlock, head_in, dropped_in, size_in, head_digest, blocks_in, head_fault, Piece, piece_of, pieces_bytes, gathered, IsWalk, first_wrong, IsRecordsFault, IsWalkFault, IsHeadFault, dropped_before, pieces_of, SayOneThing, AreNotRefused, HaveTheirSize, WholeAreSalvaged, FitsFields}
+use Rattle.std.proofs.lemmas.Bool.{leb-true}
+use Rattle.log_file.proofs.Again.{some_bytes, records_free}
+use Rattle.log_file.proofs.Causes.{none_some}
+use Rattle.log_file.proofs.Rows.{no_stop, one_row}
+use Rattle.log_blocks.proofs.Firsts.{cut_by, total_more}
 use Rattle.log_blocks.proofs.Pushed.{total_cut, total_first}
-use Rattle.log_blocks.proofs.Sealed.{parts_bytes, parts_cut, Full, TagsTell, small, full_first}
+use Rattle.log_blocks.proofs.Sealed.{parts_bytes, parts_total, parts_cut, Full, TagsTell, small, full_first}
 use Rattle.log_blocks.proofs.Written.{AreSound, Same, walked_whole, one_walk, piece_size}
 use Rattle.log_blocks.proofs.Heads.{head_for, sealed_for, small_size, content_again, head_size, placed, no_fault_again}
 
@@ -17,11 +21,6 @@ unfolding parts_bytes
 gathered_are number [] = refl
 gathered_are number (rs ∷ rest) = ap (λ (t : List ℕ). flat_map bytes_of rs ++ t) (gathered_are (number + length rs) rest)
 
-parts_total : (parts : List (List Record)) → length (parts_bytes parts) ≡ total_of parts
-unfolding parts_bytes
-parts_total [] = refl
-parts_total (rs ∷ rest) = omega (arith, parts_total rest, length-append (flat_map bytes_of rs) (parts_bytes rest))
-
 -- each part has at most as many bytes as a block
 Bounded : List (List Record) → Type 0
 Bounded [] = Unit {0}
@@ -31,15 +30,6 @@ bounded_last : (block : List Record) → total block ≤ block_size → Bounded 
 unfolding Bounded
 bounded_last [] le = tt
 bounded_last (r ∷ rs) le = (le, tt)
-
-total_more : (block : List Record) (r : Record) → total (block ++ r ∷ []) ≡ total block + length (bytes_of r)
-total_more block r = ap length (flat_map-append bytes_of block (r ∷ [])) ∙ length-append (flat_map bytes_of block) (flat_map bytes_of (r ∷ [])) ∙ omega (arith, total_first r [])
-
-abbrev cut_by : Bool → List Record → Record → ℕ → ℕ → List Record → List (List Record)
-cut_by b block r used size rs = elim b as (λ z. List (List Record)) [ true ↦ cut_from (block ++ r ∷ []) (used + size) rs | false ↦ block ∷ cut_from (r ∷ []) size rs ]
-
-le_of : (a b : ℕ) → nat_le a b ≡ true → a ≤ b
-le_of a b e = grind arith
 
 bounded_by : (b : Bool) (block : List Record) (r : Record) (used size : ℕ) (rs : List Record) → total block ≤ block_size → (b ≡ true → Bounded (cut_from (block ++ r ∷ []) (used + size) rs)) → Bounded (cut_from (r ∷ []) size rs) → Bounded (cut_by b block r used size rs)
 unfolding Bounded
@@ -51,7 +41,7 @@ bounded_cut tell format [] block used fit is le = bounded_last block (omega (ari
 bounded_cut tell format (r ∷ rs) block used fit is le =
     let size = length (bytes_of r) in
     bounded_by (nat_le (used + size) block_size) block r used size rs (omega (arith, is, le))
-    (λ fits. bounded_cut tell format rs (block ++ r ∷ []) (used + size) fit.1 (omega (arith, is, total_more block r)) (le_of _ _ fits))
+    (λ fits. bounded_cut tell format rs (block ++ r ∷ []) (used + size) fit.1 (omega (arith, is, total_more block r)) (leb-true _ _ fits))
     (bounded_cut tell format rs (r ∷ []) size fit.1 (omega (arith, total_first r [])) (small tell r fit.0.fields))
 
 small_mod : (k : ℕ) → k % 2 ^ 64 < 2 ^ 64
@@ -100,62 +90,28 @@ walked_for read long tell c is =
 
 -- ---- records
 
--- no place in the bytes of records is one at which nothing begins
-pub no_stop : BeginNoOther → (format : ℕ) (rs before : List Record) (rest : List ℕ) → AllByRecursion (Fits format) rs → AllByRecursion (Fits format) before → flat_map bytes_of rs ≡ flat_map bytes_of before ++ rest → 0 < length rest
-    → ((r : Record) (y : List ℕ) → Fits format r → rest ≡ bytes_of r ++ y → ⊥) → ⊥
-no_stop alone format [] [] rest fr fb e more none = omega (arith, more, ap length e)
-no_stop alone format (r ∷ rs) [] rest fr fb e more none = none r (flat_map bytes_of rs) fr.0 (sym e ∙ flat_map-cons bytes_of r rs)
-no_stop alone format [] (b ∷ bs) rest fr fb e more none = omega (arith, more, ap length e, length-append (flat_map bytes_of (b ∷ bs)) rest)
-no_stop alone format (r ∷ rs) (b ∷ bs) rest fr fb e more none =
-    let f : bytes_of r ++ flat_map bytes_of rs ≡ bytes_of b ++ (flat_map bytes_of bs ++ rest) =
-    sym (flat_map-cons bytes_of r rs) ∙ e ∙ ap (λ (t : List ℕ). t ++ rest) (flat_map-cons bytes_of b bs) ∙ append_assoc (bytes_of b) (flat_map bytes_of bs) rest in
-    let o = alone r b (flat_map bytes_of rs) (flat_map bytes_of bs ++ rest) fr.0.fields fb.0.fields f in
-    no_stop alone format rs bs rest fr.1 fb.1 o.1 more none
-
-nothing_left : (r : Record) (rs : List Record) → flat_map bytes_of (r ∷ rs) ≡ [] → ⊥
-nothing_left r rs e = omega (arith, some_bytes r, ap length (sym (flat_map-cons bytes_of r rs) ∙ e), length-append (bytes_of r) (flat_map bytes_of rs))
+fields_fit : (format : ℕ) (rs : List Record) → AllByRecursion (Fits format) rs → AllByRecursion FitsFields rs
+fields_fit format [] fit = tt
+fields_fit format (r ∷ rs) fit = (fit.0.fields, fields_fit format rs fit.1)
 
 -- bytes are those of at most one list of records
 pub one_list : BeginNoOther → (format other : ℕ) (rs ss : List Record) → AllByRecursion (Fits format) rs → AllByRecursion (Fits other) ss → flat_map bytes_of rs ≡ flat_map bytes_of ss → rs ≡ ss
-one_list alone format other [] [] fr fs e = refl
-one_list alone format other (r ∷ rs) [] fr fs e = absurd (nothing_left r rs e)
-one_list alone format other [] (s ∷ ss) fr fs e = absurd (nothing_left s ss (sym e))
-one_list alone format other (r ∷ rs) (s ∷ ss) fr fs e =
-    let o = alone r s (flat_map bytes_of rs) (flat_map bytes_of ss) fr.0.fields fs.0.fields (sym (flat_map-cons bytes_of r rs) ∙ e ∙ flat_map-cons bytes_of s ss) in
-    ap (λ (x : Record). x ∷ rs) o.0 ∙ ap (λ (xs : List Record). s ∷ xs) (one_list alone format other rs ss fr.1 fs.1 o.1)
-
-abbrev unbroken : Option OrderBreak
-unbroken = None
-
-no_break : (b : OrderBreak) → unbroken ≡ Some b → ⊥
-no_break b e = cc
-
-abbrev nowhere : Option ℕ
-nowhere = None
-
-no_place : (k : ℕ) → nowhere ≡ Some k → ⊥
-no_place k e = cc
-
-abbrev faultfree : Option FileError
-faultfree = None
-
-no_error : (e : FileError) → faultfree ≡ Some e → ⊥
-no_error e h = cc
+one_list alone format other rs ss fr fs = one_row bytes_of FitsFields (record { some = λ r fit. some_bytes r; one = alone }) rs ss (fields_fit format rs fr) (fields_fit other ss fs)
 
 records_again : BeginNoOther → (c : Content) → IsContent c → (e : Damage) → IsRecordsFault c.head c.dropped 136 (pieces_for c) e → e ≡ File OutOfMemory
 records_again alone c is (BadBlock at) x =
     let same = one_list alone c.head.settings.format c.head.settings.format c.records x.records is.fit x.fit (sym (gathered_for c) ∙ x.parts) in
-    absurd (no_place at (sym (all_right 136 c.dropped (parts_for c)) ∙ ap (λ (t : List Record). first_wrong 136 (blocks_of c.dropped t) (pieces_for c)) same ∙ x.wrong))
+    none_some at (sym (all_right 136 c.dropped (parts_for c)) ∙ ap (λ (t : List Record). first_wrong 136 (blocks_of c.dropped t) (pieces_for c)) same ∙ x.wrong)
 records_again alone c is (File (Short n)) x = absurd x
 records_again alone c is (File BadMagic) x = absurd x
 records_again alone c is (File (BadVersion found)) x = absurd x
 records_again alone c is (File (BadHead field value)) x = absurd x
 records_again alone c is (File (LengthDiffers said found)) x = absurd x
 records_again alone c is (File (DigestDiffers kept found)) x = absurd x
-records_again alone c is (File (BadRecord place)) x = absurd (no_stop alone c.head.settings.format c.records x.before x.rest is.fit x.fit (sym (gathered_for c) ∙ x.parts) x.more x.none)
+records_again alone c is (File (BadRecord place)) x = absurd (no_stop bytes_of (Fits c.head.settings.format) (records_free alone c.head.settings.format) c.records x.before x.rest is.fit x.fit (sym (gathered_for c) ∙ x.parts) x.more x.none)
 records_again alone c is (File (BadOrder place rule)) x =
     let same = one_list alone c.head.settings.format c.head.settings.format c.records x.records is.fit x.fit (sym (gathered_for c) ∙ x.parts) in
-    absurd (no_break (order_break place rule) (sym is.order ∙ ap (broken_by c.head.settings c.dropped) same ∙ x.breaks))
+    none_some (order_break place rule) (sym is.order ∙ ap (broken_by c.head.settings c.dropped) same ∙ x.breaks)
 records_again alone c is (File OutOfMemory) x = refl
 
 at_content : (c : Content) (h : Head) (d : ℕ) (ps : List Piece) (e : Damage) → h ≡ c.head → d ≡ c.dropped → ps ≡ pieces_for c → IsRecordsFault h d 136 ps e → IsRecordsFault c.head c.dropped 136 (pieces_for c) e
@@ -163,7 +119,7 @@ at_content c h d ps e hh dd pp x =
     subst (λ (t : List Piece). IsRecordsFault c.head c.dropped 136 t e) pp (subst (λ (k : ℕ). IsRecordsFault c.head k 136 ps e) dd (subst (λ (t : Head). IsRecordsFault t d 136 ps e) hh x))
 
 head_again : (bytes : List ℕ) (e : Damage) → head_fault bytes ≡ None → IsHeadFault bytes e → ⊥
-head_again bytes (File f) none x = no_error f (sym none ∙ x)
+head_again bytes (File f) none x = none_some f (sym none ∙ x)
 head_again bytes (BadBlock at) none x = x
 
 -- a file that is written is refused only when out of memory

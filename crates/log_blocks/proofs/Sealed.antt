@@ -6,14 +6,16 @@ use Rattle.log_blocks.proofs.Layouts.{head_written, file_parts}
 use Rattle.log_blocks.proofs.Goods.{Lefts, walk_says}
 use Rattle.log_blocks.proofs.Pushed.{total_first}
 use Rattle.log_blocks.proofs.Compared.{block_at}
-use Rattle.log_blocks.proofs.Firsts.{some_bytes, cut_first}
+use Rattle.log_file.proofs.Again.{some_bytes}
+use Rattle.log_file.proofs.Causes.{same_some}
+use Rattle.log_blocks.proofs.Firsts.{cut_first}
 
 -- the bytes of the records of several parts
 unfoldable pub parts_bytes : List (List Record) → List ℕ
 parts_bytes [] = []
 parts_bytes (rs ∷ rest) = flat_map bytes_of rs ++ parts_bytes rest
 
-parts_total : (parts : List (List Record)) → length (parts_bytes parts) ≡ total_of parts
+pub parts_total : (parts : List (List Record)) → length (parts_bytes parts) ≡ total_of parts
 unfolding parts_bytes
 parts_total [] = refl
 parts_total (rs ∷ rest) = omega (arith, parts_total rest, length-append (flat_map bytes_of rs) (parts_bytes rest))
@@ -79,19 +81,17 @@ full_cut (r ∷ rs) block used lt =
 abbrev pub TagsTell : Type 0
 TagsTell = (r : Record) → FitsFields r → size_of (tag_of r) ≡ Some (length (bytes_of r))
 
-abbrev some_size : ℕ → Option ℕ
-some_size n = Some n
-
-size_is : (m n : ℕ) → some_size m ≡ some_size n → m ≡ n
-size_is m n e = cc
+-- the longest record is a Header
+pub short : TagsTell → (r : Record) → FitsFields r → length (bytes_of r) ≤ 146
+short tell (Header h n ic pc x) f = omega (arith, same_some 146 (length (bytes_of (Header h n ic pc x))) (tell (Header h n ic pc x) f))
+short tell (FirstLoad h skip value) f = omega (arith, same_some 10 (length (bytes_of (FirstLoad h skip value))) (tell (FirstLoad h skip value) f))
+short tell (ScOk h) f = omega (arith, same_some 2 (length (bytes_of (ScOk h))) (tell (ScOk h) f))
+short tell (ScFailed h) f = omega (arith, same_some 2 (length (bytes_of (ScFailed h))) (tell (ScFailed h) f))
+short tell (Edge h ic s j) f = omega (arith, same_some 19 (length (bytes_of (Edge h ic s j))) (tell (Edge h ic s j) f))
+short tell (End h mark) f = omega (arith, same_some 15 (length (bytes_of (End h mark))) (tell (End h mark) f))
 
 pub small : TagsTell → (r : Record) → FitsFields r → length (bytes_of r) ≤ block_size
-small tell (Header h n ic pc x) f = omega (arith, size_is 146 (length (bytes_of (Header h n ic pc x))) (tell (Header h n ic pc x) f))
-small tell (FirstLoad h skip value) f = omega (arith, size_is 10 (length (bytes_of (FirstLoad h skip value))) (tell (FirstLoad h skip value) f))
-small tell (ScOk h) f = omega (arith, size_is 2 (length (bytes_of (ScOk h))) (tell (ScOk h) f))
-small tell (ScFailed h) f = omega (arith, size_is 2 (length (bytes_of (ScFailed h))) (tell (ScFailed h) f))
-small tell (Edge h ic s j) f = omega (arith, size_is 19 (length (bytes_of (Edge h ic s j))) (tell (Edge h ic s j) f))
-small tell (End h mark) f = omega (arith, size_is 15 (length (bytes_of (End h mark))) (tell (End h mark) f))
+small tell r f = omega (arith, short tell r f)
 
 pub full_first : TagsTell → (format : ℕ) (rs : List Record) → AllByRecursion (Fits format) rs → Full (cut_from [] 0 rs)
 unfolding Full

@@ -1,58 +1,11 @@
 -- Bytes have one answer.
-use Rattle.log_blocks.proofs.Common.{◌≡◌, ℕ, ◌+◌, ◌<◌, Bool, true, false, List, [], ◌∷◌, ◌++◌, length, append_assoc, Option, Some, None, inl, inr, refl, sym, ap, ap₂, subst, ◌∙◌, arith, ◌≢◌, ◌⊎◌, flat_map, AllByRecursion, flat_map-cons, Head, Record, bytes_of, total, Fits, BeginNoOther, OrderBreak, order_break, broken_by, Content, content, FileError, Short, BadMagic, BadVersion, BadHead, LengthDiffers, DigestDiffers, BadRecord, BadOrder, OutOfMemory, blocks_of, Damage, File, BadBlock, head_in, dropped_in, size_in, head_digest, blocks_in, is_second, head_fault, Piece, gathered, IsWalk, first_wrong, NoRecord, CutOtherwise, BreaksOrder, HasBlocks, IsRecordsFault, IsHeadFault, IsWalkFault, IsSecondRefusal, dropped_before, IsSalvaged, IsSalvageFault, NoneIsLeft, IsFirstRefusal, FirstAreUnique, RefusalsAreUnique, SalvagedAreUnique, SalvagedAreNotRefused, SalvageRefusalsAreUnique}
+use Rattle.log_blocks.proofs.Common.{◌≡◌, ℕ, ◌+◌, ◌<◌, Bool, true, false, List, [], length, Option, Some, None, inl, inr, refl, sym, ap, ap₂, subst, ◌∙◌, arith, ◌≢◌, ◌⊎◌, flat_map, AllByRecursion, Head, Record, bytes_of, total, Fits, BeginNoOther, OrderBreak, order_break, broken_by, Content, content, FileError, Short, BadMagic, BadVersion, BadHead, LengthDiffers, DigestDiffers, BadRecord, BadOrder, OutOfMemory, blocks_of, Damage, File, BadBlock, head_in, dropped_in, size_in, head_digest, blocks_in, is_second, head_fault, Piece, gathered, IsWalk, first_wrong, NoRecord, CutOtherwise, BreaksOrder, HasBlocks, IsRecordsFault, IsHeadFault, IsWalkFault, IsSecondRefusal, dropped_before, IsSalvaged, IsSalvageFault, NoneIsLeft, IsFirstRefusal, FirstAreUnique, RefusalsAreUnique, SalvagedAreUnique, SalvagedAreNotRefused, SalvageRefusalsAreUnique}
 use Rattle.log_blocks.specs.declared.damage.SalvageError.TheVariants as salvage
+use Rattle.log_file.proofs.Again.{records_free}
+use Rattle.log_file.proofs.Causes.{same_some, none_some}
+use Rattle.log_file.proofs.Rows.{no_stop, one_stop}
 use Rattle.log_blocks.proofs.Written.{Same, one_walk}
-use Rattle.log_blocks.proofs.Recovered.{no_stop, one_list}
-
-one_stop : BeginNoOther → (format : ℕ) (ls bs : List Record) (x y : List ℕ) → AllByRecursion (Fits format) ls → AllByRecursion (Fits format) bs → flat_map bytes_of ls ++ x ≡ flat_map bytes_of bs ++ y
-    → ((r : Record) (z : List ℕ) → Fits format r → x ≡ bytes_of r ++ z → ⊥) → ((r : Record) (z : List ℕ) → Fits format r → y ≡ bytes_of r ++ z → ⊥) → ls ≡ bs
-one_stop alone format [] [] x y fa fb e none_a none_b = refl
-one_stop alone format (a ∷ ls) [] x y fa fb e none_a none_b =
-    absurd (none_b a (flat_map bytes_of ls ++ x) fa.0 (sym e ∙ ap (λ (t : List ℕ). t ++ x) (flat_map-cons bytes_of a ls) ∙ append_assoc (bytes_of a) (flat_map bytes_of ls) x))
-one_stop alone format [] (b ∷ bs) x y fa fb e none_a none_b =
-    absurd (none_a b (flat_map bytes_of bs ++ y) fb.0 (e ∙ ap (λ (t : List ℕ). t ++ y) (flat_map-cons bytes_of b bs) ∙ append_assoc (bytes_of b) (flat_map bytes_of bs) y))
-one_stop alone format (a ∷ ls) (b ∷ bs) x y fa fb e none_a none_b =
-    let f : bytes_of a ++ (flat_map bytes_of ls ++ x) ≡ bytes_of b ++ (flat_map bytes_of bs ++ y) =
-    sym (append_assoc (bytes_of a) (flat_map bytes_of ls) x) ∙ ap (λ (t : List ℕ). t ++ x) (sym (flat_map-cons bytes_of a ls)) ∙ e
-    ∙ ap (λ (t : List ℕ). t ++ y) (flat_map-cons bytes_of b bs) ∙ append_assoc (bytes_of b) (flat_map bytes_of bs) y in
-    let o = alone a b (flat_map bytes_of ls ++ x) (flat_map bytes_of bs ++ y) fa.0.fields fb.0.fields f in
-    ap (λ (c : Record). c ∷ ls) o.0 ∙ ap (λ (cs : List Record). b ∷ cs) (one_stop alone format ls bs x y fa.1 fb.1 o.1 none_a none_b)
-
-abbrev some_place : ℕ → Option ℕ
-some_place n = Some n
-
-same_place : (m n : ℕ) → some_place m ≡ some_place n → m ≡ n
-same_place m n e = cc
-
-abbrev no_place : Option ℕ
-no_place = None
-
-none_place : {P : Type 0} (n : ℕ) → no_place ≡ some_place n → P
-none_place n e = absurd cc
-
-abbrev some_break : OrderBreak → Option OrderBreak
-some_break b = Some b
-
-same_break : (b c : OrderBreak) → some_break b ≡ some_break c → b ≡ c
-same_break b c h = cc
-
-abbrev no_break : Option OrderBreak
-no_break = None
-
-none_break : {P : Type 0} (b : OrderBreak) → no_break ≡ some_break b → P
-none_break b e = absurd cc
-
-abbrev some_error : FileError → Option FileError
-some_error e = Some e
-
-same_error : (e f : FileError) → some_error e ≡ some_error f → e ≡ f
-same_error e f h = cc
-
-abbrev no_error : Option FileError
-no_error = None
-
-none_error : {P : Type 0} (e : FileError) → no_error ≡ some_error e → P
-none_error e h = absurd cc
+use Rattle.log_blocks.proofs.Recovered.{one_list}
 
 -- what the records of blocks are, by what is said of them
 record Known (head : Head) (dropped start : ℕ) (pieces : List Piece) (wrong : Option ℕ) : Type 0 where
@@ -75,13 +28,13 @@ module _ (alone : BeginNoOther) (head : Head) (dropped start : ℕ) (pieces : Li
   broken at rule x = record { records = x.records; fit = x.fit; parts = x.parts; blocks = x.blocks }
 
   whole_or_not : {P : Type 0} (at : ℕ) (w : Option ℕ) → NoRecord head.settings.format (gathered pieces) at → Known head dropped start pieces w → P
-  whole_or_not at w x y = absurd (no_stop alone head.settings.format y.records x.before x.rest y.fit x.fit (sym y.parts ∙ x.parts) x.more x.none)
+  whole_or_not at w x y = absurd (no_stop bytes_of (Fits head.settings.format) (records_free alone head.settings.format) y.records x.before x.rest y.fit x.fit (sym y.parts ∙ x.parts) x.more x.none)
 
   one_place : (p q : ℕ) → NoRecord head.settings.format (gathered pieces) p → NoRecord head.settings.format (gathered pieces) q → p ≡ q
-  one_place p q x y = x.place_is ∙ ap total (one_stop alone head.settings.format x.before y.before x.rest y.rest x.fit y.fit (sym x.parts ∙ y.parts) x.none y.none) ∙ sym y.place_is
+  one_place p q x y = x.place_is ∙ ap total (one_stop bytes_of (Fits head.settings.format) (records_free alone head.settings.format) x.before y.before x.rest y.rest x.fit y.fit (sym x.parts ∙ y.parts) x.none y.none) ∙ sym y.place_is
 
   one_break : (p q a b : ℕ) → BreaksOrder head dropped start pieces p a → BreaksOrder head dropped start pieces q b → order_break p a ≡ order_break q b
-  one_break p q a b x y = same_break (order_break p a) (order_break q b) (sym x.breaks ∙ ap (broken_by head.settings dropped) (same_records (broken p a x) (broken q b y)) ∙ y.breaks)
+  one_break p q a b x y = same_some (order_break p a) (order_break q b) (sym x.breaks ∙ ap (broken_by head.settings dropped) (same_records (broken p a x) (broken q b y)) ∙ y.breaks)
 
   one_fault : (e f : Damage) → IsRecordsFault head dropped start pieces e → IsRecordsFault head dropped start pieces f → e ≢ File OutOfMemory → f ≢ File OutOfMemory → e ≡ f
   one_fault (File (Short n)) f x y m k = absurd x
@@ -98,13 +51,13 @@ module _ (alone : BeginNoOther) (head : Head) (dropped start : ℕ) (pieces : Li
   one_fault e (File (LengthDiffers said found)) x y m k = absurd y
   one_fault e (File (DigestDiffers kept found)) x y m k = absurd y
   one_fault e (File OutOfMemory) x y m k = absurd (k refl)
-  one_fault (BadBlock p) (BadBlock q) x y m k = ap (λ (n : ℕ). BadBlock n) (same_place p q (same_wrong (Some p) (Some q) (cut p x) (cut q y)))
+  one_fault (BadBlock p) (BadBlock q) x y m k = ap (λ (n : ℕ). BadBlock n) (same_some p q (same_wrong (Some p) (Some q) (cut p x) (cut q y)))
   one_fault (BadBlock p) (File (BadRecord q)) x y m k = whole_or_not q (Some p) y (cut p x)
-  one_fault (BadBlock p) (File (BadOrder q b)) x y m k = none_place p (same_wrong None (Some p) (broken q b y) (cut p x))
+  one_fault (BadBlock p) (File (BadOrder q b)) x y m k = none_some p (same_wrong None (Some p) (broken q b y) (cut p x))
   one_fault (File (BadRecord p)) (BadBlock q) x y m k = whole_or_not p (Some q) x (cut q y)
   one_fault (File (BadRecord p)) (File (BadRecord q)) x y m k = ap (λ (n : ℕ). File (BadRecord n)) (one_place p q x y)
   one_fault (File (BadRecord p)) (File (BadOrder q b)) x y m k = whole_or_not p None x (broken q b y)
-  one_fault (File (BadOrder p a)) (BadBlock q) x y m k = none_place q (same_wrong None (Some q) (broken p a x) (cut q y))
+  one_fault (File (BadOrder p a)) (BadBlock q) x y m k = none_some q (same_wrong None (Some q) (broken p a x) (cut q y))
   one_fault (File (BadOrder p a)) (File (BadRecord q)) x y m k = whole_or_not q None y (broken p a x)
   one_fault (File (BadOrder p a)) (File (BadOrder q b)) x y m k = ap (λ (o : OrderBreak). File (BadOrder o.at o.rule)) (one_break p q a b x y)
 
@@ -123,10 +76,10 @@ module _ (alone : BeginNoOther) (head : Head) (dropped start : ℕ) (pieces : Li
   log_or_fault c (File (LengthDiffers said found)) x y m = absurd y
   log_or_fault c (File (DigestDiffers kept found)) x y m = absurd y
   log_or_fault c (File OutOfMemory) x y m = absurd (m refl)
-  log_or_fault c (BadBlock q) x y m = none_place q (same_wrong None (Some q) (known c x) (cut q y))
+  log_or_fault c (BadBlock q) x y m = none_some q (same_wrong None (Some q) (known c x) (cut q y))
   log_or_fault c (File (BadRecord q)) x y m = whole_or_not q None y (known c x)
   log_or_fault c (File (BadOrder q b)) x y m =
-      none_break (order_break q b) (sym (in_order c x) ∙ ap (broken_by head.settings dropped) (same_records (known c x) (broken q b y)) ∙ y.breaks)
+      none_some (order_break q b) (sym (in_order c x) ∙ ap (broken_by head.settings dropped) (same_records (known c x) (broken q b y)) ∙ y.breaks)
 
   one_log : (c d : Content) → HasBlocks head dropped start pieces c → HasBlocks head dropped start pieces d → c ≡ d
   one_log c d x y =
@@ -136,11 +89,11 @@ module _ (alone : BeginNoOther) (head : Head) (dropped start : ℕ) (pieces : Li
 -- ---- a file of version 2
 
 head_or_not : {P : Type 0} (bytes : List ℕ) (e : Damage) → head_fault bytes ≡ None → IsHeadFault bytes e → P
-head_or_not bytes (File f) none x = none_error f (sym none ∙ x)
+head_or_not bytes (File f) none x = none_some f (sym none ∙ x)
 head_or_not bytes (BadBlock at) none x = absurd x
 
 one_head : (bytes : List ℕ) (e f : Damage) → IsHeadFault bytes e → IsHeadFault bytes f → e ≡ f
-one_head bytes (File a) (File b) x y = ap (λ (n : FileError). File n) (same_error a b (sym x ∙ y))
+one_head bytes (File a) (File b) x y = ap (λ (n : FileError). File n) (same_some a b (sym x ∙ y))
 one_head bytes (File a) (BadBlock q) x y = absurd y
 one_head bytes (BadBlock p) f x y = absurd x
 

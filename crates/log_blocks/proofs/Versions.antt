@@ -1,14 +1,12 @@
 -- Which version a file names, and that its log is read.
-use Rattle.log_blocks.proofs.Common.{◌≡◌, ℕ, ◌≤◌, Bool, true, false, nat_le, List, ◌++◌, length, take, drop, append_assoc, Result, Ok, Err, refl, sym, ap, subst, ◌∙◌, arith, ◌==◌, ◌&&◌, IfOk, IfErr, MatchResult, bytes_eq, eq-eqb, bytes_eq-Decides, number_at, number_bytes, HaveTheirWidth, AreRead, Content, IsContent, FileError, OutOfMemory, magic, settings_bytes, signed_bytes, file_bytes, file_bytes2, IsVersion1, Damage, File, BadBlock, is_second, IsSecondRefusal, IsFirstRefusal, IsRefusal, IsSpelled, NameTheirVersion, SayOneThing, AreNotRefused}
+use Rattle.log_blocks.proofs.Common.{◌≡◌, ℕ, Bool, true, false, nat_le, List, ◌++◌, length, take, drop, append_assoc, Result, Ok, Err, refl, sym, ap, subst, ◌∙◌, arith, ◌==◌, ◌&&◌, IfOk, IfErr, MatchResult, bytes_eq, eq-eqb, bytes_eq-Decides, number_at, number_bytes, HaveTheirWidth, AreRead, Content, IsContent, FileError, OutOfMemory, magic, settings_bytes, signed_bytes, file_bytes, file_bytes2, IsVersion1, Damage, File, BadBlock, is_second, IsSecondRefusal, IsFirstRefusal, IsRefusal, IsSpelled, NameTheirVersion, SayOneThing, AreNotRefused}
+use Rattle.std.proofs.lemmas.Bool.{le-leb}
 use Rattle.log_file.specs.Laws as of_first
 use Rattle.log_blocks.proofs.Tested.{Passed, no_fault}
 use Rattle.log_blocks.proofs.Heads.{no_fault_again}
 
-le_is : (a b : ℕ) → a ≤ b → nat_le a b ≡ true
-le_is a b e = grind arith
-
 names_second : (bytes : List ℕ) → Passed bytes → is_second bytes ≡ true
-names_second bytes p = rw (le_is 124 (length bytes) (omega (arith, p.long)), (bytes_eq-Decides (take 8 bytes) magic).1 p.begins, eq-eqb _ _ p.version) refl
+names_second bytes p = rw (le-leb 124 (length bytes) (omega (arith, p.long)), (bytes_eq-Decides (take 8 bytes) magic).1 p.begins, eq-eqb _ _ p.version) refl
 
 regroup : (m v h i l g e s w n d r k b x : List ℕ) → ((m ++ v ++ h ++ i ++ l ++ g ++ e ++ s ++ w ++ n) ++ d ++ r ++ k ++ b) ++ x ≡ m ++ (v ++ (h ++ (i ++ (l ++ (g ++ (e ++ (s ++ (w ++ (n ++ (d ++ (r ++ (k ++ (b ++ x)))))))))))))
 regroup m v h i l g e s w n d r k b x = simp append_assoc
@@ -35,10 +33,6 @@ pub names : AreRead → HaveTheirWidth → of_first.AreNotBad → NameTheirVersi
 names read long good c is = (names_second (file_bytes2 c) (no_fault (file_bytes2 c) (no_fault_again read long good c is)), names_first read (file_bytes c) (begins c))
 
 -- ---- reading
-
-not_both : {P : Type 0} (b : Bool) → b ≡ true → b ≡ false → P
-not_both true e f = absurd cc
-not_both false e f = absurd cc
 
 spelled_second : (b : Bool) (P Q : Type 0) → b ≡ true → (elim b as (λ z. Type 0) [ true ↦ P | false ↦ Q ]) → P
 spelled_second true P Q e x = x

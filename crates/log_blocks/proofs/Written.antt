@@ -1,5 +1,6 @@
 -- The blocks that are written of a log are walked over from their end.
-use Rattle.log_blocks.proofs.Common.{◌≡◌, ℕ, zero, suc, ◌+◌, ◌-◌, ◌<◌, ◌≤◌, ◌^◌, Bool, true, false, nat_le, ltb, List, [], ◌∷◌, ◌++◌, length, take, drop, length-append, append_assoc, append-nil, refl, sym, ap, ap₂, subst, ◌∙◌, arith, bytes_eq, eq-eqb, drop-drop, take_at, drop_at, bytes_eq-Decides, sha256, length-sha256, number_bytes, HaveTheirWidth, AreRead, block_size, Piece, piece, piece_body, piece_bytes, pieces_bytes, gathered, len_in, left_in, before_in, start_in, piece_in, is_sized, is_good, Walked, IsWalk}
+use Rattle.log_blocks.proofs.Common.{◌≡◌, ℕ, zero, suc, ◌+◌, ◌-◌, ◌<◌, ◌≤◌, ◌^◌, Bool, true, false, List, [], ◌∷◌, ◌++◌, length, take, drop, length-append, append_assoc, append-nil, refl, sym, ap, ap₂, subst, ◌∙◌, arith, bytes_eq, eq-eqb, drop-drop, take_at, drop_at, bytes_eq-Decides, sha256, length-sha256, number_bytes, HaveTheirWidth, AreRead, block_size, Piece, piece, piece_body, piece_bytes, pieces_bytes, gathered, len_in, left_in, before_in, start_in, piece_in, is_sized, is_good, Walked, IsWalk, le-ltb}
+use Rattle.std.proofs.lemmas.Bool.{le-leb}
 
 -- a piece that a good block has: its numbers fit their fields
 pub record IsSound (n left : ℕ) (p : Piece) : Type 0 where
@@ -69,12 +70,6 @@ again read long n left front digest p small s =
       seal = ap (λ (k : ℕ). drop k bytes) (omega (arith, size)) ∙ r36.1;
     }
 
-le_is : (a b : ℕ) → a ≤ b → nat_le a b ≡ true
-le_is a b e = grind arith
-
-lt_not : (a b : ℕ) → b ≤ a → ltb a b ≡ false
-lt_not a b e = grind arith
-
 -- a sound piece is a good block
 pub good_again : AreRead → HaveTheirWidth → (n left : ℕ) (front digest : List ℕ) (p : Piece) → n < 2 ^ 32 → IsSound n left p → is_good digest n left (front ++ piece_bytes digest p) ≡ true
 unfolding is_good
@@ -87,13 +82,13 @@ good_again read long n left front digest p small s =
     (bytes_eq-Decides _ _).1 (a.seal ∙ ap (λ (t : List ℕ). sha256 (digest ++ t)) (sym body)) in
     let sized : is_sized (len_in bytes) (left_in bytes) left n (length bytes) ≡ true =
     rw (
-      le_is 1 (len_in bytes) (omega (arith, s.low, a.len_is)),
-      le_is (len_in bytes) block_size (omega (arith, s.high, a.len_is)),
-      le_is (len_in bytes + 48) (length bytes) (omega (arith, a.len_is, a.long)),
+      le-leb 1 (len_in bytes) (omega (arith, s.low, a.len_is)),
+      le-leb (len_in bytes) block_size (omega (arith, s.high, a.len_is)),
+      le-leb (len_in bytes + 48) (length bytes) (omega (arith, a.len_is, a.long)),
       eq-eqb (left_in bytes) left (a.left_is ∙ s.left_is),
-      le_is (left + len_in bytes) n (omega (arith, s.few, a.len_is)),
+      le-leb (left + len_in bytes) n (omega (arith, s.few, a.len_is)),
     ) refl in
-    rw (lt_not (length bytes) 48 (omega (arith, a.long)), sized, seal) refl
+    rw (le-ltb (length bytes) 48 (omega (arith, a.long)), sized, seal) refl
 
 piece_again : (p : Piece) (bytes : List ℕ) (before left : ℕ) → bytes ≡ p.bytes → before ≡ p.before → left ≡ p.left → piece bytes before left ≡ p
 piece_again p bytes before left eb en el = ap (λ (t : List ℕ). piece t before left) eb ∙ ap₂ (λ (x y : ℕ). piece p.bytes x y) en el

@@ -16,6 +16,7 @@ pub fn files_name_their_version()
 }
 
 /// No file of version 2 says two things.
+#[tactic(auto, using(crate::proofs::Recovered::one_content))]
 pub fn files_say_one_thing()
     ensures { SayOneThing }
 {
@@ -55,6 +56,7 @@ pub fn salvage_is_unique()
 
 /// The file of version 2 of a log has 136 bytes, and 48 a block, more than the records that the log
 /// keeps.
+#[tactic(auto, using(crate::proofs::Recovered::file_size))]
 pub fn files_have_their_size()
     ensures { HaveTheirSize }
 {
@@ -78,6 +80,7 @@ pub fn salvaged_blocks_are_an_end()
 
 /// Each block but the last has at least 3,951 bytes of records: so a file of version 2 isn't much longer
 /// than its records.
+#[tactic(auto, using(crate::proofs::Few::few))]
 pub fn blocks_are_few()
     ensures { AreFew }
 {
@@ -86,6 +89,7 @@ pub fn blocks_are_few()
 
 /// What a recording saves, in either version, is at most 4 MiB longer than the most records that a log
 /// keeps.
+#[tactic(auto, using(crate::proofs::Few::saved_limit))]
 pub fn saved_files_keep_to_the_limit()
     ensures { SavedHaveTheirLimit }
 {

@@ -23,6 +23,7 @@ pub fn readings_are_unique()
 }
 
 /// Bytes are salvaged in one way.
+#[tactic(auto, using(crate::proofs::Says::one_salvage))]
 pub fn salvages_are_unique()
     ensures { SalvagesAreUnique }
 {
@@ -37,6 +38,7 @@ pub fn files_are_read()
 }
 
 /// Each list of bytes is a log's in the version that it names, or there is a cause to refuse it.
+#[tactic(auto, using(crate::proofs::Decided::decided))]
 pub fn files_are_read_or_refused()
     ensures { AreReadOrRefused }
 {
@@ -49,6 +51,7 @@ pub fn files_are_read_or_refused()
 }
 
 /// Of each list of bytes a log is salvaged, or there is a cause why none is.
+#[tactic(auto, using(crate::proofs::Decided::salvaged))]
 pub fn files_are_salvaged_or_refused()
     ensures { AreSalvagedOrRefused }
 {
@@ -60,6 +63,7 @@ pub fn files_are_salvaged_or_refused()
 }
 
 /// Of the file of version 2 of a log that very log is salvaged.
+#[tactic(auto, using(crate::proofs::Recovered::whole_salvaged))]
 pub fn whole_files_are_salvaged()
     ensures { WholeAreSalvaged }
 {

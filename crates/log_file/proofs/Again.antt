@@ -1,14 +1,12 @@
 -- A file that is written is read again.
-use Rattle.log_file.proofs.Common.{◌≡◌, ℕ, ◌+◌, ◌-◌, ◌%◌, ◌^◌, ◌<◌, ◌≤◌, List, ◌++◌, length, take, drop, length-drop, length-append, Result, Ok, Err, Option, Some, None, refl, sym, ap, subst, ◌∙◌, arith, inl, inr, Bool, IsTrue, true, false, ◌==◌, ◌&&◌, ◌||◌, if◌then◌else◌, IfOk, IfErr, MatchResult, flat_map, AllByRecursion, eq-eqb, eqb-true, le-ltb, drop-drop, take_at, drop_at, bytes_eq-Decides, sha256, RawSettings, IsSetting, is_between, is_small_power, is_memory_size, most_harts, first_bad, number_at, number_bytes, HaveTheirWidth, Head, Record, Header, FirstLoad, ScOk, ScFailed, Edge, End, bytes_of, Fits, total, BeginNoOther, OrderBreak, order_break, broken_by, Content, content, IsContent, FileError, Short, BadMagic, BadVersion, BadHead, LengthDiffers, DigestDiffers, BadRecord, BadOrder, OutOfMemory, magic, signed_bytes, file_bytes, IsVersion1, settings_in, head_in, dropped_in, size_in, head_fault, signed_of, file_fault, IsRecordsFault, IsRefusal, SayOneThing, AreNotRefused, HaveTheirSize}
+use Rattle.log_file.proofs.Common.{◌≡◌, ℕ, ◌+◌, ◌-◌, ◌%◌, ◌^◌, ◌<◌, ◌≤◌, List, ◌++◌, length, take, drop, length-drop, length-append, Result, Ok, Err, None, refl, sym, ap, subst, ◌∙◌, arith, inl, inr, Bool, IsTrue, true, false, ◌==◌, ◌&&◌, ◌||◌, if◌then◌else◌, IfOk, IfErr, MatchResult, flat_map, AllByRecursion, eq-eqb, eqb-true, le-ltb, take_at, drop_at, bytes_eq-Decides, sha256, RawSettings, IsSetting, is_between, is_small_power, is_memory_size, most_harts, first_bad, number_at, HaveTheirWidth, Head, Record, Header, FirstLoad, ScOk, ScFailed, Edge, End, bytes_of, Fits, total, BeginNoOther, order_break, broken_by, Content, content, IsContent, FileError, Short, BadMagic, BadVersion, BadHead, LengthDiffers, DigestDiffers, BadRecord, BadOrder, OutOfMemory, magic, signed_bytes, file_bytes, IsVersion1, settings_in, head_in, dropped_in, size_in, head_fault, signed_of, file_fault, IsRecordsFault, IsRefusal, SayOneThing, AreNotRefused, HaveTheirSize, ap₂}
 use Rattle.sha2.proofs.Facts256.{length-sha256}
 use Rattle.std.specs.Int.{is_power_of_two}
 use Rattle.le_numbers.specs.Laws.{AreRead}
 use Rattle.log_file.proofs.Rows.{ArePrefixFree, no_stop, one_row}
-use Rattle.log_file.proofs.Heads.{spelled, signed_is_spelled}
-
--- with format 1 there are at most 8 harts
-few_harts : (s : RawSettings) → IsSetting s → s.format ≡ 1 → s.harts ≤ 8
-few_harts s is one = subst (λ (f : ℕ). s.harts ≤ (if f == 2 then 16 else 8)) one is.harts_high
+use Rattle.log_file.proofs.Causes.{none_some}
+use Rattle.log_file.proofs.Heads.{signed_is_spelled}
+use Rattle.log_file.proofs.Shared.{begun_by, ended_by, first_fields, begun_again, ended_again, length_begun, length_ended}
 
 pub fit_first : (c : Content) → IsVersion1 c → AllByRecursion (Fits 1) c.records
 fit_first c is = subst (λ (f : ℕ). AllByRecursion (Fits f) c.records) is.1 is.0.fit
@@ -26,29 +24,13 @@ no_second_ways : (s : RawSettings) → IsSetting s → s.format ≡ 1 → s.ways
 no_second_ways s is one =
     eqb-true s.ways2 0 (subst (λ (n : ℕ). IsTrue (if n == 0 then s.ways2 == 0 else is_between 1 16 s.ways2)) (no_second_sets s is one) is.second_ways)
 
--- the settings with the last fields as each file of version 1 has them
-abbrev first_fields : RawSettings → ℕ → ℕ → ℕ → RawSettings
-first_fields s format sets2 ways2 = record {
-  harts = s.harts;
-  interval = s.interval;
-  limit = s.limit;
-  log_size = s.log_size;
-  memory = s.memory;
-  sets = s.sets;
-  ways = s.ways;
-  line = s.line;
-  format = format;
-  sets2 = sets2;
-  ways2 = ways2;
-}
-
 same_fields : (s : RawSettings) → IsSetting s → s.format ≡ 1 → first_fields s 1 0 0 ≡ s
 same_fields s is one =
     let sets = no_second_sets s is one in
     let ways = no_second_ways s is one in
     ap (λ (x : ℕ). first_fields s x 0 0) (sym one) ∙ ap (λ (x : ℕ). first_fields s s.format x 0) (sym sets) ∙ ap (λ (x : ℕ). first_fields s s.format s.sets2 x) (sym ways)
 
-abbrev head_with : List ℕ → RawSettings → Head
+abbrev pub head_with : List ℕ → RawSettings → Head
 head_with digest s = record { settings = s; digest = digest }
 
 -- what stands at the places of the fields
@@ -60,66 +42,18 @@ pub record Again (bytes : List ℕ) (h : Head) (dropped n : ℕ) (rest : List �
   pub n_is : size_in bytes ≡ n
   pub rest_is : drop 92 bytes ≡ rest
 
-pub spelled_again : AreRead → (h : Head) (dropped n : ℕ) (rest bytes : List ℕ) → IsSetting h.settings → h.settings.format ≡ 1 → length h.digest ≡ 32 → dropped < 2 ^ 64 → n < 2 ^ 32 → bytes ≡ spelled h dropped n rest → Again bytes h dropped n rest
-unfolding spelled magic
+pub spelled_again : AreRead → (h : Head) (dropped n : ℕ) (rest bytes : List ℕ) → IsSetting h.settings → h.settings.format ≡ 1 → length h.digest ≡ 32 → dropped < 2 ^ 64 → n < 2 ^ 32 → bytes ≡ begun_by 1 h.settings (ended_by h.digest dropped n rest) → Again bytes h dropped n rest
 spelled_again read h dropped n rest bytes is one len small fits e =
-    let s8 = read 4 8 1 bytes _ (omega arith) (ap (drop 8) e) in
-    let s12 = read 4 12 h.settings.harts bytes _ (omega (arith, few_harts h.settings is one)) s8.1 in
-    let s16 = read 4 16 h.settings.interval bytes _ (omega (arith, is.interval_high)) s12.1 in
-    let s20 = read 8 20 h.settings.limit bytes _ (omega (arith, is.limit_high)) s16.1 in
-    let s28 = read 4 28 h.settings.log_size bytes _ (omega (arith, is.log_size_high)) s20.1 in
-    let s32 = read 4 32 h.settings.memory bytes _ (omega (arith, is.memory_high)) s28.1 in
-    let s36 = read 4 36 h.settings.sets bytes _ (omega (arith, is.sets_high)) s32.1 in
-    let s40 = read 4 40 h.settings.ways bytes _ (omega (arith, is.ways_high)) s36.1 in
-    let s44 = read 4 44 h.settings.line bytes _ (omega (arith, is.line_high)) s40.1 in
-    let digest : take 32 (drop 48 bytes) ≡ h.digest = ap (take 32) s44.1 ∙ take_at h.digest _ 32 len in
-    let later = sym (drop-drop 32 48 bytes) ∙ ap (drop 32) s44.1 ∙ drop_at h.digest _ 32 len in
-    let s80 = read 8 80 dropped bytes _ small later in
-    let s88 = read 4 88 n bytes rest fits s80.1 in
-    let fields : head_in bytes ≡ head_with h.digest (first_fields h.settings 1 0 0) = rw (s12.0, s16.0, s20.0, s28.0, s32.0, s36.0, s40.0, s44.0, digest) refl in
+    let b = begun_again read 1 h.settings bytes (ended_by h.digest dropped n rest) is (omega arith) e in
+    let f = ended_again read 48 bytes h.digest dropped n rest len small fits b.rest_is in
     record {
-      begins = ap (take 8) e;
-      version = s8.0;
-      head = fields ∙ ap (head_with h.digest) (same_fields h.settings is one);
-      dropped_is = s80.0;
-      n_is = s88.0;
-      rest_is = s88.1;
+      begins = b.begins;
+      version = b.named;
+      head = ap₂ head_with f.digest_is (b.settings ∙ same_fields h.settings is one);
+      dropped_is = f.dropped_is;
+      n_is = f.n_is;
+      rest_is = f.rest_is;
     }
-
-module _ (long : HaveTheirWidth) where
-  number_first : (width n : ℕ) (rest : List ℕ) → length (number_bytes width n ++ rest) ≡ width + length rest
-  number_first width n rest = omega (arith, length-append (number_bytes width n) rest, long width n)
-
-  length-spelled : (h : Head) (dropped n : ℕ) (rest : List ℕ) → length (spelled h dropped n rest) ≡ 60 + length h.digest + length rest
-  unfolding spelled magic
-  length-spelled h dropped n rest =
-      let s = h.settings in
-      let t88 = number_bytes 4 n ++ rest in
-      let t80 = number_bytes 8 dropped ++ t88 in
-      let t48 = h.digest ++ t80 in
-      let t44 = number_bytes 4 s.line ++ t48 in
-      let t40 = number_bytes 4 s.ways ++ t44 in
-      let t36 = number_bytes 4 s.sets ++ t40 in
-      let t32 = number_bytes 4 s.memory ++ t36 in
-      let t28 = number_bytes 4 s.log_size ++ t32 in
-      let t20 = number_bytes 8 s.limit ++ t28 in
-      let t16 = number_bytes 4 s.interval ++ t20 in
-      let t12 = number_bytes 4 s.harts ++ t16 in
-      omega (
-        arith,
-        number_first 4 1 t12,
-        number_first 4 s.harts t16,
-        number_first 4 s.interval t20,
-        number_first 8 s.limit t28,
-        number_first 4 s.log_size t32,
-        number_first 4 s.memory t36,
-        number_first 4 s.sets t40,
-        number_first 4 s.ways t44,
-        number_first 4 s.line t48,
-        length-append h.digest t80,
-        number_first 8 dropped t88,
-        number_first 4 n rest,
-      )
 
 -- the bytes of a log's records are fewer than a field of four bytes counts
 pub small_size : (c : Content) → IsContent c → length (flat_map bytes_of c.records) < 2 ^ 32
@@ -190,18 +124,6 @@ some_bytes (End h mark) = omega arith
 pub records_free : BeginNoOther → (format : ℕ) → ArePrefixFree bytes_of (Fits format)
 records_free alone format = record { some = λ r fits. some_bytes r; one = λ r s x y fr fs e. alone r s x y fr.fields fs.fields e }
 
-abbrev unbroken : Option OrderBreak
-unbroken = None
-
-no_break : (b : OrderBreak) → unbroken ≡ Some b → ⊥
-no_break b e = cc
-
-abbrev faultfree : Option FileError
-faultfree = None
-
-no_error : (e : FileError) → faultfree ≡ Some e → ⊥
-no_error e h = cc
-
 records_fault_again : BeginNoOther → (c : Content) → IsVersion1 c → (e : FileError) → IsRecordsFault c.head c.dropped (flat_map bytes_of c.records) e → e ≡ OutOfMemory
 records_fault_again alone c is (Short n) x = absurd x
 records_fault_again alone c is BadMagic x = absurd x
@@ -212,7 +134,7 @@ records_fault_again alone c is (DigestDiffers kept found) x = absurd x
 records_fault_again alone c is (BadRecord place) x = absurd (no_stop bytes_of (Fits 1) (records_free alone 1) c.records x.before x.rest (fit_first c is) x.fit x.parts x.more x.none)
 records_fault_again alone c is (BadOrder place rule) x =
     let same = one_row bytes_of (Fits 1) (records_free alone 1) c.records x.records (fit_first c is) x.fit x.parts in
-    absurd (no_break (order_break place rule) (sym is.0.order ∙ ap (broken_by c.head.settings c.dropped) same ∙ x.first))
+    none_some (order_break place rule) (sym is.0.order ∙ ap (broken_by c.head.settings c.dropped) same ∙ x.first)
 records_fault_again alone c is OutOfMemory x = refl
 
 -- ---- the file
@@ -231,7 +153,10 @@ digest_again c =
 
 -- the head of a file has 92 bytes, and the last digest 32
 signed_size : HaveTheirWidth → (c : Content) → IsContent c → length (signed_for c) ≡ total c.records + 92
-signed_size long c is = omega (arith, ap length (signed_is_spelled c.head c.dropped (flat_map bytes_of c.records)), length-spelled long c.head c.dropped (length (flat_map bytes_of c.records)) (flat_map bytes_of c.records), is.digest)
+signed_size long c is =
+    let n = length (flat_map bytes_of c.records) in
+    let end = ended_by c.head.digest c.dropped n (flat_map bytes_of c.records) in
+    omega (arith, ap length (signed_is_spelled c.head c.dropped (flat_map bytes_of c.records)), length_begun long 1 c.head.settings end, length_ended long c.head.digest c.dropped n (flat_map bytes_of c.records), is.digest)
 
 pub file_size : HaveTheirWidth → HaveTheirSize
 file_size long c is = omega (arith, length-append (signed_for c) (sha256 (signed_for c)), length-sha256 (signed_for c), signed_size long c is)
@@ -253,7 +178,7 @@ refused_again long read alone c is e x =
     let fault : head_fault (signed_of (file_bytes c)) (drop (length (file_bytes c) - 32) (file_bytes c)) ≡ None = rw (signed_again c, digest_again c) (no_fault_again read c is) in
     let enough : 124 ≤ length (file_bytes c) = omega (arith, file_size long c is.0) in
     elim x [
-      | inl one ↦ absurd (no_error e (sym (no_file_fault (file_bytes c) enough fault) ∙ one))
+      | inl one ↦ none_some e (sym (no_file_fault (file_bytes c) enough fault) ∙ one)
       | inr two ↦ records_fault_again alone c is e (at_content c e a (subst (λ (t : List ℕ). IsRecordsFault (head_in t) (dropped_in t) (drop 92 t) e) (signed_again c) two.1))
     ]
 

@@ -1,25 +1,8 @@
 -- Bytes have at most one first cause for a refusal.
-use Rattle.log_file.proofs.Common.{◌≡◌, ℕ, List, Option, Some, None, refl, sym, ap, ◌∙◌, inl, inr, ◌≢◌, Head, bytes_of, total, Fits, BeginNoOther, OrderBreak, order_break, broken_by, FileError, Short, BadMagic, BadVersion, BadHead, LengthDiffers, DigestDiffers, BadRecord, BadOrder, OutOfMemory, NoRecord, BreaksOrder, IsRecordsFault, IsRefusal}
+use Rattle.log_file.proofs.Common.{◌≡◌, ℕ, List, refl, sym, ap, ◌∙◌, inl, inr, ◌≢◌, Head, bytes_of, total, Fits, BeginNoOther, OrderBreak, order_break, broken_by, FileError, Short, BadMagic, BadVersion, BadHead, LengthDiffers, DigestDiffers, BadRecord, BadOrder, OutOfMemory, NoRecord, BreaksOrder, IsRecordsFault, IsRefusal}
 use Rattle.log_file.proofs.Rows.{no_stop, one_row, one_stop}
 use Rattle.log_file.proofs.Again.{records_free}
-
-abbrev some_error : FileError → Option FileError
-some_error e = Some e
-
-abbrev no_error : Option FileError
-no_error = None
-
-same_error : (e f : FileError) → some_error e ≡ some_error f → e ≡ f
-same_error e f h = cc
-
-none_error : (e : FileError) → no_error ≡ some_error e → ⊥
-none_error e h = cc
-
-abbrev some_break : OrderBreak → Option OrderBreak
-some_break b = Some b
-
-same_break : (b c : OrderBreak) → some_break b ≡ some_break c → b ≡ c
-same_break b c h = cc
+use Rattle.log_file.proofs.Causes.{same_some, none_some}
 
 -- by the law that no record's bytes begin another's
 module _ (alone : BeginNoOther) where
@@ -34,7 +17,7 @@ module _ (alone : BeginNoOther) where
   one_break : (head : Head) (dropped : ℕ) (bytes : List ℕ) (p q a b : ℕ) → BreaksOrder head dropped bytes p a → BreaksOrder head dropped bytes q b → order_break p a ≡ order_break q b
   one_break head dropped bytes p q a b x y =
       let same = one_row bytes_of (Fits 1) (records_free alone 1) x.records y.records x.fit y.fit (sym x.parts ∙ y.parts) in
-      same_break (order_break p a) (order_break q b) (sym x.first ∙ ap (broken_by head.settings dropped) same ∙ y.first)
+      same_some (order_break p a) (order_break q b) (sym x.first ∙ ap (broken_by head.settings dropped) same ∙ y.first)
 
   one_fault : (head : Head) (dropped : ℕ) (bytes : List ℕ) (e f : FileError) → IsRecordsFault head dropped bytes e → IsRecordsFault head dropped bytes f → e ≢ OutOfMemory → f ≢ OutOfMemory → e ≡ f
   one_fault head dropped bytes (Short n) f x y m k = absurd x
@@ -68,12 +51,12 @@ module _ (alone : BeginNoOther) where
       elim x [
         | inl a ↦
             elim y [
-              | inl b ↦ same_error e f (sym a ∙ b)
-              | inr b ↦ absurd (none_error e (sym b.0 ∙ a))
+              | inl b ↦ same_some e f (sym a ∙ b)
+              | inr b ↦ none_some e (sym b.0 ∙ a)
             ]
         | inr a ↦
             elim y [
-              | inl b ↦ absurd (none_error f (sym a.0 ∙ b))
+              | inl b ↦ none_some f (sym a.0 ∙ b)
               | inr b ↦ one_fault _ _ _ e f a.1 b.1 m k
             ]
       ]

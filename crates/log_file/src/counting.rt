@@ -114,6 +114,7 @@ fn walk(
 const EDGE: u8 = 5;
 
 // Whether some bytes begin with a late Edge.
+#[tactic(auto, using(crate::proofs::Walks::not_late))]
 fn late_at(format: u8, harts: &[HartView], bytes: &[u8]) -> bool
     requires { 0 < length bytes.now }
     ensures { (r : Record) (rest : List ℕ) → Fits format r → bytes.now ≡ bytes_of r ++ rest → result ≡ is_late harts.now r }
@@ -166,6 +167,7 @@ fn end_break(format: u8, all: bool, harts: &[HartView], bytes: &[u8]) -> Option<
 
 // The first break of the order of records, from what a walk along them found: a break of a rule, or
 // none and the harts' views at its end.
+#[tactic(auto, using(crate::proofs::Walks::breaks_by_rule, crate::proofs::Walks::breaks_at_end))]
 fn first_break(
     format: u8,
     all: bool,

@@ -9,11 +9,13 @@ use le_numbers::laws::{numbers_have_their_width, written_numbers_are_read};
 use log_record::laws::no_record_begins_another;
 
 /// Settings in range are taken: none is found bad.
+#[tactic(auto, using(crate::proofs::Again::none_bad))]
 pub fn settings_in_range_are_not_bad()
     ensures { AreNotBad }
 {}
 
 /// No file says two things.
+#[tactic(auto, using(crate::proofs::Again::one_content))]
 pub fn files_say_one_thing()
     ensures { SayOneThing }
 {
@@ -38,6 +40,7 @@ pub fn refusals_are_unique()
 }
 
 /// The file of a log has 124 bytes more than the records that the log keeps.
+#[tactic(auto, using(crate::proofs::Again::file_size))]
 pub fn files_have_their_size()
     ensures { HaveTheirSize }
 {

@@ -5,6 +5,7 @@ use le_numbers::laws::read_numbers_are_written;
 use log_record::laws::{read_records_are_written, tags_tell_sizes, written_records_are_read};
 
 /// Each list of bytes is a log's, or there is a cause to refuse it.
+#[tactic(auto, using(crate::proofs::Decided::decided))]
 pub fn files_are_read_or_refused()
     ensures { AreReadOrRefused }
 {

@@ -6,7 +6,7 @@ pub use Rattle.log_record.specs.Laws.{AreRead, TellTheirSize}
 pub use Rattle.log_record.specs.Spelling.{Fits, bytes_of, size_of, total}
 pub use Rattle.log_record.specs.declared.record.Record.{Record}
 pub use Rattle.log_record.specs.declared.record.Record.TheVariants.{Edge, End, FirstLoad, Header, ScFailed, ScOk}
-pub use Rattle.log_ring.specs.Kept.{Appends, GivesUp, Held, HoldsLog, held}
+pub use Rattle.log_ring.specs.Kept.{GivesUp, Held, HoldsLog, held}
 unfoldable pub use Rattle.log_ring.specs.Kept.{kept}
 pub use Rattle.log_ring.specs.Whole.{IsWhole, Oldest, records_in}
 unfoldable pub use Rattle.log_ring.specs.Whole.{cut}

@@ -1,7 +1,8 @@
 -- Each Edge of a stream is that of an edge.
 use Rattle.race_laws.proofs.Common.{◌≡◌, ℕ, zero, suc, Bool, true, false, ◌&&◌, ◌==◌, refl, inl, inr, sym, ap, ◌∙◌, subst, List, [], ◌∷◌, length, slice_get, map, Option, Some, Contains, arith, RawSettings, Record, Header, FirstLoad, ScOk, ScFailed, Edge, End, Point, IsEdge, In, edges_into, name_of, sources_into, edges_of_first, Run, edges_in, edge_record, edge_between, HasNetzersEdges, KeepsEdgesAlone, ReplayedAreSinceHeaders}
 use Rattle.hart_replay.specs.Replay.{Interval, interval_of, interval_from, puts, nothing}
-use Rattle.race_laws.proofs.Members.{contains_in, in_contains, in_right, in_parts, map_in}
+use Rattle.race_log.proofs.Listed.{contains_in, in_contains}
+use Rattle.race_laws.proofs.Members.{in_right, in_parts, map_in}
 use Rattle.race_laws.proofs.Heads.{EdgeLaws}
 
 -- an Edge among records is one of their Edges

@@ -3,7 +3,8 @@ use Rattle.race_laws.proofs.Common.{◌≡◌, ℕ, zero, suc, ◌<◌, ◌≤�
 use Rattle.race_laws.specs.Pairs.{StepBy, LeadsBy, IsConflictAt, IsEdgeAt, EdgeAmong, OtherEdge, OrderConflicts}
 use Rattle.race_laws.specs.Pairs.StepBy.{onward, across}
 use Rattle.race_laws.specs.Pairs.LeadsBy.{by_one, by_more}
-use Rattle.race_laws.proofs.Members.{contains_in, in_contains, in_left, in_right, in_map}
+use Rattle.race_log.proofs.Listed.{contains_in, in_contains}
+use Rattle.race_laws.proofs.Members.{in_left, in_right, in_map}
 use Rattle.race_laws.proofs.Heads.{EdgeLaws}
 use Rattle.race_laws.proofs.Alone.{edges_alone}
 use Rattle.race_laws.proofs.Whole.{EdgesStandForCounts}

@@ -1,7 +1,9 @@
 -- The Headers of a stream: the Edges into all later points of the hart come after each.
 use Rattle.race_laws.proofs.Common.{◌≡◌, ℕ, zero, suc, ◌+◌, ◌<◌, ◌≤◌, ◌⊎◌, ◌↔◌, refl, inl, inr, arith, sym, ap, ap₂, ◌∙◌, subst, List, [], ◌∷◌, ◌++◌, length, slice_get, Option, Some, None, Contains, IsTrue, slice_get_within, Program, RawSettings, HartState, Reply, Warm, Point, IsEdge, In, after, edge, edges_into, sources_into, name_of, Record, Header, FirstLoad, ScOk, ScFailed, Edge, End, Hart, TurnEnd, GoesOn, NewInterval, HartOver, RunOver, points_after, edges_from, edge_records, load_record, sc_record, next_records, run_over_records, first_headers, edge_record, edge_between}
-use Rattle.race_laws.proofs.Places.{get_old, get_new, in_after, longer, same_edge}
-use Rattle.race_laws.proofs.Members.{contains_in, in_left, in_right, in_map}
+use Rattle.race_log.proofs.Next.{get_old, get_new, in_after}
+use Rattle.race_laws.proofs.Places.{longer, same_edge}
+use Rattle.race_log.proofs.Listed.{contains_in}
+use Rattle.race_laws.proofs.Members.{in_left, in_right, in_map}
 use Rattle.race_laws.proofs.Streams.{ArePlain, load_plain, sc_plain, over_plain, rest_of}
 
 -- ---- what comes after a Header

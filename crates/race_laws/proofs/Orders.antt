@@ -2,7 +2,7 @@
 use Rattle.race_laws.proofs.Common.{◌≡◌, ℕ, ◌≤◌, Bool, true, false, ◌&&◌, ◌||◌, ◌==◌, ◌⊎◌, refl, inl, inr, arith, ap, ◌∙◌, List, [], ◌∷◌, ◌++◌, slice_get, IsTrue, RawSettings, Record, Header, FirstLoad, ScOk, ScFailed, Edge, End, Point, MeetAt, AtPlaces, IsEdge, Chosen, EndingAfter, In, edge, name_of, Run, edge_record, edge_between, KeptEdge, KeepsLateEdges, KeepsWords}
 use Rattle.race_log.specs.Merges.{StandsIn, Precedes, IsMerge, IsMergeBegun, IsNext, Respects, AreKeptEdges}
 use Rattle.race_laws.specs.Orders.{HasEnds, BeginningsGoOn}
-use Rattle.race_laws.proofs.Members.{contains_in, in_contains}
+use Rattle.race_log.proofs.Listed.{contains_in, in_contains}
 use Rattle.race_laws.proofs.Heads.{EdgeLaws}
 
 -- ---- a test for kept Edges

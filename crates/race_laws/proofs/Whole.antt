@@ -3,7 +3,7 @@ use Rattle.race_laws.proofs.Common.{◌≡◌, ◌↔◌, ℕ, refl, inl, inr, a
 use Rattle.log_ring.specs.Kept.{kept}
 use Rattle.run_laws.specs.Laws.{TurnsAreLawful}
 use Rattle.race_laws.specs.Runs.{OfLists, OfRows}
-use Rattle.race_laws.proofs.Members.{contains_in, in_contains}
+use Rattle.race_log.proofs.Listed.{contains_in, in_contains}
 use Rattle.race_laws.proofs.Heads.{Heads, drop_heads, find_head}
 use Rattle.race_laws.proofs.Turns.{Laws, Stands, rows_stand, start_stands}
 

@@ -30,6 +30,7 @@ pub fn edges_are_netzers()
 {}
 
 /// The points of a run are in order: turns ascend, and counts along each hart's points.
+#[tactic(auto, using(crate::proofs::Whole::of_lists, crate::proofs::Whole::points_in_order))]
 pub fn points_are_in_order()
     ensures turns { OfLists HasOrder }
     ensures rows { OfRows HasOrder }
@@ -139,6 +140,7 @@ pub fn late_edges_are_kept()
 /// Race order, whatever end of the records is kept: a chain of program order and kept Edges leads from
 /// each point of a kept interval to each later point that conflicts with it. The chain may lead through
 /// points of intervals that were dropped.
+#[tactic(auto, using(crate::proofs::Whole::of_lists, crate::proofs::Whole::conflicts_ordered))]
 pub fn kept_edges_order_conflicts()
     ensures turns { OfLists OrdersConflicts }
     ensures rows { OfRows OrdersConflicts }
@@ -182,6 +184,7 @@ pub fn allowed_orders_keep_words()
 
 /// No order that merges the harts' lists and respects the kept Edges gets stuck. As long as its beginning
 /// isn't whole, some hart's next point has the sources of all kept Edges into it before it.
+#[tactic(auto, using(crate::proofs::Orders::go_on))]
 pub fn beginnings_go_on()
     ensures { BeginningsGoOn }
 {

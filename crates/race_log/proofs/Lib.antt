@@ -31,3 +31,4 @@ pub mod NotedAlike
 pub mod SweepLemmas
 pub mod Swept
 pub mod HeldLemmas
+mod Worked

@@ -91,6 +91,7 @@ fn later_read(
 }
 
 // The latest source for a write among the reads that are kept of a word, whose slots begin at `at`.
+#[tactic(auto, using(crate::proofs::SlotLemmas::reads_step))]
 fn latest_read(
     best: Option<FoundAccess>,
     times: &Times,

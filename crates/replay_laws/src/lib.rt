@@ -21,6 +21,7 @@ use system_calls::exits_alone_end;
 /// Log sufficiency. Take any program, input, cache, interval length, legal and finished list of turns, and
 /// end of its records. Each interval whose Header stands in that end has a replay from it that is done,
 /// with exactly the interval's rows of the recorded run. (For one hart the claim of BugNet, ISCA 2005.)
+#[tactic(auto, using(crate::proofs::Whole::sufficiency))]
 pub fn ends_suffice()
     ensures { EndsSuffice }
 {
@@ -61,6 +62,7 @@ pub fn intervals_begin_in_the_run()
 }
 
 /// The rows of a hart have its counts, one after another from 0.
+#[tactic(auto, using(crate::proofs::Whole::counted))]
 pub fn the_rows_of_a_hart_are_counted()
     ensures { RowsAreCounted }
 {

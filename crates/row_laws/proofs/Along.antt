@@ -1,7 +1,8 @@
 -- The states along the rows of a turn.
 use Rattle.row_laws.proofs.Common.{◌≡◌, ℕ, zero, suc, Bool, true, false, List, [], ◌∷◌, ◌++◌, Some, None, refl, sym, ◌∙◌, ap, subst, inl, inr, ◌⊎◌, nat_le, Program, Row, RawSettings, HartState, stored_word, amo_result, aligned, Step, Quiet, Asks, ask_of, step, absorbed, Ask, Want, Load, Store, LoadReserved, StoreConditional, Amo, System, Cut, Faulted, Plan, row_of, call_row, after_row, reply_in, Machine, answer_call, answer_sc, is_reserved, planned, quiet_rows, want_rows, turn_rows, sc_store, answered_reg, Run, turn, budget, TurnsMoveTheirHart, state_after, AreRowsFrom, RowsTellStates}
 use Rattle.system_calls.specs.declared.effect.Plan.TheVariants as plans
-use Rattle.row_laws.proofs.Asked.{asking, answered_state, reply_to, cut_state, want_at, asked_at, not_cut, Moves, moves}
+use Rattle.replay_laws.proofs.Asked.{asking, state_after as answered_state, reply_to}
+use Rattle.row_laws.proofs.Asked.{cut_state, want_at, asked_at, not_cut, Moves, moves}
 
 -- ---- one row
 

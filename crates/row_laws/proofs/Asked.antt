@@ -1,29 +1,7 @@
 -- Names for what a hart's turn asks and what it gets, and how the turn moves its hart.
-use Rattle.row_laws.proofs.Common.{◌≡◌, ℕ, ◌%◌, Bool, true, false, ◌&&◌, Option, refl, sym, ◌∙◌, ap, inl, inr, arith, ◌==◌, ◌≢◌, ◌⊎◌, if◌then◌else◌, false≢true, eqb-true, eqb_tells, Program, RawSettings, HartState, Asks, step, absorbed, is_cut, aligned, Ask, Want, Cut, Reply, Point, Span, Machine, Answered, answer, call_of, Run, serve, served_if, serve_call, is_guarded, turn, ask_at, span_of, point_of, TurnsMoveTheirHart, AsksOrderly}
+use Rattle.row_laws.proofs.Common.{◌≡◌, ℕ, ◌%◌, Bool, true, false, ◌&&◌, Option, refl, sym, ◌∙◌, ap, inl, inr, arith, ◌==◌, ◌≢◌, ◌⊎◌, if◌then◌else◌, false≢true, eqb-true, eqb_tells, Program, RawSettings, HartState, Asks, step, absorbed, is_cut, aligned, Want, Cut, Point, call_of, Run, serve, served_if, serve_call, is_guarded, turn, ask_at, point_of, TurnsMoveTheirHart, AsksOrderly}
 use Rattle.rv_meaning.specs.declared.asks.Reply.TheVariants.{Went, Over}
-
--- ---- an ask
-
--- the ask of a want in a state
-abbrev pub asking : Want → HartState → Ask
-asking w s = record { state = s; want = w }
-
--- the answer to hart h, its reply, and the state and the memory after it
-abbrev pub answer_to : RawSettings → Program → Machine → ℕ → Want → HartState → Answered
-answer_to c i m h w s = answer c (call_of i m w) m h (asking w s)
-
-abbrev pub reply_to : RawSettings → Program → Machine → ℕ → Want → HartState → Reply
-reply_to c i m h w s = (answer_to c i m h w s).reply
-
-abbrev pub answered_state : RawSettings → Program → Machine → ℕ → Want → HartState → HartState
-answered_state c i m h w s = absorbed (asking w s) (reply_to c i m h w s)
-
-abbrev pub answered_memory : RawSettings → Program → Machine → ℕ → Want → HartState → ℕ → ℕ
-answered_memory c i m h w s = (answer_to c i m h w s).machine.memory
-
--- the words that it accesses
-abbrev pub span_to : RawSettings → Program → Machine → ℕ → Want → HartState → Option Span
-span_to c i m h w s = span_of (call_of i m w) w (reply_to c i m h w s)
+use Rattle.replay_laws.proofs.Asked.{asking, state_after as answered_state, span_to}
 
 -- ---- a turn of hart h
 

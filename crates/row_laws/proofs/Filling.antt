@@ -6,8 +6,10 @@ use Rattle.row_laws.proofs.Cases.{heads, turn_row}
 use Rattle.row_laws.proofs.Ecalls.{ecall_asks}
 use Rattle.row_laws.proofs.Plans.{read_gives}
 use Rattle.row_laws.proofs.Telling.{adds_point, no_row}
-use Rattle.row_laws.proofs.Asked.{answered_memory, span_to, want_at, asked_at, turn_served}
-use Rattle.row_laws.proofs.Points.{DecidesWrites, or_first, or_second}
+use Rattle.replay_laws.proofs.Asked.{memory_after as answered_memory, span_to}
+use Rattle.row_laws.proofs.Asked.{want_at, asked_at, turn_served}
+use Rattle.race_log.proofs.BoolFacts.{or_first, or_second}
+use Rattle.row_laws.proofs.Points.{DecidesWrites}
 
 -- ---- the words of the point
 

@@ -1,23 +1,8 @@
 -- Over the turns of a legal list.
-use Rattle.row_laws.proofs.Common.{◌≡◌, ℕ, Bool, true, false, List, [], ◌∷◌, ◌++◌, refl, sym, ◌∙◌, ap, subst, inl, inr, ◌==◌, false≢true, eqb_tells, append_assoc, Program, IsSetting, Row, RawSettings, HartState, rows_of, turn_rows, start, run_of, run_from, legal_from, is_live, Run, turn, OwnAsksAreOrderly, TurnsMoveTheirHart, state_after, AreRowsFrom, AsksOrderly, RowsTellRuns}
+use Rattle.row_laws.proofs.Common.{◌≡◌, ℕ, Bool, true, false, List, [], ◌∷◌, ◌++◌, refl, sym, ◌∙◌, ap, subst, inl, inr, ◌==◌, eqb_tells, append_assoc, Program, IsSetting, Row, RawSettings, HartState, rows_of, turn_rows, start, run_of, run_from, legal_from, Run, turn, OwnAsksAreOrderly, TurnsMoveTheirHart, state_after, AreRowsFrom, AsksOrderly, RowsTellRuns}
 use Rattle.row_laws.proofs.Along.{turn_each, turn_last, each_append, after_append}
 use Rattle.row_laws.proofs.Asked.{Moves, moves, equal_flip}
-
--- ---- legal lists
-
-pub run_append : (c : RawSettings) (i : Program) (run : Run) (a b : List ℕ) → run_from c i run (a ++ b) ≡ run_from c i (run_from c i run a) b
-run_append c i run [] b = refl
-run_append c i run (k ∷ ks) b = run_append c i (turn c i run k) ks b
-
-at_true : (x b : Bool) → elim x as (λ y. Bool) [ true ↦ b | false ↦ false ] ≡ true → (x ≡ true) × (b ≡ true)
-at_true true b e = (refl, e)
-at_true false b e = absurd (false≢true e)
-
-legal_front : (c : RawSettings) (i : Program) (run : Run) (a b : List ℕ) → legal_from c i run (a ++ b) ≡ true → legal_from c i run a ≡ true
-legal_front c i run [] b e = refl
-legal_front c i run (k ∷ ks) b e =
-    let p = at_true (is_live c run k) (legal_from c i (turn c i run k) (ks ++ b)) e in
-    ap (λ x. elim x as (λ y. Bool) [ true ↦ legal_from c i (turn c i run k) ks | false ↦ false ]) p.0 ∙ legal_front c i (turn c i run k) ks b p.1
+use Rattle.run_laws.proofs.Converse.{run_append, legal_front}
 
 -- what the laws of lists stand on
 pub record Known : Type 0 where

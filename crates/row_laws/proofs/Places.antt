@@ -5,8 +5,9 @@ use Rattle.row_laws.proofs.Cases.{heads, rests}
 use Rattle.row_laws.proofs.Lists.{Known, AreMoves, all_move, rows_by}
 use Rattle.row_laws.proofs.Telling.{not_some, adds_point}
 use Rattle.row_laws.proofs.Writers.{point_is}
-use Rattle.row_laws.proofs.Asked.{span_to, equal_flip, point_at, want_at, asked_at, turn_served, Moves}
-use Rattle.row_laws.proofs.Points.{in_after}
+use Rattle.replay_laws.proofs.Asked.{span_to}
+use Rattle.row_laws.proofs.Asked.{equal_flip, point_at, want_at, asked_at, turn_served, Moves}
+use Rattle.race_log.proofs.Next.{in_after}
 
 -- ---- rows
 
@@ -95,7 +96,7 @@ IsPlaced c i m p b run = (slice_get run.points m ≡ Some p) ⊎ Placed c i run 
 -- a turn's point, or one before
 new_point : (o : Option Point) (ps : List Point) (m : ℕ) (p : Point) → slice_get (points_after o ps) m ≡ Some p → (slice_get ps m ≡ Some p) ⊎ ((m ≡ length ps) × (o ≡ Some p))
 new_point None ps m p e = inl e
-new_point (Some q) ps m p e = elim (in_after ps q m p e) [ inl old ↦ inl old | inr new ↦ inr (new.0, ap Some new.1) ]
+new_point (Some q) ps m p e = elim (in_after ps q m p e) [ inl old ↦ inl old.1 | inr new ↦ inr (new.0, ap Some new.1) ]
 
 by_turn : (c : RawSettings) (i : Program) (run : Run) (k : ℕ) (ks : List ℕ) (m : ℕ) (p : Point) → AsksOrderly c i run k → IsPlaced c i m p ks (turn c i run k) → IsPlaced c i m p (k ∷ ks) run
 by_turn c i run k ks m p o (inl e) =

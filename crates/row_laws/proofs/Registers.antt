@@ -5,7 +5,8 @@ use Rattle.system_calls.specs.declared.effect.Plan.TheVariants as plans
 use Rattle.row_laws.proofs.Along.{asked_rows, want_states, quiet_row, came}
 use Rattle.row_laws.proofs.Cases.{heads, turn_row}
 use Rattle.row_laws.proofs.Telling.{some_is, not_some, no_row}
-use Rattle.row_laws.proofs.Asked.{asking, answered_state, reply_to, want_at, asked_at}
+use Rattle.replay_laws.proofs.Asked.{asking, state_after as answered_state, reply_to}
+use Rattle.row_laws.proofs.Asked.{want_at, asked_at}
 
 written_is : (o : Option Instruction) (t : HartState) (q : ℕ × ℕ) → written o t ≡ Some q → slice_index t.x q.0 ≡ q.1
 written_is None t q e = absurd (not_some q e)

@@ -1,8 +1,9 @@
 -- The rows of write calls that take bytes, and the words in which the bytes of calls lie.
-use Rattle.row_laws.proofs.Common.{◌≡◌, ℕ, zero, suc, ◌+◌, ◌-◌, ◌<◌, ◌≤◌, ◌^◌, min, Bool, true, false, ◌&&◌, List, [], ◌∷◌, Option, Some, None, refl, sym, ◌∙◌, ap, subst, inl, inr, arith, ◌==◌, ◌||◌, ◌⊎◌, nat_le, nat_lt, slice_index, list_all, range_with_len, false≢true, Program, code_at, may_load, may_store, is_writable, part_at, heap_start, heap_limit, Row, RawSettings, HartState, Asks, step, reg, aligned, Want, Load, Store, LoadReserved, StoreConditional, Amo, System, Cut, Faulted, read_plan, write_plan, plan_of, all_bytes, stream_size, stream_len, Plan, Kernel, call_row, access_point, Read, Machine, answer_call, call_of, planned, kernel_of, word_count, answered_reg, Run, point_of, call_span, budget, IsSendRow, AddsCall, result_of, SendRowsSend, AreRowsFrom, AsksOrderly}
+use Rattle.row_laws.proofs.Common.{◌≡◌, ℕ, zero, suc, ◌+◌, ◌-◌, ◌<◌, ◌≤◌, ◌^◌, min, Bool, true, false, ◌&&◌, [], ◌∷◌, Some, refl, sym, ◌∙◌, ap, subst, inl, inr, arith, ◌==◌, ◌||◌, nat_le, nat_lt, slice_index, list_all, range_with_len, false≢true, Program, code_at, may_load, may_store, is_writable, part_at, heap_start, heap_limit, Row, RawSettings, HartState, Asks, step, reg, aligned, Want, Load, Store, LoadReserved, StoreConditional, Amo, System, Cut, Faulted, read_plan, write_plan, plan_of, all_bytes, stream_size, stream_len, Plan, Kernel, call_row, access_point, Read, Machine, answer_call, call_of, planned, kernel_of, word_count, answered_reg, Run, point_of, call_span, budget, IsSendRow, AddsCall, result_of, SendRowsSend, AreRowsFrom, AsksOrderly}
 use Rattle.system_calls.specs.declared.effect.Plan.TheVariants as plans
 use Rattle.row_laws.proofs.Along.{asked_rows, want_each, came}
-use Rattle.row_laws.proofs.Asked.{span_to, want_at, asked_at}
+use Rattle.replay_laws.proofs.Asked.{span_to}
+use Rattle.row_laws.proofs.Asked.{want_at, asked_at}
 use Rattle.row_laws.proofs.Cases.{heads, turn_row}
 use Rattle.row_laws.proofs.Ecalls.{ecall_asks}
 use Rattle.row_laws.proofs.Filling.{not_both, want_reads}

@@ -3,7 +3,8 @@ use Rattle.row_laws.proofs.Common.{◌≡◌, ℕ, Bool, true, false, ◌&&◌, 
 use Rattle.bus_memory.specs.Contents.{updated}
 use Rattle.row_laws.proofs.Along.{asked_rows}
 use Rattle.row_laws.proofs.Cases.{heads, turn_row}
-use Rattle.row_laws.proofs.Asked.{answered_state, reply_to, answered_memory, span_to, want_at, asked_at, point_at, aligned_own, turn_served}
+use Rattle.replay_laws.proofs.Asked.{state_after as answered_state, reply_to, memory_after as answered_memory, span_to}
+use Rattle.row_laws.proofs.Asked.{want_at, asked_at, point_at, aligned_own, turn_served}
 
 value_of : {A : Type 0} → A → Option A → A
 value_of d None = d

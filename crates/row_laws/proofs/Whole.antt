@@ -4,16 +4,18 @@ use Rattle.system_calls.specs.declared.effect.Plan.TheVariants as plans
 use Rattle.row_laws.proofs.Along.{after_append}
 use Rattle.row_laws.proofs.Filling.{fill_rows_fill}
 use Rattle.row_laws.proofs.Sending.{send_rows_send, call_inside}
-use Rattle.row_laws.proofs.Lists.{Known, AreMoves, all_move, both_move, run_append, rows_by, along}
+use Rattle.run_laws.proofs.Converse.{run_append}
+use Rattle.row_laws.proofs.Lists.{Known, AreMoves, all_move, both_move, rows_by, along}
 use Rattle.row_laws.proofs.Places.{points_are_of_turns}
 use Rattle.row_laws.proofs.Telling.{rows_tell_words}
 use Rattle.row_laws.proofs.Writers.{writers_have_rows}
 use Rattle.row_laws.proofs.Asked.{point_at, turn_served, want_at}
-use Rattle.row_laws.proofs.Points.{DecidesWrites, old_at, get_new}
+use Rattle.race_log.proofs.Next.{old_at, get_new}
+use Rattle.row_laws.proofs.Points.{DecidesWrites}
 
 -- ---- rows
 
-rows_append : (c : RawSettings) (i : Program) (h : ℕ) (a b : List ℕ) (run : Run) → rows_of c i run (a ++ b) h ≡ rows_of c i run a h ++ rows_of c i (run_from c i run a) b h
+pub rows_append : (c : RawSettings) (i : Program) (h : ℕ) (a b : List ℕ) (run : Run) → rows_of c i run (a ++ b) h ≡ rows_of c i run a h ++ rows_of c i (run_from c i run a) b h
 rows_append c i h [] b run = refl
 rows_append c i h (k ∷ ks) b run = by (k == h) (rows_append c i h ks b (turn c i run k))
   where

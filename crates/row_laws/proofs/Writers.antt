@@ -6,8 +6,11 @@ use Rattle.row_laws.proofs.Cases.{ask_row}
 use Rattle.row_laws.proofs.Ecalls.{step_calls}
 use Rattle.row_laws.proofs.Plans.{IsFillOf, planned_fills}
 use Rattle.row_laws.proofs.Telling.{some_is, not_some, updated_here, passing}
-use Rattle.row_laws.proofs.Asked.{answered_state, reply_to, answered_memory, span_to, want_at, asked_at, point_at, aligned_own, not_cut, turn_served}
-use Rattle.row_laws.proofs.Points.{DecidesWrites, or_split, get_new}
+use Rattle.replay_laws.proofs.Asked.{state_after as answered_state, reply_to, memory_after as answered_memory, span_to}
+use Rattle.row_laws.proofs.Asked.{want_at, asked_at, point_at, aligned_own, not_cut, turn_served}
+use Rattle.race_log.proofs.Next.{get_new}
+use Rattle.race_log.proofs.BoolFacts.{or_split}
+use Rattle.row_laws.proofs.Points.{DecidesWrites}
 
 -- ---- the words of a point
 

@@ -1,6 +1,6 @@
 -- Lawful rows of which each hart's are its own are those of turns.
 use Rattle.run_laws.proofs.Common.{◌≡◌, ℕ, ◌==◌, Bool, true, false, nat_lt, List, [], ◌∷◌, ◌++◌, refl, sym, ◌∙◌, ap, subst, arith, inl, inr, eqb_tells, Program, Ask, IsSetting, RawSettings, TurnRow, Run, serve, turn, ask_at, is_orderly, start, run_from, legal_from, is_live, IsRested, after_rows, are_orderly, IsLawful, IsOwn, Place, place_of, place_after, row_at, rows_from, rows_by, harts_of, AreOwn, AreTurns, OwnRowsGrow, ListsGoOn, AreJoined, TurnsAreLawful, TurnsAreOwn}
-use Rattle.run_laws.proofs.Turns.{Laws, ranged, legal_first, ordered, both, eqb_same, below_of, differ, turn_left, own_place, other_place, other_is, next_at}
+use Rattle.run_laws.proofs.Turns.{Laws, ranged, legal_first, live_then, legal_cons, ordered, both, eqb_same, below_of, differ, turn_left, own_place, other_place, other_is, next_at}
 
 -- ---- one hart's rows of a list that begins with one
 
@@ -37,10 +37,6 @@ rest_own c i run x rows o is own h within =
     ]
 
 -- ---- all rows
-
-live_then : (b : Bool) (x : Bool) → b ≡ true → x ≡ true → elim b as (λ z. Bool) [ true ↦ x | false ↦ false ] ≡ true
-live_then true x e h = h
-live_then false x e h = e
 
 pub are_turns : Laws → (c : RawSettings) (i : Program) (run : Run) (rows : List TurnRow) → IsSetting c → ((j : ℕ) → IsRested c (run.harts j)) → IsLawful c i run rows → AreOwn c i run rows → AreTurns c i run rows
 are_turns laws c i run [] setting fit lawful own = record { legal = refl; rows_are = refl; run_is = refl; orderly = refl }
@@ -83,7 +79,14 @@ legal_append : (c : RawSettings) (i : Program) (run : Run) (b more : List ℕ) �
 legal_append c i run [] more legal rest = rest
 legal_append c i run (k ∷ ks) more legal rest =
     let first = legal_first c i run k ks legal in
-    live_then (is_live c run k) (legal_from c i (turn c i run k) (ks ++ more)) first.0 (legal_append c i (turn c i run k) ks more first.1 rest)
+    legal_cons c i run k (ks ++ more) first.0 (legal_append c i (turn c i run k) ks more first.1 rest)
+
+-- a beginning of a legal list is legal
+pub legal_front : (c : RawSettings) (i : Program) (run : Run) (b more : List ℕ) → legal_from c i run (b ++ more) ≡ true → legal_from c i run b ≡ true
+legal_front c i run [] more legal = refl
+legal_front c i run (k ∷ ks) more legal =
+    let first = legal_first c i run k (ks ++ more) legal in
+    legal_cons c i run k ks first.0 (legal_front c i (turn c i run k) ks more first.1)
 
 pub lists_go_on : ListsGoOn
 lists_go_on = record { run = run_append; rows = rows_append; legal = legal_append }

@@ -6,7 +6,8 @@ use Rattle.rv_meaning.specs.declared.asks.Reply.TheVariants as replies
 use Rattle.first_load_bits.specs.declared.warm.Warm.TheVariants as answers
 use Rattle.log_ring.specs.Kept.{kept}
 use Rattle.run_model.specs.KeptRecords.{kept_of}
-use Rattle.run_laws.proofs.Bytes.{total_more, total_append, header_size_is, load_size_is, edge_size_is, end_size_is}
+use Rattle.run_model.proofs.Bytes.{total_append}
+use Rattle.run_laws.proofs.Bytes.{total_more, header_size_is, load_size_is, edge_size_is, end_size_is}
 use Rattle.run_laws.proofs.Converse.{run_append}
 use Rattle.run_laws.proofs.LastEnds.{last_of_both, own_end, stops_own}
 use Rattle.run_laws.proofs.Standing.{StandsIn, NoneBefore, none_in_point, none_in_load, none_in_conditional, over_back, Held, turn_records, own_stands, guard_stands, answered_at, turn_is, asked_size, state_size, start_held, list_held}

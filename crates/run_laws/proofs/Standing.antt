@@ -3,7 +3,7 @@ use Rattle.run_laws.proofs.Common.{◌≡◌, ℕ, zero, suc, ◌+◌, ◌*◌, 
 use Rattle.std.specs.List.{AllByRecursion}
 use Rattle.first_load_bits.specs.declared.warm.Warm.TheVariants as answers
 use Rattle.rv_meaning.specs.declared.asks.Reply.TheVariants as replies
-use Rattle.run_laws.proofs.Bytes.{total_append, headers_have}
+use Rattle.run_model.proofs.Bytes.{total_append, headers_have}
 use Rattle.run_laws.proofs.Registers.{asking_registers, absorbed_registers}
 use Rattle.run_laws.proofs.Turns.{Laws, IsRanged, ordered, both, below_of, legal_first, served, moved, stayed, turn_left, fit_start, eqb_same, guarded_at, asked_at, state_of, next_at}
 

@@ -5,12 +5,19 @@ use Rattle.run_model.specs.Represents.Harts.{all_left}
 
 -- ---- lawful
 
-live_by : (b : Bool) (x : Bool) → elim b as (λ z. Bool) [ true ↦ x | false ↦ false ] ≡ true → (b ≡ true) × (x ≡ true)
+pub live_by : (b : Bool) (x : Bool) → elim b as (λ z. Bool) [ true ↦ x | false ↦ false ] ≡ true → (b ≡ true) × (x ≡ true)
 live_by true x e = (refl, e)
 live_by false x e = cc
 
 pub legal_first : (c : RawSettings) (i : Program) (run : Run) (k : ℕ) (ks : List ℕ) → legal_from c i run (k ∷ ks) ≡ true → (is_live c run k ≡ true) × (legal_from c i (turn c i run k) ks ≡ true)
 legal_first c i run k ks e = live_by (is_live c run k) (legal_from c i (turn c i run k) ks) e
+
+pub live_then : (b : Bool) (x : Bool) → b ≡ true → x ≡ true → elim b as (λ z. Bool) [ true ↦ x | false ↦ false ] ≡ true
+live_then true x e h = h
+live_then false x e h = e
+
+pub legal_cons : (c : RawSettings) (i : Program) (run : Run) (k : ℕ) (ks : List ℕ) → is_live c run k ≡ true → legal_from c i (turn c i run k) ks ≡ true → legal_from c i run (k ∷ ks) ≡ true
+legal_cons c i run k ks live e = live_then (is_live c run k) (legal_from c i (turn c i run k) ks) live e
 
 pub lawful : (c : RawSettings) (i : Program) (run : Run) (b : List ℕ) → legal_from c i run b ≡ true → IsLawful c i run (rows_from c i run b) × (after_rows c i run (rows_from c i run b) ≡ run_from c i run b)
 lawful c i run [] e = (tt, refl)
@@ -184,11 +191,11 @@ turn_left laws c i run k setting fit live =
 
 -- ---- runs end
 
-all_less : (c : RawSettings) (n : ℕ) (f g : ℕ → Hart) → ((k : ℕ) → turns_left c (g k) ≤ turns_left c (f k)) → all_left c n g ≤ all_left c n f
+pub all_less : (c : RawSettings) (n : ℕ) (f g : ℕ → Hart) → ((k : ℕ) → turns_left c (g k) ≤ turns_left c (f k)) → all_left c n g ≤ all_left c n f
 all_less c zero f g each = omega arith
 all_less c (suc n) f g each = omega (arith, each n, all_less c n f g each)
 
-one_less : (c : RawSettings) (n own : ℕ) (f g : ℕ → Hart) → own < n → ((k : ℕ) → turns_left c (g k) ≤ turns_left c (f k)) → turns_left c (g own) < turns_left c (f own) → all_left c n g < all_left c n f
+pub one_less : (c : RawSettings) (n own : ℕ) (f g : ℕ → Hart) → own < n → ((k : ℕ) → turns_left c (g k) ≤ turns_left c (f k)) → turns_left c (g own) < turns_left c (f own) → all_left c n g < all_left c n f
 one_less c zero own f g within each less = omega (arith, within)
 one_less c (suc n) own f g within each less = elim (eqb_tells own n) [
   | inl p ↦ omega (arith, all_less c n f g each, subst (λ (k : ℕ). turns_left c (g k) < turns_left c (f k)) p.1 less)

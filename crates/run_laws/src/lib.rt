@@ -47,6 +47,7 @@ pub fn runs_end()
 }
 
 /// What a hart asks next is orderly, after the turns of any legal list.
+#[tactic(auto, using(crate::proofs::Turns::orderly_after, crate::proofs::Turns::fit_start))]
 pub fn own_asks_are_orderly()
     ensures { OwnAsksAreOrderly }
 {
@@ -71,6 +72,7 @@ pub fn kept_records_are_an_end()
 }
 
 /// Lawful rows after a run, of which each hart's are its own, are the rows of the turns of their harts.
+#[tactic(auto, using(crate::proofs::Converse::are_turns))]
 pub fn own_rows_go_on()
     ensures { OwnRowsGoOn }
 {
@@ -143,6 +145,7 @@ pub fn edges_are_few()
 
 /// The bytes that the guard compares with half of the log are those of the records from the hart's present
 /// Header on, itself included, to the end of the stream.
+#[tactic(auto, using(crate::proofs::Retained::guard_counts))]
 pub fn guard_counts_from_headers()
     ensures { GuardCountsFromHeaders }
 {
@@ -156,6 +159,7 @@ pub fn guard_counts_from_headers()
 /// With format 2 a hart's present Header is kept right after each of its turns that leaves it live. If half
 /// of the log has no room for the records from the Header on, the hart begins an interval at its ask. What
 /// one turn adds has room in the other half.
+#[tactic(auto, using(crate::proofs::Retained::headers_kept))]
 pub fn headers_are_kept()
     ensures { HeadersAreKept }
 {
@@ -169,6 +173,7 @@ pub fn headers_are_kept()
 
 /// With format 2, if a hart's turn ends the run by a fault, the fault's interval is retained: its Header is
 /// kept, and after it the End with the fault.
+#[tactic(auto, using(crate::proofs::Retained::faults_kept))]
 pub fn faults_are_kept()
     ensures { FaultsAreKept }
 {

@@ -22,6 +22,7 @@ pub use Rattle.log_record.specs.declared.record.Record.{Record}
 pub use Rattle.log_record.specs.declared.record.Record.TheVariants.{Edge, End, FirstLoad, ScFailed, ScOk}
 pub use Rattle.log_ring.specs.Kept.{Held, HoldsLog, held}
 unfoldable pub use Rattle.log_ring.specs.Kept.{kept}
+pub use Rattle.race_log.specs.Points.{Point}
 pub use Rattle.race_log.specs.Represents.{KnowsSame, RepresentsAccesses, harts_of, is_known, kept_of, lasting_of, lasts, next_count, next_turn, times_of}
 pub use Rattle.race_log.specs.Sweep.{has_bit}
 unfoldable pub use Rattle.race_log.specs.Sweep.{all_below}
@@ -50,6 +51,7 @@ pub use Rattle.run_model.specs.Represents.InPlace.{IsMoved, ask_here, in_state, 
 pub use Rattle.run_model.specs.Represents.Logs.{IsLog, Took, is_marked_next, taken}
 pub use Rattle.run_model.specs.Represents.Parts.{AreAddresses, AreReserved, AreWordsIn, IsAnswer, IsMachine, IsPlanned, IsSameMachine, MachineParts, size_of}
 pub use Rattle.run_model.specs.Represents.Plain.{GivesUpKnown, IsHartFit, IsRaceReady, IsRun, IsSwept, IsTrace, IsTraceFit, PlainParts, clears, count_after, everyone, is_known_to_live, is_walk_due}
+pub use Rattle.run_model.specs.Represents.Tracing.{harts_by, with_ends}
 pub use Rattle.run_model.specs.Represents.Turning.{is_live, parts}
 pub use Rattle.run_model.specs.Runs.{first_headers, most_turns, start, start_hart, start_machine, start_state}
 pub use Rattle.run_model.specs.Turn.{Run, after_call, ask_at, begun_anew, budget, by_guard, bytes_since, counted, dead, dropped, drops, edge_records, edges_from, events_after, guard_records, guarded_run, hart_after, harts_after, header, header_size, is_guarded, is_orderly, load_record, loading, mark, next_of, next_records, other_after, point_of, points_after, run_over_records, sc_record, serve_call, serve_orderly, served_if, skipped_after, span, span_of, stopped, stopped_records, turn, warmth, word_before}

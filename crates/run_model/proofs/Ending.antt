@@ -1,5 +1,6 @@
 -- No hart is live any more.
-use Rattle.run_model.proofs.Common.{◌≡◌, ◌<◌, ◌≤◌, ℕ, zero, suc, ◌+◌, ◌-◌, true, false, List, length, refl, sym, ◌∙◌, ap, subst, arith, inl, inr, length-set, true≢false, Vec, get_or, slice_get, slice_set, Some, ◌≢◌, Global, eqb_tells, get_or-set_same, get_or-set_other, slice_get-get_or, get_or_from_slice_get, RawSettings, Hart, Trace, dead, most_turns, IsRested, turns_left, AreHarts, is_live_hart, hart_in, all_left, no_hart, IsTraceFit, IsHartFit}
+use Rattle.run_model.proofs.Common.{◌≡◌, ◌<◌, ◌≤◌, ℕ, zero, suc, ◌+◌, ◌-◌, true, false, List, length, refl, sym, ◌∙◌, ap, subst, arith, inl, inr, length-set, true≢false, Vec, get_or, slice_get, slice_set, Some, ◌≢◌, Global, eqb_tells, get_or-set_same, get_or-set_other, slice_get-get_or, get_or_from_slice_get, RawSettings, Hart, Trace, dead, most_turns, IsRested, turns_left, AreHarts, is_live_hart, hart_in, all_left, no_hart, IsTrace, IsTraceFit, IsHartFit, Run}
+use Rattle.run_model.specs.Turn.{halted}
 use Rattle.run_model.proofs.OneTurn.{live_within}
 
 -- the harts below a number were ended
@@ -33,10 +34,14 @@ pub record AreEnded (old new : List Hart) : Type 0 where
   pub each : (k : ℕ) (d : Hart) → k < length old → get_or new k d ≡ dead (get_or old k d)
   pub len : length new ≡ length old
 
-pub ended_are : (old new : List Hart) (f : ℕ → Hart) → AreEnded old new → AreHarts old f → AreHarts new (λ k. dead (f k))
+ended_are : (old new : List Hart) (f : ℕ → Hart) → AreEnded old new → AreHarts old f → AreHarts new (λ k. dead (f k))
 ended_are old new f e are k below =
     let within : k < length old = omega (arith, below, e.len) in
     slice_get-get_or new k no_hart below ∙ ap Some (e.each k no_hart within ∙ ap dead (get_or_from_slice_get old k (f k) no_hart (are k within)))
+
+-- what is traced is then the run that was halted, after so many turns
+pub ended_trace : (c : RawSettings) (t : Trace) (v : Vec Hart Global) (run : Run) (turns : ℕ) → AreEnded t.harts.items v.items → IsTrace c t run → IsTrace c (record t { harts = v }) (record (halted run) { turns = turns })
+ended_trace c t v run turns e is = record { harts = ended_are t.harts.items v.items run.harts e is.harts; caches = is.caches; shadow = is.shadow; log = is.log; bytes = is.bytes }
 
 -- ---- counts
 

@@ -1,10 +1,12 @@
 -- A turn whose quiet instructions are done in the hart's own place.
-use Rattle.run_model.proofs.Common.{◌≡◌, ◌≢◌, ℕ, ◌+◌, ◌-◌, ◌*◌, ◌<◌, ◌≤◌, ◌^◌, ◌==◌, ◌++◌, Bool, true, false, List, [], length, sym, ◌∙◌, ap, subst, arith, refl, inl, inr, IsTrue, Vec, slice_set, Some, None, nat_le, nat_lt, ◌&&◌, Global, get_or-set_same, get_or-set_other, length-set, set-set, set-get_or, eqb_tells, Program, RawSettings, HartState, Contents, is_cut, passes, orderly, absorbed, ask_of, Ask, Want, Reply, Load, Store, Shadow, RepresentsAccesses, lasts, next_turn, next_count, harts_of, Record, total, Hart, Log, TurnEnd, GoesOn, NewInterval, HartOver, RunOver, Trace, answer, Run, turn, ask_at, budget, is_orderly, serve_call, span_of, counted, point_of, edge_records, load_record, sc_record, next_records, run_over_records, warmth, loading, word_before, hart_after, harts_after, other_after, skipped_after, events_after, is_guarded, bytes_since, IsRested, turns_left, steps_in, AreCaches, AreHarts, hart_in, no_hart, all_left, AsksHere, IsTaken, IsOnlySwept, is_live, ask_here, in_state, moved_harts, moved_run, IsMoved, taken, IsLog, IsTraceFit, IsHartFit, IsTrace, IsSwept, everyone, IsRun, PlainParts, MachineParts, IsMachine, Start}
+use Rattle.run_model.proofs.Common.{◌≡◌, ◌≢◌, ℕ, ◌+◌, ◌-◌, ◌*◌, ◌<◌, ◌≤◌, ◌^◌, ◌==◌, ◌++◌, Bool, true, false, List, [], length, sym, ◌∙◌, ap, subst, arith, refl, inl, inr, IsTrue, Vec, slice_set, Some, None, nat_le, nat_lt, ◌&&◌, Global, get_or-set_same, get_or-set_other, length-set, set-set, set-get_or, eqb_tells, Program, RawSettings, HartState, Contents, is_cut, passes, orderly, absorbed, ask_of, Ask, Want, Reply, Shadow, RepresentsAccesses, lasts, next_turn, next_count, harts_of, Record, total, Hart, Log, TurnEnd, GoesOn, NewInterval, HartOver, RunOver, Trace, answer, Run, turn, ask_at, budget, is_orderly, serve_call, span_of, counted, point_of, edge_records, load_record, sc_record, next_records, run_over_records, warmth, loading, word_before, hart_after, harts_after, other_after, skipped_after, events_after, is_guarded, IsRested, turns_left, steps_in, AreCaches, AreHarts, hart_in, no_hart, AsksHere, IsTaken, IsOnlySwept, is_live, ask_here, in_state, moved_harts, moved_run, IsMoved, taken, IsLog, IsTraceFit, IsHartFit, IsTrace, IsSwept, everyone, IsRun, PlainParts, MachineParts, IsMachine, Start, Option, Plan, not, next_of, header_size, IsNoCall}
+use Rattle.run_model.specs.Represents.Accessed.{IsTurnedHere}
 use Rattle.run_model.proofs.Fits.{counted_by, guarded_below, left_live, le_is, lt_is}
-use Rattle.run_model.proofs.MoveOn.{budget_interval, some_budget}
+use Rattle.run_model.proofs.MoveOn.{InBudget, budget_interval, some_budget}
 use Rattle.run_model.proofs.OneTurn.{live_within, asked_orderly, turn_is}
 use Rattle.run_model.proofs.Asked.{all_less, eqb_same, other_stays}
-use Rattle.run_model.proofs.Owns.{hart_of_run}
+use Rattle.run_model.proofs.Owns.{hart_of_run, next_same}
+use Rattle.run_model.proofs.PlainFits.{IsLike, like_trace, swept_like}
 use Rattle.run_model.proofs.Stopping.{own_set, with_own}
 
 -- ---- the hart that was moved on
@@ -15,38 +17,49 @@ within_interval c h ic low high below = omega (arith, low, high, below, budget_i
 some_left : (c : RawSettings) (h : Hart) (s : HartState) → h.begun ≤ s.ic → s.ic < h.begun + c.interval → s.ic < c.limit → 0 < budget c (in_state s h)
 some_left c h s begun inside below = some_budget c (in_state s h) (omega (arith, begun, inside)) (omega (arith, below))
 
-pub record IsOn (c : RawSettings) (i : Program) (h : Hart) (s : HartState) (want : Want) : Type 0 where
+-- a hart that has done some of its budget
+pub record IsOnward (c : RawSettings) (h : Hart) (s : HartState) : Type 0 where
   pub from : h.state.ic ≤ s.ic
+  pub below : s.ic < c.limit
+  pub inside : s.ic < h.begun + c.interval
   pub rested : IsRested c (in_state s h)
-  pub orderly : IsTrue (is_orderly c i (in_state s h) (ask_here (in_state s h) want))
   pub left : turns_left c (in_state s h) ≤ turns_left c h
+
+-- a hart that is moved on within its budget has done some of it
+onward : (c : RawSettings) (h : Hart) (s : HartState) → IsRested c h → h.live ≡ true → InBudget c h s.ic → IsOnward c h s
+onward c h s rested live by =
+    let fit = rested.fit in
+    let below = guarded_below c h s.ic fit by in
+    let inside = within_interval c h s.ic (omega (arith, fit.skipped)) fit.interval by.below in
+    record {
+      from = by.from;
+      below = below;
+      inside = inside;
+      rested = record {
+        fit = record {
+          number = omega (arith, rested.number live, by.from);
+          skipped = omega (arith, fit.skipped, by.from);
+          interval = omega (arith, inside);
+          limit = omega (arith, below);
+          unfilled = λ p. inside;
+        };
+        number = λ p. omega (arith, rested.number live, by.from);
+      };
+      left = omega (arith, left_live c h live, left_live c (in_state s h) live, by.from);
+    }
 
 orderly_on : (c : RawSettings) (i : Program) (h : Hart) (s : HartState) (want : Want) → is_cut want ≡ false → 0 < budget c (in_state s h) → passes i want ≡ true
     → is_orderly c i (in_state s h) (record { state = s; want = want }) ≡ true
 orderly_on c i h s want cut some pass =
     rw (cut, pass, le_is s.ic s.ic (omega arith), lt_is s.ic (s.ic + budget c (in_state s h)) (omega (arith, some))) refl
 
-pub moved_on : (c : RawSettings) (i : Program) (h : Hart) (s : HartState) (want : Want) → IsRested c h → h.live ≡ true → is_cut want ≡ false → IsTrue (is_orderly c i h (record { state = s; want = want })) → IsOn c i h s want
-moved_on c i h s want rested live cut o =
-    let fit = rested.fit in
+-- an ask that is orderly for a hart is orderly once the hart is moved on to it
+pub orderly_there : (c : RawSettings) (i : Program) (h : Hart) (s : HartState) (want : Want) → IsRested c h → h.live ≡ true → is_cut want ≡ false → IsTrue (is_orderly c i h (record { state = s; want = want }))
+    → IsTrue (is_orderly c i (in_state s h) (ask_here (in_state s h) want))
+orderly_there c i h s want rested live cut o =
     let by = counted_by c i h s want cut o in
-    let below = guarded_below c h s.ic fit by.0 in
-    let inside = within_interval c h s.ic (omega (arith, fit.skipped)) fit.interval by.0.below in
-    record {
-      from = by.0.from;
-      rested = record {
-        fit = record {
-          number = omega (arith, rested.number live, by.0.from);
-          skipped = omega (arith, fit.skipped, by.0.from);
-          interval = omega (arith, inside);
-          limit = omega (arith, below);
-          unfilled = λ p. inside;
-        };
-        number = λ p. omega (arith, rested.number live, by.0.from);
-      };
-      orderly = orderly_on c i h s want cut (some_left c h s (omega (arith, fit.skipped, by.0.from)) inside below) by.1;
-      left = omega (arith, left_live c h live, left_live c (in_state s h) live, by.0.from);
-    }
+    let on = onward c h s rested live by.0 in
+    orderly_on c i h s want cut (some_left c h s (omega (arith, rested.fit.skipped, by.0.from)) on.inside on.below) by.1
 
 pub own_moved : (old new : Trace) (k : ℕ) (s : HartState) → IsMoved k s old new → k < length old.harts.items → hart_in new.harts.items k ≡ in_state s (hart_in old.harts.items k)
 own_moved old new k s m within =
@@ -56,9 +69,9 @@ pub other_moved : (old new : Trace) (k j : ℕ) (s : HartState) → IsMoved k s 
 other_moved old new k j s m differ =
     ap (λ (xs : List Hart). hart_in xs j) m.harts ∙ get_or-set_other old.harts.items k j (in_state s (hart_in old.harts.items k)) no_hart differ
 
-own_fits : (c : RawSettings) (i : Program) (old new : Trace) (k : ℕ) (s : HartState) (want : Want) → IsMoved k s old new → hart_in new.harts.items k ≡ in_state s (hart_in old.harts.items k) → (hart_in old.harts.items k).live ≡ true
-    → IsHartFit c old k → IsOn c i (hart_in old.harts.items k) s want → IsHartFit c new k
-own_fits c i old new k s want m at live one on =
+own_onward : (c : RawSettings) (old new : Trace) (k : ℕ) (s : HartState) → IsMoved k s old new → hart_in new.harts.items k ≡ in_state s (hart_in old.harts.items k) → (hart_in old.harts.items k).live ≡ true
+    → IsHartFit c old k → IsOnward c (hart_in old.harts.items k) s → IsHartFit c new k
+own_onward c old new k s m at live one on =
     let ic : (hart_in new.harts.items k).state.ic ≡ s.ic = ap (λ (h : Hart). h.state.ic) at in
     let number : (hart_in new.harts.items k).number ≡ (hart_in old.harts.items k).number = ap (λ (h : Hart). h.number) at in
     record {
@@ -68,14 +81,15 @@ own_fits c i old new k s want m at live one on =
       lasting = λ e. subst (λ (x : Shadow). lasts x k ≡ true) (sym m.shadow) (one.lasting live);
     }
 
-pub moved_fit : (c : RawSettings) (i : Program) (old new : Trace) (turns k : ℕ) (s : HartState) (want : Want) → IsTraceFit c old turns → k < c.harts → (hart_in old.harts.items k).live ≡ true
-    → is_cut want ≡ false → IsTrue (is_orderly c i (hart_in old.harts.items k) (record { state = s; want = want })) → IsMoved k s old new → IsTraceFit c new turns
-moved_fit c i old new turns k s want fit within live cut o m =
+-- the counts fit the settings once hart k is moved on
+pub onward_fit : (c : RawSettings) (old new : Trace) (turns k : ℕ) (s : HartState) → IsTraceFit c old turns → k < c.harts → (hart_in old.harts.items k).live ≡ true
+    → InBudget c (hart_in old.harts.items k) s.ic → IsMoved k s old new → IsTraceFit c new turns
+onward_fit c old new turns k s fit within live by m =
     let h : Hart = hart_in old.harts.items k in
     let f : ℕ → Hart = hart_in old.harts.items in
     let g : ℕ → Hart = hart_in new.harts.items in
     let one = fit.each k within in
-    let on = moved_on c i h s want one.fit live cut o in
+    let on = onward c h s one.fit live by in
     let at : g k ≡ in_state s h = own_moved old new k s m (omega (arith, within, fit.harts)) in
     let no_more : (j : ℕ) → j < c.harts → turns_left c (g j) ≤ turns_left c (f j) = λ j below. elim (eqb_tells j k) [
       | inl p ↦ subst (λ (n : ℕ). turns_left c (g n) ≤ turns_left c (f n)) (sym p.1) (subst (λ (x : Hart). turns_left c x ≤ turns_left c h) (sym at) on.left)
@@ -88,7 +102,7 @@ moved_fit c i old new turns k s want fit within live cut o m =
       caches = ap (λ (cs : List Contents). length cs) m.caches ∙ fit.caches;
       shadow = ap harts_of m.shadow ∙ fit.shadow;
       each = λ j below. elim (eqb_tells j k) [
-        | inl p ↦ subst (λ (n : ℕ). IsHartFit c new n) (sym p.1) (own_fits c i old new k s want m at live one on)
+        | inl p ↦ subst (λ (n : ℕ). IsHartFit c new n) (sym p.1) (own_onward c old new k s m at live one on)
         | inr p ↦ other_stays c old new j k (other_moved old new k j s m p.1) (ap (λ (cs : List Contents). steps_in cs j) m.caches) m.shadow (fit.each j below)
       ];
       turn = omega (arith, fit.turn, ap next_turn m.shadow);
@@ -111,44 +125,6 @@ moved_is c old new run k s within m is =
     }
 
 -- ---- the hart that was put back
-
--- from one to the other the race log may have found memory, and given up what all live harts know of; all else is the same
-pub record IsLike (old new : Trace) : Type 0 where
-  pub harts : new.harts.items ≡ old.harts.items
-  pub caches : new.caches ≡ old.caches
-  pub shadow : IsSwept old.shadow new.shadow old.harts.items
-  pub log : new.log ≡ old.log
-
-pub like_fit : (c : RawSettings) (old new : Trace) (turns : ℕ) → IsTraceFit c old turns → IsLike old new → IsTraceFit c new turns
-like_fit c old new turns fit like = record {
-  settings = fit.settings;
-  few = fit.few;
-  harts = ap (λ (xs : List Hart). length xs) like.harts ∙ fit.harts;
-  caches = ap (λ (cs : List Contents). length cs) like.caches ∙ fit.caches;
-  shadow = like.shadow.harts ∙ fit.shadow;
-  each = λ k below.
-      let one = fit.each k below in
-      let at : hart_in new.harts.items k ≡ hart_in old.harts.items k = ap (λ (xs : List Hart). hart_in xs k) like.harts in
-      record {
-        fit = subst (λ (h : Hart). IsRested c h) (sym at) one.fit;
-        steps = omega (arith, one.steps, ap (λ (cs : List Contents). steps_in cs k) like.caches, ap (λ (h : Hart). h.state.ic) at, ap (λ (h : Hart). h.number) at);
-        count = omega (arith, one.count, like.shadow.counts k, ap (λ (h : Hart). h.state.ic) at);
-        lasting = λ e. let was : (hart_in old.harts.items k).live ≡ true = sym (ap (λ (h : Hart). h.live) at) ∙ e in like.shadow.lasting k (omega (arith, below, fit.harts)) was (one.lasting was);
-      };
-  turn = omega (arith, fit.turn, like.shadow.turn);
-  left = omega (arith, fit.left, ap (λ (xs : List Hart). all_left c c.harts (hart_in xs)) like.harts);
-  log = omega (arith, fit.log, ap (λ (l : Log). taken l.ring) like.log);
-  log_size = ap (λ (l : Log). l.ring.size) like.log ∙ fit.log_size;
-}
-
-pub like_trace : (c : RawSettings) (old new : Trace) (run : Run) → IsTrace c old run → IsLike old new → IsTrace c new run
-like_trace c old new run is like = record {
-  harts = subst (λ (xs : List Hart). AreHarts xs run.harts) (sym like.harts) is.harts;
-  caches = subst (λ (cs : List Contents). AreCaches c cs run.events) (sym like.caches) is.caches;
-  shadow = like.shadow.stands run.points is.shadow;
-  log = subst (λ (l : Log). IsLog l run.stream) (sym like.log) is.log;
-  bytes = ap (λ (l : Log). l.bytes) like.log ∙ is.bytes;
-}
 
 -- the lists of harts: hart k set, and set back
 set_back : (hs : List Hart) (k : ℕ) (a : Hart) (s : HartState) → k < length hs → s ≡ (hart_in hs k).state → hart_in (slice_set hs k a) k ≡ a → in_state s a ≡ in_state s (hart_in hs k)
@@ -213,14 +189,6 @@ none_over c h ic k n f = by (nat_le c.limit ic) (nat_le c.interval (ic - h.begun
     by false true = refl
     by false false = refl
 
-none_stop : (c : RawSettings) (h : Hart) (ic : ℕ) (x : Hart) → other_after (counted c h ic) x ≡ x
-none_stop c h ic x = by (nat_le c.limit ic) (nat_le c.interval (ic - h.begun))
-  where
-    by : (a b : Bool) → other_after (elim a as (λ y. TurnEnd) [ true ↦ HartOver 7 0 | false ↦ elim b as (λ y. TurnEnd) [ true ↦ NewInterval 1 0 | false ↦ GoesOn ] ]) x ≡ x
-    by true b = refl
-    by false true = refl
-    by false false = refl
-
 pub own_same : (next : TurnEnd) (s to : HartState) (skipped bytes : ℕ) (h : Hart) → hart_after next to skipped bytes (in_state s h) ≡ hart_after next to skipped bytes h
 own_same GoesOn s to skipped bytes h = refl
 own_same (NewInterval reason value) s to skipped bytes h = refl
@@ -231,50 +199,45 @@ pub moved_own : (f : ℕ → Hart) (k : ℕ) (s : HartState) → moved_harts f k
 moved_own f k s = ap (λ (b : Bool). elim b as (λ x. Hart) [ true ↦ in_state s (f k) | false ↦ f k ]) (eqb_same k)
 
 -- the harts after, of harts that are the same but for hart k
-same_after : (b : Bool) (next : TurnEnd) (own a x : Hart) → ((y : Hart) → other_after next y ≡ y)
-    → elim b as (λ z. Hart) [ true ↦ own | false ↦ other_after next (elim b as (λ z. Hart) [ true ↦ a | false ↦ x ]) ] ≡ elim b as (λ z. Hart) [ true ↦ own | false ↦ other_after next x ]
-same_after true next own a x stays = refl
-same_after false next own a x stays = refl
+same_after : (b : Bool) (next : TurnEnd) (own a x : Hart) → elim b as (λ z. Hart) [ true ↦ own | false ↦ other_after next (elim b as (λ z. Hart) [ true ↦ a | false ↦ x ]) ] ≡ elim b as (λ z. Hart) [ true ↦ own | false ↦ other_after next x ]
+same_after true next own a x = refl
+same_after false next own a x = refl
 
-pub served_moved : (c : RawSettings) (t : Trace) (run : Run) (k : ℕ) (s : HartState) (a w : ℕ) (g : Bool) (rd : ℕ)
-    → IsTrace c t (serve_call c (moved_run run k s) k (record { state = s; want = Load a w g rd }) false None).run → IsTrace c t (serve_call c run k (record { state = s; want = Load a w g rd }) false None).run
-served_moved c t run k s a w g rd is =
+-- the ask that hart k makes after it was moved on leaves what it leaves of the run, if it does not end the others
+pub served_moved : (c : RawSettings) (t : Trace) (run : Run) (k : ℕ) (s : HartState) (ask : Ask) (call : Option Plan) → ((y : Hart) (reply : Reply) (ic : ℕ) (g : ℕ → Hart) → run_over_records (next_of c call y ask.want reply ic) k c.harts g ≡ [])
+    → IsTrace c t (serve_call c (moved_run run k s) k ask false call).run → IsTrace c t (serve_call c run k ask false call).run
+served_moved c t run k s ask call over is =
     let h : Hart = run.harts k in
-    let ask : Ask = record { state = s; want = Load a w g rd } in
-    let reply : Reply = (answer c None run.machine k ask).reply in
+    let reply : Reply = (answer c call run.machine k ask).reply in
     let to : HartState = absorbed ask reply in
     let load = warmth c (loading ask.want) (run.events k) in
-    let point = point_of k s.ic run.turns (span_of None ask.want reply) in
-    let next : Hart → TurnEnd = λ (y : Hart). counted c y to.ic in
-    let recs : Hart → List Record → List Record = λ (y : Hart) (o : List Record). edge_records point run.points ++ (load_record load k y.skipped (word_before run.machine.memory (loading ask.want)) ++ (sc_record reply k ++ (next_records (next y) k y.number to ++ o))) in
+    let span = span_of call ask.want reply in
+    let point = point_of k ask.state.ic run.turns span in
+    let next : Hart → TurnEnd = λ (y : Hart). next_of c call y ask.want reply to.ic in
+    let recs : TurnEnd → Hart → List Record → List Record = λ (n : TurnEnd) (y : Hart) (o : List Record). edge_records point run.points ++ (load_record load k y.skipped (word_before run.machine.memory (loading ask.want)) ++ (sc_record reply k ++ (next_records n k y.number to ++ o))) in
+    let all_recs : Hart → (ℕ → Hart) → List Record = λ (y : Hart) (g : ℕ → Hart). recs (next y) y (run_over_records (next y) k c.harts g) in
+    let after : TurnEnd → Hart → ℕ → Hart = λ (n : TurnEnd) (y : Hart) (bytes : ℕ). hart_after n to (skipped_after load y.skipped) bytes y in
     let f : ℕ → Hart = moved_harts run.harts k s in
     let e : f k ≡ in_state s h = moved_own run.harts k s in
-    let same : recs (f k) (run_over_records (next (f k)) k c.harts f) ≡ recs h (run_over_records (next h) k c.harts run.harts) =
-    ap (λ (y : Hart). recs y (run_over_records (next y) k c.harts f)) e ∙ ap (λ (o : List Record). recs h o) (none_over c h to.ic k c.harts f ∙ sym (none_over c h to.ic k c.harts run.harts)) in
-    let bytes = run.bytes + total (recs h (run_over_records (next h) k c.harts run.harts)) in
-    let own : hart_after (next (f k)) to (skipped_after load (f k).skipped) (run.bytes + total (recs (f k) (run_over_records (next (f k)) k c.harts f))) (f k) ≡ hart_after (next h) to (skipped_after load h.skipped) bytes h =
-    ap (λ (n : List Record). hart_after (next (f k)) to (skipped_after load (f k).skipped) (run.bytes + total n) (f k)) same
-    ∙ ap (λ (y : Hart). hart_after (next y) to (skipped_after load y.skipped) bytes y) e
+    let en : next (in_state s h) ≡ next h = next_same c call ask.want reply h s to.ic in
+    let same : all_recs (f k) f ≡ all_recs h run.harts =
+    ap (λ (y : Hart). all_recs y f) e ∙ ap (λ (o : List Record). recs (next (in_state s h)) h o) (over (in_state s h) reply to.ic f) ∙ ap (λ (n : TurnEnd). recs n h []) en ∙ ap (λ (o : List Record). recs (next h) h o) (sym (over h reply to.ic run.harts)) in
+    let bytes = run.bytes + total (all_recs h run.harts) in
+    let own : after (next (f k)) (f k) (run.bytes + total (all_recs (f k) f)) ≡ after (next h) h bytes =
+    ap (λ (rs : List Record). after (next (f k)) (f k) (run.bytes + total rs)) same
+    ∙ ap (λ (y : Hart). after (next y) y bytes) e
+    ∙ ap (λ (n : TurnEnd). after n (in_state s h) bytes) en
     ∙ own_same (next h) s to (skipped_after load h.skipped) bytes h in
-    let all : AreHarts t.harts.items (harts_after (next h) k (hart_after (next h) to (skipped_after load h.skipped) bytes h) f) =
+    let are : AreHarts t.harts.items (harts_after (next h) k (after (next h) h bytes) f) =
     subst (λ (y : Hart). AreHarts t.harts.items (harts_after (next h) k y f)) own
-    (subst (λ (y : Hart). AreHarts t.harts.items (harts_after (next y) k (hart_after (next (f k)) to (skipped_after load (f k).skipped) (run.bytes + total (recs (f k) (run_over_records (next (f k)) k c.harts f))) (f k)) f)) e is.harts) in
+    (subst (λ (n : TurnEnd). AreHarts t.harts.items (harts_after n k (after (next (f k)) (f k) (run.bytes + total (all_recs (f k) f))) f)) (ap next e ∙ en) is.harts) in
     record {
-      harts = λ j below. all j below ∙ ap Some (same_after (j == k) (next h) _ (in_state s h) (run.harts j) (none_stop c h to.ic));
-      caches = subst (λ (y : Hart). AreCaches c t.caches (events_after (next y) k None (span_of None ask.want reply) run.events)) e is.caches;
+      harts = λ j below. are j below ∙ ap Some (same_after (j == k) (next h) _ (in_state s h) (run.harts j));
+      caches = subst (λ (n : TurnEnd). AreCaches c t.caches (events_after n k call span run.events)) (ap next e ∙ en) is.caches;
       shadow = is.shadow;
       log = subst (λ (rs : List Record). IsLog t.log (run.stream ++ rs)) same is.log;
       bytes = is.bytes ∙ ap (λ (rs : List Record). run.bytes + total rs) same;
     }
-
-pub served_run : (q : PlainParts) (c : RawSettings) (run : Run) (k : ℕ) (s : HartState) (a w : ℕ) (g : Bool) (rd : ℕ) → q.start.settings ≡ c
-    → IsRun q (serve_call c (moved_run run k s) k (record { state = s; want = Load a w g rd }) false None).run → IsRun q (serve_call c run k (record { state = s; want = Load a w g rd }) false None).run
-served_run q c run k s a w g rd e is = record {
-  machine = is.machine;
-  trace = subst (λ (x : RawSettings). IsTrace x q.trace (serve_call c run k (record { state = s; want = Load a w g rd }) false None).run) (sym e)
-      (served_moved c q.trace run k s a w g rd (subst (λ (x : RawSettings). IsTrace x q.trace (serve_call c (moved_run run k s) k (record { state = s; want = Load a w g rd }) false None).run) e is.trace));
-  turns = is.turns;
-}
 
 pub stands_on : (old new : PlainParts) (run : Run) → new.start ≡ old.start → new.machine ≡ old.machine → new.turns ≡ old.turns → IsMachine old.start.input.items old.machine run.machine → IsTrace old.start.settings new.trace run → old.turns ≡ run.turns → IsRun new run
 stands_on old new run es em et machine trace turns = record {
@@ -283,55 +246,31 @@ stands_on old new run es em et machine trace turns = record {
   turns = et ∙ turns;
 }
 
-pub unguarded_moved : (c : RawSettings) (run : Run) (k : ℕ) (s : HartState) (a w : ℕ) (g : Bool) (rd : ℕ) → ((c.format == 2) && nat_lt c.log_size (2 * bytes_since (moved_run run k s) k)) ≡ false → is_guarded c run k (Load a w g rd) ≡ false
-unguarded_moved c run k s a w g rd e =
-    subst (λ (y : Hart). ((c.format == 2) && nat_lt c.log_size (2 * (146 + (run.bytes - y.headed)))) ≡ false) (moved_own run.harts k s) e
-
--- ---- the same of a store
-
-pub stored_moved : (c : RawSettings) (t : Trace) (run : Run) (k : ℕ) (s : HartState) (a w v : ℕ)
-    → IsTrace c t (serve_call c (moved_run run k s) k (record { state = s; want = Store a w v }) false None).run → IsTrace c t (serve_call c run k (record { state = s; want = Store a w v }) false None).run
-stored_moved c t run k s a w v is =
-    let h : Hart = run.harts k in
-    let ask : Ask = record { state = s; want = Store a w v } in
-    let reply : Reply = (answer c None run.machine k ask).reply in
-    let to : HartState = absorbed ask reply in
-    let load = warmth c (loading ask.want) (run.events k) in
-    let point = point_of k s.ic run.turns (span_of None ask.want reply) in
-    let next : Hart → TurnEnd = λ (y : Hart). counted c y to.ic in
-    let recs : Hart → List Record → List Record = λ (y : Hart) (o : List Record). edge_records point run.points ++ (load_record load k y.skipped (word_before run.machine.memory (loading ask.want)) ++ (sc_record reply k ++ (next_records (next y) k y.number to ++ o))) in
-    let f : ℕ → Hart = moved_harts run.harts k s in
-    let e : f k ≡ in_state s h = moved_own run.harts k s in
-    let same : recs (f k) (run_over_records (next (f k)) k c.harts f) ≡ recs h (run_over_records (next h) k c.harts run.harts) =
-    ap (λ (y : Hart). recs y (run_over_records (next y) k c.harts f)) e ∙ ap (λ (o : List Record). recs h o) (none_over c h to.ic k c.harts f ∙ sym (none_over c h to.ic k c.harts run.harts)) in
-    let bytes = run.bytes + total (recs h (run_over_records (next h) k c.harts run.harts)) in
-    let own : hart_after (next (f k)) to (skipped_after load (f k).skipped) (run.bytes + total (recs (f k) (run_over_records (next (f k)) k c.harts f))) (f k) ≡ hart_after (next h) to (skipped_after load h.skipped) bytes h =
-    ap (λ (n : List Record). hart_after (next (f k)) to (skipped_after load (f k).skipped) (run.bytes + total n) (f k)) same
-    ∙ ap (λ (y : Hart). hart_after (next y) to (skipped_after load y.skipped) bytes y) e
-    ∙ own_same (next h) s to (skipped_after load h.skipped) bytes h in
-    let all : AreHarts t.harts.items (harts_after (next h) k (hart_after (next h) to (skipped_after load h.skipped) bytes h) f) =
-    subst (λ (y : Hart). AreHarts t.harts.items (harts_after (next h) k y f)) own
-    (subst (λ (y : Hart). AreHarts t.harts.items (harts_after (next y) k (hart_after (next (f k)) to (skipped_after load (f k).skipped) (run.bytes + total (recs (f k) (run_over_records (next (f k)) k c.harts f))) (f k)) f)) e is.harts) in
-    record {
-      harts = λ j below. all j below ∙ ap Some (same_after (j == k) (next h) _ (in_state s h) (run.harts j) (none_stop c h to.ic));
-      caches = subst (λ (y : Hart). AreCaches c t.caches (events_after (next y) k None (span_of None ask.want reply) run.events)) e is.caches;
-      shadow = is.shadow;
-      log = subst (λ (rs : List Record). IsLog t.log (run.stream ++ rs)) same is.log;
-      bytes = is.bytes ∙ ap (λ (rs : List Record). run.bytes + total rs) same;
-    }
-
-pub stored_run : (q : PlainParts) (c : RawSettings) (run : Run) (k : ℕ) (s : HartState) (a w v : ℕ) → q.start.settings ≡ c
-    → IsRun q (serve_call c (moved_run run k s) k (record { state = s; want = Store a w v }) false None).run → IsRun q (serve_call c run k (record { state = s; want = Store a w v }) false None).run
-stored_run q c run k s a w v e is = record {
-  machine = is.machine;
-  trace = subst (λ (x : RawSettings). IsTrace x q.trace (serve_call c run k (record { state = s; want = Store a w v }) false None).run) (sym e)
-      (stored_moved c q.trace run k s a w v (subst (λ (x : RawSettings). IsTrace x q.trace (serve_call c (moved_run run k s) k (record { state = s; want = Store a w v }) false None).run) e is.trace));
-  turns = is.turns;
-}
-
-pub unguarded_stored : (c : RawSettings) (run : Run) (k : ℕ) (s : HartState) (a w v : ℕ) → ((c.format == 2) && nat_lt c.log_size (2 * bytes_since (moved_run run k s) k)) ≡ false → is_guarded c run k (Store a w v) ≡ false
-unguarded_stored c run k s a w v e =
-    subst (λ (y : Hart). ((c.format == 2) && nat_lt c.log_size (2 * (146 + (run.bytes - y.headed)))) ≡ false) (moved_own run.harts k s) e
+-- the turn that was taken where hart k was moved on is that of the run
+pub taken_there : (p new : PlainParts) (k : ℕ) (on : Trace) (s : HartState) (want : Want) → ((y : Hart) (reply : Reply) (ic : ℕ) (g : ℕ → Hart) → run_over_records (next_of p.start.settings None y want reply ic) k p.start.settings.harts g ≡ [])
+    → k < length p.trace.harts.items → IsMoved k s p.trace on → IsNoCall want
+    → ◌≡◌ {A = Ask} (record { state = s; want = want }) (ask_at p.start.settings p.start.image (hart_in p.trace.harts.items k)) → IsTrue (is_orderly p.start.settings p.start.image (hart_in p.trace.harts.items k) (record { state = s; want = want }))
+    → IsTaken (record p { trace = on }) new k want → (run : Run) → IsRun p run → IsRun new (turn p.start.settings p.start.image run k)
+taken_there p new k on s want over within moved no_call ea own taken run is =
+    let c = p.start.settings in let h : Hart = hart_in p.trace.harts.items k in
+    let asked : Ask = record { state = s; want = want } in
+    let there : h ≡ run.harts k = hart_of_run p.trace.harts.items k run.harts is.trace.harts within in
+    let is_on : IsRun (record p { trace = on }) (moved_run run k s) = record { machine = is.machine; trace = moved_is c p.trace on run k s within moved is.trace; turns = is.turns } in
+    let unguarded : is_guarded c run k want ≡ false =
+    subst (λ (y : Hart). ((c.format == 2) && (not (is_cut want) && nat_lt c.log_size (2 * (header_size + (run.bytes - y.headed))))) ≡ false) (moved_own run.harts k s) (taken.unguarded (moved_run run k s) is_on) in
+    let by_ask : IsRun new (serve_call c (moved_run run k s) k asked false None).run =
+    subst (λ (y : Hart). IsRun new (serve_call c (moved_run run k s) k (ask_here y want) false None).run) (own_moved p.trace on k s moved within) (taken.run (moved_run run k s) is_on) in
+    let es : new.start.settings ≡ c = ap (λ (x : Start). x.settings) taken.start in
+    let served : IsRun new (serve_call c run k asked false None).run = record {
+      machine = by_ask.machine;
+      trace = subst (λ (x : RawSettings). IsTrace x new.trace (serve_call c run k asked false None).run) (sym es)
+          (served_moved c new.trace run k s asked None over (subst (λ (x : RawSettings). IsTrace x new.trace (serve_call c (moved_run run k s) k asked false None).run) es by_ask.trace));
+      turns = by_ask.turns;
+    } in
+    let at : asked ≡ ask_at c p.start.image (run.harts k) = ea ∙ ap (λ (y : Hart). ask_at c p.start.image y) there in
+    let ordered = subst (λ (y : Hart). IsTrue (is_orderly c p.start.image y asked)) there own in
+    subst (λ (x : Run). IsRun new x) (turn_is c p.start.image run k asked None at (sym (no_call.call p.start.image run.machine)) ordered)
+    (subst (λ (b : Bool). IsRun new (serve_call c run k asked b None).run) (sym unguarded) served)
 
 -- ---- a load or a store that a hart has moved on to
 
@@ -363,50 +302,22 @@ at_ask p k code on got want each fits alive ec asked m e cut =
       moved = moved;
       is_want = is_want;
       own = own;
-      fits = moved_fit settings p.start.image p.trace on p.turns k ask.state want fits within live.1 cut own moved;
+      fits = onward_fit settings p.trace on p.turns k ask.state fits within live.1 (counted_by settings p.start.image h ask.state want cut own).0 moved;
       asks = record {
         hart = within;
         live = ap (λ (y : Hart). y.live) at ∙ live.1;
-        orderly = subst (λ (y : Hart). IsTrue (is_orderly settings p.start.image y (ask_here y want))) (sym at) (moved_on settings p.start.image h ask.state want fit live.1 cut own).orderly;
+        orderly = subst (λ (y : Hart). IsTrue (is_orderly settings p.start.image y (ask_here y want))) (sym at) (orderly_there settings p.start.image h ask.state want fit live.1 cut own);
       };
     }
 
 -- its turn is taken in its own place
-pub load_taken : (p new : PlainParts) (k : ℕ) (on : Trace) (a w : ℕ) (g : Bool) (rd : ℕ) → IsAtAsk p k on (Load a w g rd) → IsTaken (record p { trace = on }) new k (Load a w g rd)
-    → (run : Run) → IsRun p run → IsRun new (turn p.start.settings p.start.image run k)
-load_taken p new k on a w g rd here taken run is =
-    let settings = p.start.settings in let h : Hart = hart_in p.trace.harts.items k in
-    let want : Want = Load a w g rd in
-    let s : HartState = (ask_at settings p.start.image h).state in
-    let there : h ≡ run.harts k = hart_of_run p.trace.harts.items k run.harts is.trace.harts here.within in
-    let is_on : IsRun (record p { trace = on }) (moved_run run k s) = record { machine = is.machine; trace = moved_is settings p.trace on run k s here.within here.moved is.trace; turns = is.turns } in
-    let unguarded = unguarded_moved settings run k s a w g rd (taken.unguarded (moved_run run k s) is_on) in
-    let by_ask : IsRun new (serve_call settings (moved_run run k s) k (record { state = s; want = want }) false None).run =
-    subst (λ (y : Hart). IsRun new (serve_call settings (moved_run run k s) k (ask_here y want) false None).run) (own_moved p.trace on k s here.moved here.within) (taken.run (moved_run run k s) is_on) in
-    let served = served_run new settings run k s a w g rd (ap (λ (x : Start). x.settings) taken.start) by_ask in
-    let asked : Ask = record { state = s; want = want } in
-    let ea : asked ≡ ask_at settings p.start.image (run.harts k) = ap (λ (v : Want). record { state = s; want = v }) (sym here.is_want) ∙ ap (λ (y : Hart). ask_at settings p.start.image y) there in
-    let ordered = subst (λ (y : Hart). IsTrue (is_orderly settings p.start.image y asked)) there here.own in
-    subst (λ (x : Run). IsRun new x) (turn_is settings p.start.image run k asked None ea refl ordered)
-    (subst (λ (b : Bool). IsRun new (serve_call settings run k asked b None).run) (sym unguarded) served)
-
-pub store_taken : (p new : PlainParts) (k : ℕ) (on : Trace) (a w v : ℕ) → IsAtAsk p k on (Store a w v) → IsTaken (record p { trace = on }) new k (Store a w v)
-    → (run : Run) → IsRun p run → IsRun new (turn p.start.settings p.start.image run k)
-store_taken p new k on a w v here taken run is =
-    let settings = p.start.settings in let h : Hart = hart_in p.trace.harts.items k in
-    let want : Want = Store a w v in
-    let s : HartState = (ask_at settings p.start.image h).state in
-    let there : h ≡ run.harts k = hart_of_run p.trace.harts.items k run.harts is.trace.harts here.within in
-    let is_on : IsRun (record p { trace = on }) (moved_run run k s) = record { machine = is.machine; trace = moved_is settings p.trace on run k s here.within here.moved is.trace; turns = is.turns } in
-    let unguarded = unguarded_stored settings run k s a w v (taken.unguarded (moved_run run k s) is_on) in
-    let by_ask : IsRun new (serve_call settings (moved_run run k s) k (record { state = s; want = want }) false None).run =
-    subst (λ (y : Hart). IsRun new (serve_call settings (moved_run run k s) k (ask_here y want) false None).run) (own_moved p.trace on k s here.moved here.within) (taken.run (moved_run run k s) is_on) in
-    let served = stored_run new settings run k s a w v (ap (λ (x : Start). x.settings) taken.start) by_ask in
-    let asked : Ask = record { state = s; want = want } in
-    let ea : asked ≡ ask_at settings p.start.image (run.harts k) = ap (λ (x : Want). record { state = s; want = x }) (sym here.is_want) ∙ ap (λ (y : Hart). ask_at settings p.start.image y) there in
-    let ordered = subst (λ (y : Hart). IsTrue (is_orderly settings p.start.image y asked)) there here.own in
-    subst (λ (x : Run). IsRun new x) (turn_is settings p.start.image run k asked None ea refl ordered)
-    (subst (λ (b : Bool). IsRun new (serve_call settings run k asked b None).run) (sym unguarded) served)
+pub access_taken : (p new : PlainParts) (k : ℕ) (on : Trace) (want : Want) → ((y : Hart) (reply : Reply) (ic : ℕ) → next_of p.start.settings None y want reply ic ≡ counted p.start.settings y ic) → IsNoCall want → IsAtAsk p k on want
+    → IsTaken (record p { trace = on }) new k want → (run : Run) → IsRun p run → IsRun new (turn p.start.settings p.start.image run k)
+access_taken p new k on want counts no_call here taken =
+    let c = p.start.settings in
+    let s : HartState = (ask_at c p.start.image (hart_in p.trace.harts.items k)).state in
+    taken_there p new k on s want (λ y reply ic g. subst (λ (n : TurnEnd). run_over_records n k c.harts g ≡ []) (sym (counts y reply ic)) (none_over c y ic k c.harts g)) here.within here.moved no_call
+    (ap (λ (v : Want). record { state = s; want = v }) (sym here.is_want)) here.own taken
 
 -- it isn't taken
 pub swept_aside : (p q : PlainParts) (on : Trace) (want got : Want) → IsOnlySwept (record p { trace = on }) q → got ≡ want → IsAside on p.start p.machine p.turns want q.start q.machine q.trace q.turns got
@@ -415,5 +326,23 @@ swept_aside p q on want got swept e = record {
   machine_is = swept.machine;
   turns_is = swept.turns;
   want_is = e;
-  like = record { harts = ap (λ (v : Vec Hart Global). v.items) swept.harts; caches = swept.caches; shadow = swept.shadow; log = swept.log };
+  like = swept_like swept;
 }
+
+-- ---- the race log gave up accesses before the turn
+
+-- hart k asks the same after a sweep
+pub asks_swept : (p q : PlainParts) (k : ℕ) (want : Want) → IsOnlySwept p q → AsksHere p k want → AsksHere q k want
+asks_swept p q k want swept asks = record {
+  hart = subst (λ (x : Start). k < x.settings.harts) (sym swept.start) asks.hart;
+  live = ap (λ (v : Vec Hart Global). (hart_in v.items k).live) swept.harts ∙ asks.live;
+  orderly = subst (λ (x : Start). IsTrue (is_orderly x.settings x.image (hart_in q.trace.harts.items k) (ask_here (hart_in q.trace.harts.items k) want))) (sym swept.start)
+      (subst (λ (v : Vec Hart Global). IsTrue (is_orderly p.start.settings p.start.image (hart_in v.items k) (ask_here (hart_in v.items k) want))) (sym swept.harts) asks.orderly);
+}
+
+-- a turn that follows a sweep is that of the run before it
+pub turned_swept : (p q new : PlainParts) (k : ℕ) (want : Want) → IsOnlySwept p q → IsTurnedHere q new k want → IsTurnedHere p new k want
+turned_swept p q new k want swept turned run is =
+    let ready = stands_on p q run swept.start swept.machine swept.turns is.machine (like_trace p.start.settings p.trace q.trace run is.trace (swept_like swept)) is.turns in
+    subst (λ (v : Vec Hart Global). IsRun new (serve_call p.start.settings run k (ask_here (hart_in v.items k) want) false None).run) swept.harts
+    (subst (λ (x : Start). IsRun new (serve_call x.settings run k (ask_here (hart_in q.trace.harts.items k) want) false None).run) swept.start (turned run ready))

@@ -27,3 +27,4 @@ pub mod LiveSets
 pub mod Dropping
 pub mod InPlace
 pub mod LoneTurns
+pub mod PlainTurns

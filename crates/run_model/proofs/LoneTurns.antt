@@ -1,12 +1,10 @@
 -- Turns of a hart that is alone, in its own place.
-use Rattle.run_model.proofs.Common.{◌≡◌, ◌≢◌, ℕ, zero, suc, ◌+◌, ◌-◌, ◌*◌, ◌/◌, ◌<◌, ◌≤◌, ◌^◌, ◌==◌, ◌++◌, Bool, true, false, List, [], ◌∷◌, length, sym, ◌∙◌, ap, subst, arith, refl, inl, inr, length-set, min, IsTrue, slice_set, Option, Some, None, slice_get, nat_le, nat_lt, ◌&&◌, if◌then◌else◌, append-nil, Program, RawSettings, HartState, Contents, Warm, Record, Shadow, Hart, Log, TurnEnd, GoesOn, NewInterval, HartOver, RunOver, Walking, LeadsTo, AsksThere, absorbed, ask_of, count_up, orderly, add, Ask, Plan, total, lasts, next_turn, next_count, harts_of, eqb_tells, Want, Reply, Trace, Run, turn, serve, served_if, ask_at, budget, counted, is_orderly, is_guarded, serve_call, guarded_run, by_guard, span_of, point_of, edge_records, load_record, sc_record, next_records, run_over_records, warmth, loading, word_before, bytes_since, header_size, hart_after, harts_after, other_after, skipped_after, events_after, next_of, EndsTurn, IsTaken, steps_in, AreCaches, hart_in, is_live_hart, no_hart, get_or-set_same, IsNoCall, IsOneOn, IsOnWay, IsMovedAlone, CanTakeAlone, IsTakenAlone, IsTurnedAlone, IsUnguarded, CanTurn, HasTurned, HaveTurned, HaveStopped, run_alone, is_live, in_state, ask_here, moved_harts, moved_run, IsMoved, IsLog, taken, IsMachine, IsSwept, is_walk_due, IsTraceFit, IsHartFit, IsTrace, IsRun, PlainParts, Start, IsRested, turns_left, answer, call_of}
+use Rattle.run_model.proofs.Common.{◌≡◌, ◌≢◌, ℕ, zero, suc, ◌+◌, ◌-◌, ◌*◌, ◌/◌, ◌<◌, ◌≤◌, ◌^◌, ◌==◌, ◌++◌, Bool, true, false, List, [], ◌∷◌, length, sym, ◌∙◌, ap, subst, arith, refl, inl, inr, min, IsTrue, slice_set, Option, Some, None, slice_get, nat_le, nat_lt, ◌&&◌, if◌then◌else◌, append-nil, Program, RawSettings, HartState, Contents, Warm, Record, Shadow, Hart, Log, TurnEnd, GoesOn, NewInterval, HartOver, RunOver, Walking, LeadsTo, AsksThere, absorbed, ask_of, count_up, orderly, add, Ask, Plan, total, eqb_tells, Want, Reply, Trace, Run, turn, serve, served_if, ask_at, budget, counted, is_orderly, is_guarded, serve_call, guarded_run, by_guard, span_of, point_of, edge_records, load_record, sc_record, next_records, run_over_records, warmth, loading, word_before, bytes_since, header_size, hart_after, harts_after, other_after, skipped_after, next_of, EndsTurn, steps_in, hart_in, is_live_hart, no_hart, get_or-set_same, IsOneOn, IsOnWay, IsMovedAlone, CanTakeAlone, IsTakenAlone, IsTurnedAlone, IsUnguarded, CanTurn, HasTurned, HaveTurned, HaveStopped, run_alone, is_live, in_state, ask_here, moved_harts, moved_run, IsMoved, IsLog, taken, IsMachine, IsSwept, is_walk_due, IsTraceFit, IsTrace, IsRun, PlainParts, Start, IsRested, answer, call_of}
 use Rattle.first_load_bits.specs.declared.warm.Warm.TheVariants as answers
-use Rattle.run_model.proofs.Asked.{all_less, other_stays}
-use Rattle.run_model.proofs.Fits.{guarded_below, left_live}
-use Rattle.run_model.proofs.InPlace.{within_interval, own_moved, other_moved, moved_is, moved_on, own_same, stands_on}
+use Rattle.run_model.proofs.InPlace.{moved_is, onward_fit, orderly_there, own_moved, served_moved, stands_on, taken_there}
 use Rattle.run_model.proofs.MoveOn.{InBudget, one_up, budget_limit, budget_interval}
 use Rattle.run_model.proofs.OneTurn.{turn_is, asked_orderly, live_within, live_in_run}
-use Rattle.run_model.proofs.Owns.{next_same, hart_of_run}
+use Rattle.run_model.proofs.Owns.{hart_of_run}
 
 -- ---- the records of an access
 
@@ -73,76 +71,10 @@ goes_on c h ic below inside =
 pub is_within : (c : RawSettings) (h : Hart) (s : HartState) (first left end : ℕ) → h.begun ≤ h.state.ic → end ≡ h.state.ic + first → end ≡ s.ic + left → left ≤ first → budget c h ≡ first + 1 → InBudget c h s.ic
 is_within c h s first left end begun e f less whole = record { from = omega (arith, e, f, less); below = omega (arith, e, f, less, whole) }
 
-pub record IsOnward (c : RawSettings) (h : Hart) (s : HartState) : Type 0 where
-  pub from : h.state.ic ≤ s.ic
-  pub rested : IsRested c (in_state s h)
-  pub left : turns_left c (in_state s h) ≤ turns_left c h
-
-onward : (c : RawSettings) (h : Hart) (s : HartState) → IsRested c h → h.live ≡ true → InBudget c h s.ic → IsOnward c h s
-onward c h s rested live by =
-    let fit = rested.fit in
-    let below = guarded_below c h s.ic fit by in
-    let inside = within_interval c h s.ic (omega (arith, fit.skipped)) fit.interval by.below in
-    record {
-      from = by.from;
-      rested = record {
-        fit = record {
-          number = omega (arith, rested.number live, by.from);
-          skipped = omega (arith, fit.skipped, by.from);
-          interval = omega (arith, inside);
-          limit = omega (arith, below);
-          unfilled = λ p. inside;
-        };
-        number = λ p. omega (arith, rested.number live, by.from);
-      };
-      left = omega (arith, left_live c h live, left_live c (in_state s h) live, by.from);
-    }
-
-own_onward : (c : RawSettings) (old new : Trace) (s : HartState) → IsMoved 0 s old new → hart_in new.harts.items 0 ≡ in_state s (hart_in old.harts.items 0) → (hart_in old.harts.items 0).live ≡ true
-    → IsHartFit c old 0 → IsOnward c (hart_in old.harts.items 0) s → IsHartFit c new 0
-own_onward c old new s m at live one on =
-    let ic : (hart_in new.harts.items 0).state.ic ≡ s.ic = ap (λ (h : Hart). h.state.ic) at in
-    let number : (hart_in new.harts.items 0).number ≡ (hart_in old.harts.items 0).number = ap (λ (h : Hart). h.number) at in
-    record {
-      fit = subst (λ (h : Hart). IsRested c h) (sym at) on.rested;
-      steps = omega (arith, one.steps, ap (λ (cs : List Contents). steps_in cs 0) m.caches, ic, number, on.from);
-      count = omega (arith, one.count, ap (λ (x : Shadow). next_count x 0) m.shadow, ic, on.from);
-      lasting = λ e. subst (λ (x : Shadow). lasts x 0 ≡ true) (sym m.shadow) (one.lasting live);
-    }
-
-pub onward_fit : (c : RawSettings) (old new : Trace) (turns : ℕ) (s : HartState) → IsTraceFit c old turns → 0 < c.harts → (hart_in old.harts.items 0).live ≡ true
-    → InBudget c (hart_in old.harts.items 0) s.ic → IsMoved 0 s old new → IsTraceFit c new turns
-onward_fit c old new turns s fit within live by m =
-    let h : Hart = hart_in old.harts.items 0 in
-    let f : ℕ → Hart = hart_in old.harts.items in
-    let g : ℕ → Hart = hart_in new.harts.items in
-    let one = fit.each 0 within in
-    let on = onward c h s one.fit live by in
-    let at : g 0 ≡ in_state s h = own_moved old new 0 s m (omega (arith, within, fit.harts)) in
-    let no_more : (j : ℕ) → j < c.harts → turns_left c (g j) ≤ turns_left c (f j) = λ j below. elim (eqb_tells j 0) [
-      | inl p ↦ subst (λ (n : ℕ). turns_left c (g n) ≤ turns_left c (f n)) (sym p.1) (subst (λ (x : Hart). turns_left c x ≤ turns_left c h) (sym at) on.left)
-      | inr p ↦ subst (λ (x : Hart). turns_left c x ≤ turns_left c (f j)) (sym (other_moved old new 0 j s m p.1)) (omega arith)
-    ] in
-    record {
-      settings = fit.settings;
-      few = fit.few;
-      harts = ap (λ (xs : List Hart). length xs) m.harts ∙ length-set old.harts.items 0 (in_state s h) ∙ fit.harts;
-      caches = ap (λ (cs : List Contents). length cs) m.caches ∙ fit.caches;
-      shadow = ap harts_of m.shadow ∙ fit.shadow;
-      each = λ j below. elim (eqb_tells j 0) [
-        | inl p ↦ subst (λ (n : ℕ). IsHartFit c new n) (sym p.1) (own_onward c old new s m at live one on)
-        | inr p ↦ other_stays c old new j 0 (other_moved old new 0 j s m p.1) (ap (λ (cs : List Contents). steps_in cs j) m.caches) m.shadow (fit.each j below)
-      ];
-      turn = omega (arith, fit.turn, ap next_turn m.shadow);
-      left = omega (arith, all_less c c.harts f g no_more, fit.left);
-      log = omega (arith, fit.log, ap (λ (l : Log). taken l.ring) m.log);
-      log_size = ap (λ (l : Log). l.ring.size) m.log ∙ fit.log_size;
-    }
-
 -- ---- the turn of the run in which the one hart was moved on is that of the run
 
-none_over : (next : TurnEnd) (n : ℕ) (f : ℕ → Hart) → n ≡ 1 → run_over_records next 0 n f ≡ []
-none_over next n f alone = subst (λ (m : ℕ). run_over_records next 0 m f ≡ []) (sym alone) (of_one next)
+alone_over : (next : TurnEnd) (n : ℕ) (f : ℕ → Hart) → n ≡ 1 → run_over_records next 0 n f ≡ []
+alone_over next n f alone = subst (λ (m : ℕ). run_over_records next 0 m f ≡ []) (sym alone) (of_one next)
   where
     of_one : (x : TurnEnd) → run_over_records x 0 1 f ≡ []
     of_one GoesOn = refl
@@ -152,41 +84,7 @@ none_over next n f alone = subst (λ (m : ℕ). run_over_records next 0 m f ≡ 
 
 served_trace : (c : RawSettings) (t : Trace) (run : Run) (s : HartState) (ask : Ask) (call : Option Plan) (g : Bool) → c.harts ≡ 1
     → IsTrace c t (serve_call c (moved_run run 0 s) 0 ask g call).run → IsTrace c t (serve_call c run 0 ask g call).run
-served_trace c t run s ask call false alone is =
-    let h : Hart = run.harts 0 in
-    let reply : Reply = (answer c call run.machine 0 ask).reply in
-    let to : HartState = absorbed ask reply in
-    let load = warmth c (loading ask.want) (run.events 0) in
-    let span = span_of call ask.want reply in
-    let point = point_of 0 ask.state.ic run.turns span in
-    let sk : ℕ = skipped_after load h.skipped in
-    let f : ℕ → Hart = moved_harts run.harts 0 s in
-    let n : TurnEnd = next_of c call (in_state s h) ask.want reply to.ic in
-    let m : TurnEnd = next_of c call h ask.want reply to.ic in
-    let en : n ≡ m = next_same c call ask.want reply h s to.ic in
-    let recs : TurnEnd → List Record → List Record = λ (x : TurnEnd) (o : List Record). edge_records point run.points ++ (load_record load 0 h.skipped (word_before run.machine.memory (loading ask.want)) ++ (sc_record reply 0 ++ (next_records x 0 h.number to ++ o))) in
-    let over : run_over_records n 0 c.harts f ≡ run_over_records m 0 c.harts run.harts = none_over n c.harts f alone ∙ sym (none_over m c.harts run.harts alone) in
-    let same : recs n (run_over_records n 0 c.harts f) ≡ recs m (run_over_records m 0 c.harts run.harts) =
-    ap (λ (o : List Record). recs n o) over ∙ ap (λ (x : TurnEnd). recs x (run_over_records m 0 c.harts run.harts)) en in
-    let own : hart_after n to sk (run.bytes + total (recs n (run_over_records n 0 c.harts f))) (in_state s h) ≡ hart_after m to sk (run.bytes + total (recs m (run_over_records m 0 c.harts run.harts))) h =
-    ap (λ (rs : List Record). hart_after n to sk (run.bytes + total rs) (in_state s h)) same
-    ∙ ap (λ (x : TurnEnd). hart_after x to sk (run.bytes + total (recs m (run_over_records m 0 c.harts run.harts))) (in_state s h)) en
-    ∙ own_same m s to sk (run.bytes + total (recs m (run_over_records m 0 c.harts run.harts))) h in
-    record {
-      harts = λ j below. is.harts j below ∙ ap Some (each j n m _ _ en own run.harts s);
-      caches = subst (λ (x : TurnEnd). AreCaches c t.caches (events_after x 0 call span run.events)) en is.caches;
-      shadow = is.shadow;
-      log = subst (λ (rs : List Record). IsLog t.log (run.stream ++ rs)) same is.log;
-      bytes = is.bytes ∙ ap (λ (rs : List Record). run.bytes + total rs) same;
-    }
-  where
-    each : (j : ℕ) (n m : TurnEnd) (a b : Hart) → n ≡ m → a ≡ b → (f : ℕ → Hart) (s : HartState) → harts_after n 0 a (moved_harts f 0 s) j ≡ harts_after m 0 b f j
-    each j n m a b en own f s = by (j == 0) n m a b (in_state s (f 0)) (f j) en own
-      where
-        by : (t : Bool) (n m : TurnEnd) (a b x y : Hart) → n ≡ m → a ≡ b
-            → elim t as (λ z. Hart) [ true ↦ a | false ↦ other_after n (elim t as (λ z. Hart) [ true ↦ x | false ↦ y ]) ] ≡ elim t as (λ z. Hart) [ true ↦ b | false ↦ other_after m y ]
-        by true n m a b x y en own = own
-        by false n m a b x y en own = ap (λ (z : TurnEnd). other_after z y) en
+served_trace c t run s ask call false alone is = served_moved c t run 0 s ask call (λ y reply ic g. alone_over (next_of c call y ask.want reply ic) c.harts g alone) is
 served_trace c t run s ask call true alone is =
     let r : Run = guarded_run true run 0 ask.state in
     let h : Hart = r.harts 0 in
@@ -199,7 +97,7 @@ served_trace c t run s ask call true alone is =
     let f : ℕ → Hart = (guarded_run true (moved_run run 0 s) 0 ask.state).harts in
     let m : TurnEnd = next_of c call h ask.want reply to.ic in
     let recs : List Record → List Record = λ (o : List Record). edge_records point run.points ++ (load_record load 0 h.skipped (word_before run.machine.memory (loading ask.want)) ++ (sc_record reply 0 ++ (next_records m 0 h.number to ++ o))) in
-    let over : run_over_records m 0 c.harts f ≡ run_over_records m 0 c.harts r.harts = none_over m c.harts f alone ∙ sym (none_over m c.harts r.harts alone) in
+    let over : run_over_records m 0 c.harts f ≡ run_over_records m 0 c.harts r.harts = alone_over m c.harts f alone ∙ sym (alone_over m c.harts r.harts alone) in
     let same : recs (run_over_records m 0 c.harts f) ≡ recs (run_over_records m 0 c.harts r.harts) = ap recs over in
     let own : hart_after m to sk (r.bytes + total (recs (run_over_records m 0 c.harts f))) h ≡ hart_after m to sk (r.bytes + total (recs (run_over_records m 0 c.harts r.harts))) h =
     ap (λ (rs : List Record). hart_after m to sk (r.bytes + total rs) h) same in
@@ -245,24 +143,6 @@ turn_alone q c i run s e alone asks there here is =
     let call = call_of i run.machine ask.want in
     let moved = subst (λ (x : Run). IsRun q x) (sym (turn_is c i (moved_run run 0 s) 0 ask call (sym asks) refl there)) is in
     subst (λ (x : Run). IsRun q x) (turn_is c i run 0 ask call refl refl here) (served_alone q c run s ask call (is_guarded c run 0 ask.want) e alone moved)
-
--- the turn that was taken where the hart was moved on is that of the run
-pub taken_alone : (p new : PlainParts) (on : Trace) (s : HartState) (want : Want) → 0 < length p.trace.harts.items → p.start.settings.harts ≡ 1 → IsMoved 0 s p.trace on → IsNoCall want
-    → ◌≡◌ {A = Ask} (record { state = s; want = want }) (ask_at p.start.settings p.start.image (hart_in p.trace.harts.items 0)) → IsTrue (is_orderly p.start.settings p.start.image (hart_in p.trace.harts.items 0) (record { state = s; want = want }))
-    → IsTaken (record p { trace = on }) new 0 want → (run : Run) → IsRun p run → IsRun new (turn p.start.settings p.start.image run 0)
-taken_alone p new on s want within alone moved no_call ea own taken run is =
-    let settings = p.start.settings in let h : Hart = hart_in p.trace.harts.items 0 in
-    let asked : Ask = record { state = s; want = want } in
-    let there : h ≡ run.harts 0 = hart_of_run p.trace.harts.items 0 run.harts is.trace.harts within in
-    let is_on : IsRun (record p { trace = on }) (moved_run run 0 s) = record { machine = is.machine; trace = moved_is settings p.trace on run 0 s within moved is.trace; turns = is.turns } in
-    let unguarded : is_guarded settings run 0 want ≡ false = taken.unguarded (moved_run run 0 s) is_on in
-    let by_ask : IsRun new (serve_call settings (moved_run run 0 s) 0 asked false None).run =
-    subst (λ (y : Hart). IsRun new (serve_call settings (moved_run run 0 s) 0 (ask_here y want) false None).run) (own_moved p.trace on 0 s moved within) (taken.run (moved_run run 0 s) is_on) in
-    let served = served_alone new settings run s asked None false (ap (λ (x : Start). x.settings) taken.start) alone by_ask in
-    let at : asked ≡ ask_at settings p.start.image (run.harts 0) = ea ∙ ap (λ (y : Hart). ask_at settings p.start.image y) there in
-    let ordered = subst (λ (y : Hart). IsTrue (is_orderly settings p.start.image y asked)) there own in
-    subst (λ (x : Run). IsRun new x) (turn_is settings p.start.image run 0 asked None at (sym (no_call.call p.start.image run.machine)) ordered)
-    (subst (λ (b : Bool). IsRun new (serve_call settings run 0 asked b None).run) (sym unguarded) served)
 
 -- a hart that did an instruction
 pub one_on : (h g : Hart) (next : TurnEnd) (s : HartState) (sk bytes : ℕ) → next ≡ GoesOn → g ≡ hart_after next s sk bytes h → s.pc ≡ add h.state.pc 4 → s.ic ≡ h.state.ic + 1 → IsOneOn h g
@@ -367,7 +247,7 @@ stands_there p on first w end g =
 pub gone_fits : (p : PlainParts) (on : Trace) (first w : Walking) (end : ℕ) → HasGoneOn p on first w end → IsTraceFit p.start.settings on p.turns
 gone_fits p on first w end g =
     let t = stands_there p on first w end g in
-    onward_fit p.start.settings p.trace on p.turns (hart_in on.harts.items 0).state g.fits t.some t.live t.by g.moved
+    onward_fit p.start.settings p.trace on p.turns 0 (hart_in on.harts.items 0).state g.fits t.some t.live t.by g.moved
 
 pub gone_moved : (p : PlainParts) (on : Trace) (first w : Walking) (end : ℕ) → HasGoneOn p on first w end → IsMovedAlone p (record p { trace = on })
 gone_moved p on first w end g =
@@ -419,7 +299,7 @@ can_take each p on first w end g left unguarded =
         hart = t.some;
         live = ap (λ (y : Hart). y.live) t.at ∙ t.live;
         orderly = subst (λ (y : Hart). IsTrue (is_orderly c p.start.image y (ask_here y want))) (sym t.at)
-            (moved_on c p.start.image h k.state want t.rested t.live cut (own_orderly each p on first w end want g asks)).orderly;
+            (orderly_there c p.start.image h k.state want t.rested t.live cut (own_orderly each p on first w end want g asks));
       };
     }
 
@@ -432,7 +312,8 @@ turned_alone each p new on first w end g k within =
       turns = k.turns;
       live = first_live new.trace.harts.items within (k.on.live ∙ ap (λ (y : Hart). y.live) t.at ∙ t.live);
       headed = k.on.headed ∙ ap (λ (y : Hart). y.headed) t.at;
-      run = taken_alone p new on (hart_in on.harts.items 0).state k.want t.within g.alone g.moved k.no_call (asked_there p on first w end k.want g k.there) (own_orderly each p on first w end k.want g k.there) k.taken;
+      run = taken_there p new 0 on (hart_in on.harts.items 0).state k.want (λ y reply ic g'. alone_over (next_of p.start.settings None y k.want reply ic) p.start.settings.harts g' g.alone) t.within g.moved k.no_call
+          (asked_there p on first w end k.want g k.there) (own_orderly each p on first w end k.want g k.there) k.taken;
     }
 
 pub still_on_way : (p new : PlainParts) (on : Trace) (first w : Walking) (end : ℕ) → HasGoneOn p on first w end → 0 < w.left → IsOneOn (hart_in on.harts.items 0) (hart_in new.trace.harts.items 0) → new.start ≡ p.start

@@ -1,5 +1,6 @@
 -- Lists of harts that are set one by one.
-use Rattle.run_model.proofs.Common.{◌≡◌, ℕ, zero, suc, ◌+◌, ◌<◌, ◌≤◌, Bool, true, false, not, ◌&&◌, ◌==◌, List, [], ◌∷◌, ◌++◌, length, Some, refl, sym, ◌∙◌, ap, subst, arith, inl, inr, length-set, slice_get, slice_set, get_or, ◌≢◌, if◌then◌else◌, eqb_tells, get_or-set_same, get_or-set_other, append_assoc, append-nil, slice_get-get_or, get_or_from_slice_get, Record, End, HartState, Shadow, Hart, Trace, TurnEnd, GoesOn, NewInterval, HartOver, RunOver, other_after, harts_after, stopped_records, run_over_records, next_records, mark, AreHarts, others_after, stopped_at, stopped_below, stop_record, stop_records, taken, steps_in, IsSwept, GivesUpKnown, is_walk_due, clears, EndsTurn}
+use Rattle.run_model.proofs.Common.{◌≡◌, ℕ, zero, suc, ◌+◌, ◌<◌, ◌≤◌, Bool, true, false, not, ◌&&◌, ◌==◌, List, [], ◌∷◌, ◌++◌, length, Some, refl, sym, ◌∙◌, ap, subst, arith, inl, inr, length-set, slice_get, slice_set, get_or, ◌≢◌, if◌then◌else◌, eqb_tells, get_or-set_same, get_or-set_other, append_assoc, append-nil, slice_get-get_or, get_or_from_slice_get, Record, End, HartState, Shadow, Hart, Trace, TurnEnd, GoesOn, NewInterval, HartOver, RunOver, other_after, harts_after, stopped_records, run_over_records, next_records, mark, AreHarts, others_after, stopped_at, stopped_below, stop_record, stop_records, taken, steps_in, IsSwept, GivesUpKnown, is_walk_due, clears, EndsTurn, RawSettings, Plan, Ask, Reply, Warm, Log, absorbed, next_of, hart_after, skipped_after, IsLog, hart_in, Option, harts_by, with_ends}
+use Rattle.run_model.proofs.Owns.{own_after}
 use Rattle.run_model.specs.Represents.Plain.{is_end}
 
 -- hart k of a list in which one was set
@@ -142,6 +143,34 @@ ends_are n m own x h t s hs kept f rs en ex el =
     ∙ ap (λ (l : ℕ). (rs ++ next_records n own x.number s) ++ run_over_records n own l f) el
     ∙ ap (λ (y : Hart). (rs ++ next_records n own y.number s) ++ run_over_records n own (length hs) f) ex
     ∙ ap (λ (j : TurnEnd). (rs ++ next_records j own h.number s) ++ run_over_records j own (length hs) f) en
+
+-- hart k, which was this one, took in the reply and what comes next, and the log its End and its next Header
+pub record IsTurnTaken (c : RawSettings) (call : Option Plan) (h : Hart) (k : ℕ) (ask : Ask) (reply : Reply) (load : Option Warm) (n : TurnEnd) (own : Hart) (old new : Log) : Type 0 where
+  pub next : n ≡ next_of c call h ask.want reply (absorbed ask reply).ic
+  pub own_is : own ≡ hart_after n (absorbed ask reply) (skipped_after load h.skipped) new.bytes h
+  pub holds : (rs : List Record) → IsLog old rs → IsLog new (rs ++ next_records n k h.number (absorbed ask reply))
+
+-- the harts once the others were ended
+pub finished_harts : {c : RawSettings} {call : Option Plan} {k : ℕ} {ask : Ask} {reply : Reply} {load : Option Warm} {n : TurnEnd} {own : Hart} {old log : Log} (hs begun ended : List Hart) (bytes : ℕ) (f : ℕ → Hart)
+    → IsTurnTaken c call (hart_in hs k) k ask reply load n own old log → k < length hs → begun ≡ slice_set hs k own → ((s : HartState) (skipped : ℕ) (h : Hart) → hart_after n s skipped log.bytes h ≡ hart_after n s skipped bytes h)
+    → ((g : ℕ → Hart) → AreHarts begun g → AreHarts ended (others_after n k g)) → AreHarts hs f → AreHarts ended (harts_by c call hs k ask reply load bytes f)
+finished_harts {c} {call} {k} {ask} {reply} {load} {n} {own} {old} {log} hs begun ended bytes f t within set headed others are =
+    let h : Hart = hart_in hs k in
+    let s = absorbed ask reply in
+    let m = next_of c call h ask.want reply s.ic in
+    let own_is = own_after load h h own s n m log.bytes bytes refl t.next t.own_is (headed s (skipped_after load h.skipped) h) in
+    let start = subst (λ (xs : List Hart). AreHarts xs (with_own k own f)) (sym set) (own_set hs k own f are within) in
+    subst (λ (y : Hart). AreHarts ended (harts_after m k y f)) own_is (subst (λ (j : TurnEnd). AreHarts ended (harts_after j k own f)) t.next (others_then n ended k own f (others (with_own k own f) start)))
+
+-- the log once the others were ended
+pub finished_log : {c : RawSettings} {call : Option Plan} {k : ℕ} {ask : Ask} {reply : Reply} {load : Option Warm} {n : TurnEnd} {own : Hart} {old log : Log} (hs begun : List Hart) (ended : Log) (f : ℕ → Hart) (rs : List Record)
+    → IsTurnTaken c call (hart_in hs k) k ask reply load n own old log → k < length hs → begun ≡ slice_set hs k own
+    → ((g : ℕ → Hart) (ys : List Record) → AreHarts begun g → IsLog log ys → IsLog ended (ys ++ run_over_records n k (length begun) g)) → AreHarts hs f → IsLog old rs → IsLog ended (with_ends c call hs k ask reply f rs)
+finished_log {c} {call} {k} {ask} {reply} {load} {n} {own} {old} {log} hs begun ended f rs t within set ends are held =
+    let h : Hart = hart_in hs k in
+    let start = subst (λ (xs : List Hart). AreHarts xs (with_own k own f)) (sym set) (own_set hs k own f are within) in
+    let count = ap (λ (xs : List Hart). length xs) set ∙ length-set hs k own in
+    subst (λ (ys : List Record). IsLog ended ys) (ends_are n _ k h h own (absorbed ask reply) hs begun f rs t.next refl count) (ends (with_own k own f) _ start (t.holds rs held))
 
 -- what a turn leaves, by what the code does one after the other: to a race log that is the old one, by harts that are the new
 pub is_finished : (old new : Trace) (k : ℕ) (n m : TurnEnd) (s : Shadow) (hs : List Hart) → n ≡ m → s ≡ old.shadow → hs ≡ new.harts.items → length new.harts.items ≡ length old.harts.items → length new.caches ≡ length old.caches

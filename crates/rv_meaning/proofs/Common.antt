@@ -1,5 +1,5 @@
 -- What several files of proofs/ cite of other crates and of specs/. They import it from here, by one line.
-pub use Rattle.std.proofs.Common.{Bool, Err, IfSome, List, None, Ok, OnErr, Option, Result, Some, [], ap, arith, bit_and, bit_or, bit_xor, cond, div-le_self, false, if◌then◌else◌, inl, inr, int_div, int_rem, is_some, length, length-append, min, mod-lt, mul-le-mul, nat_le, nat_lt, neg_ℤ, negsuc, not, pos, pow-add, pow_pos, refl, rules, set, slice_index, slice_index_or, subst, suc, sym, true, unsigned_abs, w64, zero, ℕ, ℤ, ◌%◌, ◌&&◌, ◌*ℤ◌, ◌*◌, ◌++◌, ◌+◌, ◌-◌, ◌/◌, ◌<◌, ◌==◌, ◌^◌, ◌||◌, ◌∙◌, ◌∷◌, ◌≡◌, ◌≤◌, ◌⊎◌}
+pub use Rattle.std.proofs.Common.{Bool, Err, IfSome, List, None, Ok, OnErr, Option, Result, Some, [], ap, arith, bit_and, bit_or, cond, div-le_self, false, if◌then◌else◌, inl, inr, int_div, int_rem, is_some, length, length-append, min, mod-lt, mul-le-mul, nat_le, nat_lt, neg_ℤ, negsuc, not, pos, pow-add, pow_pos, refl, rules, set, slice_index, slice_index_or, subst, suc, sym, true, unsigned_abs, w64, zero, ℕ, ℤ, ◌%◌, ◌&&◌, ◌*ℤ◌, ◌*◌, ◌++◌, ◌+◌, ◌-◌, ◌/◌, ◌<◌, ◌==◌, ◌^◌, ◌||◌, ◌∙◌, ◌∷◌, ◌≡◌, ◌≤◌, ◌⊎◌}
 pub use Rattle.std.proofs.Math.Nat.{mod-le, mul-sub, mul_comm, pow-le-pow_right}
 pub use Rattle.std.proofs.lemmas.Int.{of_z-to_z, to_z-of_z, unsigned_abs-mul}
 pub use Rattle.std.proofs.lemmas.Nat.{and-not, and_comm, and_mask, mod-pow-add, or_block, or_comm, or_of_32, or_shifted, shl_below, shl_whole, shr_below, shr_split, xor_of_32}
@@ -19,8 +19,8 @@ pub use Rattle.rv_meaning.specs.Held.{IsCode}
 pub use Rattle.rv_meaning.specs.Ops.{Asking, Done, IsAhead, IsBelowEnd, IsOp, Quietly, Says, is_known, pc_of}
 pub use Rattle.rv_meaning.specs.Orderly.{is_aligned, is_counted, is_cut, orderly, passes}
 pub use Rattle.rv_meaning.specs.Rows.{instruction_at, instruction_in}
-pub use Rattle.rv_meaning.specs.Told.{Told, ToldParts, count_after}
-pub use Rattle.rv_meaning.specs.Words.{add, bits_of, div_signed, div_unsigned, flag, high_mixed, high_of, high_signed, high_unsigned, less, mul, rem_signed, rem_unsigned, shift_left, shift_right, shift_right_signed, signed_of, sub, with_bytes, wrap}
+pub use Rattle.rv_meaning.specs.Told.{Told}
+pub use Rattle.rv_meaning.specs.Words.{add, bits_of, div_signed, div_unsigned, flag, high_mixed, high_of, high_signed, high_unsigned, less, rem_signed, rem_unsigned, shift_right, shift_right_signed, signed_of, with_bytes, wrap}
 pub use Rattle.rv_meaning.specs.declared.asks.Ask.{Ask}
 pub use Rattle.rv_meaning.specs.declared.asks.Want.{Want}
 pub use Rattle.rv_meaning.specs.declared.asks.Want.TheVariants.{Amo, Cut, Faulted, Load, LoadReserved, Store, StoreConditional}

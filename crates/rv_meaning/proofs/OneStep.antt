@@ -1,5 +1,10 @@
 -- One instruction of a hart, and what is left of its budget.
-use Rattle.rv_meaning.proofs.Common.{◌≡◌, ℕ, false, suc, ◌+◌, ◌-◌, ◌<◌, ◌^◌, min, arith, ap, ◌∙◌, sym, Option, Some, Program, code_at, HartState, Instruction, decoded, Ask, Want, Step, Quiet, Asks, ask_of, step, count_up, fetched, executed, Told}
+use Rattle.rv_meaning.proofs.Common.{◌≡◌, ℕ, false, suc, ◌+◌, ◌-◌, ◌<◌, ◌^◌, min, arith, ap, ◌∙◌, sym, Option, Some, Program, code_at, HartState, Instruction, decoded, Ask, Want, Step, Quiet, Asks, ask_of, step, count_up, fetched, executed, Told, ℤ, w32, to_z-of_z, bits_of}
+use mir.Val.{SFits, of_z, to_z}
+
+-- the word of an immediate that fits
+pub word_again : (z : ℤ) → SFits w32 z → of_z w32 (to_z w32 (of_z w32 z)) ≡ bits_of z
+word_again z fits = ap (of_z w32) (to_z-of_z w32 z fits)
 
 -- after a quiet instruction, what is left gives the same ask
 pub quiet_more : (i : Program) (b k : ℕ) (s t : HartState) → k < b → Quiet t ≡ step i s → ask_of i (b - (k + 1)) t ≡ ask_of i (b - k) s

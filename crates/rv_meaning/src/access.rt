@@ -46,6 +46,7 @@ pub fn loaded_value(addr: Addr, width: u8, signed: bool, word: u32) -> u32
 
 /// The aligned word of an address after a store of 1, 2 or 4 bytes there; `word` is the one before
 /// it, `value` the contents of rs2.
+#[tactic(auto, using(crate::proofs::MaskedStore::masked_store))]
 pub fn stored_word(addr: Addr, width: u8, value: u32, word: u32) -> u32
     requires { IsTrue (is_aligned addr width) }
     ensures { result ≡ stored_word addr width value word }

@@ -169,6 +169,7 @@ impl<'a> DecodedImage<'a> {
     /// Does a hart's quiet instructions in place, as far as its code is decoded and the budget lasts. It gives what is
     /// left of the budget, and the op that it stopped at, if there is one: [`DecodedImage::ask`] continues from there.
     #[inline(always)]
+    #[tactic(auto, using(crate::proofs::DecodedAhead::ahead_in, crate::proofs::DecodedAhead::leads_plain))]
     pub fn quiet_ops(&self, state: &mut HartState, budget: u64) -> (Option<&Op>, u64)
         ensures left { result.1 ≤ budget }
         ensures asks { ask_of self.now result.1 state.new ≡ ask_of self.now budget state.old }

@@ -24,6 +24,7 @@ pub fn each_ask_is_orderly()
 
 /// If the registers hold words of 32 bits, they hold words after each quiet instruction, and when
 /// the hart asks next, whatever numbers the program has for code words.
+#[tactic(auto, using(crate::proofs::WordsKept::step_words, crate::proofs::WordsKept::ask_words))]
 pub fn registers_stay_words()
     ensures step { (i : Program) (s t : HartState) → AreWords s.x → step i s ≡ Quiet t → AreWords t.x }
     ensures run { (i : Program) (budget : ℕ) (s : HartState) → AreWords s.x → AreWords (ask_of i budget s).state.x }

@@ -151,6 +151,7 @@ fn branch(taken: bool, op: &Op, first: Addr, place: &mut u32) -> bool
 /// Does an instruction, if it is quiet: `place` is then that of the next one. Else all stays as it is.
 // Each arm reads the operands that it needs. What is read before the match is read for every instruction.
 #[inline(always)]
+#[tactic(auto, using(crate::proofs::QuietOps::done_says))]
 pub(crate) fn do_quiet(op: &Op, first: Addr, place: &mut u32, x: &mut Registers) -> bool
     requires { first % 4 ≡ 0 }
     ensures { (i : Program) (o : Option Instruction) → Says op.now o →
@@ -207,6 +208,7 @@ pub(crate) fn do_quiet(op: &Op, first: Addr, place: &mut u32, x: &mut Registers)
 
 /// The address from which an op loads a whole word, if it is such a load and the address passes its tests.
 #[inline(always)]
+#[tactic(auto, using(crate::proofs::QuietOps::asks_says))]
 pub fn word_load(op: &Op, image: &Image, x: &Registers) -> Option<Addr>
     ensures { IfSome result (λ addr. (o : Option Instruction) → Says op.now o → Asking true image.now o x.now (Load addr 4 false op.now.rd)) }
 {
@@ -225,6 +227,7 @@ pub fn word_load(op: &Op, image: &Image, x: &Registers) -> Option<Addr>
 
 /// The address at which an op stores a whole word, if it is such a store and the address passes its tests.
 #[inline(always)]
+#[tactic(auto, using(crate::proofs::QuietOps::asks_says))]
 pub fn word_store(op: &Op, image: &Image, x: &Registers) -> Option<Addr>
     ensures { IfSome result (λ addr. (o : Option Instruction) → Says op.now o → Asking true image.now o x.now (Store addr 4 (slice_index x.now op.now.rs2))) }
 {
@@ -243,6 +246,7 @@ pub fn word_store(op: &Op, image: &Image, x: &Registers) -> Option<Addr>
 
 /// Writes what a load or a store asks to `want`: other instructions it leaves alone.
 #[inline(always)]
+#[tactic(auto, using(crate::proofs::QuietOps::asks_says))]
 pub fn ask_memory(op: &Op, image: &Image, x: &Registers, want: &mut Want) -> bool
     ensures { (o : Option Instruction) → Says op.now o → Asking result image.now o x.now want.new }
 {

@@ -64,6 +64,7 @@ fn fence(pc: &mut Addr) -> bool
 // One match does it, or writes what it asks to the caller's `Want`. Measured: a second match that gave the want
 // by value was a quarter slower on code with loads and stores.
 #[inline(always)]
+#[tactic(auto, using(crate::proofs::OneStep::word_again))]
 pub fn step(instr: &Instr, image: &Image, pc: &mut Addr, x: &mut Registers, want: &mut Want) -> bool
     ensures { ToldParts result pc.old x.old pc.new x.new want.new (meaning instr.now.name image.now (seen instr.now)) }
 {

@@ -91,6 +91,7 @@ impl<'a> Walk<'a> {
 
     /// The op that it is at, if there is one.
     #[inline(always)]
+    #[tactic(auto, using(crate::proofs::DecodedAhead::says_here))]
     pub fn op(&self) -> Option<&'a Op>
         ensures { IfSome result (λ op. Says op.now (instruction_in (code_at self.now.program self.now.pc))) }
     {

@@ -86,6 +86,7 @@ impl RowLines {
     }
 
     // The line of a row that has this word and no fault. An error may leave a part of it.
+    #[tactic(auto, using(crate::proofs::Joined::joined))]
     fn write_line(&mut self, row: &Row, word: u32, text: &mut Text) -> Result<(), AllocError>
         requires { (row.now.fault ≡ None) × (row.now.word ≡ Some word) }
         ensures ok { OnOk result (text.new ≡ text.old ++ row_text row.now) }

@@ -1,5 +1,5 @@
 -- What a row of a replay tells of the instruction and its states.
-use Rattle.slice_back.proofs.Common.{◌≡◌, ◌≢◌, ℕ, zero, suc, ◌<◌, ◌==◌, ◌⊎◌, Bool, true, false, List, [], ◌∷◌, length, Option, Some, None, refl, sym, ◌∙◌, ap, subst, inl, inr, arith, set, slice_index, eqb_tells, Program, code_at, put_reg, EndMark, Row, HartState, Fault, Instruction, decoded, loaded_value, Step, Quiet, Asks, step, fetched, executed, after, Want, Load, Store, LoadReserved, StoreConditional, Amo, System, Cut, Faulted, instruction_in, written, Interval, Position, call_reg, is_call, is_of}
+use Rattle.slice_back.proofs.Common.{◌≡◌, ◌≢◌, ℕ, zero, suc, ◌<◌, ◌==◌, ◌⊎◌, Bool, true, false, List, [], ◌∷◌, length, Option, Some, None, refl, sym, ◌∙◌, ap, subst, inl, inr, arith, set, slice_index, eqb_tells, Program, code_at, put_reg, EndMark, Row, HartState, Instruction, decoded, loaded_value, Step, Quiet, Asks, step, fetched, executed, after, Want, Load, Store, LoadReserved, StoreConditional, Amo, System, Cut, Faulted, instruction_in, written, Interval, Position, call_reg, is_call, is_of}
 use Rattle.slice_back.proofs.Bools.{same_number}
 use Rattle.slice_back.proofs.Fields.{no_rd}
 use Rattle.slice_back.proofs.Meanings.{writes_none, Changed, AskShape, Shape, shape}
@@ -65,47 +65,29 @@ code_of i h v p q row t = by (instruction_in (code_at i p.state.pc)) refl (step_
 
 -- ---- the row
 
-asked_word : (h : ℕ) (i : Program) (s t : HartState) (m : EndMark) (k : Want) (b : Bool) (x : ℕ) → (asked_row h i s t m k b x).word ≡ code_at i s.pc
-asked_word h i s t m (Load a w g rd) b x = refl
-asked_word h i s t m (LoadReserved a rd) b x = refl
-asked_word h i s t m (Amo a o rd y) b x = refl
-asked_word h i s t m (Store a w y) b x = refl
-asked_word h i s t m (StoreConditional a rd y) b x = refl
-asked_word h i s t m (System n args) b x = refl
-asked_word h i s t m Cut b x = refl
-asked_word h i s t m (Faulted f y) b x = refl
-
-asked_pc : (h : ℕ) (i : Program) (s t : HartState) (m : EndMark) (k : Want) (b : Bool) (x : ℕ) → (asked_row h i s t m k b x).pc ≡ s.pc
-asked_pc h i s t m (Load a w g rd) b x = refl
-asked_pc h i s t m (LoadReserved a rd) b x = refl
-asked_pc h i s t m (Amo a o rd y) b x = refl
-asked_pc h i s t m (Store a w y) b x = refl
-asked_pc h i s t m (StoreConditional a rd y) b x = refl
-asked_pc h i s t m (System n args) b x = refl
-asked_pc h i s t m Cut b x = refl
-asked_pc h i s t m (Faulted f y) b x = refl
-
-asked_fault : (h : ℕ) (i : Program) (s t : HartState) (m : EndMark) (k : Want) (b : Bool) (x : ℕ) → ◌≡◌ {A = Option (Fault × ℕ)} (asked_row h i s t m k b x).fault None
-asked_fault h i s t m (Load a w g rd) b x = refl
-asked_fault h i s t m (LoadReserved a rd) b x = refl
-asked_fault h i s t m (Amo a o rd y) b x = refl
-asked_fault h i s t m (Store a w y) b x = refl
-asked_fault h i s t m (StoreConditional a rd y) b x = refl
-asked_fault h i s t m (System n args) b x = refl
-asked_fault h i s t m Cut b x = refl
-asked_fault h i s t m (Faulted f y) b x = refl
+-- of an ask, it has the code word at the pc, the pc and no fault
+asked_as : (h : ℕ) (i : Program) (s t : HartState) (m : EndMark) (k : Want) (b : Bool) (x : ℕ)
+    → let r = asked_row h i s t m k b x in (r.word ≡ code_at i s.pc) × (r.pc ≡ s.pc) × (r.fault ≡ None)
+asked_as h i s t m (Load a w g rd) b x = (refl, refl, refl)
+asked_as h i s t m (LoadReserved a rd) b x = (refl, refl, refl)
+asked_as h i s t m (Amo a o rd y) b x = (refl, refl, refl)
+asked_as h i s t m (Store a w y) b x = (refl, refl, refl)
+asked_as h i s t m (StoreConditional a rd y) b x = (refl, refl, refl)
+asked_as h i s t m (System n args) b x = (refl, refl, refl)
+asked_as h i s t m Cut b x = (refl, refl, refl)
+asked_as h i s t m (Faulted f y) b x = (refl, refl, refl)
 
 pub row_word : (i : Program) (h : ℕ) (v : Interval) (p q : Position) (row : Row) → Turn i h v p q row → row.word ≡ code_at i p.state.pc
 row_word i h v p q row (quiet e r c) = ap (λ (x : Row). x.word) r
-row_word i h v p q row (asked k b x e a u r w c) = ap (λ (x : Row). x.word) r ∙ asked_word h i p.state q.state v.mark k b x
+row_word i h v p q row (asked k b x e a u r w c) = ap (λ (x : Row). x.word) r ∙ (asked_as h i p.state q.state v.mark k b x).0
 
 pub row_pc : (i : Program) (h : ℕ) (v : Interval) (p q : Position) (row : Row) → Turn i h v p q row → row.pc ≡ p.state.pc
 row_pc i h v p q row (quiet e r c) = ap (λ (x : Row). x.pc) r
-row_pc i h v p q row (asked k b x e a u r w c) = ap (λ (x : Row). x.pc) r ∙ asked_pc h i p.state q.state v.mark k b x
+row_pc i h v p q row (asked k b x e a u r w c) = ap (λ (x : Row). x.pc) r ∙ (asked_as h i p.state q.state v.mark k b x).1
 
 pub row_fault : (i : Program) (h : ℕ) (v : Interval) (p q : Position) (row : Row) → Turn i h v p q row → row.fault ≡ None
 row_fault i h v p q row (quiet e r c) = ap (λ (x : Row). x.fault) r
-row_fault i h v p q row (asked k b x e a u r w c) = ap (λ (x : Row). x.fault) r ∙ asked_fault h i p.state q.state v.mark k b x
+row_fault i h v p q row (asked k b x e a u r w c) = ap (λ (x : Row). x.fault) r ∙ (asked_as h i p.state q.state v.mark k b x).2
 
 -- ---- the register that it wrote
 

@@ -6,6 +6,7 @@ ghost use Rattle.system_calls.specs.Calls.{all_bytes};
 use bn_base::{Addr, Image};
 
 /// Whether all of the `len` bytes from `addr` on are mapped.
+#[tactic(auto, using(crate::proofs::Bytes::all_mapped))]
 pub(crate) fn all_mapped(image: &Image, addr: Addr, len: u32) -> bool
     requires { 0 < len }
     ensures value { result ≡ all_bytes (may_load image.now) addr len }

@@ -2,7 +2,8 @@
 use Rattle.whole_runs.proofs.Common.{◌≡◌, ℕ, ◌+◌, Bool, true, false, List, [], ◌∷◌, ◌++◌, length, refl, sym, ◌∙◌, ap, arith, inl, inr, Option, Some, None, slice_get, Program, RawSettings, Run, turn, run_from, legal_from, is_live, has_finished, live_harts, WholeRunsHaveNoError, IllegalTurn, NotFinished}
 use Rattle.run_model.specs.Lists.{unfinished, error_from}
 use Rattle.run_model.specs.declared.error.TurnError.{TurnError}
-use Rattle.whole_runs.proofs.Rows.{legal_first, legal_cons}
+use Rattle.whole_runs.proofs.Rows.{legal_cons}
+use Rattle.run_laws.proofs.Turns.{legal_first}
 use Rattle.whole_runs.proofs.Live.{decide, any_false, over_none, over_any}
 
 -- ---- the first turn of a list

@@ -1,6 +1,7 @@
 -- The list of a run that follows a list.
 use Rattle.whole_runs.proofs.Common.{◌≡◌, ℕ, ◌-◌, ◌<◌, ◌≤◌, Bool, true, false, List, [], ◌∷◌, ◌++◌, length, get_or, take, refl, sym, ◌∙◌, ap, subst, arith, inl, inr, Some, append-nil, take_all, Program, RawSettings, Run, turn, run_from, legal_from, is_live, has_finished, any_live, most_turns, IllegalTurn, Began, Seen, first_run, HasTaken, error_of, list_run, seeded_after, legal_prefix_from, legal_prefix, WholeListsAreFollowed}
-use Rattle.whole_runs.proofs.Rows.{legal_first, run_snoc}
+use Rattle.run_laws.proofs.Turns.{legal_first}
+use Rattle.whole_runs.proofs.Rows.{run_snoc}
 use Rattle.whole_runs.proofs.Live.{decide}
 use Rattle.whole_runs.proofs.Seeds.{seeded_none}
 use Rattle.whole_runs.proofs.Taken.{turns_are}

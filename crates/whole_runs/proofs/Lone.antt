@@ -1,26 +1,11 @@
 -- The turns of a hart that is alone.
-use Rattle.whole_runs.proofs.Common.{◌≡◌, ℕ, zero, suc, ◌+◌, ◌-◌, ◌≤◌, ◌<◌, Bool, true, false, List, [], ◌∷◌, ◌++◌, refl, sym, ◌∙◌, ap, subst, arith, replicate, Program, IsSetting, RawSettings, TurnRow, Run, turn, run_from, legal_from, any_live, draw, seeded_from, most_turns, row_at, rows_from, RunsEnd, Began, Seen, IsState, HasTurnedAlone, first_run, HasTaken, list_run, list_rows, is_legal, seeded_after}
+use Rattle.whole_runs.proofs.Common.{◌≡◌, ℕ, zero, suc, ◌+◌, ◌-◌, ◌≤◌, ◌<◌, Bool, true, false, List, [], ◌∷◌, ◌++◌, sym, ◌∙◌, ap, subst, arith, replicate, Program, IsSetting, RawSettings, TurnRow, Run, turn, run_from, legal_from, any_live, draw, seeded_from, most_turns, rows_from, RunsEnd, Began, Seen, IsState, HasTurnedAlone, first_run, HasTaken, list_run, list_rows, is_legal, seeded_after}
 use Rattle.std.proofs.lemmas.List.{replicate-append-replicate, length-replicate}
+use Rattle.run_laws.proofs.Converse.{lists_go_on}
 use Rattle.whole_runs.proofs.Live.{one_alone, live_of}
-use Rattle.whole_runs.proofs.Rows.{legal_first, legal_cons}
+use Rattle.run_laws.proofs.Turns.{legal_first}
 use Rattle.whole_runs.proofs.Seeds.{seeded_first, seeded_none}
 use Rattle.whole_runs.proofs.Taken.{turns_are}
-
--- ---- lists after lists
-
-run_append : (c : RawSettings) (i : Program) (run : Run) (b more : List ℕ) → run_from c i run (b ++ more) ≡ run_from c i (run_from c i run b) more
-run_append c i run [] more = refl
-run_append c i run (k ∷ b) more = run_append c i (turn c i run k) b more
-
-rows_append : (c : RawSettings) (i : Program) (run : Run) (b more : List ℕ) → rows_from c i run (b ++ more) ≡ rows_from c i run b ++ rows_from c i (run_from c i run b) more
-rows_append c i run [] more = refl
-rows_append c i run (k ∷ b) more = ap (λ (xs : List TurnRow). row_at c i run k ∷ xs) (rows_append c i (turn c i run k) b more)
-
-legal_append : (c : RawSettings) (i : Program) (run : Run) (b more : List ℕ) → legal_from c i run b ≡ true → legal_from c i (run_from c i run b) more ≡ true → legal_from c i run (b ++ more) ≡ true
-legal_append c i run [] more e then_too = then_too
-legal_append c i run (k ∷ b) more e then_too =
-    let first = legal_first c i run k b e in
-    legal_cons c i run k (b ++ more) first.0 (legal_append c i (turn c i run k) b more first.1 then_too)
 
 -- ---- a bus that took them
 
@@ -31,12 +16,12 @@ taken_list tells most old new list h t =
     let run = list_run b list in
     let more : List ℕ = replicate t.count 0 in
     record {
-      legal = subst (λ (x : Began). is_legal x (list ++ more) ≡ true) (sym t.began) (legal_append c i (first_run b) list more h.legal (t.legal run h.state));
-      state = subst (λ (r : Run). IsState new r) (sym (run_append c i (first_run b) list more) ∙ ap (λ (x : Began). list_run x (list ++ more)) (sym t.began)) (t.state run h.state);
+      legal = subst (λ (x : Began). is_legal x (list ++ more) ≡ true) (sym t.began) (lists_go_on.legal c i (first_run b) list more h.legal (t.legal run h.state));
+      state = subst (λ (r : Run). IsState new r) (sym (lists_go_on.run c i (first_run b) list more) ∙ ap (λ (x : Began). list_run x (list ++ more)) (sym t.began)) (t.state run h.state);
       rows = λ told.
           t.told told run h.state
           ∙ ap (λ (xs : List TurnRow). xs ++ rows_from c i run more) (h.rows told)
-          ∙ sym (rows_append c i (first_run b) list more)
+          ∙ sym (lists_go_on.rows c i (first_run b) list more)
           ∙ ap (λ (x : Began). list_rows x (list ++ more)) (sym t.began);
       orderly = t.disordered ∙ h.orderly;
       running = t.halted ∙ h.running;

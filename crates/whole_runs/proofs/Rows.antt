@@ -1,5 +1,6 @@
 -- The runs and rows of lists of turns.
-use Rattle.whole_runs.proofs.Common.{◌≡◌, ℕ, ◌+◌, Bool, true, false, List, [], ◌∷◌, ◌++◌, length, refl, ap, arith, Program, RawSettings, Ask, TurnRow, Run, serve, served_if, turn, is_orderly, ask_at, run_from, legal_from, is_live, row_at, rows_from, RowsNameTheirHarts}
+use Rattle.whole_runs.proofs.Common.{◌≡◌, ℕ, ◌+◌, Bool, true, false, List, [], ◌∷◌, ◌++◌, length, refl, ap, arith, Program, RawSettings, Ask, Run, serve, served_if, turn, is_orderly, ask_at, run_from, legal_from, is_live, row_at, rows_from, RowsNameTheirHarts}
+use Rattle.run_laws.proofs.Converse.{lists_go_on}
 
 pub rows_name : RowsNameTheirHarts
 rows_name c i run [] = refl
@@ -8,32 +9,16 @@ rows_name c i run (k ∷ ks) = ap (λ (xs : List ℕ). k ∷ xs) (rows_name c i 
 -- ---- one turn more
 
 pub run_snoc : (c : RawSettings) (i : Program) (run : Run) (b : List ℕ) (k : ℕ) → run_from c i run (b ++ k ∷ []) ≡ turn c i (run_from c i run b) k
-run_snoc c i run [] k = refl
-run_snoc c i run (j ∷ b) k = run_snoc c i (turn c i run j) b k
+run_snoc c i run b k = lists_go_on.run c i run b (k ∷ [])
 
 pub rows_snoc : (c : RawSettings) (i : Program) (run : Run) (b : List ℕ) (k : ℕ) → rows_from c i run (b ++ k ∷ []) ≡ rows_from c i run b ++ row_at c i (run_from c i run b) k ∷ []
-rows_snoc c i run [] k = refl
-rows_snoc c i run (j ∷ b) k = ap (λ (xs : List TurnRow). row_at c i run j ∷ xs) (rows_snoc c i (turn c i run j) b k)
-
-live_by : (b : Bool) (x : Bool) → elim b as (λ z. Bool) [ true ↦ x | false ↦ false ] ≡ true → (b ≡ true) × (x ≡ true)
-live_by true x e = (refl, e)
-live_by false x e = cc
-
-pub legal_first : (c : RawSettings) (i : Program) (run : Run) (k : ℕ) (ks : List ℕ) → legal_from c i run (k ∷ ks) ≡ true → (is_live c run k ≡ true) × (legal_from c i (turn c i run k) ks ≡ true)
-legal_first c i run k ks e = live_by (is_live c run k) (legal_from c i (turn c i run k) ks) e
-
-live_then : (b : Bool) (x : Bool) → b ≡ true → x ≡ true → elim b as (λ z. Bool) [ true ↦ x | false ↦ false ] ≡ true
-live_then true x e h = h
-live_then false x e h = e
+rows_snoc c i run b k = lists_go_on.rows c i run b (k ∷ [])
 
 pub legal_cons : (c : RawSettings) (i : Program) (run : Run) (k : ℕ) (ks : List ℕ) → is_live c run k ≡ true → legal_from c i (turn c i run k) ks ≡ true → legal_from c i run (k ∷ ks) ≡ true
-legal_cons c i run k ks live e = live_then (is_live c run k) (legal_from c i (turn c i run k) ks) live e
+legal_cons c i run k ks live e = lists_go_on.legal c i run (k ∷ []) ks (ap (λ (b : Bool). elim b as (λ z. Bool) [ true ↦ true | false ↦ false ]) live) e
 
 pub legal_snoc : (c : RawSettings) (i : Program) (run : Run) (b : List ℕ) (k : ℕ) → legal_from c i run b ≡ true → is_live c (run_from c i run b) k ≡ true → legal_from c i run (b ++ k ∷ []) ≡ true
-legal_snoc c i run [] k e live = legal_cons c i run k [] live refl
-legal_snoc c i run (j ∷ b) k e live =
-    let first = legal_first c i run j b e in
-    legal_cons c i run j (b ++ k ∷ []) first.0 (legal_snoc c i (turn c i run j) b k first.1 live)
+legal_snoc c i run b k e live = lists_go_on.legal c i run b (k ∷ []) e (legal_cons c i (run_from c i run b) k [] live refl)
 
 -- ---- how many turns were taken
 

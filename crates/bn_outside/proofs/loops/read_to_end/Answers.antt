@@ -1,11 +1,7 @@
 use Rattle.std.proofs.Common.{rules, arith, ◌<◌, length, length-append, take, vec_len}
 use Rattle.std.proofs.lemmas.List.{length-take-le}
-use Rattle.std.proofs.KnownBytes.{Consumes-kept}
 use Rattle.bn_outside.proofs.Pieces.{consumes_all, consumes_both, more_left, rose_last}
 use Rattle.bn_outside.proofs.loops.read_to_end.Goals as goal
-
-pub returns-in_err-count-clause-part : goal.returns-in_err-count-clause-part
-returns-in_err-count-clause-part g c = (_, omega (arith, c.pieces.invariant.within, c.pieces.bytes.ok), Consumes-kept _ _ _ _ c.pieces.invariant.gone c.in_err-count.ensures.kept)
 
 pub returns-in_err-count-clause-cause : goal.returns-in_err-count-clause-cause
 returns-in_err-count-clause-cause g c = λ e. rose_last _ _ _ (omega (arith, c.pieces.invariant.same)) c.in_err-count.ensures.cause

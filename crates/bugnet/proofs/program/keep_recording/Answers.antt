@@ -1,4 +1,4 @@
-use Rattle.bugnet.proofs.Common.{Option, subst, sym, Files, RecordLine, seen_recording, between, world, passed-on, RepliesTo, HasElf, IfOk, Some, LeavesScheduled, code}
+use Rattle.bugnet.proofs.Common.{Option, subst, sym, Files, RecordLine, seen_recording, between, world, passed-on, RepliesTo, HasElf}
 use Rattle.bugnet.proofs.Leaves.{call-leaves}
 use Rattle.bugnet.proofs.RecordLoads.{record-bytes}
 use Rattle.bugnet.proofs.Replied.{line-refused, line-acted}
@@ -31,11 +31,6 @@ returns-clause-does g c =
     call-leaves c.seeds_are_whole.ensures c.files_keep_to_their_size.ensures c.logs_are_contents.ensures line status k
     (subst (λ (known : Option Files). HasElf line known) (sym same) (record-bytes old.files names r c.requires.named c.in_ok-answer.ensures.bytes)) told)
     c.in_ok-answer.ensures.answers c.act.ensures
-
-pub returns-in_err-answer-clause-given : goal.returns-in_err-answer-clause-given
-returns-in_err-answer-clause-given g c = λ o made.
-    passed-on (λ result. IfOk result (λ status. LeavesScheduled o (Some (RecordLine (seen_recording c.args.options.now))) (code status) (g.S.Store.stored c.args.files.now).files (g.S.Store.stored c.evaluate.new.files).files)) _
-    c.from_residual.result c.from_residual.ensures.1 tt
 
 pub returns-clause-given : goal.returns-clause-given
 returns-clause-given g c = λ o made.

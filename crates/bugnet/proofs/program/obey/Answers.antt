@@ -1,4 +1,4 @@
-use Rattle.bugnet.proofs.Common.{Option, Some, ◌∙◌, ap, sym, subst, Err, Line, command_in, seen, WordsError, call, world, FileNames, Refuses, Refusal, words_refusal, Does, reading, code, LeavesScheduled, told-apart}
+use Rattle.bugnet.proofs.Common.{Option, Some, ◌∙◌, ap, sym, subst, Err, Line, command_in, seen, WordsError, world, FileNames, Refuses, Refusal, words_refusal, code, LeavesScheduled, told-apart}
 use Rattle.bugnet.proofs.Replied.{words-answered}
 use Rattle.bugnet.proofs.Scheduled.{scheduled-none, scheduled-closed}
 use Rattle.bugnet.proofs.program.obey.Goals as goal
@@ -12,20 +12,10 @@ returns-in-Err-clause-does g c =
     (subst (λ (n : FileNames). Refuses n (words_refusal c.in-Err.error) (code c.refuse.result) w.err end) c.none.ensures
     (subst (λ (r : Refusal). Refuses c.none.result r (code c.refuse.result) w.err end) c.words_refusal.ensures c.refuse.ensures))
 
-pub returns-in-Ok-clause-does : goal.returns-in-Ok-clause-does
-returns-in-Ok-clause-does g c =
-    let end = g.X.Sink.stream c.give_status.new.err in
-    let k = call g.S.Store.stored g.O.Sink.stream g.X.Sink.stream c.args.files.now c.args.out.now c.args.err.now c.attempt-ending.new.files c.attempt-ending.new.out c.give_status.new.err in
-    subst (λ (l : Option Line). Does l (code c.give_status.result) g.S.Store.note (reading g.I.Source.source g.I.Source.note c.args.input.now c.attempt-ending.new.input) k) (sym c.in-Ok.ensures.taken)
-    (c.attempt-ending.ensures.does (code c.give_status.result) end c.give_status.ensures)
-
 pub returns-in-Err-clause-given : goal.returns-in-Err-clause-given
 returns-in-Err-clause-given g c =
-    let err = g.X.Sink.stream c.args.err.now in
-    let end = g.X.Sink.stream c.refuse.new.err in
-    let known = (g.S.Store.stored c.args.files.now).files in
-    scheduled-none c.args.schedule (command_in c.args.words.now) (code c.refuse.result) known known
-    (told-apart c.none.result c.words_refusal.result (code c.refuse.result) err.text end.text err.faults end.faults c.refuse.ensures.0)
+    scheduled-none c.args.schedule (command_in c.args.words.now) (code c.refuse.result) _ _
+    (told-apart c.none.result c.words_refusal.result (code c.refuse.result) _ _ _ _ c.refuse.ensures.0)
 
 pub returns-in-Ok-clause-given : goal.returns-in-Ok-clause-given
 returns-in-Ok-clause-given g c =

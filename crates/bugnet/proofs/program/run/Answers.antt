@@ -1,4 +1,4 @@
-use Rattle.bugnet.proofs.Common.{command_in, call}
+use Rattle.bugnet.proofs.Common.{command_in}
 use Rattle.bugnet.proofs.Agrees.{call-audits}
 use Rattle.bugnet.proofs.Complete.{call-done}
 use Rattle.bugnet.proofs.Jointly.{prints-jointly}
@@ -71,36 +71,22 @@ pub returns-clause-read_later : goal.returns-clause-read_later
 returns-clause-read_later g c = c.obey.ensures.does.read_later
 
 pub returns-clause-headline : goal.returns-clause-headline
-returns-clause-headline g c =
-    let k = call g.S.Store.stored g.O.Sink.stream g.X.Sink.stream c.args.files.now c.args.out.now c.args.err.now c.obey.new.files c.obey.new.out c.obey.new.err in
-    prints-run c.headline.ensures (command_in c.args.words.now) c.code.result k (returns-clause-told g c)
+returns-clause-headline g c = prints-run c.headline.ensures (command_in c.args.words.now) c.code.result _ (returns-clause-told g c)
 
 pub returns-clause-jointly : goal.returns-clause-jointly
-returns-clause-jointly g c =
-    let k = call g.S.Store.stored g.O.Sink.stream g.X.Sink.stream c.args.files.now c.args.out.now c.args.err.now c.obey.new.files c.obey.new.out c.obey.new.err in
-    prints-jointly c.joint_headline.ensures (command_in c.args.words.now) c.code.result k (returns-clause-told g c)
+returns-clause-jointly g c = prints-jointly c.joint_headline.ensures (command_in c.args.words.now) c.code.result _ (returns-clause-told g c)
 
 pub returns-clause-done : goal.returns-clause-done
-returns-clause-done g c =
-    let k = call g.S.Store.stored g.O.Sink.stream g.X.Sink.stream c.args.files.now c.args.out.now c.args.err.now c.obey.new.files c.obey.new.out c.obey.new.err in
-    call-done c.each_can_be_done.ensures (command_in c.args.words.now) c.code.result k (returns-clause-told g c)
+returns-clause-done g c = call-done c.each_can_be_done.ensures (command_in c.args.words.now) c.code.result _ (returns-clause-told g c)
 
 pub returns-clause-kept : goal.returns-clause-kept
-returns-clause-kept g c =
-    let k = call g.S.Store.stored g.O.Sink.stream g.X.Sink.stream c.args.files.now c.args.out.now c.args.err.now c.obey.new.files c.obey.new.out c.obey.new.err in
-    answers-keep (command_in c.args.words.now) c.code.result k (returns-clause-told g c)
+returns-clause-kept g c = answers-keep (command_in c.args.words.now) c.code.result _ (returns-clause-told g c)
 
 pub returns-clause-others : goal.returns-clause-others
-returns-clause-others g c =
-    let k = call g.S.Store.stored g.O.Sink.stream g.X.Sink.stream c.args.files.now c.args.out.now c.args.err.now c.obey.new.files c.obey.new.out c.obey.new.err in
-    answers-few (command_in c.args.words.now) c.code.result k (returns-clause-told g c)
+returns-clause-others g c = answers-few (command_in c.args.words.now) c.code.result _ (returns-clause-told g c)
 
 pub returns-clause-audited : goal.returns-clause-audited
-returns-clause-audited g c =
-    let k = call g.S.Store.stored g.O.Sink.stream g.X.Sink.stream c.args.files.now c.args.out.now c.args.err.now c.obey.new.files c.obey.new.out c.obey.new.err in
-    call-audits c.audits_agree.ensures (command_in c.args.words.now) c.code.result k (returns-clause-told g c)
+returns-clause-audited g c = call-audits c.audits_agree.ensures (command_in c.args.words.now) c.code.result _ (returns-clause-told g c)
 
 pub returns-clause-shape : goal.returns-clause-shape
-returns-clause-shape g c =
-    let k = call g.S.Store.stored g.O.Sink.stream g.X.Sink.stream c.args.files.now c.args.out.now c.args.err.now c.obey.new.files c.obey.new.out c.obey.new.err in
-    call-shape g.S.Store.note (command_in c.args.words.now) c.code.result k (returns-clause-calls g c)
+returns-clause-shape g c = call-shape g.S.Store.note (command_in c.args.words.now) c.code.result _ (returns-clause-calls g c)

@@ -1,4 +1,4 @@
-use Rattle.bus_core.proofs.Common.{◌≡◌, ◌<◌, true, ◌∙◌, sym, ap, subst, Vec, Bool, Result, Ok, Global, Hart, Start, hart_in, IsRun, parts, Run, Served, serve, is_orderly, is_guarded, passes, Reply, IsServed}
+use Rattle.bus_core.proofs.Common.{◌≡◌, ◌<◌, true, ◌∙◌, sym, ap, subst, Vec, Bool, Result, Ok, Global, Hart, Start, hart_in, parts, Served, serve, is_orderly, is_guarded, passes, Reply, IsServed}
 use Rattle.std.specs.declared.alloc.AllocError.{AllocError}
 use Rattle.bus_core.proofs.Rows.{second_of, live_within, live_there}
 use Rattle.bus_core.proofs.Serves.{served_orderly, kept_on_err}
@@ -28,26 +28,6 @@ pub apply-reply-requires-clause-live : goal.apply-reply-requires-clause-live
 apply-reply-requires-clause-live g c =
     subst (λ (v : Vec Hart Global). (hart_in v.items c.args.hart).live ≡ true) (sym c.prepare.ensures.harts) (live_there c.args.plain.now.trace.harts.items c.args.hart c.requires.live)
 
-pub apply-reply-requires-clause-orderly : goal.apply-reply-requires-clause-orderly
-apply-reply-requires-clause-orderly g c =
-    let p = c.args.plain.now in
-    let k = c.args.hart in
-    let ask = c.args.ask.now in
-    subst (λ (s : Start). is_orderly s.settings s.image (hart_in c.prepare.new.self.trace.harts.items k) ask ≡ true) (sym c.prepare.ensures.start)
-    (subst (λ (v : Vec Hart Global). is_orderly p.start.settings p.start.image (hart_in v.items k) ask ≡ true) (sym c.prepare.ensures.harts) c.requires.orderly)
-
-pub apply-reply-requires-clause-call : goal.apply-reply-requires-clause-call
-apply-reply-requires-clause-call g c = c.in_ok-call.ensures.call
-
-pub apply-reply-requires-clause-room : goal.apply-reply-requires-clause-room
-apply-reply-requires-clause-room g c = c.in_ok-call.ensures.room
-
-pub apply-reply-requires-clause-race : goal.apply-reply-requires-clause-race
-apply-reply-requires-clause-race g c = c.in_ok-call.ensures.race
-
-pub apply-reply-requires-clause-addresses : goal.apply-reply-requires-clause-addresses
-apply-reply-requires-clause-addresses g c = c.in_ok-call.ensures.addresses
-
 pub returns-clause-answers : goal.returns-clause-answers
 returns-clause-answers g c =
     let k = c.args.hart in
@@ -65,9 +45,3 @@ returns-clause-answers g c =
           subst (λ (x : Start). IsServed q run (serve x.settings x.image run k ask) answer) c.prepare.ensures.start
           (subst (λ (x : Served). IsServed q run x answer) served (c.apply-reply.ensures.reply run here, guarded, c.apply-reply.ensures.run run here));
     }
-
-pub returns-clause-rows : goal.returns-clause-rows
-returns-clause-rows g c = c.room.ensures.rows
-
-pub returns-clause-room : goal.returns-clause-room
-returns-clause-room g c = c.in_ok-room.ensures.ok

@@ -1,98 +1,56 @@
-use Rattle.elf_loader.proofs.Common.{◌≡◌, ◌∙◌, sym, ap, Some, Ok, Err, filter, inl, inr, not, Program, ElfError, EntryOutside, FileHeader, is_segment, segments, program_of, image_of}
+use Rattle.elf_loader.proofs.Common.{◌≡◌, ◌∙◌, sym, ap, Some, Ok, Err, filter, inl, inr, not, Program, ElfError, EntryOutside, FileHeader, is_segment, segments, program_of, image_of, starts_outside}
 use Rattle.std.proofs.lemmas.Result.{err_from_is_err_and}
 use Rattle.elf_loader.proofs.Entered.{entered}
 use Rattle.elf_loader.proofs.Refused.{Reads, refused-segments, refused-entry, refused-nothing, loaded}
 use Rattle.elf_loader.proofs.loading.load.Goals as goal
+use Rattle.elf_loader.proofs.loading.load.Goals.{After-memory, After-is_code}
+
+-- what is read before the segments are checked
+reads : (c : After-memory) → Reads c.args.bytes.now c.args.settings.now.memory c.deref.result.now c.deref-3.result.now c.memory.result
+unfolding segments
+reads c = record {
+  headers_are = c.deref.ensures.0 ∙ c.read_table-table.ensures;
+  segments_are = c.deref-3.ensures.0 ∙ c.segments-segments.ensures ∙ ap (filter is_segment) (c.deref-2.ensures.0 ∙ c.read_table-table.ensures);
+  memory_is = c.memory.ensures.value;
+  header_taken = sym c.in_ok-header.ensures.refused;
+  static = sym c.if-needs_interpreter.ensures;
+}
+
+-- the test of the entry is that of the program
+entry : (c : After-is_code) → Reads c.args.bytes.now c.args.settings.now.memory c.deref.result.now c.deref-3.result.now c.memory.result → starts_outside (program_of c.args.bytes.now c.args.settings.now) ≡ not c.is_code.result
+unfolding segments
+entry c so =
+    let same : c.deref-4.result.now ≡ segments c.args.bytes.now = c.deref-4.ensures.0 ∙ c.segments-segments.ensures ∙ ap (filter is_segment) (c.deref-2.ensures.0 ∙ c.read_table-table.ensures) in
+    entered c.args.bytes.now c.args.settings.now _ _ c.deref-4.result.now _ c.in_ok-header.header c.is_code.result so c.memory.ensures.pages c.memory.ensures.low (sym c.in_ok-check_segments.ensures) same c.in_ok-header.ensures.header c.is_code.ensures
 
 pub program-requires-clause-are : goal.program-requires-clause-are
 unfolding segments
 program-requires-clause-are c = c.deref-5.ensures.0 ∙ c.segments-segments.ensures ∙ ap (filter is_segment) (c.deref-2.ensures.0 ∙ c.read_table-table.ensures)
 
-pub returns-in_err-check_segments-clause-refused : goal.returns-in_err-check_segments-clause-refused
-unfolding segments
-returns-in_err-check_segments-clause-refused c =
+pub returns-in_err-check_segments : goal.returns-in_err-check_segments
+returns-in_err-check_segments c =
     let p = err_from_is_err_and c.from_residual-in_err-check_segments.result c.from_residual-in_err-check_segments.ensures.1 in
-    let reads : Reads c.args.bytes.now c.args.settings.now.memory c.deref.result.now c.deref-3.result.now c.memory.result = record {
-      headers_are = c.deref.ensures.0 ∙ c.read_table-table.ensures;
-      segments_are = c.deref-3.ensures.0 ∙ c.segments-segments.ensures ∙ ap (filter is_segment) (c.deref-2.ensures.0 ∙ c.read_table-table.ensures);
-      memory_is = c.memory.ensures.value;
-      header_taken = sym c.in_ok-header.ensures.refused;
-      static = sym c.if-needs_interpreter.ensures;
-    } in
-    let refused : image_of c.args.bytes.now c.args.settings.now ≡ Err p.0 = refused-segments _ _ _ _ _ _ reads (sym c.in_err-check_segments.ensures ∙ ap (λ (e : ElfError). Some e) (sym p.2)) in
-    rw p.1 (inr refused)
+    let refused : image_of c.args.bytes.now c.args.settings.now ≡ Err p.0 = refused-segments _ _ _ _ _ _ (reads (goal.at.returns-in_err-check_segments c).After-memory) (sym c.in_err-check_segments.ensures ∙ ap (λ (e : ElfError). Some e) (sym p.2)) in
+    rw p.1 (record { loaded = tt; refused = inr refused; memory = inr refused })
 
-pub returns-in_err-check_segments-clause-memory : goal.returns-in_err-check_segments-clause-memory
-unfolding segments
-returns-in_err-check_segments-clause-memory c =
-    let p = err_from_is_err_and c.from_residual-in_err-check_segments.result c.from_residual-in_err-check_segments.ensures.1 in
-    let reads : Reads c.args.bytes.now c.args.settings.now.memory c.deref.result.now c.deref-3.result.now c.memory.result = record {
-      headers_are = c.deref.ensures.0 ∙ c.read_table-table.ensures;
-      segments_are = c.deref-3.ensures.0 ∙ c.segments-segments.ensures ∙ ap (filter is_segment) (c.deref-2.ensures.0 ∙ c.read_table-table.ensures);
-      memory_is = c.memory.ensures.value;
-      header_taken = sym c.in_ok-header.ensures.refused;
-      static = sym c.if-needs_interpreter.ensures;
-    } in
-    let refused : image_of c.args.bytes.now c.args.settings.now ≡ Err p.0 = refused-segments _ _ _ _ _ _ reads (sym c.in_err-check_segments.ensures ∙ ap (λ (e : ElfError). Some e) (sym p.2)) in
-    rw p.1 (inr refused)
-
-pub returns-then-not-is_code-clause-refused : goal.returns-then-not-is_code-clause-refused
-unfolding segments program_of
-returns-then-not-is_code-clause-refused c =
-    let reads : Reads c.args.bytes.now c.args.settings.now.memory c.deref.result.now c.deref-3.result.now c.memory.result = record {
-      headers_are = c.deref.ensures.0 ∙ c.read_table-table.ensures;
-      segments_are = c.deref-3.ensures.0 ∙ c.segments-segments.ensures ∙ ap (filter is_segment) (c.deref-2.ensures.0 ∙ c.read_table-table.ensures);
-      memory_is = c.memory.ensures.value;
-      header_taken = sym c.in_ok-header.ensures.refused;
-      static = sym c.if-needs_interpreter.ensures;
-    } in
-    let same : c.deref-4.result.now ≡ segments c.args.bytes.now = c.deref-4.ensures.0 ∙ c.segments-segments.ensures ∙ ap (filter is_segment) (c.deref-2.ensures.0 ∙ c.read_table-table.ensures) in
-    let entry = entered c.args.bytes.now c.args.settings.now _ _ c.deref-4.result.now _ c.in_ok-header.header c.is_code.result reads c.memory.ensures.pages c.memory.ensures.low (sym c.in_ok-check_segments.ensures) same c.in_ok-header.ensures.header c.is_code.ensures in
+pub returns-then-not-is_code : goal.returns-then-not-is_code
+unfolding program_of
+returns-then-not-is_code c =
+    let a = goal.at.returns-then-not-is_code c in
+    let so = reads a.After-memory in
     let refused : image_of c.args.bytes.now c.args.settings.now ≡ Err (EntryOutside c.in_ok-header.header.entry) =
-    refused-entry _ _ _ _ _ reads (sym c.in_ok-check_segments.ensures) (entry ∙ ap not c.if-not-is_code.true) ∙ ap (λ (f : FileHeader). Err (EntryOutside f.entry)) (sym c.in_ok-header.ensures.header) in
-    inr refused
-
-pub returns-then-not-is_code-clause-memory : goal.returns-then-not-is_code-clause-memory
-unfolding segments program_of
-returns-then-not-is_code-clause-memory c =
-    let reads : Reads c.args.bytes.now c.args.settings.now.memory c.deref.result.now c.deref-3.result.now c.memory.result = record {
-      headers_are = c.deref.ensures.0 ∙ c.read_table-table.ensures;
-      segments_are = c.deref-3.ensures.0 ∙ c.segments-segments.ensures ∙ ap (filter is_segment) (c.deref-2.ensures.0 ∙ c.read_table-table.ensures);
-      memory_is = c.memory.ensures.value;
-      header_taken = sym c.in_ok-header.ensures.refused;
-      static = sym c.if-needs_interpreter.ensures;
-    } in
-    let same : c.deref-4.result.now ≡ segments c.args.bytes.now = c.deref-4.ensures.0 ∙ c.segments-segments.ensures ∙ ap (filter is_segment) (c.deref-2.ensures.0 ∙ c.read_table-table.ensures) in
-    let entry = entered c.args.bytes.now c.args.settings.now _ _ c.deref-4.result.now _ c.in_ok-header.header c.is_code.result reads c.memory.ensures.pages c.memory.ensures.low (sym c.in_ok-check_segments.ensures) same c.in_ok-header.ensures.header c.is_code.ensures in
-    let refused : image_of c.args.bytes.now c.args.settings.now ≡ Err (EntryOutside c.in_ok-header.header.entry) =
-    refused-entry _ _ _ _ _ reads (sym c.in_ok-check_segments.ensures) (entry ∙ ap not c.if-not-is_code.true) ∙ ap (λ (f : FileHeader). Err (EntryOutside f.entry)) (sym c.in_ok-header.ensures.header) in
-    inr refused
+    refused-entry _ _ _ _ _ so (sym c.in_ok-check_segments.ensures) (entry a.After-is_code so ∙ ap not c.if-not-is_code.true) ∙ ap (λ (f : FileHeader). Err (EntryOutside f.entry)) (sym c.in_ok-header.ensures.header) in
+    record { loaded = tt; refused = inr refused; memory = inr refused }
 
 pub returns-in_err-program-clause-memory : goal.returns-in_err-program-clause-memory
-unfolding segments
 returns-in_err-program-clause-memory c =
     let p = err_from_is_err_and c.from_residual-in_err-program.result c.from_residual-in_err-program.ensures.1 in
-    let reads : Reads c.args.bytes.now c.args.settings.now.memory c.deref.result.now c.deref-3.result.now c.memory.result = record {
-      headers_are = c.deref.ensures.0 ∙ c.read_table-table.ensures;
-      segments_are = c.deref-3.ensures.0 ∙ c.segments-segments.ensures ∙ ap (filter is_segment) (c.deref-2.ensures.0 ∙ c.read_table-table.ensures);
-      memory_is = c.memory.ensures.value;
-      header_taken = sym c.in_ok-header.ensures.refused;
-      static = sym c.if-needs_interpreter.ensures;
-    } in
-    let same : c.deref-4.result.now ≡ segments c.args.bytes.now = c.deref-4.ensures.0 ∙ c.segments-segments.ensures ∙ ap (filter is_segment) (c.deref-2.ensures.0 ∙ c.read_table-table.ensures) in
-    let entry = entered c.args.bytes.now c.args.settings.now _ _ c.deref-4.result.now _ c.in_ok-header.header c.is_code.result reads c.memory.ensures.pages c.memory.ensures.low (sym c.in_ok-check_segments.ensures) same c.in_ok-header.ensures.header c.is_code.ensures in
-    rw p.1 (inl (refused-nothing _ _ _ _ _ reads (sym c.in_ok-check_segments.ensures) (entry ∙ ap not c.if-not-is_code.false)))
+    let a = goal.at.returns-in_err-program-clause-memory c in
+    let so = reads a.After-memory in
+    rw p.1 (inl (refused-nothing _ _ _ _ _ so (sym c.in_ok-check_segments.ensures) (entry a.After-is_code so ∙ ap not c.if-not-is_code.false)))
 
 pub returns-clause-loaded : goal.returns-clause-loaded
-unfolding segments
 returns-clause-loaded c =
-    let reads : Reads c.args.bytes.now c.args.settings.now.memory c.deref.result.now c.deref-3.result.now c.memory.result = record {
-      headers_are = c.deref.ensures.0 ∙ c.read_table-table.ensures;
-      segments_are = c.deref-3.ensures.0 ∙ c.segments-segments.ensures ∙ ap (filter is_segment) (c.deref-2.ensures.0 ∙ c.read_table-table.ensures);
-      memory_is = c.memory.ensures.value;
-      header_taken = sym c.in_ok-header.ensures.refused;
-      static = sym c.if-needs_interpreter.ensures;
-    } in
-    let same : c.deref-4.result.now ≡ segments c.args.bytes.now = c.deref-4.ensures.0 ∙ c.segments-segments.ensures ∙ ap (filter is_segment) (c.deref-2.ensures.0 ∙ c.read_table-table.ensures) in
-    let entry = entered c.args.bytes.now c.args.settings.now _ _ c.deref-4.result.now _ c.in_ok-header.header c.is_code.result reads c.memory.ensures.pages c.memory.ensures.low (sym c.in_ok-check_segments.ensures) same c.in_ok-header.ensures.header c.is_code.ensures in
-    loaded _ _ _ _ _ reads (sym c.in_ok-check_segments.ensures) (entry ∙ ap not c.if-not-is_code.false) ∙ ap (λ (p : Program). Ok p) (sym c.in_ok-program.ensures)
+    let a = goal.at.returns-clause-loaded c in
+    let so = reads a.After-memory in
+    loaded _ _ _ _ _ so (sym c.in_ok-check_segments.ensures) (entry a.After-is_code so ∙ ap not c.if-not-is_code.false) ∙ ap (λ (p : Program). Ok p) (sym c.in_ok-program.ensures)

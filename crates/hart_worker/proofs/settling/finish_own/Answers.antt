@@ -2,12 +2,6 @@ use Rattle.hart_worker.proofs.Common.{◌≡◌, ◌∙◌, ◌++◌, true, fals
 use Rattle.hart_worker.proofs.OwnRuns.{kept_of}
 use Rattle.hart_worker.proofs.settling.finish_own.Goals as goal
 
-pub returns-then-closed-clause-finished : goal.returns-then-closed-clause-finished
-returns-then-closed-clause-finished g c = c.if-closed.true
-
-pub returns-then-closed-clause-of_rows : goal.returns-then-closed-clause-of_rows
-returns-then-closed-clause-of_rows g c = c.close_own-closed.ensures.of_rows c.if-closed.true
-
 pub returns-then-closed-clause-run : goal.returns-then-closed-clause-run
 returns-then-closed-clause-run g c = λ t.
     let bus = c.args.bus in
@@ -38,9 +32,6 @@ returns-then-closed-clause-keeps g c = λ t running.
     let is : all ≡ list_rows bus.began (b ++ more) =
     subst (λ (x : Began). all ≡ list_rows x (b ++ more)) c.finish.ensures.began (c.close_own-closed.ensures.rows ∙ (c.in_ok-finish.ensures.added b taken).taken.rows t) in
     kept_of c.lists_go_on.ensures bus.began bus.rows more all (taken.rows t) is
-
-pub returns-clause-by_seed : goal.returns-clause-by_seed
-returns-clause-by_seed g c = c.again.ensures.by_seed c.args.bus.rows
 
 pub returns-clause-keeps : goal.returns-clause-keeps
 returns-clause-keeps g c = λ t running.

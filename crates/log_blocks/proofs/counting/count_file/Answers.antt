@@ -6,8 +6,5 @@ use Rattle.log_blocks.proofs.counting.count_file.Goals as goal
 pub returns-in-Ok-clause-counted : goal.returns-in-Ok-clause-counted
 returns-in-Ok-clause-counted c = counts_second c.args.bytes.now c.in-Ok.tested (sym c.is_second.ensures ∙ c.if-is_second.true) c.in-Ok.ensures.tested
 
-pub returns-in-Err-clause-memory : goal.returns-in-Err-clause-memory
-returns-in-Err-clause-memory c = λ e. sym c.is_second.ensures ∙ c.if-is_second.true
-
 pub returns-in-Err-count_file-clause-memory : goal.returns-in-Err-count_file-clause-memory
 returns-in-Err-count_file-clause-memory c = λ e. absurd (no_memory c.in-Err-count_file.fault c.in-Err-count_file.ensures.memory e)

@@ -1,4 +1,4 @@
-use Rattle.log_blocks.proofs.Common.{◌≡◌, ℕ, List, false, not, length, subst, sym, ◌∙◌, ◌==◌, ◌&&◌, HasWalked}
+use Rattle.log_blocks.proofs.Common.{ℕ, List, false, subst, sym, ◌∙◌, HasWalked}
 use Rattle.log_blocks.proofs.Salvaged.{lost, unlisted_left, walked_behind}
 use Rattle.log_blocks.proofs.salvaging.kept_walk.Goals as goal
 
@@ -21,7 +21,3 @@ returns-clause-walked c =
     walked_behind c.args.bytes.now c.head_digest.result c.tail.result.now c.read_u32-said.result c.walk_back-walk.result.0.rest c.walk_back-walk.result.0.size c.walk_back-walk.result.0.sizes.items
     (record { fault = c.requires.fault; digest_is = c.head_digest.ensures; n_is = c.read_u32-said.ensures; body_is = c.tail.ensures })
     (subst (λ (t : List ℕ). HasWalked c.head_digest.result c.read_u32-said.result c.tail.result.now c.walk_back-walk.result.0.rest c.walk_back-walk.result.0.size t) (sym (s.all c.if-not-listed.false)) s.walked)
-
-pub returns-clause-some : goal.returns-clause-some
-returns-clause-some c =
-    subst (λ (n : ℕ). (not (n == 0) && (length c.walk_back-walk.result.0.sizes.items == 0)) ≡ false) c.read_u32-said.ensures (sym c.is_lost.ensures ∙ c.if-is_lost.false)

@@ -1,18 +1,8 @@
-use Rattle.log_blocks.proofs.Common.{List, ℕ, sym, subst, refl, TestsSalvaged, told, IsSalvageRefusal, AreLaid, SalvageError}
+use Rattle.log_blocks.proofs.Common.{sym, subst, refl, TestsSalvaged, told, IsSalvageRefusal, SalvageError}
 use Rattle.log_blocks.proofs.Tested.{size_bound}
 use Rattle.log_blocks.proofs.Salvaged.{behind, taken_is, damage_is, head_is}
 use Rattle.log_blocks.proofs.Tallied.{kept_ok}
 use Rattle.log_blocks.proofs.salvaging.test_in.Goals as goal
-
-pub dropped_before-dropped-requires : goal.dropped_before-dropped-requires
-dropped_before-dropped-requires c =
-    let w = c.in_ok-walk.ensures.walked in
-    (w.pieces, subst (λ (t : List ℕ). AreLaid t c.in_ok-walk.walk.rest c.in_ok-walk.walk.size c.in_ok-walk.walk.sizes.items w.pieces) (sym c.tail-blocks.ensures) w.laid)
-
-pub test_blocks-requires-clause-laid : goal.test_blocks-requires-clause-laid
-test_blocks-requires-clause-laid c =
-    let w = c.in_ok-walk.ensures.walked in
-    (w.pieces, subst (λ (t : List ℕ). AreLaid t c.in_ok-walk.walk.rest c.in_ok-walk.walk.size c.in_ok-walk.walk.sizes.items w.pieces) (sym c.tail-blocks.ensures) w.laid)
 
 pub test_blocks-requires-clause-bound : goal.test_blocks-requires-clause-bound
 test_blocks-requires-clause-bound c = size_bound c.args.bytes.now c.args.settings _ c.in_ok-walk.walk.size c.requires.fault c.requires.settings refl c.in_ok-walk.ensures.walked.few

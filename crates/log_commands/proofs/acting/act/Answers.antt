@@ -3,12 +3,6 @@ use Rattle.log_commands.proofs.Acts.{sent-prints}
 use Rattle.log_commands.proofs.Kept.{prints-act}
 use Rattle.log_commands.proofs.acting.act.Goals as goal
 
-pub returns-in-Recorded : goal.returns-in-Recorded
-returns-in-Recorded g c = rw c.in-Recorded.is c.keep_run.ensures
-
-pub returns-in-Renewed : goal.returns-in-Renewed
-returns-in-Renewed g c = rw c.in-Renewed.is (rw c.done.ensures (c.keep_new.ensures (g.X.Sink.stream c.args.err.now)))
-
 pub returns-in-Interval : goal.returns-in-Interval
 returns-in-Interval g c =
     rw c.in-Interval.is (rw c.done-in-Interval.ensures (prints-act c.args.names.now (Interval c.in-Interval.reading) g.S.Store.note (g.S.Store.stored c.args.files.now) (g.O.Sink.stream c.args.out.now) (g.O.Sink.stream c.print_interval.new.out) (g.X.Sink.stream c.args.err.now) c.print_interval.result

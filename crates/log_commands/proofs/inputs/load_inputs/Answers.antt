@@ -10,20 +10,16 @@ returns-in_err-bytes g c =
     let k = c.loop-role.role-index in
     let r = get_or roles k Elf in
     let at : drop k roles ≡ r ∷ drop (k + 1) roles = rw add-one (drop-cons roles k Elf c.loop-role-test.true) in
-    let old = g.S.Store.stored c.args.files.now in
-    let mid = g.S.Store.stored c.loop-role.files in
-    let new = g.S.Store.stored c.fetch.new.files in
     let so_far = c.loop-role.invariant in
-    let x = c.in_err-bytes.field-0.0 in
     let f = c.in_err-bytes.ensures in
-    passed-on (LoadsAll c.args.names.now roles g.S.Store.note old new) x c.from_residual.result c.from_residual.ensures.1
+    passed-on (LoadsAll c.args.names.now roles g.S.Store.note _ _) _ c.from_residual.result c.from_residual.ensures.1
     (record {
-      loads = so_far-stopped old.files mid.files c.args.names.now roles r (limit_of r) (drop k roles) (drop (k + 1) roles) (bytes_of c.loop-role.inputs) x
+      loads = so_far-stopped _ _ c.args.names.now roles _ (limit_of _) (drop k roles) (drop (k + 1) roles) (bytes_of c.loop-role.inputs) _
           so_far.only.same refl at so_far.reached f.told;
-      only = only-then old mid new c.loop-role.inputs _ so_far.only f.same f.asks f.later f.cause;
-      calls = called-stops g.S.Store.note c.args.names.now roles (drop k roles) (drop (k + 1) roles) r (limit_of r) old.noted mid.noted new.noted x
+      only = only-then _ _ _ c.loop-role.inputs _ so_far.only f.same f.asks f.later f.cause;
+      calls = called-stops g.S.Store.note c.args.names.now roles (drop k roles) (drop (k + 1) roles) _ (limit_of _) _ _ _ _
           refl at so_far.called f.called f.stops;
-      none = λ empty. some-left roles (drop k roles) (drop (k + 1) roles) r so_far.called.made empty at so_far.called.parts;
+      none = λ empty. some-left roles (drop k roles) (drop (k + 1) roles) _ so_far.called.made empty at so_far.called.parts;
     })
 
 pub loop-role-preserved : goal.loop-role-preserved
@@ -32,15 +28,12 @@ loop-role-preserved g c =
     let k = c.loop-role.role-index in
     let r = get_or roles k Elf in
     let at : drop k roles ≡ r ∷ drop (k + 1) roles = rw add-one (drop-cons roles k Elf c.loop-role-test.true) in
-    let old = g.S.Store.stored c.args.files.now in
-    let mid = g.S.Store.stored c.loop-role.files in
-    let new = g.S.Store.stored c.fetch.new.files in
     let so_far = c.loop-role.invariant in
     let f = c.in_ok-bytes.ensures in
     record {
-      reached = so_far-more old.files mid.files c.args.names.now roles r (limit_of r) (drop k roles) (drop (k + 1) roles) (bytes_of c.loop-role.inputs) (bytes_of c.put.new.self) c.in_ok-bytes.bytes
+      reached = so_far-more _ _ c.args.names.now roles _ (limit_of _) (drop k roles) (drop (k + 1) roles) (bytes_of c.loop-role.inputs) (bytes_of c.put.new.self) c.in_ok-bytes.bytes
           so_far.only.same refl at c.put.ensures so_far.reached f.told;
-      only = only-then old mid new c.loop-role.inputs _ so_far.only f.same f.asks f.later tt;
-      called = called-more g.S.Store.note c.args.names.now roles (drop k roles) (drop (k + 1) roles) r (limit_of r) old.noted mid.noted new.noted
+      only = only-then _ _ _ c.loop-role.inputs _ so_far.only f.same f.asks f.later tt;
+      called = called-more g.S.Store.note c.args.names.now roles (drop k roles) (drop (k + 1) roles) _ (limit_of _) _ _ _
           refl at so_far.called f.called;
     }

@@ -2,21 +2,9 @@ use Rattle.log_commands.proofs.Common.{◌≡◌, rules, bytes_eq, sha256, Makes
 use Rattle.log_commands.proofs.Answering.{passed-on}
 use Rattle.log_commands.proofs.pairs.pair_by.Goals as goal
 
-pub returns-then-ne-clause-is : goal.returns-then-ne-clause-is
-returns-then-ne-clause-is c = search rules
-
-pub returns-then-ne-clause-own : goal.returns-then-ne-clause-own
-returns-then-ne-clause-own c = search rules
-
 pub returns-in_err-image-clause-is : goal.returns-in_err-image-clause-is
 returns-in_err-image-clause-is c =
     passed-on (Makes (λ result. result ≡ where_same (bytes_eq (sha256 c.args.elf.now) c.args.log.head.digest) c.args.elf.now c.args.log)) c.in_err-image.field-0.0 c.from_residual.result c.from_residual.ensures.1 (search rules)
 
 pub returns-in_err-image-clause-own : goal.returns-in_err-image-clause-own
 returns-in_err-image-clause-own c = passed-on (λ r. IsOwn {A = JointReading} r) _ c.from_residual.result c.from_residual.ensures.1 c.in_err-image.ensures.own
-
-pub returns-clause-is : goal.returns-clause-is
-returns-clause-is c = search rules
-
-pub returns-clause-own : goal.returns-clause-own
-returns-clause-own c = search rules

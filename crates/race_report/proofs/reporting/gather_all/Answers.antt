@@ -1,9 +1,6 @@
-use Rattle.std.proofs.Common.{◌∙◌, sym, inr}
+use Rattle.std.proofs.Common.{◌∙◌, sym}
 use Rattle.race_report.proofs.Stepping.{way_has, way_next, way_fewer, way_done, way_stopped}
 use Rattle.race_report.proofs.reporting.gather_all.Goals as goal
-
-pub steps-init : goal.steps-init
-steps-init c = record { there = c.requires; on = λ harts first w. w }
 
 pub advance-requires-clause-state : goal.advance-requires-clause-state
 advance-requires-clause-state c =
@@ -36,9 +33,3 @@ returns-in-NoneReady-clause-gathers c = λ harts first w.
 pub returns-in-Err-clause-gathers : goal.returns-in-Err-clause-gathers
 returns-in-Err-clause-gathers c = λ harts first w.
     way_stopped harts c.args.most first c.steps.joint c.steps.gathered c.in-Err.error (c.steps.invariant.on harts first w) c.in-Err.ensures.advances
-
-pub returns-in-NoneReady-clause-memory : goal.returns-in-NoneReady-clause-memory
-returns-in-NoneReady-clause-memory c = λ e. inr (c.stuck.ensures.memory e)
-
-pub returns-in-Err-clause-memory : goal.returns-in-Err-clause-memory
-returns-in-Err-clause-memory c = c.in-Err.ensures.memory

@@ -38,9 +38,6 @@ returns-clause-legal c = λ run is.
     c.loop-at.invariant.judged run is ∙ wrong_at_end from.settings from.image (run_from from.settings from.image run (take at list)) list at c.loop-at-test.false
     ∙ ap (λ (xs : List ℕ). unfinished (live_harts 0 from.settings.harts (run_from from.settings from.image run xs).harts)) (all_taken list at c.loop-at-test.false)
 
-pub returns-then-not-live-clause-memory : goal.returns-then-not-live-clause-memory
-returns-then-not-live-clause-memory c = λ e. absurd cc
-
 pub returns-in_err-turn_ahead-clause-memory : goal.returns-in_err-turn_ahead-clause-memory
 returns-in_err-turn_ahead-clause-memory c = any_err _ c.from_residual.result (λ e m run is.
     let from = c.args.plain.now.start in let list = c.args.list.now in let at = c.loop-at.at in

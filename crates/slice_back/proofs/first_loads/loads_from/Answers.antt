@@ -1,5 +1,4 @@
-use Rattle.slice_back.proofs.Common.{◌≡◌, ℕ, ◌+◌, ◌<◌, ◌≤◌, Option, Some, None, List, [], ◌∷◌, ◌++◌, length, get_or, drop, sym, ap, ◌∙◌, append_assoc, add-one, arith, drop-cons, append-nil, Record, Logged, put, puts, nothing, loads_in, scanned}
-use Rattle.std.proofs.lemmas.List.{drop_all}
+use Rattle.slice_back.proofs.Common.{◌≡◌, ℕ, ◌+◌, ◌<◌, Option, Some, None, List, [], ◌∷◌, ◌++◌, length, get_or, drop, sym, ap, ◌∙◌, append_assoc, add-one, arith, drop-cons, append-nil, Record, Logged, put, puts, nothing, loads_in, scanned}
 use Rattle.slice_back.proofs.first_loads.loads_from.Goals as goal
 
 -- the loads from a place on, by those after it
@@ -8,9 +7,6 @@ from_place : (h : ℕ) (rs : List Record) (k : ℕ) (r : Record) (o : Option (Op
 from_place h rs k r o below is tells =
     let front : drop k rs ≡ r ∷ drop (k + 1) rs = rw add-one (drop-cons rs k r below) ∙ ap (λ (y : Record). y ∷ drop (k + 1) rs) (sym is) in
     ap (loads_in h) front ∙ tells (puts h (drop (k + 1) rs) nothing)
-
-pub loop-place-init : goal.loop-place-init
-loop-place-init c = ap (λ (xs : List (ℕ × ℕ)). xs ++ loads_in c.args.hart (drop c.args.from c.args.records.now)) c.new-loads.ensures.items
 
 pub loop-place-preserved-in-None : goal.loop-place-preserved-in-None
 loop-place-preserved-in-None c =
@@ -38,9 +34,3 @@ returns-in-Some-None c =
     let none = from_place c.args.hart c.args.records.now c.loop-place.place c.get.result (Some c.in-Some-None.field-0) below c.get.ensures c.in-Some-None.ensures
     ∙ ap (λ (o : Option (ℕ × ℕ)). scanned (Some o) behind) c.in-Some-None.field-0-is in
     sym (append-nil items) ∙ ap (λ (xs : List (ℕ × ℕ)). items ++ xs) (sym none) ∙ c.loop-place.invariant
-
-pub returns : goal.returns
-returns c =
-    let items : List (ℕ × ℕ) = c.loop-place.loads.items in
-    let past : length c.args.records.now ≤ c.loop-place.place = omega arith in
-    sym (append-nil items) ∙ ap (λ (xs : List (ℕ × ℕ)). items ++ xs) (sym (ap (loads_in c.args.hart) (drop_all c.loop-place.place c.args.records.now past))) ∙ c.loop-place.invariant

@@ -2,9 +2,6 @@ use Rattle.std.proofs.Common.{refl, inl, inr}
 use Rattle.step_debugger.proofs.Taken.{answered, cut, goes_on}
 use Rattle.step_debugger.proofs.debugger.answer_next.Goals as goal
 
-pub returns-in-Err-clause-taken : goal.returns-in-Err-clause-taken
-returns-in-Err-clause-taken g c = inl (record { read = c.in-Err.ensures.read; same = refl })
-
 pub returns-in-Err-answer-clause-taken : goal.returns-in-Err-answer-clause-taken
 returns-in-Err-answer-clause-taken g c = inr (inl (c.in-Ok.whole, cut c.in-Ok.ensures.read c.line.ensures c.in-Err-answer.ensures.sent))
 

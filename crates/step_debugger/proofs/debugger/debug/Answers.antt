@@ -27,6 +27,3 @@ returns-in-Err-clause-apart g c = line_apart c.args.trail.now.trace c.lines.trai
 
 pub returns-then-not-goes_on-clause-told : goal.returns-then-not-goes_on-clause-told
 returns-then-not-goes_on-clause-told g c = line_last c.lines.invariant.stands (rw c.if-not-goes_on.true at c.in-Ok.ensures.taken)
-
-pub returns-then-not-goes_on-clause-apart : goal.returns-then-not-goes_on-clause-apart
-returns-then-not-goes_on-clause-apart g c = λ u. c.in-Ok.ensures.apart (c.lines.invariant.apart u)

@@ -1,4 +1,4 @@
-use Rattle.std.proofs.Common.{◌≡◌, ◌∙◌, true, false, refl, sym, inl, inr}
+use Rattle.std.proofs.Common.{◌≡◌, ◌∙◌, true, false, sym, inl}
 use Rattle.whole_runs.proofs.OwnTurns.{stays_taken}
 use Rattle.whole_runs.proofs.listed_bus.take_at.Goals as goal
 
@@ -15,14 +15,8 @@ never e = cc
 pub returns-then-not-live-clause-at : goal.returns-then-not-live-clause-at
 returns-then-not-live-clause-at g c live run is place = sym c.if-not-live.true ∙ c.live.ensures.value ∙ live
 
-pub returns-then-not-live-clause-over : goal.returns-then-not-live-clause-over
-returns-then-not-live-clause-over g c over = (refl, refl, refl)
-
 pub returns-then-not-live-clause-none : goal.returns-then-not-live-clause-none
 returns-then-not-live-clause-none g c = inl (sym c.live.ensures.value ∙ c.if-not-live.true)
-
-pub returns-then-not-live-clause-taken : goal.returns-then-not-live-clause-taken
-returns-then-not-live-clause-taken g c running = record { running = running; more = λ list taken. (list, taken) }
 
 pub returns-then-not-is_at-clause-at : goal.returns-then-not-is_at-clause-at
 returns-then-not-is_at-clause-at g c live run is place = sym c.if-not-is_at.true ∙ c.is_at.ensures.all run is place
@@ -32,19 +26,10 @@ returns-then-not-is_at-clause-over g c over =
     let both : false ≡ true = sym over ∙ sym c.live.ensures.value ∙ c.if-not-live.false in
     never both
 
-pub returns-then-not-is_at-clause-none : goal.returns-then-not-is_at-clause-none
-returns-then-not-is_at-clause-none g c = inr c.halt.ensures.halted
-
 -- ---- a turn, or out of memory
 
 pub serve_kept-requires-clause-own : goal.serve_kept-requires-clause-own
 serve_kept-requires-clause-own g c run is = c.requires ∙ c.is_at.ensures.asks c.if-not-is_at.false run is
-
-pub returns-in-Ok-clause-served : goal.returns-in-Ok-clause-served
-returns-in-Ok-clause-served g c = c.in-Ok.ensures.served
-
-pub returns-in-Ok-clause-kept : goal.returns-in-Ok-clause-kept
-returns-in-Ok-clause-kept g c = c.in-Ok.ensures.kept
 
 pub returns-in-Ok-clause-over : goal.returns-in-Ok-clause-over
 returns-in-Ok-clause-over g c over =

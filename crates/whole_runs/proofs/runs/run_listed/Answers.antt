@@ -1,10 +1,7 @@
-use Rattle.whole_runs.proofs.Common.{◌∙◌, ℕ, List, [], ap, subst, arith, IfOk, IfOk-weaker, TurnRow, Began, began_of, IsListed, IsOfRows, seeded_after}
+use Rattle.whole_runs.proofs.Common.{◌∙◌, ℕ, List, [], ap, subst, IfOk, IfOk-weaker, TurnRow, Began, began_of, IsListed, IsOfRows, seeded_after}
 use Rattle.whole_runs.proofs.Chosen.{listed_so}
 use Rattle.whole_runs.proofs.Whole.{seeded_is, taken_none}
 use Rattle.whole_runs.proofs.runs.run_listed.Goals as goal
-
-pub listed_alone-requires-clause-alone : goal.listed_alone-requires-clause-alone
-listed_alone-requires-clause-alone g c = omega (arith, c.if-harts-eq1.true, c.harts.ensures.value, ap (λ (b : Began). b.settings.harts) c.start.ensures)
 
 pub listed_alone-requires-clause-start : goal.listed_alone-requires-clause-start
 listed_alone-requires-clause-start g c =

@@ -26,9 +26,6 @@ taking-preserved g c =
       taken = taken_alone g.B.Book.tells _ c.taking.now c.in_ok-now.now c.taking.invariant.taken t;
     }
 
-pub returns-clause-taken : goal.returns-clause-taken
-returns-clause-taken g c = c.taking.invariant.taken
-
 pub returns-clause-drawn : goal.returns-clause-drawn
 returns-clause-drawn g c = λ seed.
     let now = c.taking.now in
@@ -47,6 +44,3 @@ returns-clause-finished g c =
     let run : Run = list_run now.began (replicate now.turns 0) in
     let alone = ap (λ (x : Began). x.settings.harts) c.taking.invariant.began ∙ c.requires.alone in
     over_none now.began.settings run (none_alone now.began.settings.harts run.harts alone (over_of now.began.settings run 0 (omega (arith, alone)) (sym (c.live.ensures.run run h.state) ∙ c.taking-test.false)))
-
-pub returns-clause-began : goal.returns-clause-began
-returns-clause-began g c = c.taking.invariant.began

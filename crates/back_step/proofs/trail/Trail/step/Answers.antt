@@ -20,9 +20,6 @@ step-requires-clause-there c =
 pub step-requires-clause-ready : goal.step-requires-clause-ready
 step-requires-clause-ready c = ap (λ (t : Trailed). readiness t.trace.now c.args.hart) c.self.view_is ∙ c.requires.ready
 
-pub returns-then-is_err : goal.returns-then-is_err
-returns-then-is_err c = inr (refl, inl c.self.view_is)
-
 pub returns-then-is_err-2 : goal.returns-then-is_err-2
 returns-then-is_err-2 c =
     let e = c.self.inside in

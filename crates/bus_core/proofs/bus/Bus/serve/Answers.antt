@@ -1,4 +1,4 @@
-use Rattle.bus_core.proofs.Common.{◌≡◌, ℕ, ◌+◌, Bool, true, not, ◌||◌, List, ◌∷◌, ◌++◌, [], subst, sym, ◌∙◌, ap, IsTrue, is_reply_to, Reply, TurnRow, is_orderly, serve, parts, Seen, seen, IsState, IsHistory, began_of, run_after, row, is_live}
+use Rattle.bus_core.proofs.Common.{◌≡◌, ℕ, ◌+◌, Bool, true, not, ◌||◌, List, ◌∷◌, ◌++◌, [], subst, sym, ◌∙◌, ap, TurnRow, is_orderly, serve, parts, Seen, seen, IsState, IsHistory, began_of, run_after, row, is_live}
 use Rattle.bus_core.proofs.History.{Serves, history_more, history_same, run_is, state_is}
 use Rattle.bus_core.proofs.Serves.{served_turns, on_err, or_first, or_second}
 use Rattle.bus_core.proofs.bus.Bus.serve.Goals as goal
@@ -67,9 +67,6 @@ returns-clause-state g c run is =
     subst (λ (x : Seen). IsState now (serve x.began.settings x.began.image run k ask).run) c.self.view_is
     (state_is q b.halted c.if-self.self (g.B.Book.told c.take.new.book) (serve p.start.settings p.start.image run k ask).run (c.in_ok-served.ensures.answers.served run (run_is c.notes_decide.ensures p b.halted b.disordered told run at)).2)
 
-pub returns-clause-told : goal.returns-clause-told
-returns-clause-told g c t = c.in_ok-served.ensures.rows t ∙ ap (λ (x : Seen). x.rows ++ row c.args.hart c.args.ask.now c.in_ok-served.served.0 c.in_ok-served.served.1 ∷ []) c.self.view_is
-
 pub returns-clause-disordered : goal.returns-clause-disordered
 returns-clause-disordered g c run is =
     let b = c.self.inside in
@@ -88,11 +85,3 @@ returns-clause-turns g c =
     let run = run_after (began_of p.start) b.halted s.0 in
     (c.in_ok-served.ensures.answers.served run s.1.run).2.turns ∙ served_turns p.start.settings p.start.image run c.args.hart c.args.ask.now
     ∙ ap (λ (n : ℕ). n + 1) (sym s.1.run.turns ∙ ap (λ (x : Seen). x.turns) c.self.view_is)
-
-pub returns-clause-fits : goal.returns-clause-fits
-returns-clause-fits g c =
-    let p = parts c.self.inside.plain in
-    let s = c.self.invariant.some in
-    let run = run_after (began_of p.start) c.self.inside.halted s.0 in
-    let ask = c.args.ask.now in
-    subst (λ (r : Reply). IsTrue (is_reply_to ask.want r)) (sym (c.in_ok-served.ensures.answers.served run s.1.run).0) (c.replies_fit.ensures p.start.settings p.start.image run c.args.hart ask)

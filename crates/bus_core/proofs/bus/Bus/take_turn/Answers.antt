@@ -1,4 +1,4 @@
-use Rattle.bus_core.proofs.Common.{◌≡◌, ◌<◌, ℕ, ◌+◌, true, List, ◌∷◌, ◌++◌, [], subst, sym, ◌∙◌, ap, Ask, TurnRow, Start, IsRun, parts, serve, Seen, seen, IsState, IsHistory, began_of, run_after, row, turned_run, turn_row, is_live}
+use Rattle.bus_core.proofs.Common.{◌≡◌, ◌<◌, ℕ, ◌+◌, true, List, ◌∷◌, ◌++◌, [], subst, sym, ◌∙◌, ap, Ask, TurnRow, IsRun, parts, serve, Seen, seen, IsState, IsHistory, began_of, run_after, row, turned_run, turn_row, is_live}
 use Rattle.bus_core.proofs.History.{Serves, history_more, history_same, run_is, state_is}
 use Rattle.bus_core.proofs.Rows.{live_within}
 use Rattle.bus_core.proofs.OwnTurn.{ask_is, own_orderly, row_is, or_not_true}
@@ -16,15 +16,6 @@ ask_next-requires-clause-hart g c =
     let b = c.self.inside in
     let live = subst (λ (x : Seen). is_live x c.args.hart ≡ true) (sym c.self.view_is) c.requires.live in
     subst (λ n. c.args.hart < n) b.plain.fits.harts (live_within (parts b.plain).trace.harts.items c.args.hart live)
-
-pub ask_next-requires-clause-code : goal.ask_next-requires-clause-code
-ask_next-requires-clause-code g c = c.requires.code ∙ ap (λ (x : Seen). x.began.image) (sym c.self.view_is)
-
-pub answer_orderly-requires-clause-live : goal.answer_orderly-requires-clause-live
-answer_orderly-requires-clause-live g c = subst (λ (x : Seen). is_live x c.args.hart ≡ true) (sym c.self.view_is) c.requires.live
-
-pub answer_orderly-requires-clause-orderly : goal.answer_orderly-requires-clause-orderly
-answer_orderly-requires-clause-orderly g c = c.ask_next.ensures.orderly
 
 pub answer_orderly-requires-clause-meant : goal.answer_orderly-requires-clause-meant
 answer_orderly-requires-clause-meant g c = λ run is.
@@ -45,27 +36,6 @@ invariant_of-self g c =
 
 pub returns-in_err-reply-clause-kept : goal.returns-in_err-reply-clause-kept
 returns-in_err-reply-clause-kept g c = on_err c.from_residual.result _ (c.answer_orderly.ensures.rows ∙ ap (λ (x : Seen). x.rows) c.self.view_is)
-
-pub returns-in_err-reply-clause-began : goal.returns-in_err-reply-clause-began
-returns-in_err-reply-clause-began g c = ap (λ (t : Start). began_of t) c.answer_orderly.ensures.answers.start ∙ ap (λ (x : Seen). x.began) c.self.view_is
-
-pub returns-in_err-reply-clause-halted : goal.returns-in_err-reply-clause-halted
-returns-in_err-reply-clause-halted g c = ap (λ (x : Seen). x.halted) c.self.view_is
-
-pub returns-in_err-reply-clause-disordered : goal.returns-in_err-reply-clause-disordered
-returns-in_err-reply-clause-disordered g c = ap (λ (x : Seen). x.disordered) c.self.view_is
-
-pub note-requires : goal.note-requires
-note-requires g c = c.in_ok-reply.ensures.room
-
-pub returns-clause-began : goal.returns-clause-began
-returns-clause-began g c = ap (λ (t : Start). began_of t) c.answer_orderly.ensures.answers.start ∙ ap (λ (x : Seen). x.began) c.self.view_is
-
-pub returns-clause-halted : goal.returns-clause-halted
-returns-clause-halted g c = ap (λ (x : Seen). x.halted) c.self.view_is
-
-pub returns-clause-disordered : goal.returns-clause-disordered
-returns-clause-disordered g c = ap (λ (x : Seen). x.disordered) c.self.view_is
 
 pub returns-in_err-reply-clause-refused : goal.returns-in_err-reply-clause-refused
 returns-in_err-reply-clause-refused g c =

@@ -1,4 +1,4 @@
-use Rattle.bus_core.proofs.Common.{◌≡◌, ◌<◌, ◌≤◌, ◌-◌, ℕ, ◌+◌, true, false, subst, sym, ◌∙◌, ap, arith, refl, Bool, IsTrue, Ask, RawSettings, Start, Hart, hart_in, parts, ask_at, budget, is_orderly, Seen, seen, IsState, began_of, run_after, turned_run, is_live}
+use Rattle.bus_core.proofs.Common.{◌≡◌, ◌<◌, ◌≤◌, ◌-◌, ℕ, ◌+◌, true, false, subst, sym, ◌∙◌, ap, arith, refl, Bool, IsTrue, Ask, RawSettings, Hart, hart_in, parts, ask_at, budget, is_orderly, Seen, seen, IsState, began_of, run_after, turned_run, is_live}
 use Rattle.std.proofs.lemmas.Grind.{common_steps}
 use Rattle.bus_core.proofs.History.{history_turned, history_same, run_is, state_is}
 use Rattle.bus_core.proofs.Rows.{live_within}
@@ -7,12 +7,6 @@ use Rattle.bus_core.proofs.bus.Bus.take_untold.Goals as goal
 
 within_limit : (c : RawSettings) (h : Hart) → budget c h ≤ c.limit - h.state.ic
 within_limit c h = grind (arith, common_steps)
-
-pub turn_ahead-requires-clause-live : goal.turn_ahead-requires-clause-live
-turn_ahead-requires-clause-live g c = subst (λ (x : Seen). is_live x c.args.hart ≡ true) (sym c.self.view_is) c.requires.live
-
-pub turn_ahead-requires-clause-code : goal.turn_ahead-requires-clause-code
-turn_ahead-requires-clause-code g c = c.requires.code ∙ ap (λ (x : Seen). x.began.image) (sym c.self.view_is)
 
 pub invariant_of-self : goal.invariant_of-self
 invariant_of-self g c =
@@ -69,27 +63,3 @@ returns-clause-turns g c =
     let run = run_after (began_of p.start) b.halted s.0 in
     (c.in_ok-turn_ahead.ensures.run run s.1.run).turns ∙ served_turns p.start.settings p.start.image run c.args.hart (ask_at p.start.settings p.start.image (run.harts c.args.hart))
     ∙ ap (λ (n : ℕ). n + 1) (sym s.1.run.turns ∙ ap (λ (x : Seen). x.turns) c.self.view_is)
-
-pub returns-in_err-turn_ahead-clause-kept : goal.returns-in_err-turn_ahead-clause-kept
-returns-in_err-turn_ahead-clause-kept g c = ap (λ (x : Seen). x.rows) c.self.view_is
-
-pub returns-clause-kept : goal.returns-clause-kept
-returns-clause-kept g c = ap (λ (x : Seen). x.rows) c.self.view_is
-
-pub returns-in_err-turn_ahead-clause-began : goal.returns-in_err-turn_ahead-clause-began
-returns-in_err-turn_ahead-clause-began g c = ap (λ (t : Start). began_of t) c.turn_ahead.ensures.start ∙ ap (λ (x : Seen). x.began) c.self.view_is
-
-pub returns-clause-began : goal.returns-clause-began
-returns-clause-began g c = ap (λ (t : Start). began_of t) c.turn_ahead.ensures.start ∙ ap (λ (x : Seen). x.began) c.self.view_is
-
-pub returns-in_err-turn_ahead-clause-halted : goal.returns-in_err-turn_ahead-clause-halted
-returns-in_err-turn_ahead-clause-halted g c = ap (λ (x : Seen). x.halted) c.self.view_is
-
-pub returns-clause-halted : goal.returns-clause-halted
-returns-clause-halted g c = ap (λ (x : Seen). x.halted) c.self.view_is
-
-pub returns-in_err-turn_ahead-clause-disordered : goal.returns-in_err-turn_ahead-clause-disordered
-returns-in_err-turn_ahead-clause-disordered g c = ap (λ (x : Seen). x.disordered) c.self.view_is
-
-pub returns-clause-disordered : goal.returns-clause-disordered
-returns-clause-disordered g c = ap (λ (x : Seen). x.disordered) c.self.view_is

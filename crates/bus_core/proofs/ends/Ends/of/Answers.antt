@@ -1,12 +1,6 @@
-use Rattle.bus_core.proofs.Common.{◌≤◌, ◌∙◌, ap, arith, length, map, take_all, HARTS, Hart}
+use Rattle.bus_core.proofs.Common.{arith}
 use Rattle.bus_core.proofs.Marks.{mark_more}
 use Rattle.bus_core.proofs.ends.Ends.of.Goals as goal
-
-pub unreachable-requires : goal.unreachable-requires
-unreachable-requires c =
-    let i = c.loop-hart.invariant in
-    let few : length c.deref-hart-items.result.now ≤ HARTS = omega (arith, c.requires, ap length c.deref-hart-items.ensures.value) in
-    omega (arith, c.in-Err.ensures.full, i.len, i.room, c.loop-hart-test.true, few)
 
 pub loop-hart-preserved : goal.loop-hart-preserved
 loop-hart-preserved c =
@@ -16,10 +10,3 @@ loop-hart-preserved c =
       len = omega (arith, c.in-Ok.ensures.len, i.len);
       room = omega (arith, c.in-Ok.ensures.capacity, i.room);
     }
-
-pub returns : goal.returns
-returns c =
-    let hs = c.deref-hart-items.result.now in
-    let i = c.loop-hart.invariant in
-    let whole : length hs ≤ c.loop-hart.hart-index = omega (arith, c.loop-hart-test.false) in
-    i.items ∙ ap (map (λ (h : Hart). h.mark)) (take_all c.loop-hart.hart-index hs whole ∙ c.deref-hart-items.ensures.value)

@@ -5,11 +5,9 @@ use Rattle.log_commands.proofs.commands.joint.send_joint.Goals as goal
 
 pub returns-in_err-send_steps : goal.returns-in_err-send_steps
 returns-in_err-send_steps g c =
-    let old = g.O.Sink.stream c.args.out.now in
-    let new = g.O.Sink.stream c.send_steps.new.out in
     let steps = c.in_err-send_steps.ensures in
-    passed-on (SendsJoint c.args.joint.now c.send_steps.new.joint old new) _ c.from_residual.result c.from_residual.ensures.1
-    (record { sends = steps-refused (run_all c.args.joint.now) _ old new steps.sends; memory = λ m. inr (steps.memory m) })
+    passed-on (SendsJoint c.args.joint.now c.send_steps.new.joint _ _) _ c.from_residual.result c.from_residual.ensures.1
+    (record { sends = steps-refused (run_all c.args.joint.now) _ _ _ steps.sends; memory = λ m. inr (steps.memory m) })
 
 pub returns : goal.returns
 returns g c =

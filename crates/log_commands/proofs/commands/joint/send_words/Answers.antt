@@ -26,13 +26,8 @@ words-preserved g c =
 
 pub returns-in_err-gather_word-in-Some : goal.returns-in_err-gather_word-in-Some
 returns-in_err-gather_word-in-Some g c =
-    let ms = c.args.joint.now.memory in
-    let old = g.O.Sink.stream c.args.out.now in
-    let here = g.O.Sink.stream c.words.out in
-    let there = g.O.Sink.stream c.gather_word.new.out in
-    let x = c.in_err-gather_word-in-Some.field-0.0 in
-    passed-on (Sends (memory_text ms) Always old there) x c.from_residual.result c.from_residual.ensures.1
+    passed-on (Sends (memory_text _) Always _ _) _ c.from_residual.result c.from_residual.ensures.1
     (record {
-      sent = lists-stopped ms c.words.from (c.in-Some.addr + 4) (c.in-Some.addr, c.in-Some.word) c.words.text old.text here.text there.text old.faults here.faults there.faults x c.in-Some.ensures c.words.invariant c.in_err-gather_word-in-Some.ensures.sent;
+      sent = lists-stopped _ c.words.from (c.in-Some.addr + 4) (c.in-Some.addr, c.in-Some.word) c.words.text _ _ _ _ _ _ _ c.in-Some.ensures c.words.invariant c.in_err-gather_word-in-Some.ensures.sent;
       later = omega (arith, c.words.invariant.later, c.gather_word.ensures.later);
     })

@@ -1,4 +1,4 @@
-use Rattle.log_commands.proofs.Common.{◌+◌, List, ℕ, drop, subst, ◌++◌, ◌∙◌, ap, sym, append_assoc, ◌<◌, ◌≤◌, arith, Record, AppendsPart, record_text, list_text, SendStops, Sent, Sends, Always}
+use Rattle.log_commands.proofs.Common.{◌+◌, List, ℕ, drop, subst, ◌++◌, ◌∙◌, ap, sym, append_assoc, ◌<◌, arith, Record, AppendsPart, record_text, list_text, SendStops, Sent, Sends, Always}
 use Rattle.log_commands.proofs.Answering.{passed-on}
 use Rattle.log_commands.proofs.Prints.{SoFar, so_far-gathered, so_far-stopped, so_far-last}
 use Rattle.log_commands.proofs.Counts.{list-more, list-done}
@@ -51,13 +51,11 @@ returns g c = record {
   sent =
       let rs = c.records-records.result.now in
       let old = (g.O.Sink.stream c.args.out.now).text in
-      let now = (g.O.Sink.stream c.loop-place.out).text in
       let next = (g.O.Sink.stream c.send.new.sink).text in
       let before = (g.O.Sink.stream c.args.out.now).faults in
-      let after = (g.O.Sink.stream c.loop-place.out).faults in
       let last = (g.O.Sink.stream c.send.new.sink).faults in
       subst (λ (rs : List Record). Sent old next before last (list_text rs) (λ x. Unit {0}) c.send.result) c.records-records.ensures.value
-      (so_far-last (list_text rs) c.loop-place.text (list_text (drop c.loop-place.place rs)) old now next before after last c.send.result c.loop-place.invariant
-      (list-done rs c.loop-place.place (subst (λ (n : ℕ). n ≤ c.loop-place.place) c.len-place-end.ensures.value c.loop-place-test.false)) c.send.ensures.sends.sent);
+      (so_far-last (list_text _) c.loop-place.text (list_text (drop c.loop-place.place _)) _ _ _ _ _ _ c.send.result c.loop-place.invariant
+      (list-done _ c.loop-place.place (rw c.len-place-end.ensures.value at c.loop-place-test.false)) c.send.ensures.sends.sent);
   later = omega (arith, c.loop-place.invariant.later, c.send.ensures.sends.later);
 }

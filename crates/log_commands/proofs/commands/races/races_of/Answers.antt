@@ -1,4 +1,4 @@
-use Rattle.log_commands.proofs.Common.{inl, inr, refl, run_all, joined}
+use Rattle.log_commands.proofs.Common.{inr, run_all, joined}
 use Rattle.log_commands.proofs.Races.{races-listed, races-refused, races-halted, own-joint}
 use Rattle.log_commands.proofs.commands.races.races_of.Goals as goal
 
@@ -28,6 +28,3 @@ returns-in-Err-TooMany c =
       own = λ before now. tt;
       kind = tt;
     }
-
-pub returns-in-Err-OutOfMemory : goal.returns-in-Err-OutOfMemory
-returns-in-Err-OutOfMemory c = record { gives = λ names. inl refl; own = λ before now. tt; kind = tt }

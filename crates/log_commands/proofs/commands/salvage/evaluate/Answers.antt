@@ -1,4 +1,4 @@
-use Rattle.log_commands.proofs.Common.{inl, inr, refl}
+use Rattle.log_commands.proofs.Common.{inr}
 use Rattle.log_blocks.specs.declared.damage.SalvageError.TheVariants.{File, NothingLeft}
 use Rattle.log_commands.proofs.Renewals.{salvaged-told, unsalvaged-told}
 use Rattle.log_commands.proofs.commands.salvage.evaluate.Goals as goal
@@ -19,6 +19,3 @@ returns-in-Err-NothingLeft c = record {
   own = λ before now. tt;
   kind = tt;
 }
-
-pub returns-in-Err-OutOfMemory : goal.returns-in-Err-OutOfMemory
-returns-in-Err-OutOfMemory c = record { gives = λ names. inl refl; own = λ before now. tt; kind = tt }

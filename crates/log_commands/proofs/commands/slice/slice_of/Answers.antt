@@ -1,4 +1,4 @@
-use Rattle.log_commands.proofs.Common.{inl, inr, refl}
+use Rattle.log_commands.proofs.Common.{inr}
 use Rattle.log_commands.proofs.Slices.{slice-shown, slice-stopped, slice-absent}
 use Rattle.log_commands.proofs.commands.slice.slice_of.Goals as goal
 
@@ -22,6 +22,3 @@ returns-in-Err-NoRow c = record {
   own = λ before now. tt;
   kind = tt;
 }
-
-pub returns-in-Err-OutOfMemory : goal.returns-in-Err-OutOfMemory
-returns-in-Err-OutOfMemory c = record { gives = λ names. inl refl; own = λ before now. tt; kind = tt }

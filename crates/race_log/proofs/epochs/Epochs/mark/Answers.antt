@@ -22,11 +22,6 @@ returns-then-epoch-len-clause-counts c = λ i h.
     let low : c.args.epoch < length table = omega (arith, c.if-epoch-len.true, c.args.self.now.table.ok) in
     mark_counts table c.args.epoch c.index_mut.result.now true low c.index_mut.ensures.value i h
 
-pub returns-then-epoch-len-clause-full : goal.returns-then-epoch-len-clause-full
-returns-then-epoch-len-clause-full c =
-    let s : Epoch = record { times = c.index_mut.result.now.times; used = true } in
-    (refl, length-set c.args.self.now.table.items c.args.epoch s)
-
 pub returns-then-epoch-len-clause-marks : goal.returns-then-epoch-len-clause-marks
 returns-then-epoch-len-clause-marks c = λ i t.
     let table = c.args.self.now.table.items in

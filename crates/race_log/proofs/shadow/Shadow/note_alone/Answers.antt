@@ -3,9 +3,6 @@ use Rattle.race_log.proofs.AccessLemmas.{read_times, set_apart}
 use Rattle.race_log.proofs.Steps.{counts_here, counts_there}
 use Rattle.race_log.proofs.shadow.Shadow.note_alone.Goals as goal
 
-pub index_mut-requires : goal.index_mut-requires
-index_mut-requires c = omega (arith, c.requires.alone, c.args.self.now.each_hart)
-
 pub returns : goal.returns
 returns c =
     let old = c.args.self.now in

@@ -1,4 +1,4 @@
-use Rattle.race_log.proofs.Common.{◌≡◌, ◌∙◌, arith, sym, ap, subst, length, IsTrue, Some, slice_get, slice_index, inl, inr, cases_eq, is_marked, marks_in, slots_of, slots_in, epoch_of, size_of, sum_below}
+use Rattle.race_log.proofs.Common.{◌≡◌, ◌∙◌, arith, sym, ap, subst, length, IsTrue, Some, slice_get, slice_index, inl, inr, cases_eq, is_marked, slots_of, slots_in, epoch_of, size_of, sum_below}
 use Rattle.race_log.proofs.PagesLemmas.{page_at, slot_low}
 use Rattle.race_log.proofs.EpochLemmas.{settled_low, settled_grown}
 use Rattle.race_log.proofs.BoundLemmas.{all_marks}
@@ -71,12 +71,6 @@ invariant_of-self-3 c =
           ∙ ap (sum_below (size_of c.args.self.now)) (omega (arith, all, ap (λ p. length p.items) i.pages)) in
           omega (arith, slots, i.few, c.used-used.ensures.value, c.saturating_add-self.ensures, c.saturating_mul.ensures, c.saturating_add.ensures, c.len.ensures, mid.pages.ok);
     }
-
-pub returns-clause-limit : goal.returns-clause-limit
-returns-clause-limit c =
-    let mid = c.loop-number.self in
-    let marks = ap (λ t. marks_in t.items) c.restart.ensures.table in
-    omega (arith, c.saturating_add-self.ensures, c.saturating_mul.ensures, c.saturating_add.ensures, c.used-used.ensures.value, c.used-used.ensures.most, marks, mid.epochs.few, mid.few_pages, c.len.ensures, mid.pages.ok)
 
 pub returns-clause-growth : goal.returns-clause-growth
 returns-clause-growth c = λ all.

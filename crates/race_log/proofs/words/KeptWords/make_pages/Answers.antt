@@ -64,9 +64,5 @@ loop-number-preserved c =
     wider page (inl low) = inl low
     wider page (inr high) = inr (omega (arith, high))
 
-pub returns-clause-room : goal.returns-clause-room
-returns-clause-room c = λ i low.
-    c.loop-number.invariant.made (c.args.first + 4 * i) (omega arith) (omega (arith, low, c.loop-number-test.false, c.loop-number.auto.number-end))
-
 pub returns-then-count-eq0-clause-pages : goal.returns-then-count-eq0-clause-pages
 returns-then-count-eq0-clause-pages c = makes_none c.args.first c.args.count c.args.self.now

@@ -1,4 +1,4 @@
-use Rattle.race_log.proofs.Common.{◌<◌, ◌+◌, ◌*◌, ◌∙◌, ◌/◌, ◌%◌, slice_get, ◌==◌, cond, [], ap, arith, sym, subst, length, inl, inr, IsTrue, ℕ, word_in, slots_of, epoch_counts, page_of, place_of}
+use Rattle.race_log.proofs.Common.{◌<◌, ◌+◌, ◌*◌, ◌∙◌, ◌/◌, ◌%◌, slice_get, ◌==◌, cond, [], ap, sym, subst, length, IsTrue, ℕ, word_in, slots_of, epoch_counts, page_of, place_of}
 use Rattle.std.proofs.lemmas.Result.{on_ok_weaker}
 use Rattle.race_log.proofs.words.KeptWords.make_room_for_many.Goals as goal
 
@@ -21,30 +21,3 @@ returns-clause-room c =
     (subst (λ h. IsTrue (length (slots_of (slice_get k.pages.items ((c.args.first + 4 * i) / 256))) == 64 * (h + 1))) (sym c.look_through.ensures.harts)
     (c.in_ok-make_pages.ensures.room i low)) in
     on_ok_weaker c.make_room.result (λ free. record { pages = λ more. pages; epoch = λ more. free }) c.make_room.ensures.room
-
-pub returns-clause-pages : goal.returns-clause-pages
-returns-clause-pages c =
-    let k = c.make_pages.new.self in
-    let e = c.make_pages.ensures.pages in
-    let same = ap (λ p. length p.items) c.look_through.ensures.pages in
-    record {
-      pages = omega (arith, e.pages, same);
-      others = λ page out. ap (λ p. length (slots_of (slice_get p.items page))) c.look_through.ensures.pages ∙ e.others page out;
-    }
-
-pub returns-clause-early : goal.returns-clause-early
-returns-clause-early c = λ below.
-    let e = c.make_pages.ensures in
-    let same = ap (λ s. length s.table.items) e.epochs in
-    (c.look_through.ensures.early (omega (arith, below, same, e.limit))).0 ∙ e.limit
-
-pub invariant_of-self-clause-few_epochs : goal.invariant_of-self-clause-few_epochs
-invariant_of-self-clause-few_epochs c =
-    let n = c.look_through.new.self in
-    elim c.make_room.ensures.grows [
-      | inl same ↦ omega (arith, same, n.few_epochs)
-      | inr more ↦ (let g = c.look_through.ensures.growth more.0 in omega (arith, more.1, g, n.low_limit))
-    ]
-
-pub invariant_of-self-clause-settled : goal.invariant_of-self-clause-settled
-invariant_of-self-clause-settled c = λ page at s e. c.make_room.ensures.settled s.epoch (c.look_through.new.self.settled page at s e)

@@ -1,9 +1,6 @@
-use Rattle.race_report.proofs.Common.{◌≡◌, ◌∙◌, ◌++◌, ℕ, ap, sym, arith, List, append-nil, Race, races_with, races_by_second, meetings_of}
+use Rattle.race_report.proofs.Common.{◌≡◌, ◌∙◌, ◌++◌, ℕ, ap, sym, arith, List, Race, races_with, races_by_second, meetings_of}
 use Rattle.race_report.proofs.Orders.{second_next, then_more}
 use Rattle.race_report.proofs.gathered.Gathered.push_first.Goals as goal
-
-pub loop-hart-init : goal.loop-hart-init
-loop-hart-init c = λ harts run g. sym (append-nil c.args.out.now.items)
 
 pub loop-hart-preserved : goal.loop-hart-preserved
 loop-hart-preserved c = λ harts run g.

@@ -1,21 +1,11 @@
 use Rattle.std.proofs.Common.{arith}
-use Rattle.run_model.proofs.Ending.{ended_are, ended_fits}
+use Rattle.run_model.proofs.Ending.{ended_fits, ended_trace}
 use Rattle.run_model.proofs.plain.Plain.halt.Goals as goal
 
 pub returns-clause-run : goal.returns-clause-run
 returns-clause-run c run is =
-    let t = c.args.self.now.trace in
-    record {
-      machine = is.machine;
-      trace = record {
-        harts = ended_are t.harts.items c.end_each.new.harts.items run.harts (record { each = c.end_each.ensures.each; len = c.end_each.ensures.len }) is.trace.harts;
-        caches = is.trace.caches;
-        shadow = is.trace.shadow;
-        log = is.trace.log;
-        bytes = is.trace.bytes;
-      };
-      turns = is.turns;
-    }
+    let p = c.args.self.now in
+    record { machine = is.machine; trace = ended_trace p.start.settings p.trace c.end_each.new.harts run _ (record { each = c.end_each.ensures.each; len = c.end_each.ensures.len }) is.trace; turns = is.turns }
 
 pub invariant_of-self : goal.invariant_of-self
 invariant_of-self c =

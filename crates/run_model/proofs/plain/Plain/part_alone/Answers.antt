@@ -2,9 +2,6 @@ use Rattle.run_model.proofs.Common.{◌≡◌, subst, arith, AsksThere, Hart, ha
 use Rattle.run_model.proofs.Owns.{hart_at}
 use Rattle.run_model.proofs.plain.Plain.part_alone.Goals as goal
 
-pub index-requires : goal.index-requires
-index-requires c = omega (arith, c.requires.can.alone, c.args.self.now.fits.harts)
-
 pub want_alone-requires-clause-there : goal.want_alone-requires-clause-there
 want_alone-requires-clause-there c =
     let hs = c.args.self.now.trace.harts.items in

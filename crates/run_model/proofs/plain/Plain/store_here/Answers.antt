@@ -1,56 +1,31 @@
-use Rattle.run_model.proofs.Common.{◌<◌, IsTrue, false, refl, sym, subst, ap, ◌∙◌, Vec, None, Global, is_aligned, Want, Store, Hart, Start, is_orderly, serve_call, hart_in, ask_here, IsRun, parts}
-use Rattle.run_model.proofs.InPlace.{stands_on}
+use Rattle.run_model.proofs.Common.{Store, ask_here, hart_in, is_aligned, parts, refl, ◌∙◌}
+use Rattle.run_model.proofs.InPlace.{asks_swept, turned_swept}
 use Rattle.run_model.proofs.MoveOn.{both}
 use Rattle.run_model.proofs.OneTurn.{passes_of}
-use Rattle.run_model.proofs.PlainFits.{swept_trace}
 use Rattle.run_model.proofs.plain.Plain.store_here.Goals as goal
-
-pub ready_store-requires-clause-hart : goal.ready_store-requires-clause-hart
-ready_store-requires-clause-hart c = c.requires.hart
 
 pub ready_store-requires-clause-stores : goal.ready_store-requires-clause-stores
 ready_store-requires-clause-stores c =
-    let p = c.args.self.now in let h : Hart = hart_in p.trace.harts.items c.args.hart in
+    let p = c.args.self.now in let h = hart_in p.trace.harts.items c.args.hart in
     (both _ _ (both (is_aligned c.args.addr c.args.width) _ (passes_of p.start.settings p.start.image h (ask_here h (Store c.args.addr c.args.width c.args.value)) c.requires.orderly)).1).0
 
-pub apply_store-requires-clause-width : goal.apply_store-requires-clause-width
-apply_store-requires-clause-width c =
-    let p = c.args.self.now in let h : Hart = hart_in p.trace.harts.items c.args.hart in
-    (both (is_aligned c.args.addr c.args.width) _ (passes_of p.start.settings p.start.image h (ask_here h (Store c.args.addr c.args.width c.args.value)) c.requires.orderly)).0
-
-pub apply_store-requires-clause-page : goal.apply_store-requires-clause-page
-apply_store-requires-clause-page c = c.if-not-ready_store.ensures.page refl
-
-pub apply_store-requires-clause-hart : goal.apply_store-requires-clause-hart
-apply_store-requires-clause-hart c = subst (λ (x : Start). c.args.hart < x.settings.harts) (sym c.ready_store.ensures.swept.start) c.requires.hart
-
-pub apply_store-requires-clause-live : goal.apply_store-requires-clause-live
-apply_store-requires-clause-live c = ap (λ (v : Vec Hart Global). (hart_in v.items c.args.hart).live) c.ready_store.ensures.swept.harts ∙ c.requires.live
-
-pub apply_store-requires-clause-orderly : goal.apply_store-requires-clause-orderly
-apply_store-requires-clause-orderly c =
-    let p = c.args.self.now in let k = c.args.hart in let r = c.ready_store.new.self in
-    let want : Want = Store c.args.addr c.args.width c.args.value in
-    subst (λ (x : Start). IsTrue (is_orderly x.settings x.image (hart_in r.trace.harts.items k) (ask_here (hart_in r.trace.harts.items k) want))) (sym c.ready_store.ensures.swept.start)
-    (subst (λ (v : Vec Hart Global). IsTrue (is_orderly p.start.settings p.start.image (hart_in v.items k) (ask_here (hart_in v.items k) want))) (sym c.ready_store.ensures.swept.harts) c.requires.orderly)
-
-pub apply_store-requires-clause-race : goal.apply_store-requires-clause-race
-apply_store-requires-clause-race c = c.if-not-ready_store.ensures.ready refl
-
-pub returns-then-not-ready_store : goal.returns-then-not-ready_store
-returns-then-not-ready_store c = c.ready_store.ensures.swept
+pub apply_store-requires : goal.apply_store-requires
+apply_store-requires c =
+    let p = c.args.self.now in let h = hart_in p.trace.harts.items c.args.hart in
+    let asks = asks_swept (parts p) (parts c.ready_store.new.self) c.args.hart (Store c.args.addr c.args.width c.args.value) c.ready_store.ensures.swept c.requires in
+    record {
+      hart = asks.hart;
+      live = asks.live;
+      orderly = asks.orderly;
+      width = (both (is_aligned c.args.addr c.args.width) _ (passes_of p.start.settings p.start.image h (ask_here h (Store c.args.addr c.args.width c.args.value)) c.requires.orderly)).0;
+      race = c.if-not-ready_store.ensures.ready refl;
+      page = c.if-not-ready_store.ensures.page refl;
+    }
 
 pub returns : goal.returns
 returns c =
-    let p = c.args.self.now in let k = c.args.hart in let r = c.ready_store.new.self in let new = c.apply_store.new.self in
-    let want : Want = Store c.args.addr c.args.width c.args.value in
-    let swept = c.ready_store.ensures.swept in
     record {
-      start = c.apply_store.ensures.start ∙ swept.start;
+      start = c.apply_store.ensures.start ∙ c.ready_store.ensures.swept.start;
       unguarded = c.if-not-ready_store.ensures.unguarded refl;
-      run = λ run is.
-          let ready = swept_trace p.start.settings p.trace r.trace run is.trace swept.shadow swept.harts swept.caches swept.log in
-          let is_ready : IsRun (parts r) run = stands_on (parts p) (parts r) run swept.start swept.machine swept.turns is.machine ready is.turns in
-          subst (λ (v : Vec Hart Global). IsRun (parts new) (serve_call p.start.settings run k (ask_here (hart_in v.items k) want) false None).run) swept.harts
-          (subst (λ (x : Start). IsRun (parts new) (serve_call x.settings run k (ask_here (hart_in r.trace.harts.items k) want) false None).run) swept.start (c.apply_store.ensures.run run is_ready));
+      run = turned_swept (parts c.args.self.now) (parts c.ready_store.new.self) (parts c.apply_store.new.self) c.args.hart (Store c.args.addr c.args.width c.args.value) c.ready_store.ensures.swept c.apply_store.ensures.run;
     }

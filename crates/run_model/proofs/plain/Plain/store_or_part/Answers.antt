@@ -2,9 +2,6 @@ use Rattle.run_model.proofs.Common.{◌≡◌, ℕ, sym, subst, arith, AsksThere
 use Rattle.run_model.proofs.Owns.{hart_at}
 use Rattle.run_model.proofs.plain.Plain.store_or_part.Goals as goal
 
-pub index-requires : goal.index-requires
-index-requires c = omega (arith, c.requires.can.alone, c.args.self.now.fits.harts)
-
 pub put_alone-requires-clause-there : goal.put_alone-requires-clause-there
 put_alone-requires-clause-there c =
     let hs = c.args.self.now.trace.harts.items in

@@ -2,9 +2,6 @@ use Rattle.run_model.proofs.Common.{◌≡◌, ◌+◌, ◌-◌, ℕ, refl, sym,
 use Rattle.run_model.proofs.LoneTurns.{none_turned, one_turned, moved_turn, moved_stays, could_more, can_turn}
 use Rattle.run_model.proofs.plain.Plain.turns_on.Goals as goal
 
-pub guards_from-limit-requires : goal.guards_from-limit-requires
-guards_from-limit-requires c = omega (arith, c.args.self.now.fits.harts, c.requires.alone)
-
 pub turns-init : goal.turns-init
 turns-init c = record {
   start = refl;

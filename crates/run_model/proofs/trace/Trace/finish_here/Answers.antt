@@ -1,72 +1,36 @@
-use Rattle.run_model.proofs.Common.{◌≡◌, ◌∙◌, ◌++◌, List, length, refl, sym, subst, ap, arith, length-set, Vec, None, Global, absorbed, Record, Hart, Log, TurnEnd, AreCaches, AreHarts, hart_in, ask_here, taken, IsLog, events_after, harts_after, hart_after, skipped_after, next_of, next_records}
-use Rattle.run_model.proofs.Owns.{hart_at, own_after}
-use Rattle.run_model.proofs.Stopping.{with_own, own_set, others_then, ends_are, is_finished}
+use Rattle.run_model.proofs.Common.{AreCaches, Global, Hart, Log, None, TurnEnd, Vec, ap, arith, ask_here, IsLog, events_after, hart_after, hart_in, length, length-set, subst, sym, taken, ◌∙◌}
+use Rattle.run_model.proofs.Owns.{hart_at}
+use Rattle.run_model.proofs.Stopping.{IsTurnTaken, finished_harts, finished_log, is_finished}
+use Rattle.run_model.proofs.trace.Trace.finish_here.Goals.{After-take_turn_here-next}
 use Rattle.run_model.proofs.trace.Trace.finish_here.Goals as goal
+
+took : (c : After-take_turn_here-next)
+    → IsTurnTaken c.args.settings.now None (hart_in c.args.self.now.harts.items c.args.hart) c.args.hart (ask_here (hart_in c.args.self.now.harts.items c.args.hart) c.args.want.now) c.args.reply c.args.load c.take_turn_here-next.result c.take_turn_here-next.new.own c.args.self.now.log c.take_turn_here-next.new.log
+took c =
+    let t = c.take_turn_here-next in
+    subst (λ (y : Hart). IsTurnTaken c.args.settings.now None y c.args.hart (ask_here y c.args.want.now) c.args.reply c.args.load t.result t.new.own c.args.self.now.log t.new.log)
+    (hart_at c.args.self.now.harts.items c.args.hart c.index_mut-own.result.now c.requires.hart c.index_mut-own.ensures.value) (record { next = t.ensures.next; own_is = t.ensures.own; holds = t.ensures.holds })
 
 pub returns-clause-harts : goal.returns-clause-harts
 returns-clause-harts c f are =
-    let hs = c.args.self.now.harts.items in
-    let k = c.args.hart in
-    let x = c.index_mut-own.result.now in
-    let h = hart_in hs k in
-    let want = c.args.want.now in
-    let s = absorbed (ask_here h want) c.args.reply in
-    let t = c.take_turn_here-next in
-    let there : x ≡ h = hart_at hs k x c.requires.hart c.index_mut-own.ensures.value in
-    let m = next_of c.args.settings.now None h want c.args.reply s.ic in
-    let next : t.result ≡ m = subst (λ (y : Hart). t.result ≡ next_of c.args.settings.now None y want c.args.reply (absorbed (ask_here y want) c.args.reply).ic) there t.ensures.next in
-    let new = c.end_others.new.log.bytes in
-    let here : t.new.own ≡ hart_after t.result s (skipped_after c.args.load h.skipped) t.new.log.bytes h = subst (λ (y : Hart). t.new.own ≡ hart_after t.result (absorbed (ask_here y want) c.args.reply) (skipped_after c.args.load y.skipped) t.new.log.bytes y) there t.ensures.own in
-    let taken_in = subst (λ (l : Log). t.new.own ≡ hart_after t.result s (skipped_after c.args.load h.skipped) l.bytes h) (sym c.begin.ensures.log) here in
-    let own = own_after c.args.load h h t.new.own s t.result m c.begin.new.self.log.bytes new refl next taken_in (c.end_others.ensures.headed s (skipped_after c.args.load h.skipped) h) in
-    let set = subst (λ (v : Vec Hart Global). AreHarts v.items (with_own k t.new.own f)) (sym c.begin.ensures.harts) (own_set hs k t.new.own f are c.requires.hart) in
-    let then_others = others_then t.result c.end_others.new.harts.items k t.new.own f (c.end_others.ensures.harts (with_own k t.new.own f) set) in
-    subst (λ (y : Hart). AreHarts c.end_others.new.harts.items (harts_after m k y f)) own
-    (subst (λ (n : TurnEnd). AreHarts c.end_others.new.harts.items (harts_after n k t.new.own f)) next then_others)
+    let b = c.begin in let e = c.end_others.ensures in
+    finished_harts c.args.self.now.harts.items b.new.self.harts.items _ _ f (took (goal.at.returns-clause-harts c).After-take_turn_here-next) c.requires.hart (ap (λ (v : Vec Hart Global). v.items) b.ensures.harts)
+    (λ s skipped h. ap (λ (l : Log). hart_after c.take_turn_here-next.result s skipped l.bytes h) (sym b.ensures.log) ∙ e.headed s skipped h) e.harts are
 
 pub returns-clause-holds : goal.returns-clause-holds
 returns-clause-holds c f rs are held =
-    let hs = c.args.self.now.harts.items in
-    let k = c.args.hart in
-    let x = c.index_mut-own.result.now in
-    let h = hart_in hs k in
-    let want = c.args.want.now in
-    let s = absorbed (ask_here h want) c.args.reply in
-    let t = c.take_turn_here-next in
-    let there : x ≡ h = hart_at hs k x c.requires.hart c.index_mut-own.ensures.value in
-    let m = next_of c.args.settings.now None h want c.args.reply s.ic in
-    let next : t.result ≡ m = subst (λ (y : Hart). t.result ≡ next_of c.args.settings.now None y want c.args.reply (absorbed (ask_here y want) c.args.reply).ic) there t.ensures.next in
-    let set = subst (λ (v : Vec Hart Global). AreHarts v.items (with_own k t.new.own f)) (sym c.begin.ensures.harts) (own_set hs k t.new.own f are c.requires.hart) in
-    let count = ap (λ (v : Vec Hart Global). length v.items) c.begin.ensures.harts ∙ length-set hs k t.new.own in
-    let here : IsLog t.new.log (rs ++ next_records t.result k h.number s) = subst (λ (y : Hart). IsLog t.new.log (rs ++ next_records t.result k y.number (absorbed (ask_here y want) c.args.reply))) there (t.ensures.holds rs held) in
-    let taken_in = subst (λ (l : Log). IsLog l (rs ++ next_records t.result k h.number s)) (sym c.begin.ensures.log) here in
-    subst (λ (ys : List Record). IsLog c.end_others.new.log ys) (ends_are t.result m k h h t.new.own s hs c.begin.new.self.harts.items f rs next refl count)
-    (c.end_others.ensures.holds (with_own k t.new.own f) (rs ++ next_records t.result k h.number s) set taken_in)
+    let b = c.begin in let e = c.end_others.ensures in
+    finished_log c.args.self.now.harts.items b.new.self.harts.items _ f rs (took (goal.at.returns-clause-holds c).After-take_turn_here-next) c.requires.hart (ap (λ (v : Vec Hart Global). v.items) b.ensures.harts)
+    (λ g ys begun log. e.holds g ys begun (subst (λ (l : Log). IsLog l ys) (sym b.ensures.log) log)) are held
 
 pub returns-clause-caches : goal.returns-clause-caches
 returns-clause-caches c s span events are =
-    let hs = c.args.self.now.harts.items in
-    let x = c.index_mut-own.result.now in
-    let h = hart_in hs c.args.hart in
-    let want = c.args.want.now in
-    let t = c.take_turn_here-next in
-    let there : x ≡ h = hart_at hs c.args.hart x c.requires.hart c.index_mut-own.ensures.value in
-    let m = next_of c.args.settings.now None h want c.args.reply (absorbed (ask_here h want) c.args.reply).ic in
-    let next : t.result ≡ m = subst (λ (y : Hart). t.result ≡ next_of c.args.settings.now None y want c.args.reply (absorbed (ask_here y want) c.args.reply).ic) there t.ensures.next in
-    subst (λ (n : TurnEnd). AreCaches s c.begin.new.self.caches (events_after n c.args.hart None span events)) next
+    subst (λ (n : TurnEnd). AreCaches s c.begin.new.self.caches (events_after n c.args.hart None span events)) (took (goal.at.returns-clause-caches c).After-take_turn_here-next).next
     (c.begin.ensures.caches s None span events are)
 
 pub returns-clause-finished : goal.returns-clause-finished
 returns-clause-finished c =
-    let hs = c.args.self.now.harts.items in
-    let x = c.index_mut-own.result.now in
-    let h = hart_in hs c.args.hart in
-    let want = c.args.want.now in
-    let t = c.take_turn_here-next in
-    let there : x ≡ h = hart_at hs c.args.hart x c.requires.hart c.index_mut-own.ensures.value in
-    let m = next_of c.args.settings.now None h want c.args.reply (absorbed (ask_here h want) c.args.reply).ic in
-    let next : t.result ≡ m = subst (λ (y : Hart). t.result ≡ next_of c.args.settings.now None y want c.args.reply (absorbed (ask_here y want) c.args.reply).ic) there t.ensures.next in
-    let log = c.begin.ensures.log in
-    is_finished c.args.self.now _ c.args.hart t.result _ _ _ next c.begin.ensures.shadow c.deref.ensures.value (c.end_others.ensures.len ∙ ap (λ (v : Vec Hart Global). length v.items) c.begin.ensures.harts ∙ length-set hs c.args.hart t.new.own)
-    c.begin.ensures.count c.begin.ensures.steps c.sweep_at_end.ensures.swept c.sweep_at_end.ensures.due
-    (omega (arith, t.ensures.took, ap (λ (l : Log). taken l.ring) log, c.end_others.ensures.took)) (c.end_others.ensures.size ∙ ap (λ (l : Log). l.ring.size) log ∙ t.ensures.size)
+    let t = c.take_turn_here-next in let b = c.begin.ensures in let e = c.end_others.ensures in let w = c.sweep_at_end.ensures in
+    is_finished c.args.self.now _ c.args.hart t.result _ _ _ (took (goal.at.returns-clause-finished c).After-take_turn_here-next).next b.shadow c.deref.ensures.value
+    (e.len ∙ ap (λ (v : Vec Hart Global). length v.items) b.harts ∙ length-set c.args.self.now.harts.items c.args.hart t.new.own) b.count b.steps w.swept w.due
+    (omega (arith, t.ensures.took, ap (λ (l : Log). taken l.ring) b.log, e.took)) (e.size ∙ ap (λ (l : Log). l.ring.size) b.log ∙ t.ensures.size)

@@ -3,12 +3,6 @@ use Rattle.run_model.proofs.LoneTurns.{state_there, moved_by, asks_same}
 use Rattle.run_model.proofs.Owns.{hart_at}
 use Rattle.run_model.proofs.trace.Trace.move_alone.Goals as goal
 
-pub index_mut-requires : goal.index_mut-requires
-index_mut-requires c = omega (arith, c.requires.hart, c.args.self.now.harts.ok)
-
-pub overflow_sub-own : goal.overflow_sub-own
-overflow_sub-own c = omega (arith, c.left.ensures, c.run.ensures.left, c.requires.end)
-
 pub returns-clause-moved : goal.returns-clause-moved
 returns-clause-moved c =
     let hs = c.args.self.now.harts.items in
@@ -29,12 +23,6 @@ returns-clause-end c =
     let x : Hart = c.index_mut.result.now in
     let s : HartState = record { pc = c.pc-own.result; x = c.run.new.x; ic = c.args.end - c.left.result } in
     omega (arith, ap (λ (z : HartState). z.ic) (state_there hs x s c.requires.hart (hart_at hs 0 x c.requires.hart c.index_mut.ensures.value)), c.left.ensures, c.run.ensures.left, c.requires.end)
-
-pub returns-clause-left : goal.returns-clause-left
-returns-clause-left c = c.run.ensures.left
-
-pub returns-clause-program : goal.returns-clause-program
-returns-clause-program c = c.run.ensures.program
 
 pub returns-clause-asks : goal.returns-clause-asks
 returns-clause-asks c =

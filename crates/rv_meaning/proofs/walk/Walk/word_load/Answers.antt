@@ -1,4 +1,4 @@
-use Rattle.rv_meaning.proofs.Common.{◌≡◌, true, false, ap, subst, slice_index, Program, code_at, Walking, Asking, instruction_in, Want, Load}
+use Rattle.rv_meaning.proofs.Common.{◌≡◌, true, false, ap, subst, Program, code_at, Walking, Asking, instruction_in, Want, Load}
 use Rattle.rv_meaning.proofs.DecodedAhead.{asks_here}
 use Rattle.rv_meaning.proofs.walk.Walk.word_load.Goals as goal
 

@@ -1,4 +1,4 @@
-use Rattle.rv_meaning.proofs.Common.{◌≡◌, true, false, ap, subst, slice_index, Program, code_at, Walking, Asking, instruction_in, Want, Store}
+use Rattle.rv_meaning.proofs.Common.{◌≡◌, true, ap, subst, slice_index, Program, code_at, Walking, Asking, instruction_in, Want, Store}
 use Rattle.rv_meaning.proofs.DecodedAhead.{asks_here}
 use Rattle.rv_meaning.proofs.walk.Walk.word_store.Goals as goal
 
