@@ -31,9 +31,9 @@ MUTANTS = {
         "program_cases: harts that run in threads leave the log of their list of turns",
         "program_cases: four harts of a generated program in threads take the turns of a list",
     ),
-    "LOG is overwritten by BOOK under another name.": ("host_outside/src/tests.rt: a_save_never_destroys_what_was_saved",),
+    "LOG is overwritten by BOOK under another name.": ("host_tests/src/saving.rt: a_save_never_destroys_what_was_saved",),
     "A reader is read again after it said that it ended.": (
-        "host_outside/src/tests.rt: a_reader_that_has_ended_is_not_read_again",
+        "host_tests/src/streams.rt: a_reader_that_has_ended_is_not_read_again",
     ),
     "Each command ends out of memory (9). Contracts let any allocation fail.": (
         "program_cases: a recording saves its log and its turns",

@@ -15,8 +15,6 @@ mod replacing;
 mod retries;
 mod spared_files;
 mod streams;
-#[cfg(test)]
-mod tests;
 mod until_end;
 mod words;
 

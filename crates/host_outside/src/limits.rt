@@ -8,9 +8,9 @@ fn text_of(bytes: &[u8]) -> &str {
     str::from_utf8(bytes).unwrap_or("")
 }
 
-/// The greatest size of a file that a table of limits tells, as Linux prints it (proc_pid_limits(5)): a line that
-/// begins with the limit's name, and has the number after it, or `unlimited`.
-pub fn most_in(table: &str) -> u64 {
+// The greatest size of a file that a table of limits tells, as Linux prints it (proc_pid_limits(5)): a line that
+// begins with the limit's name, and has the number after it, or `unlimited`.
+fn most_in(table: &str) -> u64 {
     for line in table.lines() {
         if let Some(rest) = line.strip_prefix("Max file size ") {
             let first = rest.split_whitespace().next().unwrap_or("");
