@@ -1,7 +1,11 @@
 -- What several files of proofs/ cite of other crates and of specs/. They import it from here, by one line.
-pub use Rattle.std.proofs.Common.{AllPairs, Bool, Contains, IsTrue, List, None, Option, Some, [], ap, append-nil, append_assoc, arith, drop, false, flat_map, if◌then◌else◌, inl, inr, length, length-append, length-set, map, nat_le, nat_lt, not, refl, slice_get, subst, suc, sym, true, zero, ℕ, ◌%◌, ◌&&◌, ◌*◌, ◌++◌, ◌+◌, ◌-◌, ◌/◌, ◌<◌, ◌==◌, ◌^◌, ◌||◌, ◌↔◌, ◌∙◌, ◌∷◌, ◌≡◌, ◌≢◌, ◌≤◌, ◌⊎◌}
+pub use Rattle.std.proofs.Common.{AllPairs, Bool, Contains, IsTrue, List, None, Option, Some, [], ap, append-nil, append_assoc, arith, drop, eq-eqb, eqb-true, false, flat_map, if◌then◌else◌, inl, inr, le-leb, leb-false, length, length-append, length-set, ltb-false, ltb-true, map, nat_le, nat_lt, ne_eqb, not, refl, slice_get, subst, suc, sym, true, zero, ℕ, ◌%◌, ◌&&◌, ◌*◌, ◌++◌, ◌+◌, ◌-◌, ◌/◌, ◌<◌, ◌==◌, ◌^◌, ◌||◌, ◌↔◌, ◌∙◌, ◌∷◌, ◌≡◌, ◌≢◌, ◌≤◌, ◌⊎◌}
 pub use Rattle.std.proofs.lemmas.Bool.Decides.{eqb_tells}
-pub use Rattle.std.proofs.lemmas.Grind.{common_steps}
+pub use Rattle.std.proofs.lemmas.Bool.{and_parts, not-true}
+pub use Rattle.std.proofs.lemmas.Option.{same_Some}
+pub use Rattle.log_ring.proofs.Fitting.{total-cons}
+pub use Rattle.run_model.proofs.MoveOn.{budget_limit}
+pub use Rattle.run_model.proofs.Asked.{eqb_same}
 pub use Rattle.std.specs.Option.{option_or}
 pub use Rattle.bn_base.specs.Programs.{Program, code_at}
 pub use Rattle.bn_base.specs.Ranges.{IsSetting}
@@ -27,6 +31,7 @@ pub use Rattle.run_model.specs.declared.hart.Hart.{Hart}
 pub use Rattle.run_model.specs.declared.span.Span.{Span}
 pub use Rattle.run_model.specs.declared.turn_end.TurnEnd.{TurnEnd}
 pub use Rattle.run_model.specs.declared.turn_end.TurnEnd.TheVariants.{GoesOn, HartOver, NewInterval, RunOver}
+pub use Rattle.run_model.proofs.Bytes.{headers_have, total_append}
 pub use Rattle.rv_meaning.specs.Execute.{Asks, Quiet, Step, absorbed, ask_of, branch, executed, fetched, meaning, near, next_at, src1, src2, step, there}
 pub use Rattle.rv_meaning.specs.Orderly.{is_cut, is_reply_to, orderly}
 pub use Rattle.rv_meaning.specs.declared.asks.Ask.{Ask}

@@ -1,6 +1,6 @@
 -- Lawful rows of which each hart's are its own are those of turns.
-use Rattle.run_laws.proofs.Common.{◌≡◌, ℕ, ◌==◌, Bool, true, false, nat_lt, List, [], ◌∷◌, ◌++◌, refl, sym, ◌∙◌, ap, subst, arith, inl, inr, eqb_tells, Program, Ask, IsSetting, RawSettings, TurnRow, Run, serve, turn, ask_at, is_orderly, start, run_from, legal_from, is_live, IsRested, after_rows, are_orderly, IsLawful, IsOwn, Place, place_of, place_after, row_at, rows_from, rows_by, harts_of, AreOwn, AreTurns, OwnRowsGrow, ListsGoOn, AreJoined, TurnsAreLawful, TurnsAreOwn}
-use Rattle.run_laws.proofs.Turns.{Laws, ranged, legal_first, live_then, legal_cons, ordered, both, eqb_same, below_of, differ, turn_left, own_place, other_place, other_is, next_at}
+use Rattle.run_laws.proofs.Common.{◌≡◌, ℕ, ◌==◌, Bool, true, false, nat_lt, List, [], ◌∷◌, ◌++◌, refl, sym, ◌∙◌, ap, subst, arith, inl, inr, eqb_tells, Program, Ask, IsSetting, RawSettings, TurnRow, Run, serve, turn, ask_at, is_orderly, start, run_from, legal_from, is_live, IsRested, after_rows, are_orderly, IsLawful, IsOwn, Place, place_of, place_after, row_at, rows_from, rows_by, harts_of, AreOwn, AreTurns, OwnRowsGrow, ListsGoOn, AreJoined, TurnsAreLawful, TurnsAreOwn, and_parts, ltb-true, ne_eqb, eqb_same}
+use Rattle.run_laws.proofs.Turns.{Laws, ranged, legal_first, live_then, legal_cons, ordered, turn_left, own_place, other_place, other_is, next_at}
 
 -- ---- one hart's rows of a list that begins with one
 
@@ -32,7 +32,7 @@ rest_own c i run x rows o is own h within =
           subst (λ (n : ℕ). place_after c (place_of (run.harts n)) x.ask x.guarded x.reply ≡ place_of ((turn c i run x.hart).harts n)) p.1 place in
           subst (λ (q : Place). IsOwn c i h q left) here (own_row c i (place_of (run.harts h)) h x rows p.0 (own h within)).2
       | inr p ↦
-          let place : place_of ((turn c i run x.hart).harts h) ≡ place_of (run.harts h) = ap place_of (other_is c i run x.hart h o (differ h x.hart (λ q. p.1 (sym q)))) ∙ other_place (next_at c i run x.hart) (run.harts h) in
+          let place : place_of ((turn c i run x.hart).harts h) ≡ place_of (run.harts h) = ap place_of (other_is c i run x.hart h o (ne_eqb h x.hart (λ q. p.1 (sym q)))) ∙ other_place (next_at c i run x.hart) (run.harts h) in
           subst (λ (q : Place). IsOwn c i h q left) (sym place) (other_row c i (place_of (run.harts h)) h x rows p.0 (own h within))
     ]
 
@@ -42,8 +42,8 @@ pub are_turns : Laws → (c : RawSettings) (i : Program) (run : Run) (rows : Lis
 are_turns laws c i run [] setting fit lawful own = record { legal = refl; rows_are = refl; run_is = refl; orderly = refl }
 are_turns laws c i run (x ∷ rows) setting fit lawful own =
     let k = x.hart in
-    let there = both (nat_lt k c.harts) (run.harts k).live lawful.0 in
-    let mine = own_row c i (place_of (run.harts k)) k x rows (eqb_same k) (own k (below_of k c.harts there.0)) in
+    let there = and_parts (nat_lt k c.harts) (run.harts k).live lawful.0 in
+    let mine = own_row c i (place_of (run.harts k)) k x rows (eqb_same k) (own k (ltb-true k c.harts there.0)) in
     let asks : x.ask ≡ ask_at c i (run.harts k) = mine.1 in
     let o = ordered laws.asks c i (run.harts k) (omega (arith, setting.limit_high)) (fit k).fit in
     let is = row_is c i run x asks lawful.1 lawful.2 in

@@ -31,7 +31,7 @@ two_harts run x m n e f low = elim (eqb_tells (hart_at run m) (hart_at run x)) [
 
 -- ---- lists that fall
 
-all_contained : (P : ℕ → Type 0) (ms : List ℕ) → ((m : ℕ) → Contains ms m → P m) → AllByRecursion P ms
+pub all_contained : (P : ℕ → Type 0) (ms : List ℕ) → ((m : ℕ) → Contains ms m → P m) → AllByRecursion P ms
 all_contained P [] each = tt
 all_contained P (m ∷ ms) each = (each m (0, omega arith, refl), all_contained P ms (λ n has. each n (suc has.0, omega (arith, has.1), has.2)))
 

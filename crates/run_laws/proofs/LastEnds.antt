@@ -1,5 +1,5 @@
 -- Each hart's last mark is that of its last End.
-use Rattle.run_laws.proofs.Common.{◌≡◌, ℕ, zero, suc, ◌+◌, ◌<◌, ◌≤◌, ◌==◌, Bool, true, false, not, ◌&&◌, Option, Some, None, List, [], ◌∷◌, ◌++◌, length, refl, sym, ◌∙◌, ap, subst, arith, inl, inr, ◌≢◌, ◌⊎◌, option_or, eqb_tells, append-nil, Program, EndMark, RawSettings, HartState, Ask, Reply, Plan, Warm, Point, after, sources_into, TurnRow, Record, End, total, Hart, TurnEnd, GoesOn, NewInterval, HartOver, RunOver, Span, Answered, answer, call_of, Run, serve, served_if, is_orderly, is_guarded, by_guard, guarded_run, guard_records, after_ask, loading, warmth, skipped_after, word_before, point_of, edges_from, edge_records, load_record, sc_record, next_records, stopped_records, run_over_records, hart_after, other_after, harts_after, mark, start, first_headers, after_rows, end_of, last_end, LastEndsAreMarks, KeptEndsAreMarks}
+use Rattle.run_laws.proofs.Common.{◌≡◌, ℕ, zero, suc, ◌+◌, ◌<◌, ◌≤◌, ◌==◌, Bool, true, false, not, ◌&&◌, Option, Some, None, List, [], ◌∷◌, ◌++◌, length, refl, sym, ◌∙◌, ap, subst, arith, inl, inr, ◌⊎◌, option_or, eqb_tells, append-nil, Program, EndMark, RawSettings, HartState, Ask, Reply, Plan, Warm, Point, after, sources_into, TurnRow, Record, End, total, Hart, TurnEnd, GoesOn, NewInterval, HartOver, RunOver, Span, Answered, answer, call_of, Run, serve, served_if, is_orderly, is_guarded, by_guard, guarded_run, guard_records, after_ask, loading, warmth, skipped_after, word_before, point_of, edges_from, edge_records, load_record, sc_record, next_records, stopped_records, run_over_records, hart_after, other_after, harts_after, mark, start, first_headers, after_rows, end_of, last_end, LastEndsAreMarks, KeptEndsAreMarks, ne_eqb, eq-eqb}
 use Rattle.rv_meaning.specs.declared.asks.Reply.TheVariants as replies
 use Rattle.first_load_bits.specs.declared.warm.Warm.TheVariants as answers
 
@@ -31,12 +31,10 @@ point_none (Some p) h points = edges_none h p.hart p.count (sources_into (after 
 
 load_none : (load : Option Warm) (h k skipped word : ℕ) → last_end h (load_record load k skipped word) ≡ None
 load_none (Some answers.Cold) h k skipped word = refl
-load_none (Some answers.Warm) h k skipped word = refl
-load_none None h k skipped word = refl
+load_none load h k skipped word = refl
 
 conditional_none : (reply : Reply) (h k : ℕ) → last_end h (sc_record reply k) ≡ None
 conditional_none replies.ScOk h k = refl
-conditional_none replies.ScFailed h k = refl
 conditional_none reply h k = refl
 
 headers_none : (c : RawSettings) (i : Program) (h k m : ℕ) → last_end h (first_headers c i k m) ≡ None
@@ -66,18 +64,6 @@ other_next (RunOver reason value) h k number s e = other_end h k (mark s.ic reas
 
 -- ---- the Ends of harts that are stopped
 
-apart_of : (i j : ℕ) → i ≢ j → (i == j) ≡ false
-apart_of i j p = grind arith
-
-same_of : (i j : ℕ) → i ≡ j → (i == j) ≡ true
-same_of i j p = grind arith
-
--- the mark of the first hart, if it is stopped, else that of the rest
-stop_by : (b : Bool) (h j ic : ℕ) (rs : List Record)
-    → last_end h (elim b as (λ x. List Record) [ true ↦ End j (mark ic 5 0) ∷ rs | false ↦ rs ]) ≡ elim b as (λ x. Option EndMark) [ true ↦ option_or (last_end h rs) (end_of h (End j (mark ic 5 0))) | false ↦ last_end h rs ]
-stop_by true h j ic rs = refl
-stop_by false h j ic rs = refl
-
 -- nothing of the hart is among them
 none_by : (b : Bool) (h j ic : ℕ) (rs : List Record) → last_end h rs ≡ None → (b ≡ true → (h == j) ≡ false) → last_end h (elim b as (λ x. List Record) [ true ↦ End j (mark ic 5 0) ∷ rs | false ↦ rs ]) ≡ None
 none_by true h j ic rs e apart = ap (λ (m : Option EndMark). option_or m (end_of h (End j (mark ic 5 0)))) e ∙ other_end h j (mark ic 5 0) (apart refl)
@@ -96,7 +82,7 @@ stops_own h k j (suc n) harts e = none_by (not (j == k) && (harts j).live) h j (
 
 stops_before : (h k j n : ℕ) (harts : ℕ → Hart) → h < j → last_end h (stopped_records k j n harts) ≡ None
 stops_before h k j zero harts low = refl
-stops_before h k j (suc n) harts low = none_by (not (j == k) && (harts j).live) h j (harts j).state.ic (stopped_records k (j + 1) n harts) (stops_before h k (j + 1) n harts (omega (arith, low))) (λ p. apart_of h j (λ q. omega (arith, low, q)))
+stops_before h k j (suc n) harts low = none_by (not (j == k) && (harts j).live) h j (harts j).state.ic (stopped_records k (j + 1) n harts) (stops_before h k (j + 1) n harts (omega (arith, low))) (λ p. ne_eqb h j (λ q. omega (arith, low, q)))
 
 -- a live hart's mark when it is stopped
 abbrev stop_mark : Hart → Option EndMark
@@ -109,7 +95,7 @@ here_by live true h j ic rs e apart own = absurd cc
 here_by true false h j ic rs e apart own = ap (λ (m : Option EndMark). option_or m (end_of h (End j (mark ic 5 0)))) e ∙ own_end h j (mark ic 5 0) own
 here_by false false h j ic rs e apart own = e
 
-first_or_later : (i j m : ℕ) → j ≤ i → i < j + suc m → (i ≡ j) ⊎ ((j + 1 ≤ i) × (i < j + 1 + m))
+pub first_or_later : (i j m : ℕ) → j ≤ i → i < j + suc m → (i ≡ j) ⊎ ((j + 1 ≤ i) × (i < j + 1 + m))
 first_or_later i j m low high = elim (eqb_tells i j) [
   | inl p ↦ inl p.1
   | inr p ↦ inr (omega (arith, low, p.1), omega (arith, high))
@@ -125,9 +111,9 @@ stops_other h k j zero harts apart low high = absurd (omega (arith, low, high))
 stops_other h k j (suc n) harts apart low high = elim (first_or_later h j n low high) [
   | inl p ↦
       let off : (j == k) ≡ false = subst (λ (x : ℕ). (x == k) ≡ false) p apart in
-      here_by (harts j).live (j == k) h j (harts j).state.ic (stopped_records k (j + 1) n harts) (stops_before h k (j + 1) n harts (omega (arith, p))) off (same_of h j p) ∙ ap (λ (x : ℕ). stop_mark (harts x)) (sym p)
+      here_by (harts j).live (j == k) h j (harts j).state.ic (stopped_records k (j + 1) n harts) (stops_before h k (j + 1) n harts (omega (arith, p))) off (eq-eqb h j p) ∙ ap (λ (x : ℕ). stop_mark (harts x)) (sym p)
   | inr p ↦
-      later_by (not (j == k) && (harts j).live) h j (harts j).state.ic (stopped_records k (j + 1) n harts) (apart_of h j (λ q. omega (arith, p.0, q)))
+      later_by (not (j == k) && (harts j).live) h j (harts j).state.ic (stopped_records k (j + 1) n harts) (ne_eqb h j (λ q. omega (arith, p.0, q)))
       ∙ stops_other h k (j + 1) n harts apart p.0 p.1
 ]
 
@@ -136,23 +122,19 @@ stopped_mark true x = refl
 stopped_mark false x = refl
 
 own_over : (next : TurnEnd) (h k n : ℕ) (harts : ℕ → Hart) → (h == k) ≡ true → last_end h (run_over_records next k n harts) ≡ None
-own_over GoesOn h k n harts e = refl
-own_over (NewInterval reason value) h k n harts e = refl
-own_over (HartOver reason value) h k n harts e = refl
 own_over (RunOver reason value) h k n harts e = stops_own h k 0 n harts e
+own_over next h k n harts e = refl
 
 other_over : (next : TurnEnd) (h k n : ℕ) (harts : ℕ → Hart) → (h == k) ≡ false → h < n → (other_after next (harts h)).mark ≡ option_or (last_end h (run_over_records next k n harts)) (harts h).mark
-other_over GoesOn h k n harts e within = refl
-other_over (NewInterval reason value) h k n harts e within = refl
-other_over (HartOver reason value) h k n harts e within = refl
 other_over (RunOver reason value) h k n harts e within = stopped_mark (harts h).live (harts h) ∙ ap (λ (m : Option EndMark). option_or m (harts h).mark) (sym (stops_other h k 0 n harts e (omega arith) (omega (arith, within))))
+other_over next h k n harts e within = refl
 
 -- ---- the harts after a turn
 
-own_is : (next : TurnEnd) (k j : ℕ) (own : Hart) (harts : ℕ → Hart) → (j == k) ≡ true → harts_after next k own harts j ≡ own
+pub own_is : (next : TurnEnd) (k j : ℕ) (own : Hart) (harts : ℕ → Hart) → (j == k) ≡ true → harts_after next k own harts j ≡ own
 own_is next k j own harts e = ap (λ (b : Bool). elim b as (λ x. Hart) [ true ↦ own | false ↦ other_after next (harts j) ]) e
 
-other_is : (next : TurnEnd) (k j : ℕ) (own : Hart) (harts : ℕ → Hart) → (j == k) ≡ false → harts_after next k own harts j ≡ other_after next (harts j)
+pub other_is : (next : TurnEnd) (k j : ℕ) (own : Hart) (harts : ℕ → Hart) → (j == k) ≡ false → harts_after next k own harts j ≡ other_after next (harts j)
 other_is next k j own harts e = ap (λ (b : Bool). elim b as (λ x. Hart) [ true ↦ own | false ↦ other_after next (harts j) ]) e
 
 -- each hart's mark is that of its last End among the records of a turn, or the one that it had

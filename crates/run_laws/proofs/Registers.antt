@@ -9,7 +9,7 @@ use Rattle.rv_meaning.specs.Words.{add, less}
 use Rattle.rv_meaning.specs.Execute.{after}
 use Rattle.rv_meaning.specs.declared.asks.Reply.TheVariants as replies
 
-put_count : (r v : ℕ) (x : List ℕ) → length (put_reg r v x) ≡ length x
+pub put_count : (r v : ℕ) (x : List ℕ) → length (put_reg r v x) ≡ length x
 put_count zero v x = refl
 put_count (suc r) v x = length-set x (suc r) v
 

@@ -1,40 +1,66 @@
 -- A log has room for the records from a hart's present Header on, right after each turn of the hart.
-use Rattle.run_laws.proofs.Common.{◌≡◌, ℕ, zero, suc, ◌+◌, ◌-◌, ◌*◌, ◌<◌, ◌≤◌, ◌==◌, Bool, true, false, not, ◌&&◌, nat_le, nat_lt, Option, Some, None, List, [], ◌∷◌, ◌++◌, drop, length, refl, sym, ◌∙◌, ap, subst, arith, inl, inr, ◌⊎◌, if◌then◌else◌, option_or, common_steps, Program, EndMark, RawSettings, HartState, absorbed, is_cut, Ask, Want, Load, Store, LoadReserved, StoreConditional, Amo, System, Cut, Faulted, Reply, Warm, Point, after, sources_into, Record, Header, FirstLoad, Edge, End, total, Hart, TurnEnd, GoesOn, NewInterval, HartOver, RunOver, IsFit, anew, Machine, answer, call_of, start, run_of, run_from, legal_from, Run, turn, ask_at, is_orderly, is_guarded, guarded_run, guard_records, bytes_since, budget, counted, next_of, mark, hart_after, other_after, next_records, stopped_records, run_over_records, edges_from, edge_records, load_record, sc_record, loading, warmth, skipped_after, word_before, point_of, span_of, last_end, ArePointsOf, EdgesAreFew, IsGuarding, HasHeader, HasEnded, GuardCountsFromHeaders, HeadersAreKept, FaultsAreKept}
+use Rattle.run_laws.proofs.Common.{◌≡◌, ℕ, zero, suc, ◌+◌, ◌-◌, ◌*◌, ◌<◌, ◌≤◌, ◌==◌, Bool, true, false, not, ◌&&◌, nat_le, nat_lt, Option, Some, None, List, [], ◌∷◌, ◌++◌, drop, length, refl, sym, ◌∙◌, ap, subst, arith, inl, inr, ◌⊎◌, if◌then◌else◌, option_or, Program, EndMark, RawSettings, HartState, absorbed, is_cut, Ask, Want, Cut, Faulted, Reply, Warm, Point, after, sources_into, Record, Header, FirstLoad, Edge, End, total, Hart, TurnEnd, GoesOn, NewInterval, HartOver, RunOver, IsFit, anew, Machine, answer, call_of, start, run_of, run_from, legal_from, Run, turn, ask_at, is_orderly, is_guarded, guarded_run, guard_records, bytes_since, budget, counted, next_of, mark, hart_after, other_after, next_records, stopped_records, run_over_records, edges_from, edge_records, load_record, sc_record, loading, warmth, skipped_after, word_before, point_of, span_of, last_end, ArePointsOf, EdgesAreFew, IsGuarding, HasHeader, HasEnded, GuardCountsFromHeaders, HeadersAreKept, FaultsAreKept, le-leb, ltb-false, leb-false, eqb-true, and_parts, ltb-true, eqb_same, total-cons, total_append, length-append, flat_map, bytes_of}
 use Rattle.bn_base.specs.Faults.{fault_number}
 use Rattle.bn_base.specs.declared.fault.Fault.{Fault}
 use Rattle.rv_meaning.specs.declared.asks.Reply.TheVariants as replies
 use Rattle.first_load_bits.specs.declared.warm.Warm.TheVariants as answers
 use Rattle.log_ring.specs.Kept.{kept}
 use Rattle.run_model.specs.KeptRecords.{kept_of}
-use Rattle.run_model.proofs.Bytes.{total_append}
-use Rattle.run_laws.proofs.Bytes.{total_more, header_size_is, load_size_is, edge_size_is, end_size_is}
 use Rattle.run_laws.proofs.Converse.{run_append}
 use Rattle.run_laws.proofs.LastEnds.{last_of_both, own_end, stops_own}
 use Rattle.run_laws.proofs.Standing.{StandsIn, NoneBefore, none_in_point, none_in_load, none_in_conditional, over_back, Held, turn_records, own_stands, guard_stands, answered_at, turn_is, asked_size, state_size, start_held, list_held}
-use Rattle.run_laws.proofs.Turns.{Laws, IsRanged, ranged, IsAsking, asking, ordered, both, below_of, legal_first, eqb_same, guarded_at, asked_at, state_of, next_at}
+use Rattle.run_laws.proofs.Turns.{Laws, IsRanged, ranged, asking, ordered, legal_first, guarded_at, asked_at, state_of, next_at}
+use Rattle.le_numbers.specs.Numbers.{number_bytes}
 
--- ---- bytes
+-- ---- the bytes of each kind of record
+
+words_have : (xs : List ℕ) → length (flat_map (number_bytes 4) xs) ≡ 4 * length xs
+unfolding number_bytes
+words_have [] = refl
+words_have (x ∷ xs) = omega (arith, length-append (number_bytes 4 x) (flat_map (number_bytes 4) xs), word_has x, words_have xs)
+  where
+    word_has : (x : ℕ) → length (number_bytes 4 x) ≡ 4
+    word_has x = refl
+
+behind_22 : (n : ℕ) → n ≡ 124 → suc (suc (suc (suc (suc (suc (suc (suc (suc (suc (suc (suc (suc (suc (suc (suc (suc (suc (suc (suc (suc (suc (n)))))))))))))))))))))) ≡ 146
+behind_22 n e = ap (λ (n : ℕ). suc (suc (suc (suc (suc (suc (suc (suc (suc (suc (suc (suc (suc (suc (suc (suc (suc (suc (suc (suc (suc (suc (n))))))))))))))))))))))) e
+
+header_size_is : (h n ic pc : ℕ) (x : List ℕ) → length (drop 1 x) ≡ 31 → length (bytes_of (Header h n ic pc x)) ≡ 146
+unfolding number_bytes
+header_size_is h n ic pc x e = behind_22 (length (flat_map (number_bytes 4) (drop 1 x))) (omega (arith, words_have (drop 1 x), e))
+
+load_size_is : (h skip value : ℕ) → length (bytes_of (FirstLoad h skip value)) ≡ 10
+unfolding number_bytes
+load_size_is h skip value = refl
+
+edge_size_is : (h ic s j : ℕ) → length (bytes_of (Edge h ic s j)) ≡ 19
+unfolding number_bytes
+edge_size_is h ic s j = refl
+
+end_size_is : (h : ℕ) (mark : EndMark) → length (bytes_of (End h mark)) ≡ 15
+unfolding number_bytes
+end_size_is h mark = refl
+
+-- ---- those of a turn's records
 
 edges_bytes : (k ic : ℕ) (ss : List (ℕ × ℕ)) → total (edges_from k ic ss) ≡ 19 * length ss
 edges_bytes k ic [] = refl
-edges_bytes k ic (s ∷ ss) = omega (arith, total_more (Edge k ic s.0 s.1) (edges_from k ic ss), edge_size_is k ic s.0 s.1, edges_bytes k ic ss)
+edges_bytes k ic (s ∷ ss) = omega (arith, total-cons (Edge k ic s.0 s.1) (edges_from k ic ss), edge_size_is k ic s.0 s.1, edges_bytes k ic ss)
 
 point_bytes : EdgesAreFew → (point : Option Point) (points : List Point) (n : ℕ) → ArePointsOf n points → total (edge_records point points) ≤ 19 * n
 point_bytes few None points n are = omega arith
 point_bytes few (Some p) points n are = omega (arith, edges_bytes p.hart p.count (sources_into (after points p) (length points)), few points p n are)
 
 load_bytes : (load : Option Warm) (k skipped word : ℕ) → total (load_record load k skipped word) ≤ 10
-load_bytes (Some answers.Cold) k skipped word = omega (arith, total_more (FirstLoad k skipped word) [], load_size_is k skipped word)
-load_bytes (Some answers.Warm) k skipped word = omega arith
-load_bytes None k skipped word = omega arith
+load_bytes (Some answers.Cold) k skipped word = omega (arith, total-cons (FirstLoad k skipped word) [], load_size_is k skipped word)
+load_bytes load k skipped word = omega arith
 
 conditional_bytes : (reply : Reply) (k : ℕ) → total (sc_record reply k) ≤ 2
 conditional_bytes replies.ScOk k = omega arith
-conditional_bytes replies.ScFailed k = omega arith
 conditional_bytes reply k = omega arith
 
 stop_bytes : (b : Bool) (j ic n : ℕ) (rs : List Record) → total rs ≤ 15 * n → total (elim b as (λ x. List Record) [ true ↦ End j (mark ic 5 0) ∷ rs | false ↦ rs ]) ≤ 15 * suc n
-stop_bytes true j ic n rs h = omega (arith, h, total_more (End j (mark ic 5 0)) rs, end_size_is j (mark ic 5 0))
+stop_bytes true j ic n rs h = omega (arith, h, total-cons (End j (mark ic 5 0)) rs, end_size_is j (mark ic 5 0))
 stop_bytes false j ic n rs h = omega (arith, h)
 
 stops_bytes : (k j n : ℕ) (harts : ℕ → Hart) → total (stopped_records k j n harts) ≤ 15 * n
@@ -43,28 +69,24 @@ stops_bytes k j (suc n) harts = stop_bytes (not (j == k) && (harts j).live) j (h
 
 over_bytes : (next : TurnEnd) (k n : ℕ) (harts : ℕ → Hart) → total (run_over_records next k n harts) ≤ 15 * n
 over_bytes (RunOver r v) k n harts = stops_bytes k 0 n harts
-over_bytes GoesOn k n harts = omega arith
-over_bytes (NewInterval r v) k n harts = omega arith
-over_bytes (HartOver r v) k n harts = omega arith
+over_bytes next k n harts = omega arith
 
 -- the End of a turn that begins no interval
 abbrev pub Begins : TurnEnd → Bool
 Begins (NewInterval r v) = true
-Begins GoesOn = false
-Begins (HartOver r v) = false
-Begins (RunOver r v) = false
+Begins next = false
 
 end_bytes : (next : TurnEnd) (k number : ℕ) (s : HartState) → Begins next ≡ false → total (next_records next k number s) ≤ 15
 end_bytes GoesOn k number s e = omega arith
 end_bytes (NewInterval r v) k number s e = cc
-end_bytes (HartOver r v) k number s e = omega (arith, total_more (End k (mark s.ic r v)) [], end_size_is k (mark s.ic r v))
-end_bytes (RunOver r v) k number s e = omega (arith, total_more (End k (mark s.ic r v)) [], end_size_is k (mark s.ic r v))
+end_bytes (HartOver r v) k number s e = omega (arith, total-cons (End k (mark s.ic r v)) [], end_size_is k (mark s.ic r v))
+end_bytes (RunOver r v) k number s e = omega (arith, total-cons (End k (mark s.ic r v)) [], end_size_is k (mark s.ic r v))
 
 four_parts : (e l s n o : List Record) → total (e ++ (l ++ (s ++ (n ++ o)))) ≡ total e + (total l + (total s + (total n + total o)))
 four_parts e l s n o = omega (arith, total_append e (l ++ (s ++ (n ++ o))), total_append l (s ++ (n ++ o)), total_append s (n ++ o), total_append n o)
 
 header_bytes : (k n begun pc : ℕ) (x : List ℕ) (back : List Record) → length x ≡ 32 → total (Header k n begun pc x ∷ back) ≡ 146 + total back
-header_bytes k n begun pc x back e = omega (arith, total_more (Header k n begun pc x) back, header_size_is k n begun pc x (others x e))
+header_bytes k n begun pc x back e = omega (arith, total-cons (Header k n begun pc x) back, header_size_is k n begun pc x (others x e))
   where
     others : (x : List ℕ) → length x ≡ 32 → length (drop 1 x) ≡ 31
     others [] e = cc
@@ -87,10 +109,7 @@ guard_counts laws c i input b k setting legal within =
 kept_back : (size : ℕ) (front back : List Record) → total back ≤ size → (more : List Record) × (kept size (front ++ back) ≡ more ++ back)
 unfolding kept
 kept_back size [] [] fits = ([], refl)
-kept_back size [] (r ∷ rs) fits = ([], ap (λ (b : Bool). if b then r ∷ rs else kept size rs) (fits_so (total (r ∷ rs)) size fits))
-  where
-    fits_so : (a b : ℕ) → a ≤ b → nat_le a b ≡ true
-    fits_so a b h = grind (arith, common_steps)
+kept_back size [] (r ∷ rs) fits = ([], ap (λ (b : Bool). if b then r ∷ rs else kept size rs) (le-leb (total (r ∷ rs)) size fits))
 kept_back size (x ∷ front) back fits = by (nat_le (total (x ∷ (front ++ back))) size) (kept_back size front back fits)
   where
     by : (b : Bool) → (more : List Record) × (kept size (front ++ back) ≡ more ++ back) → (more : List Record) × ((if b then x ∷ (front ++ back) else kept size (front ++ back)) ≡ more ++ back)
@@ -111,9 +130,6 @@ three true false d e f h = h
 three true true d e f h = cc
 three false b d e f h = cc
 
-not_less : (a b : ℕ) → nat_lt a b ≡ false → b ≤ a
-not_less a b e = grind (arith, common_steps)
-
 -- if an ask that isn't a cut is answered, half of the log has room for all from the hart's Header on
 pub half_room : (g : Bool) (c : RawSettings) (run : Run) (k : ℕ) (want : Want) (s : HartState) → IsGuarding c → is_cut want ≡ false → is_guarded c run k want ≡ g → 2 * bytes_since (guarded_run g run k s) k ≤ c.log_size
 half_room true c run k want s guarding cut e =
@@ -121,16 +137,15 @@ half_room true c run k want s guarding cut e =
     ap (λ (b : Bool). (elim b as (λ x. Hart) [ true ↦ anew s (run.bytes + total (guard_records run k s)) (run.harts k) | false ↦ run.harts k ]).headed) (eqb_same k) in
     omega (arith, headed, guarding.log_size_low)
 half_room false c run k want s guarding cut e =
-    not_less c.log_size (2 * bytes_since run k) (three (c.format == 2) (is_cut want) (nat_lt c.log_size (2 * bytes_since run k)) (ap (λ (n : ℕ). n == 2) guarding.format) cut e)
+    ltb-false c.log_size (2 * bytes_since run k) (three (c.format == 2) (is_cut want) (nat_lt c.log_size (2 * bytes_since run k)) (ap (λ (n : ℕ). n == 2) guarding.format) cut e)
 
 -- ---- a cut ends its hart's interval
 
 -- what a cut leads to: the next interval, or the hart's end at the limit
 abbrev pub Cuts : TurnEnd → Type 0
-Cuts (NewInterval r v) = Unit {0}
-Cuts (HartOver r v) = Unit {0}
 Cuts GoesOn = ⊥
 Cuts (RunOver r v) = ⊥
+Cuts next = Unit {0}
 
 cuts_by : (x y : Bool) → (x ≡ false → y ≡ false → ⊥) → Cuts (elim x as (λ z. TurnEnd) [ true ↦ HartOver 7 0 | false ↦ elim y as (λ z. TurnEnd) [ true ↦ NewInterval 1 0 | false ↦ GoesOn ] ])
 cuts_by true y f = tt
@@ -138,10 +153,7 @@ cuts_by false true f = tt
 cuts_by false false f = f refl refl
 
 full : (c : RawSettings) (t : Hart) (ic : ℕ) → IsFit c t → ic ≡ t.state.ic + budget c t → nat_le c.limit ic ≡ false → nat_le c.interval (ic - t.begun) ≡ false → ⊥
-full c t ic f e low short = absurd (omega (arith, f.skipped, f.interval, f.limit, e, above c.limit ic low, above c.interval (ic - t.begun) short))
-  where
-    above : (a b : ℕ) → nat_le a b ≡ false → b < a
-    above a b e = grind (arith, common_steps)
+full c t ic f e low short = absurd (omega (arith, f.skipped, f.interval, f.limit, e, leb-false c.limit ic low, leb-false c.interval (ic - t.begun) short))
 
 counted_cuts : (c : RawSettings) (t : Hart) (ic : ℕ) → IsFit c t → ic ≡ t.state.ic + budget c t → Cuts (counted c t ic)
 counted_cuts c t ic f e = cuts_by (nat_le c.limit ic) (nat_le c.interval (ic - t.begun)) (full c t ic f e)
@@ -154,10 +166,7 @@ cut_count : (t : Hart) (c : RawSettings) (i : Program) (w : Want) (s : HartState
 cut_count t c i w s e o = same (subst (λ (x : Want). is_orderly c i t (record { state = s; want = x }) ≡ true) e o)
   where
     same : is_orderly c i t (record { state = s; want = Cut }) ≡ true → s.ic ≡ t.state.ic + budget c t
-    same o = equal s.ic (t.state.ic + budget c t) (both (s.ic == t.state.ic + budget c t) true o).0
-      where
-        equal : (a b : ℕ) → (a == b) ≡ true → a ≡ b
-        equal a b e = grind arith
+    same o = eqb-true s.ic (t.state.ic + budget c t) (and_parts (s.ic == t.state.ic + budget c t) true o).0
 
 -- what comes after the answer to a want in a state
 abbrev pub next_to : RawSettings → Program → Machine → ℕ → Hart → Want → HartState → TurnEnd
@@ -173,13 +182,7 @@ cut_next c i m k t w s e f o =
 
 pub cut_or : (w : Want) → (w ≡ Cut) ⊎ (is_cut w ≡ false)
 cut_or Cut = inl refl
-cut_or (Load a wd g rd) = inr refl
-cut_or (LoadReserved a rd) = inr refl
-cut_or (Store a wd v) = inr refl
-cut_or (StoreConditional a rd v) = inr refl
-cut_or (Amo a o rd v) = inr refl
-cut_or (System n args) = inr refl
-cut_or (Faulted f v) = inr refl
+cut_or w = inr refl
 
 -- ---- a turn
 
@@ -197,12 +200,8 @@ own_kept next stream es ls cs bytes k n skipped size s t harts registers st none
         → let rs = turn_records next es ls cs k t.number n s harts in let u = hart_after next s skipped (bytes + total rs) t in
         (new : StandsIn (stream ++ rs) (bytes + total rs) k u) → 146 + total new.back ≤ size
     by (NewInterval r v) room new = omega (arith, new.since, some)
-    by GoesOn room new =
-        omega (arith, new.since, st.since, room refl, four_parts es ls cs (next_records GoesOn k t.number s) (run_over_records GoesOn k n harts), end_bytes GoesOn k t.number s refl, over_bytes GoesOn k n harts)
-    by (HartOver r v) room new =
-        omega (arith, new.since, st.since, room refl, four_parts es ls cs (next_records (HartOver r v) k t.number s) (run_over_records (HartOver r v) k n harts), end_bytes (HartOver r v) k t.number s refl, over_bytes (HartOver r v) k n harts)
-    by (RunOver r v) room new =
-        omega (arith, new.since, st.since, room refl, four_parts es ls cs (next_records (RunOver r v) k t.number s) (run_over_records (RunOver r v) k n harts), end_bytes (RunOver r v) k t.number s refl, over_bytes (RunOver r v) k n harts)
+    by next room new =
+        omega (arith, new.since, st.since, room refl, four_parts es ls cs (next_records next k t.number s) (run_over_records next k n harts), end_bytes next k t.number s refl, over_bytes next k n harts)
 
 -- the laws that are used here
 pub record RetainLaws : Type 0 where
@@ -229,12 +228,6 @@ turn_room laws c i run k guarding h cut =
       guarding.harts_high,
       guarding.log_size_low,
     )
-
--- what holds of a turn whose hart is live before it
-record IsTurn (c : RawSettings) (i : Program) (run : Run) (k : ℕ) : Type 0 where
-  held : Held c run
-  orderly : is_orderly c i (run.harts k) (ask_at c i (run.harts k)) ≡ true
-  asks : IsAsking c i (run.harts k) ((asked_at c i run k).harts k) (ask_at c i (run.harts k))
 
 -- the Header of the hart before the answer
 asked_stands : (c : RawSettings) (i : Program) (run : Run) (k : ℕ) → Held c run → k < c.harts → StandsIn (asked_at c i run k).stream (asked_at c i run k).bytes k ((asked_at c i run k).harts k)
@@ -316,7 +309,7 @@ record IsLast (c : RawSettings) (i : Program) (run : Run) (k : ℕ) : Type 0 whe
   live : (run.harts k).live ≡ true
 
 last_turn : (c : RawSettings) (i : Program) (run : Run) (b : List ℕ) (k : ℕ) → legal_from c i run (b ++ k ∷ []) ≡ true → (legal_from c i run b ≡ true) × IsLast c i (run_from c i run b) k
-last_turn c i run [] k e = (let live = both (nat_lt k c.harts) (run.harts k).live (legal_first c i run k [] e).0 in (refl, record { below = below_of k c.harts live.0; live = live.1 }))
+last_turn c i run [] k e = (let live = and_parts (nat_lt k c.harts) (run.harts k).live (legal_first c i run k [] e).0 in (refl, record { below = ltb-true k c.harts live.0; live = live.1 }))
 last_turn c i run (j ∷ b) k e =
     let first = legal_first c i run j (b ++ k ∷ []) e in
     let rest = last_turn c i (turn c i run j) b k first.1 in

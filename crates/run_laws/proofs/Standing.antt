@@ -1,11 +1,10 @@
 -- Each hart's present Header stands among the records, and a run counts the bytes after it.
-use Rattle.run_laws.proofs.Common.{◌≡◌, ℕ, zero, suc, ◌+◌, ◌*◌, ◌<◌, ◌≤◌, Bool, true, false, Option, Some, None, List, [], ◌∷◌, ◌++◌, length, refl, sym, ◌∙◌, ap, subst, arith, append_assoc, inl, inr, ◌≢◌, ◌==◌, not, ◌&&◌, slice_get, nat_lt, eqb_tells, Program, RawSettings, HartState, absorbed, Ask, Plan, Point, after, sources_into, Warm, Reply, Record, Header, End, total, Hart, TurnEnd, GoesOn, NewInterval, HartOver, RunOver, Span, IsRested, anew, Answered, answer, call_of, Run, Served, serve, turn, ask_at, is_orderly, after_ask, budget, by_guard, guarded_run, guard_records, header, mark, hart_after, other_after, next_records, stopped_records, run_over_records, span_of, point_of, points_after, loading, warmth, skipped_after, edges_from, edge_records, load_record, sc_record, word_before, header_size, start, start_state, first_headers, run_from, legal_from, ArePointsOf, is_header_of}
+use Rattle.run_laws.proofs.Common.{◌≡◌, ℕ, zero, suc, ◌+◌, ◌*◌, ◌<◌, ◌≤◌, Bool, true, false, Option, Some, None, List, [], ◌∷◌, ◌++◌, length, refl, sym, ◌∙◌, ap, subst, arith, append_assoc, inl, inr, ◌==◌, not, ◌&&◌, slice_get, nat_lt, eqb_tells, Program, RawSettings, HartState, absorbed, Ask, Plan, Point, after, sources_into, Warm, Reply, Record, Header, End, total, Hart, TurnEnd, GoesOn, NewInterval, RunOver, Span, IsRested, anew, Answered, answer, call_of, Run, Served, serve, turn, ask_at, is_orderly, after_ask, budget, by_guard, guarded_run, guard_records, header, mark, hart_after, other_after, next_records, stopped_records, run_over_records, span_of, point_of, points_after, loading, warmth, skipped_after, edges_from, edge_records, load_record, sc_record, word_before, header_size, start, start_state, first_headers, run_from, legal_from, ArePointsOf, is_header_of, ne_eqb, and_parts, ltb-true, eqb_same, total_append, headers_have, same_Some}
 use Rattle.std.specs.List.{AllByRecursion}
 use Rattle.first_load_bits.specs.declared.warm.Warm.TheVariants as answers
 use Rattle.rv_meaning.specs.declared.asks.Reply.TheVariants as replies
-use Rattle.run_model.proofs.Bytes.{total_append, headers_have}
 use Rattle.run_laws.proofs.Registers.{asking_registers, absorbed_registers}
-use Rattle.run_laws.proofs.Turns.{Laws, IsRanged, ordered, both, below_of, legal_first, served, moved, stayed, turn_left, fit_start, eqb_same, guarded_at, asked_at, state_of, next_at}
+use Rattle.run_laws.proofs.Turns.{Laws, IsRanged, ordered, legal_first, served, moved, stayed, turn_left, fit_start, guarded_at, asked_at, state_of, next_at}
 
 -- ---- records without a Header of hart h
 
@@ -26,8 +25,7 @@ none_in_point h (Some p) points = none_in_edges h p.hart p.count (sources_into (
 
 pub none_in_load : (h : ℕ) (load : Option Warm) (k skipped word : ℕ) → NoHeader h (load_record load k skipped word)
 none_in_load h (Some answers.Cold) k skipped word = (refl, tt)
-none_in_load h (Some answers.Warm) k skipped word = tt
-none_in_load h None k skipped word = tt
+none_in_load h load k skipped word = tt
 
 pub none_in_conditional : (h : ℕ) (reply : Reply) (k : ℕ) → NoHeader h (sc_record reply k)
 none_in_conditional h replies.ScOk k = (refl, tt)
@@ -43,17 +41,14 @@ none_in_stops h k j zero harts = tt
 none_in_stops h k j (suc n) harts = none_by (not (j == k) && (harts j).live) h j (harts j).state.ic (stopped_records k (j + 1) n harts) (none_in_stops h k (j + 1) n harts)
 
 none_in_over : (h : ℕ) (next : TurnEnd) (k n : ℕ) (harts : ℕ → Hart) → NoHeader h (run_over_records next k n harts)
-none_in_over h GoesOn k n harts = tt
-none_in_over h (NewInterval r v) k n harts = tt
-none_in_over h (HartOver r v) k n harts = tt
 none_in_over h (RunOver r v) k n harts = none_in_stops h k 0 n harts
+none_in_over h next k n harts = tt
 
 -- another hart's next Header is none of h
 none_in_next : (h : ℕ) (next : TurnEnd) (k number : ℕ) (s : HartState) → (h == k) ≡ false → NoHeader h (next_records next k number s)
 none_in_next h GoesOn k number s apart = tt
 none_in_next h (NewInterval r v) k number s apart = (refl, (apart, tt))
-none_in_next h (HartOver r v) k number s apart = (refl, tt)
-none_in_next h (RunOver r v) k number s apart = (refl, tt)
+none_in_next h next k number s apart = (refl, tt)
 
 -- the Edges, the first load and the store-conditional of a turn have none
 pub record NoneBefore (h : ℕ) (es ls cs : List Record) : Type 0 where
@@ -125,10 +120,6 @@ pub own_stands : (next : TurnEnd) (stream es ls cs : List Record) (bytes k n ski
     → let rs = turn_records next es ls cs k t.number n s harts in StandsIn (stream ++ rs) (bytes + total rs) k (hart_after next s skipped (bytes + total rs) t)
 own_stands GoesOn stream es ls cs bytes k n skipped s t harts size st none =
     grown stream _ bytes k t _ st (record { number = refl; begun = refl; headed = refl }) (none_in_turn k es ls cs (next_records GoesOn k t.number s) (run_over_records GoesOn k n harts) none tt (none_in_over k GoesOn k n harts))
-own_stands (HartOver r v) stream es ls cs bytes k n skipped s t harts size st none =
-    grown stream _ bytes k t _ st (record { number = refl; begun = refl; headed = refl }) (none_in_turn k es ls cs (next_records (HartOver r v) k t.number s) (run_over_records (HartOver r v) k n harts) none (refl, tt) (none_in_over k (HartOver r v) k n harts))
-own_stands (RunOver r v) stream es ls cs bytes k n skipped s t harts size st none =
-    grown stream _ bytes k t _ st (record { number = refl; begun = refl; headed = refl }) (none_in_turn k es ls cs (next_records (RunOver r v) k t.number s) (run_over_records (RunOver r v) k n harts) none (refl, tt) (none_in_over k (RunOver r v) k n harts))
 own_stands (NewInterval r v) stream es ls cs bytes k n skipped s t harts size st none =
     let rs : List Record = turn_records (NewInterval r v) es ls cs k t.number n s harts in
     let last : Record = header k (t.number + 1) s in
@@ -137,6 +128,8 @@ own_stands (NewInterval r v) stream es ls cs bytes k n skipped s t harts size st
     let pre : List Record = stream ++ (es ++ (ls ++ (cs ++ ending))) in
     let whole : stream ++ rs ≡ pre ++ last ∷ [] = push_out stream _ last _ (push_out es _ last _ (push_out ls _ last _ (push_out cs ending last _ refl))) in
     subst (λ (y : List Record). StandsIn y (bytes + total rs) k u) (sym whole) (newest pre (bytes + total rs) k (t.number + 1) s u refl refl refl size)
+own_stands next stream es ls cs bytes k n skipped s t harts size st none =
+    grown stream _ bytes k t _ st (record { number = refl; begun = refl; headed = refl }) (none_in_turn k es ls cs (next_records next k t.number s) (run_over_records next k n harts) none (refl, tt) (none_in_over k next k n harts))
 
 -- if the run is over, the turn's records follow it too
 pub over_back : (r v : ℕ) (stream es ls cs : List Record) (bytes k n skipped : ℕ) (s : HartState) (t : Hart) (harts : ℕ → Hart) (size : length s.x ≡ 32) (st : StandsIn stream bytes k t) (none : NoneBefore k es ls cs)
@@ -149,10 +142,8 @@ stopped_same true t = record { number = refl; begun = refl; headed = refl }
 stopped_same false t = record { number = refl; begun = refl; headed = refl }
 
 other_same : (next : TurnEnd) (t : Hart) → IsSame t (other_after next t)
-other_same GoesOn t = record { number = refl; begun = refl; headed = refl }
-other_same (NewInterval r v) t = record { number = refl; begun = refl; headed = refl }
-other_same (HartOver r v) t = record { number = refl; begun = refl; headed = refl }
 other_same (RunOver r v) t = stopped_same t.live t
+other_same next t = record { number = refl; begun = refl; headed = refl }
 
 -- ---- all harts' Headers
 
@@ -220,10 +211,7 @@ pub state_size : (c : RawSettings) (i : Program) (run : Run) (k : ℕ) → Held 
 state_size c i run k h = absorbed_registers (ask_at c i (run.harts k)) _ ∙ asked_size c i run k h
 
 before_or_last : (points : List Point) (p : Point) (m : ℕ) (q : Point) → slice_get (after points p) m ≡ Some q → (n : ℕ) → ArePointsOf n points → p.hart < n → q.hart < n
-before_or_last [] p zero q e n are low = subst (λ (x : Point). x.hart < n) (same p q e) low
-  where
-    same : (p q : Point) → ◌≡◌ {A = Option Point} (Some p) (Some q) → p ≡ q
-    same p q e = cc
+before_or_last [] p zero q e n are low = subst (λ (x : Point). x.hart < n) (same_Some p q e) low
 before_or_last [] p (suc m) q e n are low = cc
 before_or_last (x ∷ xs) p zero q e n are low = are 0 q e
 before_or_last (x ∷ xs) p (suc m) q e n are low = before_or_last xs p m q e n (λ j r f. are (suc j) r f) low
@@ -273,10 +261,7 @@ record Parted (c : RawSettings) (i : Program) (k n j : ℕ) : Type 0 where
 
 none_in_headers : (c : RawSettings) (i : Program) (h k n : ℕ) → h < k → NoHeader h (first_headers c i k n)
 none_in_headers c i h k zero low = tt
-none_in_headers c i h k (suc n) low = (apart_of h k (λ e. omega (arith, low, e)), none_in_headers c i h (k + 1) n (omega (arith, low)))
-  where
-    apart_of : (i j : ℕ) → i ≢ j → (i == j) ≡ false
-    apart_of i j p = grind arith
+none_in_headers c i h k (suc n) low = (ne_eqb h k (λ e. omega (arith, low, e)), none_in_headers c i h (k + 1) n (omega (arith, low)))
 
 parted : (c : RawSettings) (i : Program) (k n j : ℕ) → k ≤ j → j < k + n → Parted c i k n j
 parted c i k zero j low high = absurd (omega (arith, low, high))
@@ -313,5 +298,5 @@ pub list_held : Laws → (c : RawSettings) (i : Program) (run : Run) (b : List �
 list_held laws c i run [] setting h e = h
 list_held laws c i run (k ∷ ks) setting h e =
     let first = legal_first c i run k ks e in
-    let live = both (nat_lt k c.harts) (run.harts k).live first.0 in
-    list_held laws c i (turn c i run k) ks setting (turn_held laws c i run k setting h (below_of k c.harts live.0) live.1) first.1
+    let live = and_parts (nat_lt k c.harts) (run.harts k).live first.0 in
+    list_held laws c i (turn c i run k) ks setting (turn_held laws c i run k setting h (ltb-true k c.harts live.0) live.1) first.1

@@ -1,5 +1,5 @@
 -- The turns of a legal list, one by one.
-use Rattle.run_laws.proofs.Common.{◌≡◌, ℕ, zero, suc, ◌+◌, ◌-◌, ◌*◌, ◌<◌, ◌≤◌, ◌^◌, ◌==◌, Bool, true, false, not, ◌&&◌, nat_lt, List, [], ◌∷◌, length, refl, sym, ◌∙◌, ap, subst, arith, inl, inr, Option, Some, IsTrue, ◌≢◌, eqb_tells, common_steps, Program, IsSetting, RawSettings, HartState, ask_of, absorbed, orderly, is_cut, Ask, Want, Load, Store, LoadReserved, StoreConditional, Amo, System, Cut, Faulted, Reply, Plan, TurnRow, Hart, TurnEnd, GoesOn, NewInterval, HartOver, RunOver, Machine, answer, call_of, planned, Run, Served, serve, serve_orderly, served_if, turn, ask_at, is_orderly, budget, next_of, loading, warmth, skipped_after, hart_after, other_after, harts_after, is_guarded, guarded_run, asked_run, guard_records, total, Warm, start_hart, start_state, run_from, legal_from, is_live, IsFit, IsRested, anew, GuardedAsksFit, EachTurnMovesOn, EachTurnFits, OthersStayFit, turns_left, TurnsMoveTheirHart, after_rows, IsLawful, IsOwn, Place, place_of, place_from, place_after, begun_at, row_at, rows_from, rows_by}
+use Rattle.run_laws.proofs.Common.{◌≡◌, ℕ, zero, suc, ◌+◌, ◌*◌, ◌<◌, ◌≤◌, ◌^◌, ◌==◌, Bool, true, false, not, ◌&&◌, nat_lt, List, [], ◌∷◌, length, refl, sym, ◌∙◌, ap, subst, arith, inl, inr, Option, Some, IsTrue, ◌≢◌, eqb_tells, Program, IsSetting, RawSettings, HartState, ask_of, absorbed, orderly, is_cut, Ask, Want, System, Faulted, Reply, Plan, TurnRow, Hart, TurnEnd, GoesOn, NewInterval, HartOver, RunOver, Machine, answer, call_of, planned, Run, Served, serve, serve_orderly, served_if, turn, ask_at, is_orderly, budget, next_of, loading, warmth, skipped_after, hart_after, other_after, harts_after, is_guarded, guarded_run, asked_run, guard_records, total, Warm, start_hart, start_state, run_from, legal_from, is_live, IsFit, IsRested, anew, GuardedAsksFit, EachTurnMovesOn, EachTurnFits, OthersStayFit, turns_left, TurnsMoveTheirHart, after_rows, IsLawful, IsOwn, Place, place_of, place_from, place_after, begun_at, row_at, rows_from, rows_by, and_parts, not-true, ltb-true, ne_eqb, eqb_same, budget_limit}
 use Rattle.system_calls.specs.declared.effect.Plan.TheVariants as plans
 use Rattle.run_model.specs.Represents.Harts.{all_left}
 
@@ -40,15 +40,8 @@ ranged c setting = record { interval_low = setting.interval_low; limit_high = se
 abbrev pub AsksAreOrderly : Type 0
 AsksAreOrderly = (i : Program) (b : ℕ) (s : HartState) → s.ic + b < 2 ^ 64 → IsTrue (orderly i s.ic b (ask_of i b s))
 
-budget_limit : (c : RawSettings) (h : Hart) → budget c h ≤ c.limit - h.state.ic
-budget_limit c h = grind (arith, common_steps)
-
 pub ordered : AsksAreOrderly → (c : RawSettings) (i : Program) (h : Hart) → c.limit < 2 ^ 63 → IsFit c h → is_orderly c i h (ask_at c i h) ≡ true
 ordered asks c i h small fit = asks i (budget c h) h.state (omega (arith, small, fit.limit, budget_limit c h))
-
-pub both : (a b : Bool) → (a && b) ≡ true → (a ≡ true) × (b ≡ true)
-both true b e = (refl, e)
-both false b e = cc
 
 -- the turn of an orderly ask
 pub served : (c : RawSettings) (i : Program) (run : Run) (k : ℕ) (ask : Ask) → is_orderly c i (run.harts k) ask ≡ true → serve c i run k ask ≡ serve_orderly c i run k ask
@@ -62,9 +55,6 @@ pub record Laws : Type 0 where
   pub fits : EachTurnFits
   pub others : OthersStayFit
   pub guarded : GuardedAsksFit
-
-pub eqb_same : (k : ℕ) → (k == k) ≡ true
-eqb_same k = grind arith
 
 -- ---- the hart that asks
 
@@ -95,12 +85,8 @@ asking_begun true run k ask = ap (λ (b : Bool). (elim b as (λ x. Hart) [ true 
 asking_begun false run k ask = refl
 
 -- a cut isn't guarded
-uncut : (c : RawSettings) (run : Run) (k : ℕ) (want : Want) → is_guarded c run k want ≡ true → is_cut want ≡ false
-uncut c run k want e = not_cut (is_cut want) (both (not (is_cut want)) _ (both (c.format == 2) _ e).1).0
-  where
-    not_cut : (b : Bool) → not b ≡ true → b ≡ false
-    not_cut true e = cc
-    not_cut false e = refl
+pub uncut : (c : RawSettings) (run : Run) (k : ℕ) (want : Want) → is_guarded c run k want ≡ true → is_cut want ≡ false
+uncut c run k want e = not-true (is_cut want) (and_parts (not (is_cut want)) _ (and_parts (c.format == 2) _ e).1).0
 
 -- what is known of the hart that asks
 pub record IsAsking (c : RawSettings) (i : Program) (old h : Hart) (ask : Ask) : Type 0 where
@@ -205,17 +191,14 @@ one_less c (suc n) own f g within each less = elim (eqb_tells own n) [
     lower : (j n : ℕ) → j < suc n → j ≢ n → j < n
     lower j n h e = omega (arith, h, e)
 
-pub below_of : (a b : ℕ) → nat_lt a b ≡ true → a < b
-below_of a b e = grind arith
-
 pub few_turns : Laws → (c : RawSettings) (i : Program) (run : Run) (b : List ℕ) → IsSetting c → ((j : ℕ) → IsRested c (run.harts j)) → legal_from c i run b ≡ true → length b ≤ all_left c c.harts run.harts
 few_turns laws c i run [] setting fit e = omega arith
 few_turns laws c i run (k ∷ ks) setting fit e =
     let first = legal_first c i run k ks e in
-    let live = both (nat_lt k c.harts) (run.harts k).live first.0 in
+    let live = and_parts (nat_lt k c.harts) (run.harts k).live first.0 in
     let left = turn_left laws c i run k (ranged c setting) fit live.1 in
     let rest = few_turns laws c i (turn c i run k) ks setting left.fit first.1 in
-    omega (arith, rest, one_less c c.harts k run.harts (turn c i run k).harts (below_of k c.harts live.0) left.others left.less)
+    omega (arith, rest, one_less c c.harts k run.harts (turn c i run k).harts (ltb-true k c.harts live.0) left.others left.less)
 
 -- ---- at the start
 
@@ -251,32 +234,24 @@ plan_place : (p : Plan) (c : RawSettings) (m : Machine) (k : ℕ) (h : Hart) (s 
     let reply = (answer c (Some p) m k ask).reply in
     place_of (hart_after (next_of c (Some p) h ask.want reply (absorbed ask reply).ic) (absorbed ask reply) skipped bytes h) ≡ place_from c h.begun ask reply
 plan_place (plans.Fill a n) c m k h s number args skipped bytes = refl
-plan_place (plans.Send t a n) c m k h s number args skipped bytes = refl
-plan_place (plans.Break v) c m k h s number args skipped bytes = refl
-plan_place (plans.Answer v) c m k h s number args skipped bytes = refl
-plan_place (plans.EndHart v) c m k h s number args skipped bytes = refl
-plan_place (plans.EndRun v) c m k h s number args skipped bytes = refl
+plan_place p c m k h s number args skipped bytes = refl
 
 want_place : (want : Want) (c : RawSettings) (i : Program) (m : Machine) (k : ℕ) (h : Hart) (s : HartState) (skipped bytes : ℕ) → PlaceIs c i m k h (record { state = s; want = want }) skipped bytes
 unfolding PlaceIs
-want_place (Load a w g rd) c i m k h s skipped bytes = counted_place _ _ _ skipped bytes h
-want_place (LoadReserved a rd) c i m k h s skipped bytes = counted_place _ _ _ skipped bytes h
-want_place (Store a w v) c i m k h s skipped bytes = counted_place _ _ _ skipped bytes h
-want_place (Amo a o rd v) c i m k h s skipped bytes = counted_place _ _ _ skipped bytes h
-want_place (StoreConditional a rd v) c i m k h s skipped bytes = counted_place _ _ _ skipped bytes h
 want_place (System number args) c i m k h s skipped bytes = plan_place (planned i m number args) c m k h s number args skipped bytes
-want_place Cut c i m k h s skipped bytes = counted_place _ _ _ skipped bytes h
 want_place (Faulted kind value) c i m k h s skipped bytes = refl
+want_place want c i m k h s skipped bytes = counted_place _ _ _ skipped bytes h
 
 stopped_place : (b : Bool) (h : Hart) → place_of (elim b as (λ x. Hart) [ true ↦ record h { live = false; mark = Some (record { ic = h.state.ic; reason = 5; value = 0 }) } | false ↦ h ]) ≡ place_of h
 stopped_place true h = refl
 stopped_place false h = refl
 
 pub other_place : (next : TurnEnd) (h : Hart) → place_of (other_after next h) ≡ place_of h
-other_place GoesOn h = refl
-other_place (NewInterval reason value) h = refl
-other_place (HartOver reason value) h = refl
 other_place (RunOver reason value) h = stopped_place h.live h
+other_place next h = refl
+
+pub other_state : (next : TurnEnd) (h : Hart) → (other_after next h).state ≡ h.state
+other_state next h = ap (λ (p : Place). p.state) (other_place next h)
 
 pub own_place : (c : RawSettings) (i : Program) (run : Run) (k : ℕ) → is_orderly c i (run.harts k) (ask_at c i (run.harts k)) ≡ true
     → let row = row_at c i run k in place_after c (place_of (run.harts k)) row.ask row.guarded row.reply ≡ place_of ((turn c i run k).harts k)
@@ -288,17 +263,11 @@ own_place c i run k o =
     ∙ ap (λ (n : ℕ). place_from c n ask (reply_of c i run k)) (sym (asking_begun (guarded_at c i run k) run k ask))
     ∙ sym (ap place_of (own_is c i run k k o (eqb_same k)) ∙ want_place ask.want c i run.machine k at ask.state _ _)
 
-pub differ : (j k : ℕ) → (j ≡ k → ⊥) → (j == k) ≡ false
-differ j k f = elim (eqb_tells j k) [
-  | inl p ↦ absurd (f p.1)
-  | inr p ↦ p.0
-]
-
 pub own : Laws → (c : RawSettings) (i : Program) (run : Run) (b : List ℕ) (h : ℕ) → IsSetting c → ((j : ℕ) → IsRested c (run.harts j)) → legal_from c i run b ≡ true → IsOwn c i h (place_of (run.harts h)) (rows_by h (rows_from c i run b))
 own laws c i run [] h setting fit e = tt
 own laws c i run (k ∷ ks) h setting fit e =
     let first = legal_first c i run k ks e in
-    let live = both (nat_lt k c.harts) (run.harts k).live first.0 in
+    let live = and_parts (nat_lt k c.harts) (run.harts k).live first.0 in
     let left = turn_left laws c i run k (ranged c setting) fit live.1 in
     let o = ordered laws.asks c i (run.harts k) (omega (arith, setting.limit_high)) (fit k).fit in
     let rest = own laws c i (turn c i run k) ks h setting left.fit first.1 in
@@ -311,7 +280,7 @@ own laws c i run (k ∷ ks) h setting fit e =
           subst (λ (b : Bool). IsOwn c i h (place_of (run.harts h)) (elim b as (λ x. List TurnRow) [ true ↦ row ∷ rows | false ↦ rows ])) (sym p.0)
           ((p.1, ap (λ (n : ℕ). ask_at c i (run.harts n)) p.1, subst (λ (x : Place). IsOwn c i h x rows) (sym place) rest))
       | inr p ↦
-          let place : place_of ((turn c i run k).harts h) ≡ place_of (run.harts h) = ap place_of (other_is c i run k h o (differ h k (λ q. p.1 (sym q)))) ∙ other_place (next_at c i run k) (run.harts h) in
+          let place : place_of ((turn c i run k).harts h) ≡ place_of (run.harts h) = ap place_of (other_is c i run k h o (ne_eqb h k (λ q. p.1 (sym q)))) ∙ other_place (next_at c i run k) (run.harts h) in
           subst (λ (b : Bool). IsOwn c i h (place_of (run.harts h)) (elim b as (λ x. List TurnRow) [ true ↦ row ∷ rows | false ↦ rows ])) (sym p.0)
           (subst (λ (x : Place). IsOwn c i h x rows) place rest)
     ]
@@ -322,18 +291,16 @@ fit_run : Laws → (c : RawSettings) (i : Program) (run : Run) (b : List ℕ) �
 fit_run laws c i run [] setting fit e j = fit j
 fit_run laws c i run (k ∷ ks) setting fit e j =
     let first = legal_first c i run k ks e in
-    let live = both (nat_lt k c.harts) (run.harts k).live first.0 in
+    let live = and_parts (nat_lt k c.harts) (run.harts k).live first.0 in
     fit_run laws c i (turn c i run k) ks setting (turn_left laws c i run k (ranged c setting) fit live.1).fit first.1 j
 
 pub orderly_after : Laws → (c : RawSettings) (i : Program) (run : Run) (b : List ℕ) (k : ℕ) → IsSetting c → ((j : ℕ) → IsRested c (run.harts j)) → legal_from c i run b ≡ true
     → is_orderly c i ((run_from c i run b).harts k) (ask_at c i ((run_from c i run b).harts k)) ≡ true
 orderly_after laws c i run b k setting fit e = ordered laws.asks c i ((run_from c i run b).harts k) (omega (arith, setting.limit_high)) (fit_run laws c i run b setting fit e k).fit
 
-own_state : (next : TurnEnd) (s : HartState) (skipped bytes : ℕ) (h : Hart) → (hart_after next s skipped bytes h).state ≡ s
+pub own_state : (next : TurnEnd) (s : HartState) (skipped bytes : ℕ) (h : Hart) → (hart_after next s skipped bytes h).state ≡ s
 own_state GoesOn s skipped bytes h = refl
-own_state (NewInterval reason value) s skipped bytes h = refl
-own_state (HartOver reason value) s skipped bytes h = refl
-own_state (RunOver reason value) s skipped bytes h = refl
+own_state next s skipped bytes h = refl
 
 pub moved : (c : RawSettings) (i : Program) (run : Run) (k : ℕ) → is_orderly c i (run.harts k) (ask_at c i (run.harts k)) ≡ true → ((turn c i run k).harts k).state ≡ absorbed (ask_at c i (run.harts k)) (serve c i run k (ask_at c i (run.harts k))).reply
 moved c i run k o =
@@ -341,7 +308,7 @@ moved c i run k o =
     ∙ sym (ap (λ (s : Served). absorbed (ask_at c i (run.harts k)) s.reply) (served c i run k (ask_at c i (run.harts k)) o))
 
 pub stayed : (c : RawSettings) (i : Program) (run : Run) (k j : ℕ) → is_orderly c i (run.harts k) (ask_at c i (run.harts k)) ≡ true → (j == k) ≡ false → ((turn c i run k).harts j).state ≡ (run.harts j).state
-stayed c i run k j o apart = ap (λ (h : Hart). h.state) (other_is c i run k j o apart) ∙ ap (λ (p : Place). p.state) (other_place (next_at c i run k) (run.harts j))
+stayed c i run k j o apart = ap (λ (h : Hart). h.state) (other_is c i run k j o apart) ∙ other_state (next_at c i run k) (run.harts j)
 
 pub turns_move : TurnsMoveTheirHart
 turns_move = record { own = moved; others = stayed }
