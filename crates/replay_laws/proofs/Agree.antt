@@ -1,10 +1,7 @@
 -- Warm words have the values that a hart's rows know: what another hart's turn leaves of that.
-use Rattle.replay_laws.proofs.Common.{◌≡◌, ℕ, zero, suc, ◌+◌, ◌-◌, ◌*◌, ◌/◌, ◌<◌, ◌≤◌, Bool, true, false, cond, List, [], ◌∷◌, length, Option, Some, None, refl, sym, ◌∙◌, ap, arith, inl, inr, length-take, add-zero, ◌==◌, ◌≢◌, take, false≢true, eq-eqb, eqb_tells, Program, RawSettings, HartState, aligned, Ask, Want, Load, Store, LoadReserved, StoreConditional, Amo, System, Cut, Faulted, Plan, updated, Mode, Read, Write, Geometry, Event, line_of, word_of, Touch, Drop, geometry_of, warm, held, Span, TurnEnd, Machine, answer_call, answer_sc, call_of, filled, put_byte, word_count, is_reserved, sent, planned, Run, ask_at, drops, dropped, other_events, own_events, events_after, cleared, call_span, sc_span}
+use Rattle.replay_laws.proofs.Common.{◌≡◌, ℕ, zero, suc, ◌+◌, ◌-◌, ◌*◌, ◌/◌, ◌<◌, ◌≤◌, Bool, true, false, cond, List, [], ◌∷◌, length, Option, Some, None, refl, sym, ◌∙◌, ap, arith, inl, inr, length-take, add-zero, ◌==◌, ◌≢◌, take, false≢true, eq-eqb, eqb_tells, Program, RawSettings, HartState, aligned, Ask, Want, Store, StoreConditional, Amo, System, Plan, updated, Mode, Read, Write, Geometry, Event, line_of, word_of, Touch, Drop, geometry_of, warm, held, Span, TurnEnd, Machine, answer_call, answer_sc, call_of, filled, put_byte, word_count, is_reserved, sent, planned, Run, ask_at, drops, dropped, other_events, own_events, events_after, cleared, call_span, sc_span, ne_eqb}
 use Rattle.system_calls.specs.declared.effect.Plan.TheVariants as plans
 use Rattle.replay_laws.proofs.Asked.{memory_after, span_to, next_to, served_ask, served_turn}
-
-pub not_equal : (a b : ℕ) → a ≢ b → (a == b) ≡ false
-not_equal a b h = elim (eqb_tells a b) [ inl p ↦ absurd (h p.1) | inr p ↦ p.0 ]
 
 -- ---- the events
 
@@ -63,7 +60,7 @@ warm_other g None b es e = (tt, e)
 warm_other g (Some s) b es e = warm_dropped g s b es e
 
 updated_other : (k v : ℕ) (m : ℕ → ℕ) (b : ℕ) → b ≢ k → updated k v m b ≡ m b
-updated_other k v m b h = ap (λ x. cond x v (m b)) (not_equal b k h)
+updated_other k v m b h = ap (λ x. cond x v (m b)) (ne_eqb b k h)
 
 -- a word that wasn't written is as it was
 one_spared : (first b : ℕ) → Outside first 1 b → b ≢ first
@@ -97,21 +94,15 @@ sent_memory false bytes m = refl
 spared_call : (p : Plan) (h : ℕ) (m : Machine) (b : ℕ) → Spared (call_span p) b → (answer_call p h m).machine.memory b ≡ m.memory b
 spared_call (plans.Fill a n) h m b p = spared_fill a n (take n m.input) m.memory b (simp length-take (omega arith)) p
 spared_call (plans.Send t a n) h m b p = ap (λ (x : ℕ → ℕ). x b) (sent_memory (t == 1) _ _)
-spared_call (plans.Break v) h m b p = refl
-spared_call (plans.EndHart v) h m b p = refl
-spared_call (plans.EndRun v) h m b p = refl
-spared_call (plans.Answer v) h m b p = refl
+spared_call plan h m b p = refl
 
 pub spared : (w : Want) (c : RawSettings) (i : Program) (m : Machine) (h : ℕ) (s : HartState) (b : ℕ) → Spared (span_to c i m h w s) b
     → memory_after c i m h w s b ≡ m.memory b
-spared (Load a wd t rd) c i m h s b p = refl
-spared (LoadReserved a rd) c i m h s b p = refl
 spared (Store a wd v) c i m h s b p = updated_other (aligned a) _ m.memory b (one_spared (aligned a) b p)
 spared (Amo a o rd v) c i m h s b p = updated_other a _ m.memory b (one_spared a b p)
 spared (StoreConditional a rd v) c i m h s b p = spared_sc (is_reserved (m.reserved h) a) m h a v b p
 spared (System n args) c i m h s b p = spared_call (planned i m n args) h m b p
-spared Cut c i m h s b p = refl
-spared (Faulted f v) c i m h s b p = refl
+spared w c i m h s b p = refl
 
 -- ---- a turn of another hart
 

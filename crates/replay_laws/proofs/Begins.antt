@@ -1,12 +1,11 @@
 -- The point of the run at which an interval begins, if its Header is kept.
-use Rattle.replay_laws.proofs.Common.{◌≡◌, ℕ, zero, suc, ◌+◌, ◌<◌, ◌≤◌, Bool, true, false, ◌&&◌, List, [], ◌∷◌, ◌++◌, take, drop, length, length-append, Option, Some, None, refl, sym, ◌∙◌, ap, arith, subst, inl, inr, ◌==◌, ◌≢◌, nat_lt, if◌then◌else◌, false≢true, eq-eqb, eqb_tells, append_assoc, append-nil, Program, Row, RawSettings, HartState, Plan, Event, Clear, geometry_of, warm, Record, Interval, puts, nothing, interval_from, interval_of, Hart, TurnEnd, GoesOn, NewInterval, HartOver, RunOver, Span, Run, next_records, events_after, own_events, other_events, header, call_of, start, start_state, first_headers}
-use Rattle.replay_laws.proofs.Agree.{not_equal}
+use Rattle.replay_laws.proofs.Common.{◌≡◌, ℕ, zero, suc, ◌+◌, ◌<◌, ◌≤◌, Bool, true, false, ◌&&◌, List, [], ◌∷◌, ◌++◌, take, drop, length, length-append, Option, Some, None, refl, sym, ◌∙◌, ap, arith, subst, inl, inr, ◌==◌, ◌≢◌, nat_lt, if◌then◌else◌, false≢true, eq-eqb, eqb_tells, append_assoc, append-nil, Program, Row, RawSettings, HartState, Plan, Event, Clear, geometry_of, warm, Record, Interval, puts, nothing, interval_from, interval_of, Hart, TurnEnd, GoesOn, NewInterval, RunOver, Span, Run, next_records, events_after, own_events, other_events, header, call_of, start, start_state, first_headers, ne_eqb, and_right, and_left}
 use Rattle.replay_laws.proofs.Asked.{served_turn, span_to}
 use Rattle.replay_laws.proofs.Coming.{IsServed, equal_flip}
 use Rattle.replay_laws.proofs.Counts.{Fit, Move, Moves, moved_run, want_at, asked_at, next_by, state_by, warmth_by, word_at, reply_by, point_by, added, served_records, log_from, own_harts, other_harts, own_fit, begun_fit}
 use Rattle.replay_laws.proofs.Found.{Passes, FoundOr, pass_all, find_at, turn_passes, turn_finds, next_passes, headers_log, interval_skip}
 use Rattle.replay_laws.proofs.Lengths.{extra, rows_by, move_count}
-use Rattle.replay_laws.proofs.ServedRows.{served_rows, served_all, all_skip, all_own, number_up, over_live, dead_of, rows_skip, and_false, false_and}
+use Rattle.replay_laws.proofs.ServedRows.{served_rows, served_all, all_skip, all_own, number_up, over_live, dead_of, rows_skip}
 use Rattle.replay_laws.proofs.Small.{new_small}
 use Rattle.replay_laws.proofs.Turns.{turn_records, puts_append}
 use Rattle.replay_laws.proofs.Way.{Sound}
@@ -89,7 +88,7 @@ begins_past c i guard h n k ks run v p is b = record {
   cleared = b.cleared;
   number = b.number;
   is = b.is;
-  rows = rows_skip c i guard run ks h k n (false_and (k == h) ((run.harts h).number == n) p) ∙ b.rows;
+  rows = rows_skip c i guard run ks h k n (and_left (k == h) ((run.harts h).number == n) p) ∙ b.rows;
   front = b.front;
   all = all_skip c i guard run ks h k p ∙ b.all;
   count = ap (λ (x : Hart). x.state.ic + length b.front) (sym is) ∙ b.count;
@@ -116,7 +115,7 @@ begins_after c i guard h n ks run v z f q is none b =
       cleared = b.cleared;
       number = b.number;
       is = b.is;
-      rows = rows_skip c i guard run ks h h n (and_false (h == h) ((run.harts h).number == n) (not_equal (run.harts h).number n (λ u. absurd (omega arith)))) ∙ b.rows;
+      rows = rows_skip c i guard run ks h h n (and_right (h == h) ((run.harts h).number == n) (ne_eqb (run.harts h).number n (λ u. absurd (omega arith)))) ∙ b.rows;
       front = rows ++ b.front;
       all = all_own c i guard run ks h ∙ (ap (λ x. rows ++ x) b.all ∙ sym (append_assoc rows b.front (served_all c i b.later b.turns h)));
       count = omega (arith, whole, turn, next, rest, none);
@@ -129,8 +128,8 @@ begins_after c i guard h n ks run v z f q is none b =
 
 no_head : (run : Run) (h n k : ℕ) → (k ≡ h → ((run.harts h).number + 1 == n) ≡ false) → (k == h && ((run.harts k).number + 1 == n)) ≡ false
 no_head run h n k f = elim (eqb_tells k h) [
-  | inl p ↦ and_false (k == h) ((run.harts k).number + 1 == n) (ap (λ x. (run.harts x).number + 1 == n) p.1 ∙ f p.1)
-  | inr p ↦ false_and (k == h) ((run.harts k).number + 1 == n) p.0
+  | inl p ↦ and_right (k == h) ((run.harts k).number + 1 == n) (ap (λ x. (run.harts x).number + 1 == n) p.1 ∙ f p.1)
+  | inr p ↦ and_left (k == h) ((run.harts k).number + 1 == n) p.0
 ]
 
 added_passes : (c : RawSettings) (i : Program) (guard : Bool) (run : Run) (h n k : ℕ) → Passes h n (next_records (next_by c i guard run k) k (run.harts k).number (state_by c i guard run k))
@@ -146,7 +145,7 @@ late c i h n [] run m b = interval_none h n m
 late c i h n (Moves guard k ∷ ks) run m b =
     let p : Passes h n (added c i guard run k) =
     added_passes c i guard run h n k
-    (next_passes (next_by c i guard run k) h n k (run.harts k).number (state_by c i guard run k) (no_head run h n k (λ q. not_equal ((run.harts h).number + 1) n (λ z. absurd (omega arith))))) in
+    (next_passes (next_by c i guard run k) h n k (run.harts k).number (state_by c i guard run k) (no_head run h n k (λ q. ne_eqb ((run.harts h).number + 1) n (λ z. absurd (omega arith))))) in
     let d = pass_all h n (added c i guard run k) (served_records c i (moved_run c i guard run k) ks) m p in
     let up = number_up c i guard run h k in
     d.1 ∙ late c i h n ks (moved_run c i guard run k) d.0 (omega (arith, up))
@@ -158,7 +157,7 @@ dead_late c i h n [] run m e l = interval_none h n m
 dead_late c i h n (Moves guard k ∷ ks) run m e l = elim (eqb_tells k h) [
   | inl p ↦ absurd (false≢true (sym e ∙ (ap (λ x. (run.harts x).live) (sym p.1) ∙ l.1)))
   | inr p ↦ (let d = pass_all h n (added c i guard run k) (served_records c i (moved_run c i guard run k) ks) m
-      (added_passes c i guard run h n k (next_passes (next_by c i guard run k) h n k (run.harts k).number (state_by c i guard run k) (false_and (k == h) ((run.harts k).number + 1 == n) p.0))) in
+      (added_passes c i guard run h n k (next_passes (next_by c i guard run k) h n k (run.harts k).number (state_by c i guard run k) (and_left (k == h) ((run.harts k).number + 1 == n) p.0))) in
       d.1 ∙ dead_late c i h n ks (moved_run c i guard run k) d.0
       (ap (λ (x : Hart). x.live) (other_harts c i guard run h k (next_by c i guard run k) refl (equal_flip k h p.1)) ∙ dead_of (next_by c i guard run k) (run.harts h) e) l.2)
 ]
@@ -232,22 +231,19 @@ gives_own GoesOn c i guard h n ks run z l f e q rest =
     let is = own_harts c i guard run h GoesOn e in
     gives_later c i guard h n h ks run (subst (λ (w : TurnEnd). Passes h n (next_records w h (run.harts h).number (state_by c i guard run h))) (sym e) tt)
     (λ v b. begins_after c i guard h n ks run v z f q (ap (λ (w : Hart). w.state) is) (ap extra e) b) (rest (subst (λ (w : Hart). w.number < n) (sym is) q) (own_fit c i guard run h z e f))
-gives_own (HartOver y x) c i guard h n ks run z l f e q rest =
-    gives_none c i guard h n h ks run (subst (λ (w : TurnEnd). Passes h n (next_records w h (run.harts h).number (state_by c i guard run h))) (sym e) (refl, tt))
-    (ap (λ (w : Hart). w.live) (own_harts c i guard run h (HartOver y x) e)) l
-gives_own (RunOver y x) c i guard h n ks run z l f e q rest =
-    gives_none c i guard h n h ks run (subst (λ (w : TurnEnd). Passes h n (next_records w h (run.harts h).number (state_by c i guard run h))) (sym e) (refl, tt))
-    (ap (λ (w : Hart). w.live) (own_harts c i guard run h (RunOver y x) e)) l
 gives_own (NewInterval y x) c i guard h n ks run z l f e q rest =
     let is = own_harts c i guard run h (NewInterval y x) e in
     let small : nat_lt 16 y ≡ false = new_small c i guard run h y x e in
     elim (eqb_tells ((run.harts h).number + 1) n) [
       | inl p ↦ gives_now c i guard h n ks run y x z l f e small p.1
       | inr p ↦ gives_later c i guard h n h ks run
-          (next_passes (next_by c i guard run h) h n h (run.harts h).number (state_by c i guard run h) (and_false (h == h) ((run.harts h).number + 1 == n) p.0))
+          (next_passes (next_by c i guard run h) h n h (run.harts h).number (state_by c i guard run h) (and_right (h == h) ((run.harts h).number + 1 == n) p.0))
           (λ v b. begins_after c i guard h n ks run v z f q (ap (λ (w : Hart). w.state) is) (ap extra e ∙ ap (λ (b : Bool). if b then 1 else 0) small) b)
           (rest (subst (λ (w : Hart). w.number < n) (sym is) (let u : (run.harts h).number + 1 ≢ n = p.1 in omega (arith, u, q))) (begun_fit c i guard run h y x z e f))
     ]
+gives_own x c i guard h n ks run z l f e q rest =
+    gives_none c i guard h n h ks run (subst (λ (w : TurnEnd). Passes h n (next_records w h (run.harts h).number (state_by c i guard run h))) (sym e) (refl, tt))
+    (ap (λ (w : Hart). w.live) (own_harts c i guard run h x e)) l
 
 -- another hart's move before it
 gives_other : (x : TurnEnd) (c : RawSettings) (i : Program) (guard : Bool) (h n k : ℕ) (ks : List Move) (run : Run) → IsServed c i (moved_run c i guard run k) ks → Fit c (run.harts h)
@@ -257,17 +253,15 @@ gives_other : (x : TurnEnd) (c : RawSettings) (i : Program) (guard : Bool) (h n 
 gives_other x c i guard h n k ks run l f p p2 e q rest = by_next x e
   where
     passing : Passes h n (next_records (next_by c i guard run k) k (run.harts k).number (state_by c i guard run k))
-    passing = next_passes (next_by c i guard run k) h n k (run.harts k).number (state_by c i guard run k) (false_and (k == h) ((run.harts k).number + 1 == n) p)
+    passing = next_passes (next_by c i guard run k) h n k (run.harts k).number (state_by c i guard run k) (and_left (k == h) ((run.harts k).number + 1 == n) p)
 
     left : (moved_run c i guard run k).harts h ≡ run.harts h → Gives c i h n (Moves guard k ∷ ks) run
     left is =
         gives_later c i guard h n k ks run passing (λ v b. begins_past c i guard h n k ks run v p is b) (rest (subst (λ (w : Hart). w.number < n) (sym is) q) (subst (λ (w : Hart). Fit c w) (sym is) f))
 
     by_next : (y : TurnEnd) → next_by c i guard run k ≡ y → Gives c i h n (Moves guard k ∷ ks) run
-    by_next GoesOn d = left (other_harts c i guard run h k GoesOn d p2)
-    by_next (NewInterval r y) d = left (other_harts c i guard run h k (NewInterval r y) d p2)
-    by_next (HartOver r y) d = left (other_harts c i guard run h k (HartOver r y) d p2)
     by_next (RunOver r y) d = gives_none c i guard h n k ks run passing (ap (λ (w : Hart). w.live) (other_harts c i guard run h k (RunOver r y) d p2) ∙ over_live r y (run.harts h)) l
+    by_next y d = left (other_harts c i guard run h k y d p2)
 
 gives : (c : RawSettings) (i : Program) (h n : ℕ) → Sound c i → (ks : List Move) (run : Run) → IsServed c i run ks → (run.harts h).number < n → Fit c (run.harts h)
     → Gives c i h n ks run
@@ -301,15 +295,15 @@ here c i h count more m =
     let rest : List Record = first_headers c i (h + 1) count in
     elim (find_at h 0 (start_state c i h) [] (rest ++ more) m tt) [
       | inl e ↦ inl (e ∙ ap (λ l. Some (interval_from (start_state c i h) l)) (puts_append h rest more nothing ∙ headers_log c i h (h + 1) count (puts h more nothing)))
-      | inr z ↦ (let d = pass_all h 0 rest more z.0 (headers_pass c i h 0 (h + 1) count (λ j g. false_and (j == h) true (not_equal j h (λ q. absurd (omega arith))))) in inr (d.0, z.1 ∙ d.1))
+      | inr z ↦ (let d = pass_all h 0 rest more z.0 (headers_pass c i h 0 (h + 1) count (λ j g. and_left (j == h) true (ne_eqb j h (λ q. absurd (omega arith))))) in inr (d.0, z.1 ∙ d.1))
     ]
 
 -- and if another hart's comes before it
 past : (c : RawSettings) (i : Program) (h k : ℕ) (rest more : List Record) → (k == h) ≡ false → ((z : ℕ) → FoundOr h 0 (start_state c i h) (drop z (rest ++ more)) more)
     → (m : ℕ) → FoundOr h 0 (start_state c i h) (drop m (header k 0 (start_state c i k) ∷ (rest ++ more))) more
 past c i h k rest more e again zero = elim (again 0) [
-  | inl z ↦ inl (interval_skip (header k 0 (start_state c i k)) h 0 (rest ++ more) (false_and (k == h) true e) ∙ z)
-  | inr z ↦ inr (z.0, interval_skip (header k 0 (start_state c i k)) h 0 (rest ++ more) (false_and (k == h) true e) ∙ z.1)
+  | inl z ↦ inl (interval_skip (header k 0 (start_state c i k)) h 0 (rest ++ more) (and_left (k == h) true e) ∙ z)
+  | inr z ↦ inr (z.0, interval_skip (header k 0 (start_state c i k)) h 0 (rest ++ more) (and_left (k == h) true e) ∙ z.1)
 ]
 past c i h k rest more e again (suc m) = again m
 
@@ -330,13 +324,13 @@ start_fit c i h input = record { live = refl; within = omega arith }
 headers_absent : (c : RawSettings) (i : Program) (h n k count : ℕ) → k + count ≤ h → Passes h n (first_headers c i k count)
 headers_absent c i h n k zero b = tt
 headers_absent c i h n k (suc count) b =
-    (false_and (k == h) (0 == n) (not_equal k h (λ q. absurd (omega arith))), headers_absent c i h n (k + 1) count (omega arith))
+    (and_left (k == h) (0 == n) (ne_eqb k h (λ q. absurd (omega arith))), headers_absent c i h n (k + 1) count (omega arith))
 
 absent : (c : RawSettings) (i : Program) (h n : ℕ) (ks : List Move) (run : Run) (m : ℕ) → c.harts ≤ h → IsServed c i run ks → interval_of h n (drop m (served_records c i run ks)) ≡ None
 absent c i h n [] run m b l = interval_none h n m
 absent c i h n (Moves guard k ∷ ks) run m b l =
-    let other : (k == h) ≡ false = not_equal k h (let g = l.0 in λ q. absurd (omega arith)) in
-    let p = next_passes (next_by c i guard run k) h n k (run.harts k).number (state_by c i guard run k) (false_and (k == h) ((run.harts k).number + 1 == n) other) in
+    let other : (k == h) ≡ false = ne_eqb k h (let g = l.0 in λ q. absurd (omega arith)) in
+    let p = next_passes (next_by c i guard run k) h n k (run.harts k).number (state_by c i guard run k) (and_left (k == h) ((run.harts k).number + 1 == n) other) in
     let d = pass_all h n (added c i guard run k) (served_records c i (moved_run c i guard run k) ks) m (added_passes c i guard run h n k p) in
     d.1 ∙ absent c i h n ks (moved_run c i guard run k) d.0 b l.2
 
@@ -365,5 +359,5 @@ suffix_begins c i input b h n z g l m v e = from_headers n (ap (λ rs. interval_
     from_headers (suc n) e =
         let d =
         pass_all h (suc n) (first_headers c i 0 c.harts) more m
-        (headers_pass c i h (suc n) 0 c.harts (λ j y. and_false (j == h) (0 == suc n) (not_equal 0 (suc n) (λ q. absurd (omega arith))))) in
+        (headers_pass c i h (suc n) 0 c.harts (λ j y. and_right (j == h) (0 == suc n) (ne_eqb 0 (suc n) (λ q. absurd (omega arith))))) in
         gives c i h (suc n) z b (start c i input) l (omega arith) (start_fit c i h input) d.0 v (sym d.1 ∙ e)

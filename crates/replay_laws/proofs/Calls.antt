@@ -1,5 +1,5 @@
 -- A system call in the replay of an interval.
-use Rattle.replay_laws.proofs.Common.{◌≡◌, ℕ, ◌+◌, ◌<◌, ◌^◌, Bool, true, false, not, ◌&&◌, List, ◌∷◌, Some, None, refl, sym, ◌∙◌, ap, arith, subst, inl, inr, ◌==◌, ◌||◌, ◌⊎◌, nat_lt, slice_index, false≢true, eq-eqb, eqb_tells, Program, EndMark, HartState, Asks, step, absorbed, count_up, count_up_if, is_exit, Ask, System, Answer, Over, Plan, is_end, ExitsAloneEnd, call_row, Interval, Position, Logged, puts, system_step, call_reason, found, Next as Goal, On, Stop, Refused, EndDiffers, TurnEnd, GoesOn, NewInterval, HartOver, RunOver, Machine, answer_call, planned, kernel_of, after_call, sc_record, mark}
+use Rattle.replay_laws.proofs.Common.{◌≡◌, ℕ, ◌+◌, ◌<◌, ◌^◌, Bool, true, false, not, ◌&&◌, List, ◌∷◌, Some, None, refl, sym, ◌∙◌, ap, arith, subst, inl, inr, ◌==◌, ◌||◌, ◌⊎◌, nat_lt, slice_index, false≢true, eq-eqb, eqb_tells, Program, EndMark, HartState, Asks, step, absorbed, count_up, count_up_if, is_exit, Ask, System, Answer, Over, Plan, is_end, ExitsAloneEnd, call_row, Interval, Position, Logged, puts, system_step, call_reason, found, Next as Goal, On, Stop, Refused, EndDiffers, TurnEnd, GoesOn, NewInterval, HartOver, RunOver, Machine, answer_call, planned, kernel_of, after_call, sc_record, mark, or_from, and_from, or_left, or_right}
 use Rattle.system_calls.specs.declared.kernel.Kernel.{Kernel}
 use Rattle.system_calls.specs.declared.effect.Plan.TheVariants as plans
 use Rattle.system_calls.specs.Calls.{plan_of}
@@ -20,16 +20,9 @@ abbrev pub Kind : ℕ → ℕ → Plan → Type 0
 Kind n a0 p = ((call_reason n ≡ 3) × (p ≡ plans.EndHart a0)) ⊎ (((call_reason n ≡ 4) × (p ≡ plans.EndRun a0)) ⊎ ((call_reason n ≡ 2) × Goes p))
 
 goes_on : (p : Plan) → is_end p ≡ false → Goes p
-goes_on (plans.Fill a n) e = tt
-goes_on (plans.Send f a n) e = tt
-goes_on (plans.Break v) e = tt
-goes_on (plans.Answer v) e = tt
 goes_on (plans.EndHart v) e = sym e
 goes_on (plans.EndRun v) e = sym e
-
-neither : (x y : Bool) → x ≡ false → y ≡ false → (x || y) ≡ false
-neither true y e f = e
-neither false y e f = f
+goes_on p e = tt
 
 other_reason : (n : ℕ) → (n == 93) ≡ false → (n == 94) ≡ false → call_reason n ≡ 2
 other_reason n e f =
@@ -41,7 +34,7 @@ plan_of_kind exits n a0 a1 a2 k i = elim (eqb_tells n 93) [
   | inl p ↦ subst (λ x. Kind x a0 (plan_of x a0 a1 a2 k i)) (sym p.1) (inl (refl, refl))
   | inr q ↦ elim (eqb_tells n 94) [
     | inl p ↦ subst (λ x. Kind x a0 (plan_of x a0 a1 a2 k i)) (sym p.1) (inr (inl (refl, refl)))
-    | inr p ↦ inr (inr (other_reason n q.0 p.0, goes_on (plan_of n a0 a1 a2 k i) (exits n a0 a1 a2 k i ∙ neither (n == 93) (n == 94) q.0 p.0)))
+    | inr p ↦ inr (inr (other_reason n q.0 p.0, goes_on (plan_of n a0 a1 a2 k i) (exits n a0 a1 a2 k i ∙ or_from (n == 93) (n == 94) q.0 p.0)))
   ]
 ]
 
@@ -49,18 +42,6 @@ pub plan_kind : ExitsAloneEnd → (i : Program) (m : Machine) (n : ℕ) (args : 
 plan_kind exits i m n args = plan_of_kind exits n (slice_index args 0) (slice_index args 1) (slice_index args 2) (kernel_of m) i
 
 -- ---- the step
-
-both_true : (a b : Bool) → a ≡ true → b ≡ true → (a && b) ≡ true
-both_true true b e f = f
-both_true false b e f = e
-
-or_left : (a b : Bool) → a ≡ true → (a || b) ≡ true
-or_left true b e = refl
-or_left false b e = absurd (false≢true e)
-
-or_right : (a b : Bool) → b ≡ true → (a || b) ≡ true
-or_right true b e = refl
-or_right false b e = e
 
 abbrev call_value : ℕ → ℕ → ℕ
 call_value reason a0 = elim (reason == 2) [ true ↦ 0 | false ↦ a0 ]
@@ -72,7 +53,7 @@ is_told v ic n a0 = ic + 1 == v.mark.ic && (call_reason n == v.mark.reason) && (
 call_test : (v : Interval) (ic n a0 r x : ℕ) → v.mark ≡ mark (ic + 1) r x → call_reason n ≡ r
     → ((call_reason n == 2) || (call_value (call_reason n) a0 == v.mark.value)) ≡ true → is_told v ic n a0 ≡ true
 call_test v ic n a0 r x m e f =
-    both_true _ _ (both_true _ _ (eq-eqb (ic + 1) v.mark.ic (sym (ap (λ (k : EndMark). k.ic) m))) (eq-eqb (call_reason n) v.mark.reason (e ∙ sym (ap (λ (k : EndMark). k.reason) m)))) f
+    and_from _ _ (and_from _ _ (eq-eqb (ic + 1) v.mark.ic (sym (ap (λ (k : EndMark). k.ic) m))) (eq-eqb (call_reason n) v.mark.reason (e ∙ sym (ap (λ (k : EndMark). k.reason) m)))) f
 
 abbrev gone : Program → ℕ → Position → Ask → ℕ → Position
 gone i h q ask x =
@@ -187,12 +168,9 @@ kind_run n a0 x (inr (inr k)) = absurd (false≢true k.1)
 
 -- a planned call is counted
 call_counts : (pl : Plan) (h n : ℕ) (args : List ℕ) (m : Machine) (s : HartState) → Kind n (slice_index args 0) pl → (absorbed (asking (System n args) s) (answer_call pl h m).reply).ic ≡ count_up s.ic
-call_counts (plans.Fill a z) h n args m s k = refl
-call_counts (plans.Send f a z) h n args m s k = refl
-call_counts (plans.Break x) h n args m s k = refl
-call_counts (plans.Answer x) h n args m s k = refl
 call_counts (plans.EndHart x) h n args m s k = exit_counts n s.ic (ap (λ y. y == 2) (kind_hart n (slice_index args 0) x k).0)
 call_counts (plans.EndRun x) h n args m s k = exit_counts n s.ic (ap (λ y. y == 2) (kind_run n (slice_index args 0) x k).0)
+call_counts pl h n args m s k = refl
 
 pub plan_counts : ExitsAloneEnd → (i : Program) (h n : ℕ) (args : List ℕ) (m : Machine) (s : HartState) → (absorbed (asking (System n args) s) (answer_call (planned i m n args) h m).reply).ic ≡ count_up s.ic
 plan_counts exits i h n args m s = call_counts (planned i m n args) h n args m s (plan_kind exits i m n args)

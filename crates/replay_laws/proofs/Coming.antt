@@ -1,5 +1,5 @@
 -- The first loads and the end that are still to come for a hart.
-use Rattle.replay_laws.proofs.Common.{◌≡◌, ℕ, zero, suc, ◌+◌, ◌<◌, ◌≤◌, Bool, true, false, List, [], ◌∷◌, Option, Some, None, refl, sym, ◌∙◌, ap, arith, subst, inl, inr, ◌==◌, ◌≢◌, ◌||◌, false≢true, eqb_tells, Program, EndMark, RawSettings, Reply, Warm, Logged, puts, Hart, TurnEnd, GoesOn, NewInterval, HartOver, RunOver, Run, load_record, skipped_after, sc_record, hart_after, any_live}
+use Rattle.replay_laws.proofs.Common.{◌≡◌, ℕ, zero, suc, ◌+◌, ◌<◌, ◌≤◌, Bool, true, false, List, [], ◌∷◌, Option, Some, None, refl, sym, ◌∙◌, ap, arith, subst, inl, inr, ◌==◌, ◌≢◌, false≢true, eqb_tells, Program, EndMark, RawSettings, Reply, Warm, Logged, puts, Hart, TurnEnd, GoesOn, RunOver, Run, load_record, skipped_after, sc_record, hart_after, any_live, or_parts}
 use Rattle.rv_meaning.specs.declared.asks.Reply.TheVariants as replies
 use Rattle.first_load_bits.specs.declared.warm.Warm.TheVariants as answers
 use Rattle.replay_laws.proofs.Counts.{Fit, Move, Moves, moved_run, next_by, state_by, skip_by, warmth_by, reply_by, word_at, log_from, own_turn_log, other_turn_log, own_bounds, own_harts, other_harts, own_fit}
@@ -25,9 +25,8 @@ load_first (Some answers.Warm) h s x l a = ahead_less s l.loads a
 load_first (Some answers.Cold) h s x l a = subst (λ (y : Logged). Ahead s y.loads) (sym (put_load h s x l)) (omega arith)
 
 load_mark : (o : Option Warm) (h s x : ℕ) (l : Logged) → (puts h (load_record o h s x) l).mark ≡ l.mark
-load_mark None h s x l = refl
-load_mark (Some answers.Warm) h s x l = refl
 load_mark (Some answers.Cold) h s x l = ap (λ (y : Logged). y.mark) (put_load h s x l)
+load_mark o h s x l = refl
 
 abbrev sc_if : Bool → Bool → Logged → Logged
 sc_if b x l = elim b [ true ↦ with_sc x l | false ↦ l ]
@@ -39,11 +38,7 @@ sc_put false x l = (refl, refl)
 sc_keeps : (r : Reply) (h : ℕ) (l : Logged) → ((puts h (sc_record r h) l).loads ≡ l.loads) × ((puts h (sc_record r h) l).mark ≡ l.mark)
 sc_keeps replies.ScOk h l = sc_put (h == h) true l
 sc_keeps replies.ScFailed h l = sc_put (h == h) false l
-sc_keeps (replies.Word x) h l = (refl, refl)
-sc_keeps replies.Stored h l = (refl, refl)
-sc_keeps (replies.Answer x) h l = (refl, refl)
-sc_keeps replies.Went h l = (refl, refl)
-sc_keeps replies.Over h l = (refl, refl)
+sc_keeps r h l = (refl, refl)
 
 -- the End to come, where h's move is next
 pub own_mark : (c : RawSettings) (i : Program) (guard : Bool) (run : Run) (ks : List Move) (h : ℕ)
@@ -83,13 +78,9 @@ own_coming c i guard run ks h n e a b =
 pub no_live : (n h : ℕ) (harts : ℕ → Hart) → h < n → (harts h).live ≡ true → any_live n harts ≡ false → false ≡ true
 no_live zero h harts b e f = absurd (omega arith)
 no_live (suc n) h harts b e f = elim (eqb_tells n h) [
-  | inl p ↦ sym (either (harts n).live (any_live n harts) f).0 ∙ (ap (λ x. (harts x).live) p.1 ∙ e)
-  | inr p ↦ no_live n h harts (let q : n ≢ h = p.1 in omega (arith, q)) e (either (harts n).live (any_live n harts) f).1
+  | inl p ↦ sym (or_parts (harts n).live (any_live n harts) f).0 ∙ (ap (λ x. (harts x).live) p.1 ∙ e)
+  | inr p ↦ no_live n h harts (let q : n ≢ h = p.1 in omega (arith, q)) e (or_parts (harts n).live (any_live n harts) f).1
 ]
-  where
-    either : (a b : Bool) → (a || b) ≡ false → (a ≡ false) × (b ≡ false)
-    either true b e = absurd (false≢true (sym e))
-    either false b e = (refl, e)
 
 pub equal_flip : (k h : ℕ) → k ≢ h → (h == k) ≡ false
 equal_flip k h p = elim (eqb_tells h k) [ inl q ↦ absurd (p (sym q.1)) | inr q ↦ q.0 ]
@@ -100,9 +91,7 @@ coming_own GoesOn c i guard h ks run z f e rest =
     let r : Coming (hart_after GoesOn (state_by c i guard run h) (skip_by c i guard run h) (moved_run c i guard run h).bytes (run.harts h)) (log_from c i (moved_run c i guard run h) ks h) =
     subst (λ (x : Hart). Coming x (log_from c i (moved_run c i guard run h) ks h)) (own_harts c i guard run h GoesOn e) (rest (own_fit c i guard run h z e f)) in
     own_coming c i guard run ks h GoesOn e r.0 (omega (arith, r.1, (own_bounds c i guard run h z f).0))
-coming_own (NewInterval y x) c i guard h ks run z f e rest = own_coming c i guard run ks h (NewInterval y x) e tt (own_bounds c i guard run h z f).0
-coming_own (HartOver y x) c i guard h ks run z f e rest = own_coming c i guard run ks h (HartOver y x) e tt (own_bounds c i guard run h z f).0
-coming_own (RunOver y x) c i guard h ks run z f e rest = own_coming c i guard run ks h (RunOver y x) e tt (own_bounds c i guard run h z f).0
+coming_own n c i guard h ks run z f e rest = own_coming c i guard run ks h n e tt (own_bounds c i guard run h z f).0
 
 -- another's move leaves the hart, and what is to come
 coming_past : (c : RawSettings) (i : Program) (guard : Bool) (h k : ℕ) (ks : List Move) (run : Run) → Fit c (run.harts h) → (moved_run c i guard run k).harts h ≡ run.harts h
@@ -117,12 +106,8 @@ coming_other : (n : TurnEnd) (c : RawSettings) (i : Program) (guard : Bool) (h k
     → Coming (run.harts h) (log_from c i run (Moves guard k ∷ ks) h)
 coming_other (RunOver y x) c i guard h k ks run p q b f e rest =
     subst (λ (z : Logged). Coming (run.harts h) z) (sym (other_turn_log c i guard run ks h k (RunOver y x) e p q f.live b)) (tt, omega arith)
-coming_other GoesOn c i guard h k ks run p q b f e rest =
-    coming_past c i guard h k ks run f (other_harts c i guard run h k GoesOn e q) (other_turn_log c i guard run ks h k GoesOn e p q f.live b) rest
-coming_other (NewInterval y x) c i guard h k ks run p q b f e rest =
-    coming_past c i guard h k ks run f (other_harts c i guard run h k (NewInterval y x) e q) (other_turn_log c i guard run ks h k (NewInterval y x) e p q f.live b) rest
-coming_other (HartOver y x) c i guard h k ks run p q b f e rest =
-    coming_past c i guard h k ks run f (other_harts c i guard run h k (HartOver y x) e q) (other_turn_log c i guard run ks h k (HartOver y x) e p q f.live b) rest
+coming_other n c i guard h k ks run p q b f e rest =
+    coming_past c i guard h k ks run f (other_harts c i guard run h k n e q) (other_turn_log c i guard run ks h k n e p q f.live b) rest
 
 pub coming : (c : RawSettings) (i : Program) (h : ℕ) (ks : List Move) (run : Run) → Sound c i → h < c.harts → IsServed c i run ks → Fit c (run.harts h)
     → Coming (run.harts h) (log_from c i run ks h)

@@ -1,7 +1,8 @@
 -- What several files of proofs/ cite of other crates and of specs/. They import it from here, by one line.
-pub use Rattle.std.proofs.Common.{Bool, List, None, Option, Some, [], add-zero, ap, append-nil, append_assoc, arith, cond, drop, eq-eqb, eqb-true, false, if◌then◌else◌, inl, inr, length, length-append, length-take, map, nat_le, nat_lt, not, refl, slice_index, subst, suc, sym, take, true, zero, ℕ, ◌%◌, ◌&&◌, ◌*◌, ◌++◌, ◌+◌, ◌-◌, ◌/◌, ◌<◌, ◌==◌, ◌^◌, ◌||◌, ◌∙◌, ◌∷◌, ◌≡◌, ◌≢◌, ◌≤◌, ◌⊎◌}
-pub use Rattle.std.proofs.lemmas.Bool.{false≢true}
+pub use Rattle.std.proofs.Common.{Bool, List, None, Option, Some, [], add-zero, ap, append-nil, append_assoc, arith, cond, drop, eq-eqb, eqb-true, false, if◌then◌else◌, inl, inr, length, length-append, length-take, ltb-true, map, nat_le, nat_lt, ne_eqb, not, refl, slice_index, subst, suc, sym, take, true, zero, ℕ, ◌%◌, ◌&&◌, ◌*◌, ◌++◌, ◌+◌, ◌-◌, ◌/◌, ◌<◌, ◌==◌, ◌^◌, ◌||◌, ◌∙◌, ◌∷◌, ◌≡◌, ◌≢◌, ◌≤◌, ◌⊎◌}
+pub use Rattle.std.proofs.lemmas.Bool.{and_from, and_left, and_parts, and_right, cases_lt, false≢true, not-true, or_from, or_left, or_parts, or_right}
 pub use Rattle.std.proofs.lemmas.Bool.Decides.{eqb_tells, nat_tests}
+pub use Rattle.run_model.proofs.Asked.{eqb_same}
 pub use Rattle.std.specs.List.{range_with_len}
 pub use Rattle.bn_base.specs.Faults.{fault_number}
 pub use Rattle.bn_base.specs.Programs.{Program, may_load, may_store}
@@ -18,7 +19,7 @@ pub use Rattle.first_load_bits.specs.declared.warm.Warm.{Warm}
 pub use Rattle.hart_replay.specs.Replay.{Done, Interval, Logged, Next, On, Outcome, Position, Refused, Replayed, Stop, after_ask, after_sc, ask_step, call_reason, ended, fault_end, finish, first, found, interval_from, interval_of, left_over, logged, logged_from, missing, nothing, one_step, onto, or_else, put, puts, replayed, replayed_in, slot, steps, system_step, taken_from, word_for}
 pub use Rattle.hart_replay.specs.declared.error.ReplayError.TheVariants.{EndDiffers, LoadMissing, NoInterval, RecordsLeft, ScMissing}
 pub use Rattle.log_record.specs.declared.record.Record.{Record}
-pub use Rattle.log_record.specs.declared.record.Record.TheVariants.{Edge, End, FirstLoad, Header, ScFailed, ScOk}
+pub use Rattle.log_record.specs.declared.record.Record.TheVariants.{End, FirstLoad, Header, ScFailed, ScOk}
 pub use Rattle.race_log.specs.Kept.{after}
 pub use Rattle.race_log.specs.Points.{Point}
 pub use Rattle.race_log.specs.Tests.{sources_into}

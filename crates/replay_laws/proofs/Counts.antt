@@ -1,5 +1,5 @@
 -- The counts of harts, and the harts and records after a move.
-use Rattle.replay_laws.proofs.Common.{◌≡◌, ℕ, ◌+◌, ◌<◌, ◌≤◌, ◌^◌, Bool, true, false, List, [], ◌∷◌, ◌++◌, Option, None, refl, sym, ◌∙◌, ap, arith, subst, inl, inr, ◌==◌, nat_le, if◌then◌else◌, false≢true, Program, RawSettings, HartState, absorbed, count_up, Ask, Want, Load, Store, LoadReserved, StoreConditional, Amo, System, Cut, Faulted, Reply, Went, Over, ExitsAloneEnd, Warm, Point, Record, Interval, Logged, puts, nothing, first, Hart, TurnEnd, GoesOn, NewInterval, Machine, answer_sc, is_reserved, Run, ask_at, by_guard, begun_anew, budget, loading, warmth, word_before, load_record, sc_record, skipped_after, point_of, hart_after, other_after, mark, reply_at}
+use Rattle.replay_laws.proofs.Common.{◌≡◌, ℕ, ◌+◌, ◌<◌, ◌≤◌, ◌^◌, Bool, true, false, List, [], ◌∷◌, ◌++◌, Option, None, refl, sym, ◌∙◌, ap, arith, subst, inl, inr, ◌==◌, nat_le, if◌then◌else◌, false≢true, Program, RawSettings, HartState, absorbed, count_up, Ask, Want, StoreConditional, System, Cut, Faulted, Reply, Went, Over, ExitsAloneEnd, Warm, Point, Record, Interval, Logged, puts, nothing, first, Hart, TurnEnd, GoesOn, NewInterval, Machine, answer_sc, is_reserved, Run, ask_at, by_guard, begun_anew, budget, loading, warmth, word_before, load_record, sc_record, skipped_after, point_of, hart_after, other_after, mark, reply_at}
 use Rattle.replay_laws.proofs.Asked.{asking, state_after, span_to, next_at, served_turn}
 use Rattle.replay_laws.proofs.Step.{of_memory}
 use Rattle.replay_laws.proofs.Calls.{plan_counts}
@@ -33,24 +33,18 @@ unfolding Counted
 same_count s = (omega arith, omega arith)
 
 pub memory_counts : (w : Want) (c : RawSettings) (i : Program) (m : Machine) (j : ℕ) (s : HartState) → of_memory w ≡ true → (state_after c i m j w s).ic ≡ count_up s.ic
-memory_counts (Load a wd g rd) c i m j s e = refl
-memory_counts (LoadReserved a rd) c i m j s e = refl
-memory_counts (Store a wd w) c i m j s e = refl
-memory_counts (Amo a o rd w) c i m j s e = refl
 memory_counts (StoreConditional a rd w) c i m j s e = sc_counts (is_reserved (m.reserved j) a) j a rd w m s
 memory_counts (System n args) c i m j s e = absurd (false≢true e)
 memory_counts Cut c i m j s e = absurd (false≢true e)
 memory_counts (Faulted f y) c i m j s e = absurd (false≢true e)
+memory_counts w c i m j s e = refl
 
 want_counts : ExitsAloneEnd → (w : Want) (c : RawSettings) (i : Program) (m : Machine) (j : ℕ) (s : HartState) → s.ic + 1 < 2 ^ 64 → Counted s (state_after c i m j w s)
-want_counts exits (Load a wd g rd) c i m j s b = counted_up s _ b refl
-want_counts exits (LoadReserved a rd) c i m j s b = counted_up s _ b refl
-want_counts exits (Store a wd w) c i m j s b = counted_up s _ b refl
-want_counts exits (Amo a o rd w) c i m j s b = counted_up s _ b refl
 want_counts exits (StoreConditional a rd w) c i m j s b = counted_up s _ b (sc_counts (is_reserved (m.reserved j) a) j a rd w m s)
 want_counts exits (System n args) c i m j s b = counted_up s _ b (plan_counts exits i j n args m s)
 want_counts exits Cut c i m j s b = subst (Counted s) (sym (cut_state (nat_le c.limit s.ic) s)) (same_count s)
 want_counts exits (Faulted f y) c i m j s b = same_count s
+want_counts exits w c i m j s b = counted_up s _ b refl
 
 -- ---- names for what hart k's turn does
 

@@ -1,5 +1,5 @@
 -- The marks of a replay that ends otherwise than its log says.
-use Rattle.replay_laws.proofs.Common.{◌≡◌, ◌<◌, ◌^◌, ◌⊎◌, inl, inr, ℕ, zero, suc, ◌+◌, ◌-◌, ◌==◌, Bool, true, false, not, ◌&&◌, ◌||◌, List, ◌∷◌, length, Option, Some, None, refl, sym, ◌∙◌, ap, subst, arith, ◌≢◌, nat_lt, nat_le, slice_index, Program, fault_number, EndMark, Fault, Row, HartState, row_of, fault_row, stored_word, amo_result, Quiet, Asks, step, count_up, Step, Want, Load, Store, LoadReserved, StoreConditional, Amo, System, Cut, Faulted, Word, Stored, Outcome, Done, Refused, Replayed, Interval, Position, Next, On, Stop, found, finish, left_over, fault_end, ended, one_step, ask_step, after_ask, after_sc, system_step, missing, word_for, slot, call_reason, steps, first, replayed_in, taken_from, EndDiffers, RecordsLeft, LoadMissing, ScMissing}
+use Rattle.replay_laws.proofs.Common.{◌≡◌, ◌<◌, ◌^◌, ◌⊎◌, inl, inr, ℕ, zero, suc, ◌+◌, ◌-◌, ◌==◌, Bool, true, false, not, ◌&&◌, ◌||◌, List, ◌∷◌, length, Option, Some, None, refl, sym, ◌∙◌, ap, subst, arith, ◌≢◌, nat_lt, nat_le, slice_index, Program, fault_number, EndMark, Fault, Row, HartState, row_of, fault_row, stored_word, amo_result, Quiet, Asks, step, count_up, Step, Want, Load, Store, LoadReserved, StoreConditional, Amo, System, Cut, Faulted, Word, Stored, Outcome, Done, Refused, Replayed, Interval, Position, Next, On, Stop, found, finish, left_over, fault_end, ended, one_step, ask_step, after_ask, after_sc, system_step, missing, word_for, slot, call_reason, steps, first, replayed_in, taken_from, EndDiffers, RecordsLeft, LoadMissing, ScMissing, eq-eqb, and_from, or_right}
 use Rattle.replay_laws.proofs.Calls.{exit_counts}
 use Rattle.replay_laws.specs.Differing.{IsFair, EndsThatDifferAreTold}
 
@@ -35,16 +35,6 @@ other_reason m ic reason value differ same = differ (ap (λ (x : EndMark). x.rea
 other_count : (m : EndMark) (ic reason value : ℕ) → ic ≢ m.ic → found ic reason value ≢ m
 other_count m ic reason value differ same = differ (ap (λ (x : EndMark). x.ic) same)
 
-eqb_same : (a b : ℕ) → a ≡ b → (a == b) ≡ true
-eqb_same a b e = grind (arith, e)
-
-and_true : (a b : Bool) → a ≡ true → b ≡ true → (a && b) ≡ true
-and_true a b ea eb = ap (λ (x : Bool). x && b) ea ∙ eb
-
-or_true : (a b : Bool) → b ≡ true → (a || b) ≡ true
-or_true true b e = refl
-or_true false b e = e
-
 tests_clash : (b : Bool) → b ≡ true → b ≡ false → ⊥
 tests_clash b t f = cc
 
@@ -64,20 +54,14 @@ fault_tested : (i : Program) (h : ℕ) (v : Interval) (p : Position) (f : Fault)
 fault_tested i h v p f y true t outcome fair rows = fair
 fault_tested i h v p f y false t outcome fair rows =
     differ_fair v.mark (found p.state.ic (16 + fault_number f) y) h (λ same.
-    tests_clash (16 + fault_number f == v.mark.reason && (y == v.mark.value)) (and_true (16 + fault_number f == v.mark.reason) (y == v.mark.value) (eqb_same _ _ (ap (λ (x : EndMark). x.reason) same)) (eqb_same _ _ (ap (λ (x : EndMark). x.value) same))) t)
+    tests_clash (16 + fault_number f == v.mark.reason && (y == v.mark.value)) (and_from (16 + fault_number f == v.mark.reason) (y == v.mark.value) (eq-eqb _ _ (ap (λ (x : EndMark). x.reason) same)) (eq-eqb _ _ (ap (λ (x : EndMark). x.value) same))) t)
 
 left_of : (h : ℕ) (v : Interval) (p : Position) → IsFair v.mark (left_over h v p)
 left_of h v p = let n = (length v.loads - taken_from 0 v.loads p.loads) + (length v.conditionals - p.conditionals) in left_over_fair v.mark h n (n == 0)
 
 fault_end_fair : (i : Program) (h : ℕ) (v : Interval) (p : Position) (k : Want) → 1 ≢ v.mark.reason → IsFair v.mark (fault_end i h v p k).outcome
 fault_end_fair i h v p (Faulted f y) r = fault_tested i h v p f y (16 + fault_number f == v.mark.reason && (y == v.mark.value)) refl (left_over h v p) (left_of h v p) (fault_row h i p.state f y ∷ p.rows)
-fault_end_fair i h v p (Load a w g rd) r = differ_fair v.mark (found p.state.ic 1 0) h (other_reason v.mark p.state.ic 1 0 r)
-fault_end_fair i h v p (LoadReserved a rd) r = differ_fair v.mark (found p.state.ic 1 0) h (other_reason v.mark p.state.ic 1 0 r)
-fault_end_fair i h v p (Store a w y) r = differ_fair v.mark (found p.state.ic 1 0) h (other_reason v.mark p.state.ic 1 0 r)
-fault_end_fair i h v p (StoreConditional a rd y) r = differ_fair v.mark (found p.state.ic 1 0) h (other_reason v.mark p.state.ic 1 0 r)
-fault_end_fair i h v p (Amo a o rd y) r = differ_fair v.mark (found p.state.ic 1 0) h (other_reason v.mark p.state.ic 1 0 r)
-fault_end_fair i h v p (System n args) r = differ_fair v.mark (found p.state.ic 1 0) h (other_reason v.mark p.state.ic 1 0 r)
-fault_end_fair i h v p Cut r = differ_fair v.mark (found p.state.ic 1 0) h (other_reason v.mark p.state.ic 1 0 r)
+fault_end_fair i h v p k r = differ_fair v.mark (found p.state.ic 1 0) h (other_reason v.mark p.state.ic 1 0 r)
 
 fault_due : (i : Program) (h : ℕ) (v : Interval) (p : Position) (x : Step) → 1 ≢ v.mark.reason
     → IsFair v.mark (elim x as (λ y. Replayed) [ Quiet t ↦ finish p.rows (Refused (EndDiffers h v.mark (found p.state.ic 1 0))) | Asks k ↦ fault_end i h v p k ]).outcome
@@ -125,17 +109,13 @@ unfolding IsFairNext
 store_next i m h v p a w y true = refl
 store_next i m h v p a w y false = word_next m h p a (word_for v p a) (λ x. after_ask i h p (record { state = p.state; want = Store a w y }) Stored 1 None (Some (a, stored_word a w y x))) (λ x. refl)
 
--- the mark that a call finds, by whether it ends its hart
-call_value : Bool → ℕ → ℕ
-call_value b a = elim b [ true ↦ 0 | false ↦ a ]
-
 call_stops : (h : ℕ) (v : Interval) (p : Position) (reason value : ℕ) → (p.state.ic + 1 == v.mark.ic && (reason == v.mark.reason) && ((reason == 2) || (value == v.mark.value))) ≡ false
     → IsFair v.mark (Refused (EndDiffers h v.mark (found (p.state.ic + 1) reason value)))
 call_stops h v p reason value t = differ_fair v.mark (found (p.state.ic + 1) reason value) h (λ same.
     tests_clash (p.state.ic + 1 == v.mark.ic && (reason == v.mark.reason) && ((reason == 2) || (value == v.mark.value)))
-    (and_true (p.state.ic + 1 == v.mark.ic && (reason == v.mark.reason)) ((reason == 2) || (value == v.mark.value))
-    (and_true (p.state.ic + 1 == v.mark.ic) (reason == v.mark.reason) (eqb_same _ _ (ap (λ (x : EndMark). x.ic) same)) (eqb_same _ _ (ap (λ (x : EndMark). x.reason) same)))
-    (or_true (reason == 2) (value == v.mark.value) (eqb_same _ _ (ap (λ (x : EndMark). x.value) same)))) t)
+    (and_from (p.state.ic + 1 == v.mark.ic && (reason == v.mark.reason)) ((reason == 2) || (value == v.mark.value))
+    (and_from (p.state.ic + 1 == v.mark.ic) (reason == v.mark.reason) (eq-eqb _ _ (ap (λ (x : EndMark). x.ic) same)) (eq-eqb _ _ (ap (λ (x : EndMark). x.reason) same)))
+    (or_right (reason == 2) (value == v.mark.value) (eq-eqb _ _ (ap (λ (x : EndMark). x.value) same)))) t)
 
 call_next : (m : EndMark) (p : Position) (goes : Bool) (on over : Position) → on.state.ic ≡ count_up p.state.ic → (goes ≡ false → over.state.ic ≡ count_up p.state.ic) → IsFairNext m p (elim goes as (λ z. Next) [ true ↦ On on | false ↦ On over ])
 unfolding IsFairNext

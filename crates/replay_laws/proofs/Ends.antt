@@ -1,5 +1,5 @@
 -- The end of an interval in its replay.
-use Rattle.replay_laws.proofs.Common.{◌≡◌, ℕ, ◌+◌, ◌-◌, ◌<◌, ◌≤◌, Bool, true, false, not, ◌&&◌, [], ◌∷◌, ◌++◌, length, sym, ◌∙◌, ap, arith, ◌==◌, ◌||◌, nat_lt, eq-eqb, nat_tests, append-nil, fault_number, Program, EndMark, Fault, Quiet, Asks, step, Faulted, fault_row, Interval, Position, Replayed, Outcome, Logged, taken_from, left_over, ended, finish, found, fault_end, Done, Refused, RecordsLeft, EndDiffers, mark}
+use Rattle.replay_laws.proofs.Common.{◌≡◌, ℕ, ◌+◌, ◌-◌, ◌<◌, ◌≤◌, Bool, true, false, not, ◌&&◌, [], ◌∷◌, ◌++◌, length, sym, ◌∙◌, ap, arith, ◌==◌, ◌||◌, nat_lt, eq-eqb, nat_tests, append-nil, fault_number, Program, EndMark, Fault, Quiet, Asks, step, Faulted, fault_row, Interval, Position, Replayed, Outcome, Logged, taken_from, left_over, ended, finish, found, fault_end, Done, Refused, RecordsLeft, EndDiffers, mark, and_from}
 use Rattle.bn_base.specs.declared.fault.Fault.TheVariants as faults
 use Rattle.replay_laws.proofs.Places.{taken_all}
 use Rattle.replay_laws.proofs.Step.{StillHolds}
@@ -42,20 +42,9 @@ pub plain_marked : (i : Program) (h : ℕ) (v : Interval) (p : Position) (ic r x
     → left_over h v p ≡ Done → ended i h v p ≡ finish p.rows Done
 plain_marked i h v p ic r x m e f d = plain_end i h v p (ap (λ (k : EndMark). nat_lt 16 k.reason) m ∙ e) (ap (λ (k : EndMark). is_call k.reason && not p.called) m ∙ f) d
 
-both_true : (a b : Bool) → a ≡ true → b ≡ true → (a && b) ≡ true
-both_true true b e f = f
-both_true false b e f = e
-
 positive : (f : Fault) → 1 ≤ fault_number f
 positive faults.Illegal = omega arith
-positive faults.Breakpoint = omega arith
-positive faults.FetchOutside = omega arith
-positive faults.TargetMisaligned = omega arith
-positive faults.LoadOutside = omega arith
-positive faults.LoadMisaligned = omega arith
-positive faults.StoreOutside = omega arith
-positive faults.StoreMisaligned = omega arith
-positive faults.StoreReadOnly = omega arith
+positive f = omega arith
 
 -- a fault's reason is above 16
 pub above : (f : Fault) (r : ℕ) → r ≡ 16 + fault_number f → nat_lt 16 r ≡ true
@@ -76,5 +65,5 @@ fault_marked i h v p ic f y m s d =
       | false ↦ finish p.rows
           (Refused (EndDiffers h v.mark (found p.state.ic (16 + fault_number f) y)))
     ])
-    (both_true (16 + fault_number f == v.mark.reason) (y == v.mark.value) (eq-eqb _ _ (sym r)) (eq-eqb _ _ x))
+    (and_from (16 + fault_number f == v.mark.reason) (y == v.mark.value) (eq-eqb _ _ (sym r)) (eq-eqb _ _ x))
     ∙ ap (finish (fault_row h i p.state f y ∷ p.rows)) d))

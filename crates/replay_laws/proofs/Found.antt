@@ -1,5 +1,5 @@
 -- The Header of an interval is found in the kept records.
-use Rattle.replay_laws.proofs.Common.{◌≡◌, ℕ, zero, suc, ◌+◌, Bool, true, false, not, ◌&&◌, List, [], ◌∷◌, ◌++◌, drop, length, Option, Some, None, refl, sym, ◌∙◌, ap, inl, inr, ◌==◌, ◌⊎◌, eq-eqb, append_assoc, Program, RawSettings, HartState, Reply, Warm, Point, after, sources_into, Record, Header, FirstLoad, ScOk, ScFailed, Edge, End, Interval, Logged, puts, nothing, interval_from, interval_of, Hart, TurnEnd, GoesOn, NewInterval, HartOver, RunOver, edges_from, edge_records, load_record, sc_record, next_records, stopped_records, run_over_records, header, mark, first_headers}
+use Rattle.replay_laws.proofs.Common.{◌≡◌, ℕ, zero, suc, ◌+◌, Bool, true, false, not, ◌&&◌, List, [], ◌∷◌, ◌++◌, drop, length, Option, Some, None, refl, sym, ◌∙◌, ap, inl, inr, ◌==◌, ◌⊎◌, eq-eqb, append_assoc, Program, RawSettings, HartState, Reply, Warm, Point, after, sources_into, Record, Header, ScOk, ScFailed, End, Interval, Logged, puts, nothing, interval_from, interval_of, Hart, TurnEnd, GoesOn, NewInterval, RunOver, edges_from, edge_records, load_record, sc_record, next_records, stopped_records, run_over_records, header, mark, first_headers, and_from}
 use Rattle.rv_meaning.specs.declared.asks.Reply.TheVariants as replies
 use Rattle.first_load_bits.specs.declared.warm.Warm.TheVariants as answers
 use Rattle.replay_laws.proofs.Turns.{turn_records}
@@ -17,11 +17,7 @@ Passes h n (r ∷ rs) = (heads h n r ≡ false) × Passes h n rs
 pub interval_skip : (r : Record) (h n : ℕ) (rs : List Record) → heads h n r ≡ false → interval_of h n (r ∷ rs) ≡ interval_of h n rs
 interval_skip (Header k c ic pc x) h n rs e =
     ap (λ b. elim b as (λ y. Option Interval) [ true ↦ Some (interval_from (record { pc = pc; x = x; ic = ic }) (puts h rs nothing)) | false ↦ interval_of h n rs ]) e
-interval_skip (FirstLoad k s v) h n rs e = refl
-interval_skip (ScOk k) h n rs e = refl
-interval_skip (ScFailed k) h n rs e = refl
-interval_skip (Edge k ic s j) h n rs e = refl
-interval_skip (End k m) h n rs e = refl
+interval_skip r h n rs e = refl
 
 -- a suffix has the interval that a suffix of more has
 abbrev pub IsIn : ℕ → ℕ → List Record → List Record → Type 0
@@ -40,11 +36,7 @@ pass_all h n (r ∷ rs) more (suc m) p = pass_all h n rs more m p.1
 pub find_at : (h n : ℕ) (s : HartState) (rs more : List Record) (m : ℕ) → Passes h n rs → FoundOr h n s (drop m (rs ++ (header h n s ∷ more))) more
 find_at h n s [] more zero p =
     inl (ap (λ b. elim b as (λ y. Option Interval) [ true ↦ Some (interval_from s (puts h more nothing)) | false ↦ interval_of h n more ])
-    (both (h == h) (n == n) (eq-eqb h h refl) (eq-eqb n n refl)))
-  where
-    both : (a b : Bool) → a ≡ true → b ≡ true → (a && b) ≡ true
-    both true b e f = f
-    both false b e f = e
+    (and_from (h == h) (n == n) (eq-eqb h h refl) (eq-eqb n n refl)))
 find_at h n s [] more (suc m) p = inr (m, refl)
 find_at h n s (r ∷ rs) more zero p = elim (find_at h n s rs more zero p.1) [
   | inl e ↦ inl (interval_skip r h n (rs ++ (header h n s ∷ more)) p.0 ∙ e)
@@ -67,24 +59,18 @@ edge_passes h n None points = tt
 edge_passes h n (Some p) points = edges_pass h n p.hart p.count (sources_into (after points p) (length points))
 
 load_passes : (o : Option Warm) (h n k s x : ℕ) → Passes h n (load_record o k s x)
-load_passes None h n k s x = tt
-load_passes (Some answers.Warm) h n k s x = tt
 load_passes (Some answers.Cold) h n k s x = (refl, tt)
+load_passes o h n k s x = tt
 
 sc_passes : (r : Reply) (h n k : ℕ) → Passes h n (sc_record r k)
 sc_passes replies.ScOk h n k = (refl, tt)
 sc_passes replies.ScFailed h n k = (refl, tt)
-sc_passes (replies.Word x) h n k = tt
-sc_passes replies.Stored h n k = tt
-sc_passes (replies.Answer x) h n k = tt
-sc_passes replies.Went h n k = tt
-sc_passes replies.Over h n k = tt
+sc_passes r h n k = tt
 
 pub next_passes : (x : TurnEnd) (h n k number : ℕ) (s : HartState) → (k == h && (number + 1 == n)) ≡ false → Passes h n (next_records x k number s)
 next_passes GoesOn h n k number s e = tt
 next_passes (NewInterval r y) h n k number s e = (refl, (e, tt))
-next_passes (HartOver r y) h n k number s e = (refl, tt)
-next_passes (RunOver r y) h n k number s e = (refl, tt)
+next_passes x h n k number s e = (refl, tt)
 
 stopped_if : (x : Bool) (h n k ic : ℕ) (rest : List Record) → Passes h n rest
     → Passes h n (elim x as (λ y. List Record) [ true ↦ End k (mark ic 5 0) ∷ rest | false ↦ rest ])
@@ -97,10 +83,8 @@ stopped_passes (suc count) h n own k harts =
     stopped_if (not (k == own) && (harts k).live) h n k (harts k).state.ic (stopped_records own (k + 1) count harts) (stopped_passes count h n own (k + 1) harts)
 
 over_passes : (x : TurnEnd) (h n k count : ℕ) (harts : ℕ → Hart) → Passes h n (run_over_records x k count harts)
-over_passes GoesOn h n k count harts = tt
-over_passes (NewInterval r y) h n k count harts = tt
-over_passes (HartOver r y) h n k count harts = tt
 over_passes (RunOver r y) h n k count harts = stopped_passes count h n k 0 harts
+over_passes x h n k count harts = tt
 
 pub turn_passes : (h n k : ℕ) (point : Option Point) (points : List Point) (o : Option Warm) (skipped word : ℕ) (r : Reply) (x : TurnEnd) (number : ℕ) (s : HartState)
     (count : ℕ) (harts : ℕ → Hart)

@@ -1,8 +1,8 @@
 -- The moves of a list of turns: a guarded one is two.
-use Rattle.replay_laws.proofs.Common.{◌≡◌, ℕ, zero, suc, ◌+◌, ◌<◌, ◌≤◌, Bool, true, false, ◌&&◌, List, [], ◌∷◌, ◌++◌, refl, sym, ◌∙◌, ap, arith, subst, inl, inr, ◌==◌, false≢true, eq-eqb, eqb_tells, append_assoc, Program, Row, RawSettings, HartState, Step, Quiet, Asks, step, is_cut, Ask, Want, row_of, None, Hart, answer, call_of, quiet_rows, ask_rows, quiet_part, ask_part, turn_rows, turn_rows_in, rows_if as rows_of_part, Run, turn, ask_at, budget, is_guarded, by_guard}
+use Rattle.replay_laws.proofs.Common.{◌≡◌, ℕ, zero, suc, ◌+◌, ◌<◌, ◌≤◌, Bool, true, false, ◌&&◌, List, [], ◌∷◌, ◌++◌, refl, sym, ◌∙◌, ap, arith, subst, inl, inr, ◌==◌, false≢true, eq-eqb, eqb_tells, append_assoc, Program, Row, RawSettings, HartState, Step, Quiet, Asks, step, is_cut, Ask, Want, row_of, None, Hart, answer, call_of, quiet_rows, ask_rows, quiet_part, ask_part, turn_rows, turn_rows_in, rows_if as rows_of_part, Run, turn, ask_at, budget, is_guarded, by_guard, and_left}
 use Rattle.replay_laws.proofs.Asked.{served_turn}
 use Rattle.replay_laws.proofs.Counts.{Fit, Move, Moves, moved_run, asked_at, own_harts, own_came}
-use Rattle.replay_laws.proofs.ServedRows.{rows_if, false_and}
+use Rattle.replay_laws.proofs.ServedRows.{rows_if}
 use Rattle.replay_laws.proofs.Splits.{splits, asks, uncut}
 use Rattle.replay_laws.proofs.Way.{Sound, Came}
 
@@ -108,7 +108,7 @@ pub rows_plain : (c : RawSettings) (i : Program) (run : Run) (k h n : ℕ) (more
     → rows_in_turn c i run h n more (k == h) ≡ rows_if (k == h && ((run.harts h).number == n)) (turn_rows c i run h) more
 rows_plain c i run k h n more g = elim (eqb_tells k h) [
   | inr p ↦ ap (rows_in_turn c i run h n more) p.0
-      ∙ sym (ap (λ b. rows_if b (turn_rows c i run h) more) (false_and (k == h) ((run.harts h).number == n) p.0))
+      ∙ sym (ap (λ b. rows_if b (turn_rows c i run h) more) (and_left (k == h) ((run.harts h).number == n) p.0))
   | inl p ↦ ap (rows_in_turn c i run h n more) p.0
       ∙ (ap (λ b. rows_parted c i run h n b ++ more) (sym (ap (guarded_at c i run) p.1) ∙ g)
       ∙ (both_first ((run.harts h).number == n) (quiet_part c i run h) (ask_part c i run h) more
@@ -122,8 +122,8 @@ pub rows_guarded : (c : RawSettings) (i : Program) (run : Run) (k h n : ℕ) (mo
 rows_guarded c i run k h n more z f g = elim (eqb_tells k h) [
   | inr p ↦ (let begun : Run = begun_at c i run k in
       ap (rows_in_turn c i run h n more) p.0
-      ∙ sym (ap (λ b. rows_if b (quiet_part c i run h) (rows_if (k == h && ((begun.harts h).number == n)) (turn_rows c i begun h) more)) (false_and (k == h) ((run.harts h).number == n) p.0)
-      ∙ ap (λ b. rows_if b (turn_rows c i begun h) more) (false_and (k == h) ((begun.harts h).number == n) p.0)))
+      ∙ sym (ap (λ b. rows_if b (quiet_part c i run h) (rows_if (k == h && ((begun.harts h).number == n)) (turn_rows c i begun h) more)) (and_left (k == h) ((run.harts h).number == n) p.0)
+      ∙ ap (λ b. rows_if b (turn_rows c i begun h) more) (and_left (k == h) ((begun.harts h).number == n) p.0)))
   | inl p ↦ subst
       (λ (j : ℕ). Fit c (run.harts j) → guarded_at c i run j ≡ true
       → rows_in_turn c i run h n more (j == h)

@@ -1,5 +1,5 @@
 -- How many rows a turn has.
-use Rattle.replay_laws.proofs.Common.{◌≡◌, ℕ, zero, suc, ◌+◌, ◌<◌, ◌^◌, Bool, true, false, List, [], ◌∷◌, length, length-append, refl, sym, ◌∙◌, ap, arith, inl, inr, None, ◌-◌, ◌⊎◌, nat_le, if◌then◌else◌, false≢true, fault_number, Program, Row, RawSettings, HartState, Step, Quiet, Asks, step, ask_of, count_up, Ask, Want, Load, Store, LoadReserved, StoreConditional, Amo, System, Cut, Faulted, ExitsAloneEnd, Plan, row_of, Hart, TurnEnd, GoesOn, NewInterval, HartOver, RunOver, Machine, answer_call, planned, Run, ask_at, budget, after_call, counted, quiet_rows, want_rows, quiet_part, turn_rows, rows_at_end}
+use Rattle.replay_laws.proofs.Common.{◌≡◌, ℕ, zero, suc, ◌+◌, ◌<◌, ◌^◌, Bool, true, false, List, [], ◌∷◌, length, length-append, refl, sym, ◌∙◌, ap, arith, inl, inr, None, ◌-◌, ◌⊎◌, nat_le, if◌then◌else◌, false≢true, fault_number, Program, Row, RawSettings, HartState, Step, Quiet, Asks, step, ask_of, count_up, Ask, Want, System, Cut, Faulted, ExitsAloneEnd, Plan, row_of, Hart, TurnEnd, GoesOn, NewInterval, HartOver, RunOver, Machine, answer_call, planned, Run, ask_at, budget, after_call, counted, quiet_rows, want_rows, quiet_part, turn_rows, rows_at_end}
 use Rattle.system_calls.specs.declared.effect.Plan.TheVariants as plans
 use Rattle.replay_laws.proofs.Asked.{asking, reply_to, state_after, next_to, next_at}
 use Rattle.replay_laws.proofs.Calls.{plan_counts}
@@ -42,11 +42,7 @@ counted_extra c t ic = counted_if (nat_le c.limit ic) (nat_le c.interval (ic - t
 
 call_extra : (pl : Plan) (h : ℕ) (m : Machine) → extra (after_call pl (answer_call pl h m).reply) ≡ 0
 call_extra (plans.Fill a z) h m = refl
-call_extra (plans.Send f a z) h m = refl
-call_extra (plans.Break x) h m = refl
-call_extra (plans.Answer x) h m = refl
-call_extra (plans.EndHart x) h m = refl
-call_extra (plans.EndRun x) h m = refl
+call_extra pl h m = refl
 
 one_row : (from to more : ℕ) → from + 1 < 2 ^ 64 → to ≡ count_up from → more ≡ 0 → from + 1 ≡ to + more
 one_row from to more b e f = omega arith
@@ -64,18 +60,12 @@ bounded w s (inr b) e = b
 ask_count : ExitsAloneEnd → (w : Want) (c : RawSettings) (i : Program) (m : Machine) (h : ℕ) (t : Hart) (s : HartState) → (w ≡ Cut) ⊎ (s.ic + 1 < 2 ^ 64)
     → s.ic + length (want_rows h i m.memory w s (state_after c i m h w s) (reply_to c i m h w s)) ≡ (state_after c i m h w s).ic + extra (next_to c i m h t w s)
 unfolding not_cut
-ask_count exits (Load a wd g rd) c i m h t s b = one_row s.ic _ _ (bounded (Load a wd g rd) s b refl) (memory_counts (Load a wd g rd) c i m h s refl) (counted_extra c t _)
-ask_count exits (LoadReserved a rd) c i m h t s b =
-    one_row s.ic _ _ (bounded (LoadReserved a rd) s b refl) (memory_counts (LoadReserved a rd) c i m h s refl) (counted_extra c t _)
-ask_count exits (Store a wd v) c i m h t s b = one_row s.ic _ _ (bounded (Store a wd v) s b refl) (memory_counts (Store a wd v) c i m h s refl) (counted_extra c t _)
-ask_count exits (Amo a o rd v) c i m h t s b = one_row s.ic _ _ (bounded (Amo a o rd v) s b refl) (memory_counts (Amo a o rd v) c i m h s refl) (counted_extra c t _)
-ask_count exits (StoreConditional a rd v) c i m h t s b =
-    one_row s.ic _ _ (bounded (StoreConditional a rd v) s b refl) (memory_counts (StoreConditional a rd v) c i m h s refl) (counted_extra c t _)
 ask_count exits (System n args) c i m h t s b =
     one_row s.ic _ _ (bounded (System n args) s b refl) (plan_counts exits i h n args m s) (call_extra (planned i m n args) h m)
 ask_count exits Cut c i m h t s b = let e : (state_after c i m h Cut s).ic ≡ s.ic = ap (λ (x : HartState). x.ic) (cut_state (nat_le c.limit s.ic) s) in let f : extra
     (next_to c i m h t Cut s) ≡ 0 = counted_extra c t _ in omega (arith, e, f)
 ask_count exits (Faulted f y) c i m h t s b = ap (λ (x : Bool). s.ic + (if x then 1 else 0)) (sym (above f (16 + fault_number f) refl))
+ask_count exits w c i m h t s b = one_row s.ic _ _ (bounded w s b refl) (memory_counts w c i m h s refl) (counted_extra c t _)
 
 -- ---- a whole turn
 

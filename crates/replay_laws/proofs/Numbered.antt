@@ -1,5 +1,5 @@
 -- A hart's rows have its counts, one after another.
-use Rattle.replay_laws.proofs.Common.{◌≡◌, ℕ, zero, suc, ◌+◌, ◌<◌, ◌^◌, Bool, true, false, List, [], ◌∷◌, ◌++◌, length, map, refl, sym, ◌∙◌, ap, arith, subst, inl, inr, ◌==◌, None, if◌then◌else◌, range_with_len, false≢true, eqb_tells, append-nil, Program, Row, RawSettings, HartState, Step, Quiet, Asks, step, Want, Load, Store, LoadReserved, StoreConditional, Amo, System, Cut, Faulted, Reply, row_of, Hart, TurnEnd, GoesOn, NewInterval, HartOver, RunOver, Run, budget, quiet_rows, want_rows}
+use Rattle.replay_laws.proofs.Common.{◌≡◌, ℕ, zero, suc, ◌+◌, ◌<◌, ◌^◌, Bool, true, false, List, [], ◌∷◌, ◌++◌, length, map, refl, sym, ◌∙◌, ap, arith, subst, inl, inr, ◌==◌, None, if◌then◌else◌, range_with_len, false≢true, eqb_tells, append-nil, Program, Row, RawSettings, HartState, Step, Quiet, Asks, step, Want, Cut, Reply, row_of, Hart, TurnEnd, GoesOn, NewInterval, RunOver, Run, budget, quiet_rows, want_rows}
 use Rattle.replay_laws.proofs.Asked.{reply_to}
 use Rattle.replay_laws.proofs.Coming.{IsServed, equal_flip}
 use Rattle.replay_laws.proofs.Counts.{Fit, Move, Moves, moved_run, want_at, asked_at, next_state, next_by, state_by, own_harts, other_harts, own_fit, begun_fit}
@@ -36,14 +36,8 @@ quiet_numbered c i h zero s z b = tt
 quiet_numbered c i h (suc n) s z b = quiet_at c i h n s (step i s) z refl b (λ t g. quiet_numbered c i h n t z g)
 
 want_numbered : (w : Want) (h : ℕ) (i : Program) (m : ℕ → ℕ) (s t : HartState) (r : Reply) → Numbered s.ic (want_rows h i m w s t r)
-want_numbered (Load a wd g rd) h i m s t r = (refl, tt)
-want_numbered (LoadReserved a rd) h i m s t r = (refl, tt)
-want_numbered (Store a wd v) h i m s t r = (refl, tt)
-want_numbered (Amo a o rd v) h i m s t r = (refl, tt)
-want_numbered (StoreConditional a rd v) h i m s t r = (refl, tt)
-want_numbered (System n args) h i m s t r = (refl, tt)
 want_numbered Cut h i m s t r = tt
-want_numbered (Faulted f y) h i m s t r = (refl, tt)
+want_numbered w h i m s t r = (refl, tt)
 
 turn_numbered : (c : RawSettings) (i : Program) (guard : Bool) (run : Run) (h : ℕ) → Sound c i → Fit c (run.harts h) → Numbered (run.harts h).state.ic (rows_by c i guard run h)
 turn_numbered c i true run h z f = quiet_numbered c i h (budget c (run.harts h)) (run.harts h).state z (let g = f.within in let b = z.limit in omega (arith, g, b))
@@ -94,8 +88,7 @@ own_numbered GoesOn c i guard h ks run z f l e rest =
 own_numbered (NewInterval r x) c i guard h ks run z f l e rest =
     goes_numbered c i guard h ks run z f (ap (λ (y : Hart). y.state) (own_harts c i guard run h (NewInterval r x) e))
     (ap extra e ∙ ap (λ (b : Bool). if b then 1 else 0) (new_small c i guard run h r x e)) (rest (begun_fit c i guard run h r x z e f))
-own_numbered (HartOver r x) c i guard h ks run z f l e rest = last_numbered c i guard h ks run z f (ap (λ (y : Hart). y.live) (own_harts c i guard run h (HartOver r x) e)) l
-own_numbered (RunOver r x) c i guard h ks run z f l e rest = last_numbered c i guard h ks run z f (ap (λ (y : Hart). y.live) (own_harts c i guard run h (RunOver r x) e)) l
+own_numbered n c i guard h ks run z f l e rest = last_numbered c i guard h ks run z f (ap (λ (y : Hart). y.live) (own_harts c i guard run h n e)) l
 
 other_numbered : (n : TurnEnd) (c : RawSettings) (i : Program) (guard : Bool) (h k : ℕ) (ks : List Move) (run : Run) → Fit c (run.harts h) → IsServed c i (moved_run c i guard run k) ks
     → (k == h) ≡ false
@@ -106,12 +99,10 @@ other_numbered n c i guard h k ks run f l p q e rest = subst (Numbered (run.hart
     left is = subst (λ (x : Hart). Numbered x.state.ic (served_all c i (moved_run c i guard run k) ks h)) is (rest (subst (λ (x : Hart). Fit c x) (sym is) f))
 
     by_next : (y : TurnEnd) → next_by c i guard run k ≡ y → Numbered (run.harts h).state.ic (served_all c i (moved_run c i guard run k) ks h)
-    by_next GoesOn d = left (other_harts c i guard run h k GoesOn d q)
-    by_next (NewInterval r x) d = left (other_harts c i guard run h k (NewInterval r x) d q)
-    by_next (HartOver r x) d = left (other_harts c i guard run h k (HartOver r x) d q)
     by_next (RunOver r x) d =
         subst (Numbered (run.harts h).state.ic)
         (sym (dead_all c i h ks (moved_run c i guard run k) (ap (λ (y : Hart). y.live) (other_harts c i guard run h k (RunOver r x) d q) ∙ over_live r x (run.harts h)) l)) tt
+    by_next y d = left (other_harts c i guard run h k y d q)
 
 pub numbered : (c : RawSettings) (i : Program) (h : ℕ) (ks : List Move) (run : Run) → Sound c i → IsServed c i run ks → Fit c (run.harts h) → Goal c i h ks run
 numbered c i h [] run z l f = tt

@@ -1,5 +1,5 @@
 -- The replay of an interval that is open in a run is done, with the interval's rows from there on.
-use Rattle.replay_laws.proofs.Common.{◌≡◌, ℕ, ◌+◌, ◌-◌, ◌<◌, ◌≤◌, ◌^◌, Bool, true, false, List, [], ◌∷◌, ◌++◌, refl, sym, ◌∙◌, ap, arith, subst, inl, inr, ◌==◌, ◌⊎◌, Option, false≢true, eqb_tells, append-nil, fault_number, Program, EndMark, Fault, Row, RawSettings, HartState, Asks, step, passes, Ask, Want, Load, Store, LoadReserved, StoreConditional, Amo, System, Cut, Faulted, Event, geometry_of, warm, known, fault_row, Interval, Position, Logged, Replayed, puts, steps, onto, Done, Hart, TurnEnd, GoesOn, NewInterval, HartOver, RunOver, Run, ask_at, by_guard, cleared, budget, loading, warmth, word_before, load_record, sc_record, hart_after, turn_rows, quiet_rows, want_rows, reply_at}
+use Rattle.replay_laws.proofs.Common.{◌≡◌, ℕ, ◌+◌, ◌-◌, ◌<◌, ◌≤◌, ◌^◌, Bool, true, false, List, [], ◌∷◌, ◌++◌, refl, sym, ◌∙◌, ap, arith, subst, inl, inr, ◌==◌, ◌⊎◌, Option, false≢true, eqb_tells, append-nil, fault_number, Program, EndMark, Fault, Row, RawSettings, HartState, Asks, step, passes, Ask, Want, Cut, Faulted, Event, geometry_of, warm, known, fault_row, Interval, Position, Logged, Replayed, puts, steps, onto, Done, Hart, TurnEnd, GoesOn, NewInterval, HartOver, RunOver, Run, ask_at, by_guard, cleared, budget, loading, warmth, word_before, load_record, sc_record, hart_after, turn_rows, quiet_rows, want_rows, reply_at, and_left}
 use Rattle.replay_laws.proofs.Agree.{Agrees, agrees_other}
 use Rattle.replay_laws.proofs.Asked.{reply_to, next_to, touched_to, next_at, served_turn}
 use Rattle.replay_laws.proofs.Coming.{IsServed, Coming, coming, no_live, equal_flip}
@@ -8,7 +8,7 @@ use Rattle.replay_laws.proofs.Ends.{none_left, plain_marked}
 use Rattle.replay_laws.proofs.Lengths.{rows_by}
 use Rattle.replay_laws.proofs.Own.{agrees_own}
 use Rattle.replay_laws.proofs.Places.{Ahead}
-use Rattle.replay_laws.proofs.ServedRows.{served_rows, rows_skip, rows_own, gone_rows, dead_rows, over_live, false_and}
+use Rattle.replay_laws.proofs.ServedRows.{served_rows, rows_skip, rows_own, gone_rows, dead_rows, over_live}
 use Rattle.replay_laws.proofs.Step.{StillHolds}
 use Rattle.replay_laws.proofs.Turned.{Turned, Starts, turned, is_fault, fault_turn, end_turn, not_cut, left_log}
 use Rattle.replay_laws.proofs.Turns.{ended_at, end_log}
@@ -57,7 +57,7 @@ other_goes c i guard h k ks run v lo co rows called p q e g o rest =
     } in
     let done : steps i h v (v.mark.ic - (run.harts h).state.ic) (place (run.harts h) lo co rows called) ≡ done_with (onto rows (served_rows c i r ks h (run.harts h).number)) =
     subst (λ (x : Hart). steps i h v (v.mark.ic - x.state.ic) (place x lo co rows called) ≡ done_with (onto rows (served_rows c i r ks h x.number))) e (rest lo co rows called inv) in
-    done ∙ ap (λ x. done_with (onto rows x)) (sym (rows_skip c i guard run ks h k (run.harts h).number (false_and (k == h) ((run.harts h).number == (run.harts h).number) p)))
+    done ∙ ap (λ x. done_with (onto rows x)) (sym (rows_skip c i guard run ks h k (run.harts h).number (and_left (k == h) ((run.harts h).number == (run.harts h).number) p)))
 
 other_ends : (c : RawSettings) (i : Program) (guard : Bool) (h k : ℕ) (ks : List Move) (run : Run) (v : Interval) (lo co : ℕ) (rows : List Row) (called : Bool) → (k == h) ≡ false
     → ((moved_run c i guard run k).harts h).live ≡ false → log_from c i run (Moves guard k ∷ ks) h ≡ ended_at (run.harts h).state.ic 5 0 → IsServed c i (moved_run c i guard run k) ks
@@ -70,7 +70,7 @@ other_ends c i guard h k ks run v lo co rows called p e g l o =
     ap (λ x. steps i h v x pos) z
     ∙ (plain_marked i h v pos now 5 0 held.mark_is refl refl (none_left h v (run.harts h).skipped (ended_at now 5 0) pos held refl refl)
     ∙ ap (λ x. done_with (onto rows x))
-    (sym (rows_skip c i guard run ks h k (run.harts h).number (false_and (k == h) ((run.harts h).number == (run.harts h).number) p) ∙ dead_rows c i h
+    (sym (rows_skip c i guard run ks h k (run.harts h).number (and_left (k == h) ((run.harts h).number == (run.harts h).number) p) ∙ dead_rows c i h
     (run.harts h).number ks (moved_run c i guard run k) e l)))
 
 other_turn : (n : TurnEnd) (c : RawSettings) (i : Program) (guard : Bool) (h k : ℕ) (ks : List Move) (run : Run) (v : Interval) (lo co : ℕ) (rows : List Row) (called : Bool)
@@ -79,12 +79,8 @@ other_turn : (n : TurnEnd) (c : RawSettings) (i : Program) (guard : Bool) (h k :
 other_turn (RunOver r x) c i guard h k ks run v lo co rows called e p q b l o rest =
     other_ends c i guard h k ks run v lo co rows called p (ap (λ (y : Hart). y.live) (other_harts c i guard run h k (RunOver r x) e q) ∙ over_live r x (run.harts h))
     (other_turn_log c i guard run ks h k (RunOver r x) e p q o.fit.live b) l o
-other_turn GoesOn c i guard h k ks run v lo co rows called e p q b l o rest =
-    other_goes c i guard h k ks run v lo co rows called p q (other_harts c i guard run h k GoesOn e q) (other_turn_log c i guard run ks h k GoesOn e p q o.fit.live b) o rest
-other_turn (NewInterval r x) c i guard h k ks run v lo co rows called e p q b l o rest =
-    other_goes c i guard h k ks run v lo co rows called p q (other_harts c i guard run h k (NewInterval r x) e q) (other_turn_log c i guard run ks h k (NewInterval r x) e p q o.fit.live b) o rest
-other_turn (HartOver r x) c i guard h k ks run v lo co rows called e p q b l o rest =
-    other_goes c i guard h k ks run v lo co rows called p q (other_harts c i guard run h k (HartOver r x) e q) (other_turn_log c i guard run ks h k (HartOver r x) e p q o.fit.live b) o rest
+other_turn n c i guard h k ks run v lo co rows called e p q b l o rest =
+    other_goes c i guard h k ks run v lo co rows called p q (other_harts c i guard run h k n e q) (other_turn_log c i guard run ks h k n e p q o.fit.live b) o rest
 
 -- ---- h's own turn
 
@@ -198,20 +194,12 @@ own_ahead : (n : TurnEnd) (c : RawSettings) (i : Program) (h : ℕ) (ks : List M
     → Later c i h ks (served_turn c i run h) → Ahead (skip_next c i run h) (end_log n (next_state c i run h) (log_from c i (served_turn c i run h) ks h)).loads
 own_ahead GoesOn c i h ks run z f e w =
     (subst (λ (y : Hart). Coming y (log_from c i (served_turn c i run h) ks h)) (own_harts c i false run h GoesOn e) (w (own_fit c i false run h z e f))).0
-own_ahead (NewInterval r x) c i h ks run z f e w = tt
-own_ahead (HartOver r x) c i h ks run z f e w = tt
-own_ahead (RunOver r x) c i h ks run z f e w = tt
+own_ahead n c i h ks run z f e w = tt
 
 -- whether the ask is a fault
 fault_or : (w : Want) → (is_fault w ≡ false) ⊎ ((f : Fault) × (y : ℕ) × (w ≡ Faulted f y))
 fault_or (Faulted f y) = inr (f, y, refl)
-fault_or (Load a wd g rd) = inl refl
-fault_or (LoadReserved a rd) = inl refl
-fault_or (Store a wd x) = inl refl
-fault_or (Amo a o rd x) = inl refl
-fault_or (StoreConditional a rd x) = inl refl
-fault_or (System n args) = inl refl
-fault_or Cut = inl refl
+fault_or w = inl refl
 
 own_fault : (f : Fault) (y : ℕ) (c : RawSettings) (i : Program) (h : ℕ) (ks : List Move) (run : Run) (v : Interval) (lo co : ℕ) (rows : List Row) (called : Bool) → Sound c i
     → want_at c i run h ≡ Faulted f y → IsServed c i (served_turn c i run h) ks → Inv c i run (Moves false h ∷ ks) h v lo co rows

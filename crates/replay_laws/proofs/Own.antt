@@ -1,6 +1,6 @@
 -- What a hart's own turn leaves of the agreement between its warm words and what its rows know.
-use Rattle.replay_laws.proofs.Common.{◌≡◌, ℕ, ◌*◌, ◌%◌, Bool, true, false, cond, ◌&&◌, List, Option, Some, None, refl, sym, ◌∙◌, ap, arith, subst, inl, inr, ◌==◌, ◌≢◌, false≢true, eqb-true, eq-eqb, eqb_tells, Program, may_load, may_store, RawSettings, HartState, aligned, passes, Ask, Want, Load, Store, LoadReserved, StoreConditional, Amo, System, Cut, Faulted, Plan, Mode, Read, Write, Geometry, Event, word_of, geometry_of, warm, Span, TurnEnd, GoesOn, Machine, answer_sc, call_of, is_reserved, Run, ask_at, own_events, other_events, events_after, sc_span, touched, learned}
-use Rattle.replay_laws.proofs.Agree.{Agrees, Spared, Unwritten, Outside, warm_touch, warm_dropped, not_equal, spared}
+use Rattle.replay_laws.proofs.Common.{◌≡◌, ℕ, ◌*◌, ◌%◌, Bool, true, false, cond, ◌&&◌, List, Option, Some, None, refl, sym, ◌∙◌, ap, arith, subst, inl, inr, ◌==◌, ◌≢◌, eqb-true, eq-eqb, eqb_tells, Program, may_load, may_store, RawSettings, HartState, aligned, passes, Ask, Want, Load, Store, LoadReserved, StoreConditional, Amo, Plan, Mode, Read, Write, Geometry, Event, word_of, geometry_of, warm, Span, TurnEnd, GoesOn, Machine, answer_sc, call_of, is_reserved, Run, ask_at, own_events, other_events, events_after, sc_span, touched, learned, ne_eqb, and_parts}
+use Rattle.replay_laws.proofs.Agree.{Agrees, Spared, Unwritten, Outside, warm_touch, warm_dropped, spared}
 use Rattle.replay_laws.proofs.Asked.{span_to, next_to, next_at, served_ask, served_turn, touched_to}
 
 -- b isn't the touched word
@@ -18,11 +18,7 @@ pub aligned_twice : (a : ℕ) → aligned (aligned a) ≡ aligned a
 aligned_twice a = omega arith
 
 pub aligned_own : (a : ℕ) (x : Bool) → ((a % 4 == 0) && x) ≡ true → aligned a ≡ a
-aligned_own a x e = let z : a % 4 ≡ 0 = eqb-true (a % 4) 0 (first (a % 4 == 0) x e) in omega arith
-  where
-    first : (a b : Bool) → (a && b) ≡ true → a ≡ true
-    first true b e = refl
-    first false b e = absurd (false≢true e)
+aligned_own a x e = let z : a % 4 ≡ 0 = eqb-true (a % 4) 0 (and_parts (a % 4 == 0) x e).0 in omega arith
 
 sc_word : (x : Bool) (m : Machine) (h a v : ℕ) → aligned a ≡ a → OneWord None (sc_span (answer_sc x a v h m).reply a)
 sc_word true m h a v e = (refl, e)
@@ -34,16 +30,14 @@ one_word (LoadReserved a rd) c i m h s e = (refl, aligned_own a (may_load i a) e
 one_word (Store a wd v) c i m h s e = (refl, aligned_twice a)
 one_word (Amo a o rd v) c i m h s e = (refl, aligned_own a (may_load i a && may_store i a) e)
 one_word (StoreConditional a rd v) c i m h s e = sc_word (is_reserved (m.reserved h) a) m h a v (aligned_own a (may_load i a && may_store i a) e)
-one_word (System n args) c i m h s e = tt
-one_word Cut c i m h s e = tt
-one_word (Faulted f v) c i m h s e = tt
+one_word w c i m h s e = tt
 
 apart_spared : (x : Mode) (first n b : ℕ) → n ≡ 1 → b ≢ first → Unwritten x first n b
 apart_spared Read first n b e h = tt
 apart_spared Write first n b e h = subst (λ (k : ℕ). Outside first k b) (sym e) ((λ q. h (omega (arith, q))), tt)
 
 other_word : (a b : ℕ) → aligned a ≡ a → aligned b ≡ b → b ≢ a → (word_of a == word_of b) ≡ false
-other_word a b e f h = not_equal (word_of a) (word_of b) (λ q. h (sym f ∙ (ap (λ k. k * 4) (sym q) ∙ e)))
+other_word a b e f h = ne_eqb (word_of a) (word_of b) (λ q. h (sym f ∙ (ap (λ k. k * 4) (sym q) ∙ e)))
 
 -- a word that is warm after the own events and isn't the one touched was warm before, and wasn't written
 own_spared : (call : Option Plan) (o : Option Span) (g : Geometry) (b : ℕ) (es : List Event) → OneWord call o → aligned b ≡ b → Apart (touched call o) b

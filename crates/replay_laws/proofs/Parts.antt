@@ -1,10 +1,10 @@
 -- An interval's rows stand together in the rows of its hart, from its Header's count to its End's.
-use Rattle.replay_laws.proofs.Common.{◌≡◌, ℕ, ◌+◌, ◌-◌, ◌<◌, ◌≤◌, Bool, true, false, List, [], ◌∷◌, ◌++◌, length, length-append, take, drop, refl, sym, ◌∙◌, ap, arith, subst, inl, inr, ◌==◌, ◌≢◌, false≢true, eqb_tells, append_assoc, Program, EndMark, Row, RawSettings, Interval, Logged, Hart, TurnEnd, GoesOn, NewInterval, HartOver, RunOver, Run, rows_at_end, end_of}
+use Rattle.replay_laws.proofs.Common.{◌≡◌, ℕ, ◌+◌, ◌-◌, ◌<◌, ◌≤◌, Bool, true, false, List, [], ◌∷◌, ◌++◌, length, length-append, take, drop, refl, sym, ◌∙◌, ap, arith, subst, inl, inr, ◌==◌, ◌≢◌, false≢true, eqb_tells, append_assoc, Program, EndMark, Row, RawSettings, Interval, Logged, Hart, TurnEnd, GoesOn, NewInterval, RunOver, Run, rows_at_end, end_of, and_left}
 use Rattle.replay_laws.proofs.Begins.{Begins}
 use Rattle.replay_laws.proofs.Coming.{IsServed, equal_flip, no_live, own_mark}
 use Rattle.replay_laws.proofs.Counts.{Fit, Move, Moves, moved_run, next_by, state_by, log_from, other_turn_log, own_harts, other_harts, own_fit}
 use Rattle.replay_laws.proofs.Lengths.{extra, rows_by, move_count}
-use Rattle.replay_laws.proofs.ServedRows.{served_rows, served_all, all_skip, all_own, rows_skip, rows_own, number_up, gone_rows, dead_rows, over_live, false_and}
+use Rattle.replay_laws.proofs.ServedRows.{served_rows, served_all, all_skip, all_own, rows_skip, rows_own, number_up, gone_rows, dead_rows, over_live}
 use Rattle.replay_laws.proofs.Turns.{end_log}
 use Rattle.replay_laws.proofs.Way.{Sound}
 
@@ -44,9 +44,7 @@ end_is n c i guard run ks h e d =
   where
     by : (n : TurnEnd) → Ended n → (state_by c i guard run h).ic + extra n ≡ mark_end (end_log n (state_by c i guard run h) (log_from c i (moved_run c i guard run h) ks h)).mark
     by GoesOn d = absurd (false≢true d)
-    by (NewInterval r x) d = refl
-    by (HartOver r x) d = refl
-    by (RunOver r x) d = refl
+    by n d = refl
 
 left_own : (n : TurnEnd) (c : RawSettings) (i : Program) (guard : Bool) (h : ℕ) (ks : List Move) (run : Run) → Sound c i → Fit c (run.harts h) → IsServed c i (moved_run c i guard run h) ks
     → next_by c i guard run h ≡ n → (Fit c ((moved_run c i guard run h).harts h) → Left c i h ks (moved_run c i guard run h)) → Left c i h (Moves guard h ∷ ks) run
@@ -69,12 +67,9 @@ left_own (NewInterval r x) c i guard h ks run z f l e rest =
     let is = own_harts c i guard run h (NewInterval r x) e in
     let more : (run.harts h).number < ((moved_run c i guard run h).harts h).number = subst (λ (y : Hart). (run.harts h).number < y.number) (sym is) (omega arith) in
     left_ended c i guard h ks run z f (gone_rows c i h (run.harts h).number ks (moved_run c i guard run h) more) (end_is (NewInterval r x) c i guard run ks h e tt)
-left_own (HartOver r x) c i guard h ks run z f l e rest =
-    left_ended c i guard h ks run z f (dead_rows c i h (run.harts h).number ks (moved_run c i guard run h) (ap (λ (y : Hart). y.live) (own_harts c i guard run h (HartOver r x) e)) l)
-    (end_is (HartOver r x) c i guard run ks h e tt)
-left_own (RunOver r x) c i guard h ks run z f l e rest =
-    left_ended c i guard h ks run z f (dead_rows c i h (run.harts h).number ks (moved_run c i guard run h) (ap (λ (y : Hart). y.live) (own_harts c i guard run h (RunOver r x) e)) l)
-    (end_is (RunOver r x) c i guard run ks h e tt)
+left_own n c i guard h ks run z f l e rest =
+    left_ended c i guard h ks run z f (dead_rows c i h (run.harts h).number ks (moved_run c i guard run h) (ap (λ (y : Hart). y.live) (own_harts c i guard run h n e)) l)
+    (end_is n c i guard run ks h e tt)
 
 left_other : (n : TurnEnd) (c : RawSettings) (i : Program) (guard : Bool) (h k : ℕ) (ks : List Move) (run : Run) → (k == h) ≡ false → (h == k) ≡ false → h < c.harts → Fit c (run.harts h)
     → IsServed c i (moved_run c i guard run k) ks → next_by c i guard run k ≡ n → (Fit c ((moved_run c i guard run k).harts h) → Left c i h ks (moved_run c i guard run k)) → Left c i h (Moves guard k ∷ ks) run
@@ -84,7 +79,7 @@ left_other n c i guard h k ks run p q b f l e rest = by_next n e
     t = run.harts h
 
     skip : served_rows c i run (Moves guard k ∷ ks) h t.number ≡ served_rows c i (moved_run c i guard run k) ks h t.number
-    skip = rows_skip c i guard run ks h k t.number (false_and (k == h) (t.number == t.number) p)
+    skip = rows_skip c i guard run ks h k t.number (and_left (k == h) (t.number == t.number) p)
 
     same : (moved_run c i guard run k).harts h ≡ t → log_from c i run (Moves guard k ∷ ks) h ≡ log_from c i (moved_run c i guard run k) ks h → Left c i h (Moves guard k ∷ ks) run
     same is log =
@@ -94,13 +89,11 @@ left_other n c i guard h k ks run p q b f l e rest = by_next n e
         ap (λ x. t.state.ic + length x) skip ∙ (r ∙ ap (λ (y : Logged). mark_end y.mark) (sym log))
 
     by_next : (y : TurnEnd) → next_by c i guard run k ≡ y → Left c i h (Moves guard k ∷ ks) run
-    by_next GoesOn d = same (other_harts c i guard run h k GoesOn d q) (other_turn_log c i guard run ks h k GoesOn d p q f.live b)
-    by_next (NewInterval r x) d = same (other_harts c i guard run h k (NewInterval r x) d q) (other_turn_log c i guard run ks h k (NewInterval r x) d p q f.live b)
-    by_next (HartOver r x) d = same (other_harts c i guard run h k (HartOver r x) d q) (other_turn_log c i guard run ks h k (HartOver r x) d p q f.live b)
     by_next (RunOver r x) d =
         let dead : ((moved_run c i guard run k).harts h).live ≡ false = ap (λ (y : Hart). y.live) (other_harts c i guard run h k (RunOver r x) d q) ∙ over_live r x t in
         ap (λ y. t.state.ic + length y) (skip ∙ dead_rows c i h t.number ks (moved_run c i guard run k) dead l) ∙ ap (λ (y : Logged). mark_end y.mark)
         (sym (other_turn_log c i guard run ks h k (RunOver r x) d p q f.live b))
+    by_next y d = same (other_harts c i guard run h k y d q) (other_turn_log c i guard run ks h k y d p q f.live b)
 
 left : (c : RawSettings) (i : Program) (h : ℕ) (ks : List Move) (run : Run) → Sound c i → h < c.harts → IsServed c i run ks → Fit c (run.harts h) → Left c i h ks run
 left c i h [] run z g e f = absurd (false≢true (no_live c.harts h run.harts g f.live e))
@@ -125,7 +118,7 @@ from_now c i h n (Moves guard k ∷ ks) run b =
             (sym (gone_rows c i h n (Moves guard k ∷ ks) run (let z : (run.harts h).number ≢ n = q.1 in omega (arith, z)))),
       )
       | inl q ↦ elim (eqb_tells k h) [
-        | inr p ↦ (r.0, all_skip c i guard run ks h k p.0 ∙ (r.1 ∙ ap (λ x. x ++ r.0) (sym (rows_skip c i guard run ks h k n (false_and (k == h) ((run.harts h).number == n) p.0)))))
+        | inr p ↦ (r.0, all_skip c i guard run ks h k p.0 ∙ (r.1 ∙ ap (λ x. x ++ r.0) (sym (rows_skip c i guard run ks h k n (and_left (k == h) ((run.harts h).number == n) p.0)))))
         | inl p ↦ (
           r.0,
           subst

@@ -1,17 +1,8 @@
 -- The rows of an interval over a list of moves whose asks are orderly, until there are none any more.
-use Rattle.replay_laws.proofs.Common.{◌≡◌, ℕ, ◌<◌, ◌≤◌, Bool, true, false, ◌&&◌, List, [], ◌∷◌, ◌++◌, refl, sym, ◌∙◌, ap, arith, subst, inl, inr, ◌==◌, Some, false≢true, eq-eqb, eqb_tells, Program, Row, RawSettings, Hart, TurnEnd, GoesOn, NewInterval, HartOver, RunOver, Run, other_after}
-use Rattle.replay_laws.proofs.Agree.{not_equal}
+use Rattle.replay_laws.proofs.Common.{◌≡◌, ℕ, ◌<◌, ◌≤◌, Bool, true, false, ◌&&◌, List, [], ◌∷◌, ◌++◌, refl, sym, ◌∙◌, ap, arith, subst, inl, inr, ◌==◌, Some, false≢true, eq-eqb, eqb_tells, Program, Row, RawSettings, Hart, TurnEnd, GoesOn, RunOver, Run, other_after, ne_eqb, and_right, and_left, and_from}
 use Rattle.replay_laws.proofs.Coming.{IsServed, equal_flip}
 use Rattle.replay_laws.proofs.Counts.{Move, Moves, moved_run, next_by, own_harts, other_harts}
 use Rattle.replay_laws.proofs.Lengths.{rows_by}
-
-pub and_false : (a b : Bool) → b ≡ false → (a && b) ≡ false
-and_false true b e = e
-and_false false b e = refl
-
-pub false_and : (a b : Bool) → a ≡ false → (a && b) ≡ false
-false_and true b e = absurd (false≢true (sym e))
-false_and false b e = refl
 
 -- a move's rows before more, if it is one of the interval
 abbrev pub rows_if : Bool → List Row → List Row → List Row
@@ -30,11 +21,7 @@ pub rows_own : (c : RawSettings) (i : Program) (guard : Bool) (run : Run) (ks : 
     → served_rows c i run (Moves guard h ∷ ks) h (run.harts h).number ≡ rows_by c i guard run h ++ served_rows c i (moved_run c i guard run h) ks h (run.harts h).number
 rows_own c i guard run ks h =
     ap (λ x. rows_if x (rows_by c i guard run h) (served_rows c i (moved_run c i guard run h) ks h (run.harts h).number))
-    (both (h == h) ((run.harts h).number == (run.harts h).number) (eq-eqb h h refl) (eq-eqb (run.harts h).number (run.harts h).number refl))
-  where
-    both : (a b : Bool) → a ≡ true → b ≡ true → (a && b) ≡ true
-    both true b e f = f
-    both false b e f = e
+    (and_from (h == h) ((run.harts h).number == (run.harts h).number) (eq-eqb h h refl) (eq-eqb (run.harts h).number (run.harts h).number refl))
 
 -- all rows of hart h
 abbrev pub served_all : RawSettings → Program → Run → List Move → ℕ → List Row
@@ -53,9 +40,7 @@ all_own c i guard run ks h = ap (λ x. rows_if x (rows_by c i guard run h) (serv
 
 number_own : (n : TurnEnd) (c : RawSettings) (i : Program) (guard : Bool) (run : Run) (h : ℕ) → next_by c i guard run h ≡ n → (run.harts h).number ≤ ((moved_run c i guard run h).harts h).number
 number_own GoesOn c i guard run h e = subst (λ (x : Hart). (run.harts h).number ≤ x.number) (sym (own_harts c i guard run h GoesOn e)) (omega arith)
-number_own (NewInterval r x) c i guard run h e = subst (λ (y : Hart). (run.harts h).number ≤ y.number) (sym (own_harts c i guard run h (NewInterval r x) e)) (omega arith)
-number_own (HartOver r x) c i guard run h e = subst (λ (y : Hart). (run.harts h).number ≤ y.number) (sym (own_harts c i guard run h (HartOver r x) e)) (omega arith)
-number_own (RunOver r x) c i guard run h e = subst (λ (y : Hart). (run.harts h).number ≤ y.number) (sym (own_harts c i guard run h (RunOver r x) e)) (omega arith)
+number_own n c i guard run h e = subst (λ (y : Hart). (run.harts h).number ≤ y.number) (sym (own_harts c i guard run h n e)) (omega arith)
 
 -- a hart that the run's end stops
 abbrev stopped_if : Bool → Hart → Hart
@@ -70,10 +55,8 @@ stopped_live true t e = refl
 stopped_live false t e = e
 
 pub number_of : (n : TurnEnd) (t : Hart) → (other_after n t).number ≡ t.number
-number_of GoesOn t = refl
-number_of (NewInterval r x) t = refl
-number_of (HartOver r x) t = refl
 number_of (RunOver r x) t = stopped_number t.live t
+number_of n t = refl
 
 pub number_up : (c : RawSettings) (i : Program) (guard : Bool) (run : Run) (h k : ℕ) → (run.harts h).number ≤ ((moved_run c i guard run k).harts h).number
 number_up c i guard run h k = elim (eqb_tells k h) [
@@ -88,22 +71,20 @@ pub gone_rows : (c : RawSettings) (i : Program) (h n : ℕ) (ks : List Move) (ru
 gone_rows c i h n [] run b = refl
 gone_rows c i h n (Moves guard k ∷ ks) run b =
     let up = number_up c i guard run h k in
-    rows_skip c i guard run ks h k n (and_false (k == h) ((run.harts h).number == n) (not_equal (run.harts h).number n (λ q. absurd (omega arith)))) ∙ gone_rows c i h n ks
+    rows_skip c i guard run ks h k n (and_right (k == h) ((run.harts h).number == n) (ne_eqb (run.harts h).number n (λ q. absurd (omega arith)))) ∙ gone_rows c i h n ks
     (moved_run c i guard run k) (omega (arith, up))
 
 pub over_live : (r x : ℕ) (t : Hart) → (other_after (RunOver r x) t).live ≡ false
 over_live r x t = stopped_live t.live t refl
 
 pub dead_of : (n : TurnEnd) (t : Hart) → t.live ≡ false → (other_after n t).live ≡ false
-dead_of GoesOn t e = e
-dead_of (NewInterval r x) t e = e
-dead_of (HartOver r x) t e = e
 dead_of (RunOver r x) t e = over_live r x t
+dead_of n t e = e
 
 pub dead_rows : (c : RawSettings) (i : Program) (h n : ℕ) (ks : List Move) (run : Run) → (run.harts h).live ≡ false → IsServed c i run ks → served_rows c i run ks h n ≡ []
 dead_rows c i h n [] run e l = refl
 dead_rows c i h n (Moves guard k ∷ ks) run e l = elim (eqb_tells k h) [
   | inl p ↦ absurd (false≢true (sym e ∙ (ap (λ x. (run.harts x).live) (sym p.1) ∙ l.1)))
-  | inr p ↦ rows_skip c i guard run ks h k n (false_and (k == h) ((run.harts h).number == n) p.0) ∙ dead_rows c i h n ks (moved_run c i guard run k)
+  | inr p ↦ rows_skip c i guard run ks h k n (and_left (k == h) ((run.harts h).number == n) p.0) ∙ dead_rows c i h n ks (moved_run c i guard run k)
       (ap (λ (x : Hart). x.live) (other_harts c i guard run h k (next_by c i guard run k) refl (equal_flip k h p.1)) ∙ dead_of (next_by c i guard run k) (run.harts h) e) l.2
 ]

@@ -1,5 +1,5 @@
 -- A guarded turn as two moves.
-use Rattle.replay_laws.proofs.Common.{◌≡◌, ℕ, zero, suc, ◌+◌, ◌<◌, Bool, true, false, not, ◌&&◌, ◌==◌, refl, sym, ◌∙◌, ap, arith, Program, HartState, RawSettings, Step, Quiet, Asks, step, ask_of, is_cut, Ask, Want, Hart, call_of, Run, serve, served_if, serve_call, turn, ask_at, budget, is_guarded, is_orderly, begun_anew, guard_records}
+use Rattle.replay_laws.proofs.Common.{◌≡◌, ℕ, zero, suc, ◌+◌, ◌<◌, Bool, true, false, not, ◌==◌, refl, sym, ◌∙◌, ap, arith, Program, HartState, RawSettings, Step, Quiet, Asks, step, ask_of, is_cut, Ask, Want, Hart, call_of, Run, serve, served_if, serve_call, turn, ask_at, budget, is_guarded, is_orderly, begun_anew, guard_records, and_parts, not-true, eqb_same}
 use Rattle.std.proofs.lemmas.Grind.{common_steps}
 use Rattle.run_model.specs.Counts.{anew}
 use Rattle.log_record.specs.Spelling.{total}
@@ -20,22 +20,11 @@ again : (i : Program) (n : ℕ) (s : HartState) (w : Want) → 0 < n → step i 
 again i zero s w some e = absurd (omega (arith, some))
 again i (suc n) s w some e = ap (λ (x : Step). elim x as (λ y. Ask) [ Quiet t ↦ ask_of i n t | Asks v ↦ record { state = s; want = v } ]) e
 
-eqb_same : (k : ℕ) → (k == k) ≡ true
-eqb_same k = grind arith
-
 some_more : (c : RawSettings) (h : Hart) (s : HartState) (bytes : ℕ) → 0 < c.interval → s.ic < c.limit → 0 < budget c (anew s bytes h)
 some_more c h s bytes some below = grind (arith, common_steps)
 
-both : (a b : Bool) → (a && b) ≡ true → (a ≡ true) × (b ≡ true)
-both true b e = (refl, e)
-both false b e = cc
-
-not_cut : (b : Bool) → not b ≡ true → b ≡ false
-not_cut true e = cc
-not_cut false e = refl
-
 pub uncut : (c : RawSettings) (run : Run) (k : ℕ) (want : Want) → is_guarded c run k want ≡ true → is_cut want ≡ false
-uncut c run k want e = not_cut (is_cut want) (both (not (is_cut want)) _ (both (c.format == 2) _ e).1).0
+uncut c run k want e = not-true (is_cut want) (and_parts (not (is_cut want)) _ (and_parts (c.format == 2) _ e).1).0
 
 pub begun_own : (run : Run) (k : ℕ) (s : HartState) → (begun_anew run k s).harts k ≡ anew s (run.bytes + total (guard_records run k s)) (run.harts k)
 begun_own run k s = ap (λ (b : Bool). elim b as (λ x. Hart) [ true ↦ anew s (run.bytes + total (guard_records run k s)) (run.harts k) | false ↦ run.harts k ]) (eqb_same k)

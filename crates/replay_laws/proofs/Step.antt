@@ -1,5 +1,5 @@
 -- One access in the replay of an interval.
-use Rattle.replay_laws.proofs.Common.{◌≡◌, ℕ, suc, ◌+◌, Bool, true, false, cond, ◌&&◌, List, [], ◌∷◌, ◌++◌, length, Option, Some, None, refl, sym, ◌∙◌, ap, arith, subst, inl, inr, ◌==◌, ◌≢◌, if◌then◌else◌, false≢true, eqb-true, eq-eqb, eqb_tells, append_assoc, Program, may_load, may_store, Row, RawSettings, HartState, stored_word, amo_result, Step, Quiet, Asks, step, absorbed, passes, aligned, Ask, Want, Load, Store, LoadReserved, StoreConditional, Amo, System, Cut, Faulted, Reply, updated, Event, geometry_of, warm, Warm, FirstLoad, row_of, known, at_address, Interval, Position, Logged, Replayed, Next, put, puts, logged, logged_from, or_else, steps, ask_step, finish, onto, missing, after_ask, word_for, slot, after_sc, On, Stop, Refused, ScMissing, Machine, answer_sc, is_reserved, load_record, skipped_after, sc_record, warmth, word_before, loading, sc_span, want_rows, touched, learned}
+use Rattle.replay_laws.proofs.Common.{◌≡◌, ℕ, suc, ◌+◌, Bool, true, false, cond, ◌&&◌, List, [], ◌∷◌, ◌++◌, length, Option, Some, None, refl, sym, ◌∙◌, ap, arith, subst, inl, inr, ◌==◌, if◌then◌else◌, false≢true, eqb-true, eq-eqb, eqb_tells, append_assoc, Program, may_load, may_store, Row, RawSettings, HartState, stored_word, amo_result, Step, Quiet, Asks, step, absorbed, passes, aligned, Ask, Want, Load, Store, LoadReserved, StoreConditional, Amo, System, Cut, Faulted, Reply, updated, Event, geometry_of, warm, Warm, FirstLoad, row_of, known, at_address, Interval, Position, Logged, Replayed, Next, put, puts, logged, logged_from, or_else, steps, ask_step, finish, onto, missing, after_ask, word_for, slot, after_sc, On, Stop, Refused, ScMissing, Machine, answer_sc, is_reserved, load_record, skipped_after, sc_record, warmth, word_before, loading, sc_span, want_rows, touched, learned, ne_eqb}
 use Rattle.rv_meaning.specs.declared.amo.AmoOp.{AmoOp}
 use Rattle.rv_meaning.specs.declared.asks.Reply.TheVariants as replies
 use Rattle.first_load_bits.specs.declared.warm.Warm.TheVariants as answers
@@ -93,10 +93,7 @@ takes v h b s es c m l loads conditionals kn g a e = takes_if (warm (geometry_of
 -- ---- words known after a row
 
 flip : (a b : ℕ) → (a == b) ≡ (b == a)
-flip a b = elim (eqb_tells a b) [ inl p ↦ p.0 ∙ sym (eq-eqb b a (sym p.1)) | inr p ↦ p.0 ∙ sym (other b a (λ q. p.1 (sym q))) ]
-  where
-    other : (a b : ℕ) → a ≢ b → (a == b) ≡ false
-    other a b h = elim (eqb_tells a b) [ inl p ↦ absurd (h p.1) | inr p ↦ p.0 ]
+flip a b = elim (eqb_tells a b) [ inl p ↦ p.0 ∙ sym (eq-eqb b a (sym p.1)) | inr p ↦ p.0 ∙ sym (ne_eqb b a (λ q. p.1 (sym q))) ]
 
 elim_cond : (x : Bool) (u w : Option ℕ) → elim x as (λ y. Option ℕ) [ true ↦ u | false ↦ w ] ≡ cond x u w
 elim_cond true u w = refl
@@ -246,9 +243,6 @@ amo_step i h v q a o rd w m s es c l b =
 -- the word that it loads
 abbrev narrow : Bool → ℕ → Option ℕ
 narrow x a = elim x [ true ↦ None | false ↦ Some (aligned a) ]
-
-abbrev value_if : Bool → ℕ → ℕ → ℕ → ℕ → ℕ
-value_if x a wd w old = elim x [ true ↦ w | false ↦ stored_word a wd w old ]
 
 record StoreDone (i : Program) (h : ℕ) (v : Interval) (q : Position) (a wd w : ℕ) (m : ℕ → ℕ) (s : ℕ) (es : List Event) (c : RawSettings) (l : Logged) (x : Bool) : Type 0 where
   next : Position
@@ -401,6 +395,4 @@ memory_step (LoadReserved a rd) c i h v q t m s es l e b = reserved_step i h v q
 memory_step (Store a wd w) c i h v q t m s es l e b = store_step i h v q a wd w m.memory s es c l b
 memory_step (Amo a o rd w) c i h v q t m s es l e b = amo_step i h v q a o rd w m.memory s es c l b
 memory_step (StoreConditional a rd w) c i h v q t m s es l e b = sc_step (is_reserved (m.reserved h) a) i h v q a rd w m s es c l b
-memory_step (System n args) c i h v q t m s es l e b = absurd (false≢true e)
-memory_step Cut c i h v q t m s es l e b = absurd (false≢true e)
-memory_step (Faulted f y) c i h v q t m s es l e b = absurd (false≢true e)
+memory_step w c i h v q t m s es l e b = absurd (false≢true e)

@@ -1,5 +1,5 @@
 -- A whole turn of a hart in the replay of its interval.
-use Rattle.replay_laws.proofs.Common.{◌≡◌, ℕ, suc, ◌+◌, ◌-◌, ◌<◌, ◌^◌, Bool, true, false, cond, List, [], ◌∷◌, ◌++◌, Option, Some, None, refl, sym, ◌∙◌, ap, arith, subst, inl, inr, ◌==◌, ◌⊎◌, nat_le, if◌then◌else◌, false≢true, append_assoc, append-nil, fault_number, Program, EndMark, Fault, Row, RawSettings, HartState, Asks, step, absorbed, count_up, is_cut, aligned, Want, Load, Store, LoadReserved, StoreConditional, Amo, System, Cut, Faulted, Reply, Went, Over, Plan, Event, geometry_of, warm, known, fault_row, Interval, Position, Logged, puts, steps, onto, Done, Hart, TurnEnd, GoesOn, NewInterval, HartOver, Machine, answer_call, call_of, planned, counted, next_of, after_call, warmth, word_before, load_record, loading, sc_record, skipped_after, want_rows, learned}
+use Rattle.replay_laws.proofs.Common.{◌≡◌, ℕ, suc, ◌+◌, ◌-◌, ◌<◌, ◌^◌, Bool, true, false, cond, List, [], ◌∷◌, ◌++◌, Option, Some, None, refl, sym, ◌∙◌, ap, arith, subst, inl, inr, ◌==◌, ◌⊎◌, nat_le, if◌then◌else◌, false≢true, append_assoc, append-nil, fault_number, Program, EndMark, Fault, Row, RawSettings, HartState, Asks, step, absorbed, count_up, is_cut, aligned, Want, System, Cut, Faulted, Reply, Went, Over, Plan, Event, geometry_of, warm, known, fault_row, Interval, Position, Logged, puts, steps, onto, Done, Hart, TurnEnd, GoesOn, NewInterval, HartOver, Machine, answer_call, call_of, planned, counted, next_of, after_call, warmth, word_before, load_record, loading, sc_record, skipped_after, want_rows, learned}
 use Rattle.replay_laws.proofs.Asked.{asking, reply_to, state_after, memory_after, next_to, touched_to}
 use Rattle.replay_laws.proofs.Calls.{Fine, Plain, call_step, plan_kind, plan_counts}
 use Rattle.replay_laws.proofs.Counts.{memory_counts}
@@ -52,14 +52,10 @@ counted_fine c t ic b = counted_fine_if (nat_le c.limit ic) (nat_le c.interval (
 
 memory_next : (w : Want) (c : RawSettings) (i : Program) (m : Machine) (t : Hart) (r : Reply) (ic : ℕ) → of_memory w ≡ true
     → next_of c (call_of i m w) t w r ic ≡ counted c t ic
-memory_next (Load a wd g rd) c i m t r ic e = refl
-memory_next (LoadReserved a rd) c i m t r ic e = refl
-memory_next (Store a wd w) c i m t r ic e = refl
-memory_next (Amo a o rd w) c i m t r ic e = refl
-memory_next (StoreConditional a rd w) c i m t r ic e = refl
 memory_next (System n args) c i m t r ic e = absurd (false≢true e)
 memory_next Cut c i m t r ic e = absurd (false≢true e)
 memory_next (Faulted f y) c i m t r ic e = absurd (false≢true e)
+memory_next w c i m t r ic e = refl
 
 -- what a turn that asks w in state s does to the replay; es is the history of the hart's cache
 abbrev pub Outcome : RawSettings → Program → Machine → ℕ → Hart → Want → HartState → List Event → Interval → Position → List Row → Logged → Type 0
@@ -137,16 +133,6 @@ is_fault k = false
 
 pub turned : (w : Want) (c : RawSettings) (i : Program) (m : Machine) (h : ℕ) (t : Hart) (s : HartState) (es : List Event) (v : Interval) (p : Position) (qs : List Row) (l : Logged)
     → Sound c i → Way i h v p s qs → is_fault w ≡ false → Starts c i m h t w s es v p l → Outcome c i m h t w s es v p qs l
-turned (Load a wd g rd) c i m h t s es v p qs l z wy e o =
-    memory_turn (Load a wd g rd) c i m h t s es v p qs l wy refl o.bound (before_of (Load a wd g rd) c i m h t s es v p qs l wy z refl o)
-turned (LoadReserved a rd) c i m h t s es v p qs l z wy e o =
-    memory_turn (LoadReserved a rd) c i m h t s es v p qs l wy refl o.bound (before_of (LoadReserved a rd) c i m h t s es v p qs l wy z refl o)
-turned (Store a wd w) c i m h t s es v p qs l z wy e o =
-    memory_turn (Store a wd w) c i m h t s es v p qs l wy refl o.bound (before_of (Store a wd w) c i m h t s es v p qs l wy z refl o)
-turned (Amo a f rd w) c i m h t s es v p qs l z wy e o =
-    memory_turn (Amo a f rd w) c i m h t s es v p qs l wy refl o.bound (before_of (Amo a f rd w) c i m h t s es v p qs l wy z refl o)
-turned (StoreConditional a rd w) c i m h t s es v p qs l z wy e o =
-    memory_turn (StoreConditional a rd w) c i m h t s es v p qs l wy refl o.bound (before_of (StoreConditional a rd w) c i m h t s es v p qs l wy z refl o)
 turned (System n args) c i m h t s es v p qs l z wy e o =
     let pl : Plan = planned i m n args in
     let r =
@@ -156,6 +142,8 @@ turned (System n args) c i m h t s es v p qs l z wy e o =
     (after_call pl (answer_call pl h m).reply) l wy r.0 (let b = o.bound in omega arith) r.1
 turned Cut c i m h t s es v p qs l z wy e o = cut_turn (nat_le c.limit s.ic) c i m h t s v p qs l wy o.holds
 turned (Faulted f y) c i m h t s es v p qs l z wy e o = absurd (false≢true (sym e))
+turned w c i m h t s es v p qs l z wy e o =
+    memory_turn w c i m h t s es v p qs l wy refl o.bound (before_of w c i m h t s es v p qs l wy z refl o)
 
 -- a fault ends the interval with its row
 pub fault_turn : (f : Fault) (y : ℕ) (i : Program) (h : ℕ) (t : Hart) (s : HartState) (v : Interval) (p : Position) (qs : List Row) → Way i h v p s qs

@@ -32,18 +32,13 @@ end_pass : (h k ic r x : ℕ) (l : Logged) → (k == h) ≡ false → put h (End
 end_pass h k ic r x l e = ap (λ b. elim b as (λ y. Logged) [ true ↦ ended_at ic r x | false ↦ l ]) e
 
 load_pass : (o : Option Warm) (h k s x : ℕ) (l : Logged) → (k == h) ≡ false → puts h (load_record o k s x) l ≡ l
-load_pass None h k s x l e = refl
-load_pass (Some answers.Warm) h k s x l e = refl
 load_pass (Some answers.Cold) h k s x l e = ap (λ b. elim b as (λ y. Logged) [ true ↦ with_load s x l | false ↦ l ]) e
+load_pass o h k s x l e = refl
 
 sc_pass : (h k : ℕ) (r : Reply) (l : Logged) → (k == h) ≡ false → puts h (sc_record r k) l ≡ l
 sc_pass h k replies.ScOk l e = ap (λ b. elim b as (λ y. Logged) [ true ↦ with_sc true l | false ↦ l ]) e
 sc_pass h k replies.ScFailed l e = ap (λ b. elim b as (λ y. Logged) [ true ↦ with_sc false l | false ↦ l ]) e
-sc_pass h k (replies.Word x) l e = refl
-sc_pass h k replies.Stored l e = refl
-sc_pass h k (replies.Answer x) l e = refl
-sc_pass h k replies.Went l e = refl
-sc_pass h k replies.Over l e = refl
+sc_pass h k r l e = refl
 
 next_pass : (n : TurnEnd) (h k number : ℕ) (s : HartState) (l : Logged) → (k == h) ≡ false → puts h (next_records n k number s) l ≡ l
 next_pass GoesOn h k number s l e = refl
@@ -108,10 +103,8 @@ other_log n t l = l
 
 over_pass : (n : TurnEnd) (h k count : ℕ) (harts : ℕ → Hart) (l : Logged) → (h == k) ≡ false → (harts h).live ≡ true → h < count
     → puts h (run_over_records n k count harts) l ≡ other_log n (harts h) l
-over_pass GoesOn h k count harts l e a g = refl
-over_pass (NewInterval r x) h k count harts l e a g = refl
-over_pass (HartOver r x) h k count harts l e a g = refl
 over_pass (RunOver r x) h k count harts l e a g = stopped_log count h k 0 harts l e a (omega arith) (omega arith)
+over_pass n h k count harts l e a g = refl
 
 pub foreign_log : (h k : ℕ) (point : Option Point) (points : List Point) (o : Option Warm) (skipped word : ℕ) (r : Reply) (n : TurnEnd) (number : ℕ) (s : HartState)
     (count : ℕ) (harts : ℕ → Hart) (l : Logged)

@@ -1,5 +1,5 @@
 -- Warm words stay known, over turns.
-use Rattle.replay_laws.proofs.Common.{◌∙◌, ◌≡◌, ℕ, Bool, true, false, ◌&&◌, ◌==◌, List, ◌∷◌, refl, sym, ap, subst, Option, false≢true, eq-eqb, Program, RawSettings, HartState, is_counted, passes, Event, Clear, geometry_of, warm, GoesOn, Run, turn, ask_at, is_guarded, is_orderly, guarded_run, budget, Agrees, learned, touched_at, next_at, WarmWordsStayKnown}
+use Rattle.replay_laws.proofs.Common.{◌∙◌, ◌≡◌, ℕ, Bool, true, false, ◌==◌, List, ◌∷◌, refl, sym, ap, subst, Option, false≢true, eq-eqb, Program, RawSettings, HartState, is_counted, passes, Event, Clear, geometry_of, warm, GoesOn, Run, turn, ask_at, is_guarded, is_orderly, guarded_run, budget, Agrees, learned, touched_at, next_at, WarmWordsStayKnown, and_parts}
 use Rattle.replay_laws.proofs.Agree.{agrees_past}
 use Rattle.replay_laws.proofs.Asked.{served_ask}
 use Rattle.replay_laws.proofs.Own.{agrees_asked}
@@ -12,10 +12,6 @@ answering c i run k = guarded_run (is_guarded c run k (ask_at c i (run.harts k))
 -- the turn of an orderly ask
 turn_served : (c : RawSettings) (i : Program) (run : Run) (k : ℕ) → is_orderly c i (run.harts k) (ask_at c i (run.harts k)) ≡ true → served_ask c i (answering c i run k) k (ask_at c i (run.harts k)) ≡ turn c i run k
 turn_served c i run k o = sym (served (is_guarded c run k (ask_at c i (run.harts k)).want) c i run k o refl)
-
-second : (a b : Bool) → (a && b) ≡ true → b ≡ true
-second true b e = e
-second false b e = cc
 
 -- a guard leaves no word warm to its hart, and what the others know
 guarded_own : (guard : Bool) (c : RawSettings) (run : Run) (k : ℕ) (s : HartState) (known : ℕ → Option ℕ) → Agrees c run k known → Agrees c (guarded_run guard run k s) k known
@@ -33,7 +29,7 @@ own : (c : RawSettings) (i : Program) (run : Run) (k : ℕ) (known : ℕ → Opt
 own c i run k known o n a =
     let h = run.harts k in
     let ask = ask_at c i h in
-    let fine : passes i ask.want ≡ true = second (is_counted h.state.ic (budget c h) ask.want ask.state.ic) (passes i ask.want) o in
+    let fine : passes i ask.want ≡ true = (and_parts (is_counted h.state.ic (budget c h) ask.want ask.state.ic) (passes i ask.want) o).1 in
     subst (λ (r : Run). Agrees c r k (learned (touched_at c i run k) r.machine.memory known)) (turn_served c i run k o)
     (agrees_asked c i (answering c i run k) k ask known fine n (guarded_own (is_guarded c run k ask.want) c run k ask.state known a))
 

@@ -1,5 +1,5 @@
 -- Log sufficiency, over the runs of lists of turns.
-use Rattle.replay_laws.proofs.Common.{◌≡◌, ℕ, zero, suc, ◌+◌, ◌-◌, ◌<◌, ◌≤◌, ◌^◌, Bool, true, false, ◌&&◌, List, [], ◌∷◌, ◌++◌, take, drop, length, map, Some, refl, sym, ◌∙◌, ap, arith, subst, inl, inr, ◌==◌, ◌⊎◌, nat_lt, range_with_len, false≢true, eqb_tells, nat_tests, Program, Row, RawSettings, HartState, Quiet, Asks, step, ask_of, count_up, is_cut, passes, orderly, Want, ExitsAloneEnd, Record, Interval, interval_of, interval_from, replayed_in, Hart, TurnEnd, GoesOn, NewInterval, HartOver, RunOver, Run, other_after, turn, by_guard, start, run_of, run_from, legal_from, any_live, rows_in, rows_of, quiet_part, turn_rows, LogSuffices, EndsSuffice, RowsStandTogether, IntervalsBegin, RowsAreCounted, IsWhole, IsBeforeTurn, IsAtGuard, end_of}
+use Rattle.replay_laws.proofs.Common.{◌≡◌, ℕ, zero, suc, ◌+◌, ◌-◌, ◌<◌, ◌^◌, Bool, true, false, ◌&&◌, List, [], ◌∷◌, ◌++◌, take, drop, length, map, Some, refl, sym, ◌∙◌, ap, arith, subst, inl, inr, ◌==◌, ◌⊎◌, nat_lt, range_with_len, false≢true, eqb_tells, Program, Row, RawSettings, HartState, Quiet, Asks, step, ask_of, count_up, is_cut, passes, orderly, Want, ExitsAloneEnd, Record, Interval, interval_of, interval_from, replayed_in, Hart, TurnEnd, GoesOn, NewInterval, RunOver, Run, other_after, turn, by_guard, start, run_of, run_from, legal_from, any_live, rows_in, rows_of, quiet_part, turn_rows, LogSuffices, EndsSuffice, RowsStandTogether, IntervalsBegin, RowsAreCounted, IsWhole, IsBeforeTurn, IsAtGuard, end_of, and_parts, ltb-true, cases_lt}
 use Rattle.log_ring.specs.Kept.{kept}
 use Rattle.run_model.specs.KeptRecords.{kept_of, IsEndOf}
 use Rattle.replay_laws.proofs.Asked.{served_turn}
@@ -21,9 +21,7 @@ Early c t = Fit c t ⊎ (t.live ≡ false)
 
 early_other : (n : TurnEnd) (c : RawSettings) (t : Hart) → Early c t → Early c (other_after n t)
 early_other (RunOver r x) c t e = inr (over_live r x t)
-early_other GoesOn c t e = e
-early_other (NewInterval r x) c t e = e
-early_other (HartOver r x) c t e = e
+early_other n c t e = e
 
 fit_live : (c : RawSettings) (t : Hart) → Early c t → t.live ≡ true → Fit c t
 fit_live c t (inl f) e = f
@@ -33,8 +31,7 @@ early_own : (n : TurnEnd) (c : RawSettings) (i : Program) (guard : Bool) (run : 
     → Early c ((moved_run c i guard run h).harts h)
 early_own GoesOn c i guard run h z e f = inl (own_fit c i guard run h z e f)
 early_own (NewInterval y x) c i guard run h z e f = inl (begun_fit c i guard run h y x z e f)
-early_own (HartOver y x) c i guard run h z e f = inr (ap (λ (w : Hart). w.live) (own_harts c i guard run h (HartOver y x) e))
-early_own (RunOver y x) c i guard run h z e f = inr (ap (λ (w : Hart). w.live) (own_harts c i guard run h (RunOver y x) e))
+early_own n c i guard run h z e f = inr (ap (λ (w : Hart). w.live) (own_harts c i guard run h n e))
 
 all_early : (c : RawSettings) (i : Program) (guard : Bool) (run : Run) (k : ℕ) → Sound c i → Fit c (run.harts k) → ((j : ℕ) → Early c (run.harts j)) → (j : ℕ)
     → Early c ((moved_run c i guard run k).harts j)
@@ -61,16 +58,9 @@ at_true : (x b : Bool) → elim x as (λ y. Bool) [ true ↦ b | false ↦ false
 at_true true b e = (refl, e)
 at_true false b e = absurd (false≢true e)
 
-and_parts : (a b : Bool) → (a && b) ≡ true → (a ≡ true) × (b ≡ true)
-and_parts true b e = (refl, e)
-and_parts false b e = absurd (false≢true e)
-
 none_live : (x : Bool) → elim x as (λ y. Bool) [ true ↦ false | false ↦ true ] ≡ true → x ≡ false
 none_live true e = sym e
 none_live false e = refl
-
-less_of : (a b : ℕ) → nat_lt a b ≡ true → a < b
-less_of a b e = grind (arith, nat_tests)
 
 -- its run, and its rows, are those of the moves
 record SameBy (c : RawSettings) (i : Program) (h n : ℕ) (ks : List ℕ) (run : Run) (ms : List Move) : Type 0 where
@@ -124,7 +114,7 @@ first_turn c i run k ks z a l =
     let p = at_true (nat_lt k c.harts && (run.harts k).live) (legal_from c i (turn c i run k) ks) l in
     let q = and_parts (nat_lt k c.harts) (run.harts k).live p.0 in
     let fit : Fit c (run.harts k) = fit_live c (run.harts k) (a k) q.1 in
-    record { below = less_of k c.harts q.0; live = q.1; fit = fit; legal = p.1; early = turn_early (guarded_at c i run k) c i run k z fit refl a }
+    record { below = ltb-true k c.harts q.0; live = q.1; fit = fit; legal = p.1; early = turn_early (guarded_at c i run k) c i run k z fit refl a }
 
 same_runs : (c : RawSettings) (i : Program) (h n : ℕ) → Sound c i → (ks : List ℕ) (run : Run) → ((j : ℕ) → Early c (run.harts j)) → legal_from c i run ks ≡ true
     → any_live c.harts (run_from c i run ks).harts ≡ false → Same c i h n ks run
@@ -234,20 +224,10 @@ end_is c i input b h n rs end s =
     let dropped : rs ≡ drop m (run_of c i input b).stream = sym (drop_front end.front rs) ∙ ap (drop m) (sym end.parts) in
     (m, dropped ∙ ap (λ (x : Run). drop m x.stream) s.runs)
 
-below_or : (a b : ℕ) → (a < b) ⊎ (b ≤ a)
-below_or a b = by_test (nat_lt a b) refl
-  where
-    not_less : nat_lt a b ≡ false → b ≤ a
-    not_less e = grind (arith, nat_tests)
-
-    by_test : (x : Bool) → nat_lt a b ≡ x → (a < b) ⊎ (b ≤ a)
-    by_test true e = inl (less_of a b e)
-    by_test false e = inr (not_less e)
-
 -- an interval that begins there is one of the run's harts
 kept_hart : (c : RawSettings) (i : Program) (input b : List ℕ) (h n : ℕ) (rs : List Record) → IsEndOf (run_of c i input b).stream rs → Same c i h n b (start c i input) → (v : Interval)
     → interval_of h n rs ≡ Some v → h < c.harts
-kept_hart c i input b h n rs end s v e = elim (below_or h c.harts) [
+kept_hart c i input b h n rs end s v e = elim (cases_lt h c.harts) [
   | inl g ↦ g
   | inr above ↦ (let k = end_is c i input b h n rs end s in
       absurd (false≢true (ap there (sym (ap (interval_of h n) k.1 ∙ suffix_absent c i input (moves_of c i (start c i input) b) h n above s.legal k.0) ∙ e))))
