@@ -1,25 +1,16 @@
 -- Each Edge of a stream is that of an edge.
-use Rattle.race_laws.proofs.Common.{◌≡◌, ℕ, zero, suc, Bool, true, false, ◌&&◌, ◌==◌, refl, inl, inr, sym, ap, ◌∙◌, subst, List, [], ◌∷◌, length, slice_get, map, Option, Some, Contains, arith, RawSettings, Record, Header, FirstLoad, ScOk, ScFailed, Edge, End, Point, IsEdge, In, edges_into, name_of, sources_into, edges_of_first, Run, edges_in, edge_record, edge_between, HasNetzersEdges, KeepsEdgesAlone, ReplayedAreSinceHeaders}
+use Rattle.race_laws.proofs.Common.{◌≡◌, ℕ, zero, suc, Bool, true, false, ◌&&◌, ◌==◌, refl, inl, inr, sym, ap, ◌∙◌, subst, List, [], ◌∷◌, length, slice_get, map, Option, Some, Contains, RawSettings, Record, Header, FirstLoad, ScOk, ScFailed, Edge, End, Point, IsEdge, In, edges_into, name_of, sources_into, edges_of_first, Run, edges_in, edge_record, edge_between, HasNetzersEdges, KeepsEdgesAlone, ReplayedAreSinceHeaders, eqb-true, and_parts, contains_in, in_contains}
 use Rattle.hart_replay.specs.Replay.{Interval, interval_of, interval_from, puts, nothing}
-use Rattle.race_log.proofs.Listed.{contains_in, in_contains}
 use Rattle.race_laws.proofs.Members.{in_right, in_parts, map_in}
 use Rattle.race_laws.proofs.Heads.{EdgeLaws}
 
 -- an Edge among records is one of their Edges
 edge_among : (rs : List Record) (k ic s j : ℕ) → In rs (Edge k ic s j) → In (edges_in rs) (Edge k ic s j)
 edge_among [] k ic s j i = absurd i
-edge_among (Header h n c pc x ∷ rs) k ic s j (inl e) = cc
-edge_among (Header h n c pc x ∷ rs) k ic s j (inr i) = edge_among rs k ic s j i
-edge_among (FirstLoad h skip value ∷ rs) k ic s j (inl e) = cc
-edge_among (FirstLoad h skip value ∷ rs) k ic s j (inr i) = edge_among rs k ic s j i
-edge_among (ScOk h ∷ rs) k ic s j (inl e) = cc
-edge_among (ScOk h ∷ rs) k ic s j (inr i) = edge_among rs k ic s j i
-edge_among (ScFailed h ∷ rs) k ic s j (inl e) = cc
-edge_among (ScFailed h ∷ rs) k ic s j (inr i) = edge_among rs k ic s j i
 edge_among (Edge h c f g ∷ rs) k ic s j (inl e) = inl e
 edge_among (Edge h c f g ∷ rs) k ic s j (inr i) = inr (edge_among rs k ic s j i)
-edge_among (End h m ∷ rs) k ic s j (inl e) = cc
-edge_among (End h m ∷ rs) k ic s j (inr i) = edge_among rs k ic s j i
+edge_among rs k ic s j (inl e) = cc
+edge_among (r ∷ rs) k ic s j (inr i) = edge_among rs k ic s j i
 
 -- two places that are an edge with this Edge
 abbrev IsOfEdge : List Point → Record → Type 0
@@ -56,13 +47,6 @@ edges_alone laws c run is rs end k ic s j among =
 
 -- ---- the Header of an interval
 
-same_number : (a b : ℕ) → (a == b) ≡ true → a ≡ b
-same_number a b h = grind arith
-
-both : (a b : Bool) → (a && b) ≡ true → (a ≡ true) × (b ≡ true)
-both true b e = (refl, e)
-both false b e = cc
-
 header_of : (rs : List Record) (h c : ℕ) (v : Interval) → interval_of h c rs ≡ Some v → In rs (Header h c v.start.ic v.start.pc v.start.x)
 header_of [] h c v e = cc
 header_of (Header k n ic pc x ∷ rs) h c v e = go (k == h && (n == c)) refl e (header_of rs h c v)
@@ -72,10 +56,10 @@ header_of (Header k n ic pc x ∷ rs) h c v e = go (k == h && (n == c)) refl e (
         → (interval_of h c rs ≡ Some v → In rs (Header h c v.start.ic v.start.pc v.start.x))
         → In (Header k n ic pc x ∷ rs) (Header h c v.start.ic v.start.pc v.start.x)
     go true is f later =
-        let names = both (k == h) (n == c) is in
+        let names = and_parts (k == h) (n == c) is in
         let start : interval_from (record { pc = pc; x = x; ic = ic }) (puts h rs nothing) ≡ v = cc in
-        inl (ap (λ t. Header t n ic pc x) (same_number k h names.0)
-        ∙ (ap (λ t. Header h t ic pc x) (same_number n c names.1)
+        inl (ap (λ t. Header t n ic pc x) (eqb-true k h names.0)
+        ∙ (ap (λ t. Header h t ic pc x) (eqb-true n c names.1)
         ∙ ap (λ (w : Interval). Header h c w.start.ic w.start.pc w.start.x) start))
     go false is f later = inr (later f)
 header_of (FirstLoad k s x ∷ rs) h c v e = inr (header_of rs h c v e)

@@ -1,24 +1,18 @@
 -- The Edges of a stream, by hart and count.
-use Rattle.race_laws.proofs.Common.{◌≡◌, ℕ, zero, suc, ◌<◌, ◌≤◌, ◌⊎◌, refl, inl, inr, arith, sym, ap, ap₂, ◌∙◌, subst, subst₂, List, [], ◌∷◌, length, slice_get, map, Option, Some, slice_get_within, eqb_tells, RawSettings, Record, Header, FirstLoad, ScOk, ScFailed, Edge, End, Point, IsConflict, ProgramOrder, Conflict, Either, Chain, IsEdge, OtherThan, one, more, IsInOrder, StandByCounts, In, name_of, edges_into, sources_into, edges_of_first, all_edges, Run, edges_in, edge_record, edge_between, HasNetzersEdges, HasEdgesOfInstructions, HasNoImpliedEdge, HasLeastEdges}
+use Rattle.race_laws.proofs.Common.{◌≡◌, ℕ, zero, suc, ◌<◌, ◌≤◌, ◌⊎◌, refl, inl, inr, arith, sym, ap, ap₂, ◌∙◌, subst, subst₂, List, [], ◌∷◌, length, slice_get, map, Option, Some, slice_get_within, eqb_tells, RawSettings, Record, Edge, Point, IsConflict, ProgramOrder, Conflict, Either, Chain, IsEdge, OtherThan, one, more, IsInOrder, StandByCounts, In, name_of, edges_into, sources_into, edges_of_first, all_edges, Run, edges_in, edge_record, edge_between, HasNetzersEdges, HasEdgesOfInstructions, HasNoImpliedEdge, HasLeastEdges, cases_lt, contains_in, in_contains}
 use Rattle.race_laws.specs.Pairs.{StepBy, LeadsBy, IsConflictAt, IsEdgeAt, EdgeAmong, OtherEdge, OrderConflicts}
 use Rattle.race_laws.specs.Pairs.StepBy.{onward, across}
 use Rattle.race_laws.specs.Pairs.LeadsBy.{by_one, by_more}
-use Rattle.race_log.proofs.Listed.{contains_in, in_contains}
 use Rattle.race_laws.proofs.Members.{in_left, in_right, in_map}
 use Rattle.race_laws.proofs.Heads.{EdgeLaws}
 use Rattle.race_laws.proofs.Alone.{edges_alone}
 use Rattle.race_laws.proofs.Whole.{EdgesStandForCounts}
+use Rattle.race_log.proofs.EdgeLaws.{one_point}
 
 -- ---- points and their places
 
-one_point : (run : List Point) (m : ℕ) (p q : Point) → slice_get run m ≡ Some p → slice_get run m ≡ Some q → p ≡ q
-one_point run m p q e f = cc
-
 same_place : (run : List Point) (m n : ℕ) (p q : Point) → m ≡ n → slice_get run m ≡ Some p → slice_get run n ≡ Some q → p ≡ q
 same_place run m n p q is e f = one_point run n p q (subst (λ (k : ℕ). slice_get run k ≡ Some p) is e) f
-
-below_or : (a b : ℕ) → (a < b) ⊎ (b ≤ a)
-below_or a b = grind arith
 
 -- places whose points conflict, and whose instructions are a pair
 abbrev pub ConflictingPair : List Point → (ℕ → ℕ → ℕ → ℕ → Type 0) → ℕ → ℕ → Type 0
@@ -30,9 +24,9 @@ module _ (by : StandByCounts) (run : List Point) (up : IsInOrder run) where
 
   -- a point of the hart with no higher count has the same place or an earlier one
   up_to : (m n : ℕ) (p q : Point) → slice_get run m ≡ Some p → slice_get run n ≡ Some q → p.hart ≡ q.hart → p.count ≤ q.count → (m ≡ n) ⊎ ProgramOrder run m n
-  up_to m n p q e f hart most = elim (below_or m n) [
+  up_to m n p q e f hart most = elim (cases_lt m n) [
     | inl low ↦ inr (record { earlier = low; first = p; second = q; first_at = e; second_at = f; related = hart })
-    | inr past ↦ elim (below_or n m) [
+    | inr past ↦ elim (cases_lt n m) [
       | inl less ↦ absurd (omega (arith, most, (by.counts run up n m q p f e (sym hart)).0 less))
       | inr none ↦ inl (omega (arith, past, none))
     ]
@@ -148,13 +142,9 @@ module _ (by : StandByCounts) (run : List Point) (up : IsInOrder run) where
 -- an Edge of the records is among them
 among_records : (rs : List Record) (r : Record) → In (edges_in rs) r → In rs r
 among_records [] r i = absurd i
-among_records (Header k n ic pc x ∷ rs) r i = inr (among_records rs r i)
-among_records (FirstLoad k skip value ∷ rs) r i = inr (among_records rs r i)
-among_records (ScOk k ∷ rs) r i = inr (among_records rs r i)
-among_records (ScFailed k ∷ rs) r i = inr (among_records rs r i)
 among_records (Edge k ic s j ∷ rs) r (inl e) = inl e
 among_records (Edge k ic s j ∷ rs) r (inr i) = inr (among_records rs r i)
-among_records (End k m ∷ rs) r i = inr (among_records rs r i)
+among_records (entry ∷ rs) r i = inr (among_records rs r i)
 
 last_or_before : (n k : ℕ) → n < suc k → (n ≡ k) ⊎ (n < k)
 last_or_before n k h = elim (eqb_tells n k) [

@@ -1,8 +1,6 @@
 -- The Headers of a stream: the Edges into all later points of the hart come after each.
-use Rattle.race_laws.proofs.Common.{◌≡◌, ℕ, zero, suc, ◌+◌, ◌<◌, ◌≤◌, ◌⊎◌, ◌↔◌, refl, inl, inr, arith, sym, ap, ap₂, ◌∙◌, subst, List, [], ◌∷◌, ◌++◌, length, slice_get, Option, Some, None, Contains, IsTrue, slice_get_within, Program, RawSettings, HartState, Reply, Warm, Point, IsEdge, In, after, edge, edges_into, sources_into, name_of, Record, Header, FirstLoad, ScOk, ScFailed, Edge, End, Hart, TurnEnd, GoesOn, NewInterval, HartOver, RunOver, points_after, edges_from, edge_records, load_record, sc_record, next_records, run_over_records, first_headers, edge_record, edge_between}
-use Rattle.race_log.proofs.Next.{get_old, get_new, in_after}
+use Rattle.race_laws.proofs.Common.{◌≡◌, ℕ, zero, suc, ◌+◌, ◌<◌, ◌≤◌, ◌⊎◌, ◌↔◌, refl, inl, inr, arith, sym, ap, ap₂, ◌∙◌, subst, List, [], ◌∷◌, ◌++◌, length, slice_get, Option, Some, None, Contains, IsTrue, slice_get_within, Program, RawSettings, HartState, Reply, Warm, Point, IsEdge, In, after, edge, edges_into, sources_into, name_of, Record, Header, Edge, Hart, TurnEnd, GoesOn, NewInterval, points_after, edges_from, edge_records, load_record, sc_record, next_records, run_over_records, first_headers, edge_record, edge_between, contains_in, get_old, get_new, in_after}
 use Rattle.race_laws.proofs.Places.{longer, same_edge}
-use Rattle.race_log.proofs.Listed.{contains_in}
 use Rattle.race_laws.proofs.Members.{in_left, in_right, in_map}
 use Rattle.race_laws.proofs.Streams.{ArePlain, load_plain, sc_plain, over_plain, rest_of}
 
@@ -19,11 +17,7 @@ pub record IsHead (points : List Point) (hart ic : ℕ) (rest : List Record) : T
 -- if the record is a Header
 abbrev pub IsHeadIf : List Point → Record → List Record → Type 0
 IsHeadIf points (Header k n ic pc x) rest = IsHead points k ic rest
-IsHeadIf points (FirstLoad k skip value) rest = Unit {0}
-IsHeadIf points (ScOk k) rest = Unit {0}
-IsHeadIf points (ScFailed k) rest = Unit {0}
-IsHeadIf points (Edge k ic s j) rest = Unit {0}
-IsHeadIf points (End k m) rest = Unit {0}
+IsHeadIf points r rest = Unit {0}
 
 abbrev pub Heads : List Point → List Record → Type 0
 Heads points [] = Unit {0}
@@ -53,11 +47,7 @@ head_grows old new records rest hart ic g h = record {
 
 head_if_grows : (old new : List Point) (records : List Record) → Grows old new records → (r : Record) (rest : List Record) → IsHeadIf old r rest → IsHeadIf new r (rest ++ records)
 head_if_grows old new records g (Header k n ic pc x) rest h = head_grows old new records rest k ic g h
-head_if_grows old new records g (FirstLoad k skip value) rest h = tt
-head_if_grows old new records g (ScOk k) rest h = tt
-head_if_grows old new records g (ScFailed k) rest h = tt
-head_if_grows old new records g (Edge k ic s j) rest h = tt
-head_if_grows old new records g (End k m) rest h = tt
+head_if_grows old new records g r rest h = tt
 
 heads_grow : (old new : List Point) (rs records : List Record) → Grows old new records → Heads old rs → Heads new records → Heads new (rs ++ records)
 heads_grow old new [] records g h now = now
@@ -113,20 +103,14 @@ point_grows laws (Some b) points rest = record {
 plain_heads : (points : List Point) (xs ys : List Record) → ArePlain xs → Heads points ys → Heads points (xs ++ ys)
 plain_heads points [] ys p h = h
 plain_heads points (Header k n ic pc x ∷ xs) ys p h = absurd p.0
-plain_heads points (FirstLoad k skip value ∷ xs) ys p h = (tt, plain_heads points xs ys p.1 h)
-plain_heads points (ScOk k ∷ xs) ys p h = (tt, plain_heads points xs ys p.1 h)
-plain_heads points (ScFailed k ∷ xs) ys p h = (tt, plain_heads points xs ys p.1 h)
 plain_heads points (Edge k ic s j ∷ xs) ys p h = absurd p.0
-plain_heads points (End k m ∷ xs) ys p h = (tt, plain_heads points xs ys p.1 h)
+plain_heads points (r ∷ xs) ys p h = (tt, plain_heads points xs ys p.1 h)
 
 only_plain : (points : List Point) (xs : List Record) → ArePlain xs → Heads points xs
 only_plain points [] p = tt
 only_plain points (Header k n ic pc x ∷ xs) p = absurd p.0
-only_plain points (FirstLoad k skip value ∷ xs) p = (tt, only_plain points xs p.1)
-only_plain points (ScOk k ∷ xs) p = (tt, only_plain points xs p.1)
-only_plain points (ScFailed k ∷ xs) p = (tt, only_plain points xs p.1)
 only_plain points (Edge k ic s j ∷ xs) p = absurd p.0
-only_plain points (End k m ∷ xs) p = (tt, only_plain points xs p.1)
+only_plain points (r ∷ xs) p = (tt, only_plain points xs p.1)
 
 edges_heads : (points : List Point) (k ic : ℕ) (sources : List (ℕ × ℕ)) (ys : List Record) → Heads points ys → Heads points (edges_from k ic sources ++ ys)
 edges_heads points k ic [] ys h = h
@@ -152,8 +136,7 @@ last_head points hart ic rest past = record {
 next_heads : (x : TurnEnd) (points : List Point) (k number : ℕ) (s : HartState) (ys : List Record) → IsPast points k s.ic → Heads points ys → Heads points (next_records x k number s ++ ys)
 next_heads GoesOn points k number s ys past h = h
 next_heads (NewInterval r y) points k number s ys past h = (tt, (last_head points k s.ic ys past, h))
-next_heads (HartOver r y) points k number s ys past h = (tt, h)
-next_heads (RunOver r y) points k number s ys past h = (tt, h)
+next_heads x points k number s ys past h = (tt, h)
 
 rest_heads : (points : List Point) (o : Option Warm) (k skipped word : ℕ) (reply : Reply) (next : TurnEnd) (number : ℕ) (s : HartState) (count : ℕ) (harts : ℕ → Hart)
     → IsPast points k s.ic → Heads points (rest_of o k skipped word reply next number s count harts)

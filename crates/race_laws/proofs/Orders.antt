@@ -1,83 +1,48 @@
 -- Orders that respect the kept Edges, by a test for them.
-use Rattle.race_laws.proofs.Common.{◌≡◌, ℕ, ◌≤◌, Bool, true, false, ◌&&◌, ◌||◌, ◌==◌, ◌⊎◌, refl, inl, inr, arith, ap, ◌∙◌, List, [], ◌∷◌, ◌++◌, slice_get, IsTrue, RawSettings, Record, Header, FirstLoad, ScOk, ScFailed, Edge, End, Point, MeetAt, AtPlaces, IsEdge, Chosen, EndingAfter, In, edge, name_of, Run, edge_record, edge_between, KeptEdge, KeepsLateEdges, KeepsWords}
+use Rattle.race_laws.proofs.Common.{◌≡◌, ℕ, ◌≤◌, Bool, true, false, ◌&&◌, ◌||◌, ◌==◌, ◌⊎◌, inl, inr, arith, ap, ◌∙◌, List, [], ◌∷◌, ◌++◌, slice_get, IsTrue, RawSettings, Record, Edge, Point, MeetAt, AtPlaces, IsEdge, Chosen, EndingAfter, In, edge, name_of, Run, edge_record, edge_between, KeptEdge, KeepsLateEdges, KeepsWords, eqb-true, and_parts, and_from, or_cases, or_left, or_right, eqb_same, contains_in, in_contains}
 use Rattle.race_log.specs.Merges.{StandsIn, Precedes, IsMerge, IsMergeBegun, IsNext, Respects, AreKeptEdges}
 use Rattle.race_laws.specs.Orders.{HasEnds, BeginningsGoOn}
-use Rattle.race_log.proofs.Listed.{contains_in, in_contains}
 use Rattle.race_laws.proofs.Heads.{EdgeLaws}
 
 -- ---- a test for kept Edges
 
-same_number : (a b : ℕ) → (a == b) ≡ true → a ≡ b
-same_number a b h = grind arith
-
-eqb_same : (k : ℕ) → (k == k) ≡ true
-eqb_same k = grind arith
-
-both : (a b : Bool) → (a && b) ≡ true → (a ≡ true) × (b ≡ true)
-both true b e = (refl, e)
-both false b e = cc
-
-both_true : (a b : Bool) → a ≡ true → b ≡ true → (a && b) ≡ true
-both_true true b e f = f
-both_true false b e f = e
-
 -- whether the record is the Edge between two instructions
 abbrev is_it : (ℕ × ℕ) × (ℕ × ℕ) → Record → Bool
-is_it e (Header k n ic pc x) = false
-is_it e (FirstLoad k skip value) = false
-is_it e (ScOk k) = false
-is_it e (ScFailed k) = false
 is_it e (Edge k ic s j) = (k == e.0.0 && (ic == e.0.1)) && (s == e.1.0 && (j == e.1.1))
-is_it e (End k m) = false
+is_it e r = false
 
 it_is : (e : (ℕ × ℕ) × (ℕ × ℕ)) (r : Record) → is_it e r ≡ true → r ≡ edge_record e
-it_is e (Header k n ic pc x) h = cc
-it_is e (FirstLoad k skip value) h = cc
-it_is e (ScOk k) h = cc
-it_is e (ScFailed k) h = cc
 it_is e (Edge k ic s j) h =
-    let halves = both (k == e.0.0 && (ic == e.0.1)) (s == e.1.0 && (j == e.1.1)) h in
-    let first = both (k == e.0.0) (ic == e.0.1) halves.0 in
-    let second = both (s == e.1.0) (j == e.1.1) halves.1 in
-    ap (λ t. Edge t ic s j) (same_number k e.0.0 first.0)
-    ∙ (ap (λ t. Edge e.0.0 t s j) (same_number ic e.0.1 first.1)
-    ∙ (ap (λ t. Edge e.0.0 e.0.1 t j) (same_number s e.1.0 second.0)
-    ∙ ap (λ t. Edge e.0.0 e.0.1 e.1.0 t) (same_number j e.1.1 second.1)))
-it_is e (End k m) h = cc
+    let halves = and_parts (k == e.0.0 && (ic == e.0.1)) (s == e.1.0 && (j == e.1.1)) h in
+    let first = and_parts (k == e.0.0) (ic == e.0.1) halves.0 in
+    let second = and_parts (s == e.1.0) (j == e.1.1) halves.1 in
+    ap (λ t. Edge t ic s j) (eqb-true k e.0.0 first.0)
+    ∙ (ap (λ t. Edge e.0.0 t s j) (eqb-true ic e.0.1 first.1)
+    ∙ (ap (λ t. Edge e.0.0 e.0.1 t j) (eqb-true s e.1.0 second.0)
+    ∙ ap (λ t. Edge e.0.0 e.0.1 e.1.0 t) (eqb-true j e.1.1 second.1)))
+it_is e r h = cc
 
 is_itself : (e : (ℕ × ℕ) × (ℕ × ℕ)) → is_it e (edge_record e) ≡ true
 is_itself e =
-    both_true (e.0.0 == e.0.0 && (e.0.1 == e.0.1)) (e.1.0 == e.1.0 && (e.1.1 == e.1.1))
-    (both_true (e.0.0 == e.0.0) (e.0.1 == e.0.1) (eqb_same e.0.0) (eqb_same e.0.1))
-    (both_true (e.1.0 == e.1.0) (e.1.1 == e.1.1) (eqb_same e.1.0) (eqb_same e.1.1))
+    and_from (e.0.0 == e.0.0 && (e.0.1 == e.0.1)) (e.1.0 == e.1.0 && (e.1.1 == e.1.1))
+    (and_from (e.0.0 == e.0.0) (e.0.1 == e.0.1) (eqb_same e.0.0) (eqb_same e.0.1))
+    (and_from (e.1.0 == e.1.0) (e.1.1 == e.1.1) (eqb_same e.1.0) (eqb_same e.1.1))
 
 abbrev has : (ℕ × ℕ) × (ℕ × ℕ) → List Record → Bool
 has e [] = false
 has e (r ∷ rs) = is_it e r || has e rs
 
-or_split : (a b : Bool) → (a || b) ≡ true → (a ≡ true) ⊎ (b ≡ true)
-or_split true b h = inl refl
-or_split false b h = inr h
-
-or_first : (a b : Bool) → a ≡ true → (a || b) ≡ true
-or_first true b h = refl
-or_first false b h = cc
-
-or_second : (a b : Bool) → b ≡ true → (a || b) ≡ true
-or_second true b h = refl
-or_second false b h = h
-
 has_in : (e : (ℕ × ℕ) × (ℕ × ℕ)) (rs : List Record) → has e rs ≡ true → In rs (edge_record e)
 has_in e [] h = cc
-has_in e (r ∷ rs) h = elim (or_split (is_it e r) (has e rs) h) [
+has_in e (r ∷ rs) h = elim (or_cases (is_it e r) (has e rs) h) [
   | inl here ↦ inl (it_is e r here)
   | inr there ↦ inr (has_in e rs there)
 ]
 
 in_has : (e : (ℕ × ℕ) × (ℕ × ℕ)) (rs : List Record) → In rs (edge_record e) → has e rs ≡ true
 in_has e [] i = absurd i
-in_has e (r ∷ rs) (inl is) = or_first (is_it e r) (has e rs) (ap (is_it e) is ∙ is_itself e)
-in_has e (r ∷ rs) (inr i) = or_second (is_it e r) (has e rs) (in_has e rs i)
+in_has e (r ∷ rs) (inl is) = or_left (is_it e r) (has e rs) (ap (is_it e) is ∙ is_itself e)
+in_has e (r ∷ rs) (inr i) = or_right (is_it e r) (has e rs) (in_has e rs i)
 
 abbrev kept_edge : List Record → List Point → ℕ → ℕ → Bool
 kept_edge records points m n = edge points m n && has (name_of (slice_get points n), name_of (slice_get points m)) records
@@ -85,14 +50,14 @@ kept_edge records points m n = edge points m n && has (name_of (slice_get points
 module _ (laws : EdgeLaws) (records : List Record) (points : List Point) where
   kept_is : (m n : ℕ) → Chosen (kept_edge records points) m n → KeptEdge records points m n
   kept_is m n h =
-      let parts = both (edge points m n) (has (name_of (slice_get points n), name_of (slice_get points m)) records) h in record {
+      let parts = and_parts (edge points m n) (has (name_of (slice_get points n), name_of (slice_get points m)) records) h in record {
         edge = (laws.decide points m n).0 parts.0;
         kept = in_contains records (edge_between points m n) (has_in (name_of (slice_get points n), name_of (slice_get points m)) records parts.1);
       }
 
   is_kept : (m n : ℕ) → KeptEdge records points m n → Chosen (kept_edge records points) m n
   is_kept m n k =
-      both_true (edge points m n) (has (name_of (slice_get points n), name_of (slice_get points m)) records) ((laws.decide points m n).1 k.edge)
+      and_from (edge points m n) (has (name_of (slice_get points n), name_of (slice_get points m)) records) ((laws.decide points m n).1 k.edge)
       (in_has (name_of (slice_get points n), name_of (slice_get points m)) records (contains_in records (edge_between points m n) k.kept))
 
   chosen_respect : (order : List ℕ) → Respects (KeptEdge records points) order → Respects (Chosen (kept_edge records points)) order

@@ -1,5 +1,5 @@
 -- The Edges of a stream, turn by turn.
-use Rattle.race_laws.proofs.Common.{◌≡◌, ℕ, zero, suc, ◌+◌, Bool, true, false, not, ◌&&◌, ◌==◌, refl, sym, ap, ap₂, ◌∙◌, List, [], ◌∷◌, ◌++◌, length, Option, Some, None, map, append-nil, Program, RawSettings, HartState, TurnRow, absorbed, Ask, Reply, Warm, Point, after, sources_into, edges_of_first, Record, Header, FirstLoad, ScOk, ScFailed, Edge, End, Hart, TurnEnd, GoesOn, NewInterval, HartOver, RunOver, answer, call_of, Run, serve, served_if, is_guarded, guarded_run, guard_records, is_orderly, turn, ask_at, span_of, next_of, loading, warmth, word_before, point_of, points_after, edges_from, edge_records, load_record, sc_record, mark, next_records, stopped_records, run_over_records, start, first_headers, run_from, after_rows, edges_in, edge_record, netzer_records, HasNetzersEdges, EdgesAreNetzers}
+use Rattle.race_laws.proofs.Common.{◌≡◌, ℕ, zero, suc, ◌+◌, Bool, true, false, not, ◌&&◌, ◌==◌, refl, sym, ap, ap₂, ◌∙◌, List, [], ◌∷◌, ◌++◌, length, Option, Some, None, map, append-nil, Program, RawSettings, HartState, TurnRow, absorbed, Ask, Reply, Warm, Point, after, sources_into, edges_of_first, Record, Header, ScOk, ScFailed, Edge, End, Hart, TurnEnd, GoesOn, RunOver, answer, call_of, Run, serve, served_if, is_guarded, guarded_run, guard_records, is_orderly, turn, ask_at, span_of, next_of, loading, warmth, word_before, point_of, points_after, edges_from, edge_records, load_record, sc_record, mark, next_records, stopped_records, run_over_records, start, first_headers, run_from, after_rows, edges_in, edge_record, netzer_records, HasNetzersEdges, EdgesAreNetzers}
 use Rattle.std.proofs.lemmas.List.{map-append}
 use Rattle.rv_meaning.specs.declared.asks.Reply.TheVariants as replies
 use Rattle.first_load_bits.specs.declared.warm.Warm.TheVariants as answers
@@ -9,29 +9,21 @@ use Rattle.race_laws.proofs.Places.{led_to, all_after}
 
 abbrev pub IsPlain : Record → Type 0
 IsPlain (Header k n ic pc x) = ⊥
-IsPlain (FirstLoad k skip value) = Unit {0}
-IsPlain (ScOk k) = Unit {0}
-IsPlain (ScFailed k) = Unit {0}
 IsPlain (Edge k ic s j) = ⊥
-IsPlain (End k m) = Unit {0}
+IsPlain r = Unit {0}
 
 abbrev pub ArePlain : List Record → Type 0
 ArePlain [] = Unit {0}
 ArePlain (r ∷ rs) = IsPlain r × ArePlain rs
 
 pub load_plain : (o : Option Warm) (k skipped word : ℕ) → ArePlain (load_record o k skipped word)
-load_plain None k skipped word = tt
-load_plain (Some answers.Warm) k skipped word = tt
 load_plain (Some answers.Cold) k skipped word = (tt, tt)
+load_plain o k skipped word = tt
 
 pub sc_plain : (r : Reply) (k : ℕ) → ArePlain (sc_record r k)
 sc_plain replies.ScOk k = (tt, tt)
 sc_plain replies.ScFailed k = (tt, tt)
-sc_plain (replies.Word x) k = tt
-sc_plain replies.Stored k = tt
-sc_plain (replies.Answer x) k = tt
-sc_plain replies.Went k = tt
-sc_plain replies.Over k = tt
+sc_plain r k = tt
 
 stopped_if : (x : Bool) (k ic : ℕ) (rest : List Record) → ArePlain rest → ArePlain (elim x as (λ y. List Record) [ true ↦ End k (mark ic 5 0) ∷ rest | false ↦ rest ])
 stopped_if true k ic rest p = (tt, p)
@@ -43,36 +35,25 @@ stopped_plain (suc count) own k harts =
     stopped_if (not (k == own) && (harts k).live) k (harts k).state.ic (stopped_records own (k + 1) count harts) (stopped_plain count own (k + 1) harts)
 
 pub over_plain : (x : TurnEnd) (k count : ℕ) (harts : ℕ → Hart) → ArePlain (run_over_records x k count harts)
-over_plain GoesOn k count harts = tt
-over_plain (NewInterval r y) k count harts = tt
-over_plain (HartOver r y) k count harts = tt
 over_plain (RunOver r y) k count harts = stopped_plain count k 0 harts
+over_plain x k count harts = tt
 
 -- ---- the Edges among them
 
 edges_append : (xs ys : List Record) → edges_in (xs ++ ys) ≡ edges_in xs ++ edges_in ys
 edges_append [] ys = refl
-edges_append (Header k n ic pc x ∷ xs) ys = edges_append xs ys
-edges_append (FirstLoad k skip value ∷ xs) ys = edges_append xs ys
-edges_append (ScOk k ∷ xs) ys = edges_append xs ys
-edges_append (ScFailed k ∷ xs) ys = edges_append xs ys
 edges_append (Edge k ic s j ∷ xs) ys = ap (λ rs. Edge k ic s j ∷ rs) (edges_append xs ys)
-edges_append (End k m ∷ xs) ys = edges_append xs ys
+edges_append (r ∷ xs) ys = edges_append xs ys
 
 plain_edges : (xs ys : List Record) → ArePlain xs → edges_in (xs ++ ys) ≡ edges_in ys
 plain_edges [] ys p = refl
 plain_edges (Header k n ic pc x ∷ xs) ys p = absurd p.0
-plain_edges (FirstLoad k skip value ∷ xs) ys p = plain_edges xs ys p.1
-plain_edges (ScOk k ∷ xs) ys p = plain_edges xs ys p.1
-plain_edges (ScFailed k ∷ xs) ys p = plain_edges xs ys p.1
 plain_edges (Edge k ic s j ∷ xs) ys p = absurd p.0
-plain_edges (End k m ∷ xs) ys p = plain_edges xs ys p.1
+plain_edges (r ∷ xs) ys p = plain_edges xs ys p.1
 
 next_edges : (x : TurnEnd) (k number : ℕ) (s : HartState) (ys : List Record) → edges_in (next_records x k number s ++ ys) ≡ edges_in ys
 next_edges GoesOn k number s ys = refl
-next_edges (NewInterval r y) k number s ys = refl
-next_edges (HartOver r y) k number s ys = refl
-next_edges (RunOver r y) k number s ys = refl
+next_edges x k number s ys = refl
 
 -- what comes after the Edges of a turn
 abbrev pub rest_of : Option Warm → (k skipped word : ℕ) → Reply → TurnEnd → (number : ℕ) → HartState → (count : ℕ) → (ℕ → Hart) → List Record

@@ -1,12 +1,12 @@
 -- What stands after each turn of a run.
-use Rattle.race_laws.proofs.Common.{◌≡◌, ℕ, ◌<◌, ◌≤◌, ◌==◌, ◌+◌, ◌^◌, Bool, true, false, not, ◌&&◌, nat_lt, refl, inl, inr, arith, sym, ap, ◌∙◌, subst, List, [], ◌∷◌, Some, None, eqb_tells, Program, IsSetting, RawSettings, HartState, TurnRow, absorbed, Ask, Reply, Hart, TurnEnd, GoesOn, NewInterval, HartOver, RunOver, answer, call_of, Run, serve, serve_orderly, serve_disorderly, served_if, is_orderly, is_guarded, guarded_run, asked_run, guard_records, by_guard, span_of, next_of, loading, warmth, word_before, skipped_after, point_of, hart_after, other_after, harts_after, dead, start, start_state, start_hart, IsFit, IsRested, anew, GuardedAsksFit, MovesOn, EachTurnMovesOn, EachTurnFits, OthersStayFit, after_rows, IsLawful}
-use Rattle.std.proofs.lemmas.Bool.{false≢true}
+use Rattle.race_laws.proofs.Common.{◌≡◌, ℕ, ◌<◌, ◌≤◌, ◌==◌, ◌+◌, ◌^◌, Bool, true, false, nat_lt, refl, inl, inr, arith, sym, ap, ◌∙◌, subst, List, [], ◌∷◌, None, eqb_tells, Program, IsSetting, RawSettings, HartState, TurnRow, absorbed, Ask, Reply, Hart, TurnEnd, answer, call_of, Run, serve, serve_orderly, serve_disorderly, served_if, is_orderly, is_guarded, guarded_run, asked_run, guard_records, by_guard, span_of, next_of, loading, warmth, word_before, skipped_after, point_of, hart_after, harts_after, dead, start, start_state, IsFit, IsRested, anew, GuardedAsksFit, MovesOn, EachTurnMovesOn, EachTurnFits, OthersStayFit, after_rows, IsLawful, eqb_same, false≢true, and_parts}
 use Rattle.rv_meaning.specs.declared.asks.Reply.TheVariants as replies
-use Rattle.rv_meaning.specs.declared.asks.Want.{Want}
 use Rattle.rv_meaning.specs.Orderly.{is_cut}
 use Rattle.log_record.specs.Spelling.{total}
 use Rattle.race_laws.proofs.Order.{Ordered, order_none, order_after, fresh_of}
 use Rattle.race_laws.proofs.Heads.{EdgeLaws, Heads, heads_after, first_heads}
+use Rattle.run_laws.proofs.Turns.{own_state, other_state, uncut, fit_start}
+use Rattle.run_laws.proofs.LastEnds.{own_is, other_is}
 
 -- the laws that are used here
 pub record Laws : Type 0 where
@@ -26,31 +26,6 @@ pub record Stands (c : RawSettings) (run : Run) : Type 0 where
   pub heads : Heads run.points run.stream
 
 -- ---- the harts
-
-own_state : (next : TurnEnd) (s : HartState) (skipped bytes : ℕ) (h : Hart) → (hart_after next s skipped bytes h).state ≡ s
-own_state GoesOn s skipped bytes h = refl
-own_state (NewInterval reason value) s skipped bytes h = refl
-own_state (HartOver reason value) s skipped bytes h = refl
-own_state (RunOver reason value) s skipped bytes h = refl
-
-stopped_state : (b : Bool) (h : Hart) → (elim b as (λ x. Hart) [ true ↦ record h { live = false; mark = Some (record { ic = h.state.ic; reason = 5; value = 0 }) } | false ↦ h ]).state ≡ h.state
-stopped_state true h = refl
-stopped_state false h = refl
-
-other_state : (next : TurnEnd) (h : Hart) → (other_after next h).state ≡ h.state
-other_state GoesOn h = refl
-other_state (NewInterval reason value) h = refl
-other_state (HartOver reason value) h = refl
-other_state (RunOver reason value) h = stopped_state h.live h
-
-own_is : (next : TurnEnd) (k j : ℕ) (own : Hart) (harts : ℕ → Hart) → (j == k) ≡ true → harts_after next k own harts j ≡ own
-own_is next k j own harts e = ap (λ (b : Bool). elim b as (λ x. Hart) [ true ↦ own | false ↦ other_after next (harts j) ]) e
-
-other_is : (next : TurnEnd) (k j : ℕ) (own : Hart) (harts : ℕ → Hart) → (j == k) ≡ false → harts_after next k own harts j ≡ other_after next (harts j)
-other_is next k j own harts e = ap (λ (b : Bool). elim b as (λ x. Hart) [ true ↦ own | false ↦ other_after next (harts j) ]) e
-
-eqb_same : (k : ℕ) → (k == k) ≡ true
-eqb_same k = grind arith
 
 own_count : (next : TurnEnd) (k : ℕ) (s : HartState) (skipped bytes : ℕ) (h : Hart) (harts : ℕ → Hart) → counts_of (harts_after next k (hart_after next s skipped bytes h) harts) k ≡ s.ic
 own_count next k s skipped bytes h harts = ap (λ (x : Hart). x.state.ic) (own_is next k k (hart_after next s skipped bytes h) harts (eqb_same k)) ∙ ap (λ (x : HartState). x.ic) (own_state next s skipped bytes h)
@@ -83,17 +58,6 @@ record Asking (c : RawSettings) (i : Program) (run at : Run) (k : ℕ) (ask : As
   others : (j : ℕ) → (j == k) ≡ false → IsRested c (at.harts j)
   rise : (j : ℕ) → counts_of run.harts j ≤ counts_of at.harts j
   heads : Heads run.points at.stream
-
-not_cut : (b : Bool) → not b ≡ true → b ≡ false
-not_cut true e = cc
-not_cut false e = refl
-
-first_of : (a b : Bool) → (a && b) ≡ true → (a ≡ true) × (b ≡ true)
-first_of true b e = (refl, e)
-first_of false b e = cc
-
-uncut : (c : RawSettings) (run : Run) (k : ℕ) (want : Want) → is_guarded c run k want ≡ true → is_cut want ≡ false
-uncut c run k want e = not_cut (is_cut want) (first_of (not (is_cut want)) _ (first_of (c.format == 2) _ e).1).0
 
 asking : (g : Bool) → Laws → (c : RawSettings) (i : Program) (run : Run) (k : ℕ) (ask : Ask) → IsSetting c → (run.harts k).live ≡ true → is_orderly c i (run.harts k) ask ≡ true → (run.harts k).state.ic ≤ ask.state.ic
     → (g ≡ true → is_cut ask.want ≡ false) → Stands c run → Asking c i run (guarded_run g run k ask.state) k ask
@@ -170,23 +134,13 @@ ask_stands : Laws → (c : RawSettings) (i : Program) (run : Run) (k : ℕ) (ask
 unfolding serve
 ask_stands laws c i run k ask setting live is = served_stands laws (is_orderly c i (run.harts k) ask) c i run k ask setting live refl is
 
-both : (a b : Bool) → (a && b) ≡ true → b ≡ true
-both true b e = e
-both false b e = cc
-
 pub rows_stand : Laws → (c : RawSettings) (i : Program) (run : Run) (rows : List TurnRow) → IsSetting c → IsLawful c i run rows → Stands c run → Stands c (after_rows c i run rows)
 rows_stand laws c i run [] setting lawful is = is
 rows_stand laws c i run (r ∷ rows) setting lawful is =
     rows_stand laws c i (serve c i run r.hart r.ask).run rows setting lawful.3
-    (ask_stands laws c i run r.hart r.ask setting (both (nat_lt r.hart c.harts) (run.harts r.hart).live lawful.0) is)
+    (ask_stands laws c i run r.hart r.ask setting (and_parts (nat_lt r.hart c.harts) (run.harts r.hart).live lawful.0).1 is)
 
 -- ---- the start
-
-fit_start : (c : RawSettings) (k : ℕ) (s : HartState) → s.ic ≡ 0 → 1 ≤ c.interval → IsRested c (start_hart k s)
-fit_start c k s e some = record {
-  fit = record { number = omega arith; skipped = omega (arith, e); interval = omega (arith, e); limit = omega (arith, e); unfilled = λ p. omega (arith, e, some) };
-  number = λ p. omega arith;
-}
 
 pub start_stands : (c : RawSettings) (i : Program) (input : List ℕ) → IsSetting c → Stands c (start c i input)
 start_stands c i input setting = record {

@@ -1,9 +1,8 @@
 -- The laws of a run's races.
-use Rattle.race_laws.proofs.Common.{◌≡◌, ◌↔◌, ℕ, refl, inl, inr, arith, subst, List, ◌++◌, slice_get, Some, Program, IsSetting, RawSettings, TurnRow, Record, Point, ProgramOrder, Conflict, Either, Chain, IsEdge, EndingAfter, one, more, IsInOrder, IsEdgeBetween, Run, start, after_rows, IsLawful, rows_from, edge_between, KeptEdge, HasOrder, HasEdgesByCount, KeepsLateEdges, OrdersConflicts}
+use Rattle.race_laws.proofs.Common.{◌≡◌, ◌↔◌, ℕ, refl, inl, inr, arith, subst, List, slice_get, Some, Program, IsSetting, RawSettings, TurnRow, Point, ProgramOrder, Conflict, Either, Chain, IsEdge, EndingAfter, one, more, IsInOrder, IsEdgeBetween, Run, start, after_rows, IsLawful, rows_from, edge_between, KeptEdge, HasOrder, HasEdgesByCount, KeepsLateEdges, OrdersConflicts, contains_in, in_contains}
 use Rattle.log_ring.specs.Kept.{kept}
 use Rattle.run_laws.specs.Laws.{TurnsAreLawful}
 use Rattle.race_laws.specs.Runs.{OfLists, OfRows}
-use Rattle.race_log.proofs.Listed.{contains_in, in_contains}
 use Rattle.race_laws.proofs.Heads.{Heads, drop_heads, find_head}
 use Rattle.race_laws.proofs.Turns.{Laws, Stands, rows_stand, start_stands}
 
@@ -27,10 +26,6 @@ pub edges_by_count : Laws → EdgesStandForCounts → OfRows HasEdgesByCount
 edges_by_count laws counts c i input rows setting lawful = counts (after_rows c i (start c i input) rows).points (points_in_order laws c i input rows setting lawful)
 
 -- ---- what is kept
-
--- the law of what a ring keeps
-abbrev pub SuffixIsKept : Type 0
-SuffixIsKept = (size : ℕ) (rs : List Record) → (front : List Record) × (rs ≡ front ++ kept size rs)
 
 end_late : (c : RawSettings) (run : Run) → Heads run.points run.stream → KeepsLateEdges c run
 end_late c run heads rs end m since j n e =

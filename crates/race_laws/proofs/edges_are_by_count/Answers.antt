@@ -3,12 +3,8 @@ use Rattle.race_laws.proofs.Turns.{Laws}
 use Rattle.race_laws.proofs.Whole.{of_lists, edges_by_count}
 use Rattle.race_laws.proofs.edges_are_by_count.Goals as goal
 
-pub returns-clause-turns : goal.returns-clause-turns
-returns-clause-turns c =
+pub returns : goal.returns
+returns c =
     let laws : Laws = record { moves = c.each_turn_moves_on.ensures; fits = c.each_turn_fits.ensures; others = c.others_stay_fit.ensures; guarded = c.guarded_asks_fit.ensures; edges = record { decide = c.tests_decide.ensures.edge; listed = c.listed_edges_are_all.ensures.all } } in
-    of_lists HasEdgesByCount c.turns_are_lawful.ensures (edges_by_count laws c.places_stand_for_counts.ensures.edge)
-
-pub returns-clause-rows : goal.returns-clause-rows
-returns-clause-rows c =
-    let laws : Laws = record { moves = c.each_turn_moves_on.ensures; fits = c.each_turn_fits.ensures; others = c.others_stay_fit.ensures; guarded = c.guarded_asks_fit.ensures; edges = record { decide = c.tests_decide.ensures.edge; listed = c.listed_edges_are_all.ensures.all } } in
-    edges_by_count laws c.places_stand_for_counts.ensures.edge
+    let rows = edges_by_count laws c.places_stand_for_counts.ensures.edge in
+    record { turns = of_lists HasEdgesByCount c.turns_are_lawful.ensures rows; rows = rows }
