@@ -1,8 +1,8 @@
 -- The states along the rows of a turn.
-use Rattle.row_laws.proofs.Common.{◌≡◌, ℕ, zero, suc, Bool, true, false, List, [], ◌∷◌, ◌++◌, Some, None, refl, sym, ◌∙◌, ap, subst, inl, inr, ◌⊎◌, nat_le, Program, Row, RawSettings, HartState, stored_word, amo_result, aligned, Step, Quiet, Asks, ask_of, step, absorbed, Ask, Want, Load, Store, LoadReserved, StoreConditional, Amo, System, Cut, Faulted, Plan, row_of, call_row, after_row, reply_in, Machine, answer_call, answer_sc, is_reserved, planned, quiet_rows, want_rows, turn_rows, sc_store, answered_reg, Run, turn, budget, TurnsMoveTheirHart, state_after, AreRowsFrom, RowsTellStates}
+use Rattle.row_laws.proofs.Common.{◌≡◌, ℕ, zero, suc, Bool, true, false, List, [], ◌∷◌, ◌++◌, Some, None, refl, sym, ◌∙◌, ap, subst, inl, inr, ◌⊎◌, nat_le, Program, Row, RawSettings, HartState, stored_word, amo_result, aligned, Step, Quiet, Asks, ask_of, step, absorbed, Ask, Want, Load, Store, LoadReserved, StoreConditional, Amo, System, Cut, Faulted, Plan, row_of, call_row, after_row, reply_in, Machine, answer_call, answer_sc, is_reserved, planned, quiet_rows, want_rows, turn_rows, sc_store, answered_reg, Run, turn, budget, TurnsMoveTheirHart, state_after, AreRowsFrom, RowsTellStates, want_at, asked_at, cut_state, not_cut}
 use Rattle.system_calls.specs.declared.effect.Plan.TheVariants as plans
 use Rattle.replay_laws.proofs.Asked.{asking, state_after as answered_state, reply_to}
-use Rattle.row_laws.proofs.Asked.{cut_state, want_at, asked_at, not_cut, Moves, moves}
+use Rattle.row_laws.proofs.Asked.{Moves, moves}
 
 -- ---- one row
 
@@ -40,8 +40,7 @@ call_states (plans.Fill a z) i m h n args s e = asked_row i s (call_row h i s (S
 call_states (plans.Send f a z) i m h n args s e = asked_row i s (call_row h i s (Some (10, z))) (System n args) e refl
 call_states (plans.Break x) i m h n args s e = asked_row i s (call_row h i s (Some (10, x))) (System n args) e refl
 call_states (plans.Answer x) i m h n args s e = asked_row i s (call_row h i s (Some (10, x))) (System n args) e refl
-call_states (plans.EndHart x) i m h n args s e = asked_row i s (call_row h i s None) (System n args) e refl
-call_states (plans.EndRun x) i m h n args s e = asked_row i s (call_row h i s None) (System n args) e refl
+call_states p i m h n args s e = asked_row i s (call_row h i s None) (System n args) e refl
 
 -- the rows of an ask, which came in state s
 abbrev pub asked_rows : RawSettings → Program → Machine → ℕ → Want → HartState → List Row
@@ -60,14 +59,8 @@ want_states Cut c i m h s e = sym (cut_state (nat_le c.limit s.ic) s)
 want_states (Faulted f y) c i m h s e = refl
 
 pub want_each : (w : Want) (c : RawSettings) (i : Program) (m : Machine) (h : ℕ) (s : HartState) → AreRowsFrom h i s (asked_rows c i m h w s)
-want_each (Load a wd g rd) c i m h s = ((refl, refl, refl, refl), tt)
-want_each (LoadReserved a rd) c i m h s = ((refl, refl, refl, refl), tt)
-want_each (Store a wd v) c i m h s = ((refl, refl, refl, refl), tt)
-want_each (Amo a o rd v) c i m h s = ((refl, refl, refl, refl), tt)
-want_each (StoreConditional a rd v) c i m h s = ((refl, refl, refl, refl), tt)
-want_each (System n args) c i m h s = ((refl, refl, refl, refl), tt)
 want_each Cut c i m h s = tt
-want_each (Faulted f y) c i m h s = ((refl, refl, refl, refl), tt)
+want_each w c i m h s = ((refl, refl, refl, refl), tt)
 
 -- ---- the quiet rows
 

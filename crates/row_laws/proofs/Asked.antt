@@ -1,18 +1,9 @@
 -- Names for what a hart's turn asks and what it gets, and how the turn moves its hart.
-use Rattle.row_laws.proofs.Common.{◌≡◌, ℕ, ◌%◌, Bool, true, false, ◌&&◌, Option, refl, sym, ◌∙◌, ap, inl, inr, arith, ◌==◌, ◌≢◌, ◌⊎◌, if◌then◌else◌, false≢true, eqb-true, eqb_tells, Program, RawSettings, HartState, Asks, step, absorbed, is_cut, aligned, Want, Cut, Point, call_of, Run, serve, served_if, serve_call, is_guarded, turn, ask_at, point_of, TurnsMoveTheirHart, AsksOrderly}
-use Rattle.rv_meaning.specs.declared.asks.Reply.TheVariants.{Went, Over}
-use Rattle.replay_laws.proofs.Asked.{asking, state_after as answered_state, span_to}
+use Rattle.row_laws.proofs.Common.{◌≡◌, ℕ, Bool, false, ◌∙◌, ap, ◌==◌, Program, RawSettings, absorbed, call_of, Run, serve, served_if, serve_call, is_guarded, turn, ask_at, TurnsMoveTheirHart, AsksOrderly, want_at, asked_at, ◌↔◌, IsTrue, Point, Writes}
+use Rattle.replay_laws.proofs.Asked.{state_after as answered_state}
+use Rattle.race_log.specs.Tests.{writes_word}
 
 -- ---- a turn of hart h
-
-abbrev pub want_at : RawSettings → Program → Run → ℕ → Want
-want_at c i run h = (ask_at c i (run.harts h)).want
-
-abbrev pub asked_at : RawSettings → Program → Run → ℕ → HartState
-asked_at c i run h = (ask_at c i (run.harts h)).state
-
-abbrev pub point_at : RawSettings → Program → Run → ℕ → Option Point
-point_at c i run h = point_of h (asked_at c i run h).ic run.turns (span_to c i run.machine h (want_at c i run h) (asked_at c i run h))
 
 -- the run after it, where the ask is orderly; a guard, if the ask has one, leaves machine, turns and points
 abbrev pub served : RawSettings → Program → Run → ℕ → Run
@@ -38,20 +29,6 @@ moves law c i run h o = record {
 
 -- ---- small facts
 
-pub cut_state : (b : Bool) (s : HartState) → absorbed (asking Cut s) (if b then Over else Went) ≡ s
-cut_state true s = refl
-cut_state false s = refl
-
-pub not_cut : (w : Want) (i : Program) (s : HartState) → is_cut w ≡ false → (w ≡ Cut) ⊎ (step i s ≡ Asks w) → step i s ≡ Asks w
-not_cut w i s e (inl p) = absurd (false≢true (sym e ∙ ap is_cut p))
-not_cut w i s e (inr p) = p
-
-pub equal_flip : (k h : ℕ) → k ≢ h → (h == k) ≡ false
-equal_flip k h p = elim (eqb_tells h k) [ inl q ↦ absurd (p (sym q.1)) | inr q ↦ q.0 ]
-
-pub aligned_own : (a : ℕ) (x : Bool) → ((a % 4 == 0) && x) ≡ true → aligned a ≡ a
-aligned_own a x e = let z : a % 4 ≡ 0 = eqb-true (a % 4) 0 (first (a % 4 == 0) x e) in omega arith
-  where
-    first : (a b : Bool) → (a && b) ≡ true → a ≡ true
-    first true b e = refl
-    first false b e = absurd (false≢true e)
+-- the law of race_log that is used here
+abbrev pub DecidesWrites : Type 0
+DecidesWrites = (word : ℕ) (p : Point) → IsTrue (writes_word word p) ↔ Writes word p

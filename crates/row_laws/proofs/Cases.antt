@@ -1,23 +1,12 @@
 -- A row of a turn is that of a quiet instruction, or that of the ask.
-use Rattle.row_laws.proofs.Common.{◌≡◌, ℕ, zero, suc, ◌≤◌, List, [], ◌∷◌, ◌++◌, length, None, refl, sym, ◌∙◌, ap, subst, inl, inr, arith, ◌⊎◌, length-append, Program, Row, RawSettings, HartState, Step, Quiet, Asks, ask_of, step, Ask, Want, Load, Store, LoadReserved, StoreConditional, Amo, System, Cut, Faulted, Reply, row_of, after_row, quiet_rows, want_rows, Run, budget, state_after, TurnHasRow}
+use Rattle.row_laws.proofs.Common.{◌≡◌, ℕ, zero, suc, ◌≤◌, List, [], ◌∷◌, ◌++◌, length, None, refl, sym, ◌∙◌, ap, subst, inl, inr, arith, ◌⊎◌, length-append, Program, Row, RawSettings, HartState, Step, Quiet, Asks, ask_of, step, Ask, Want, Load, Reply, row_of, after_row, quiet_rows, want_rows, Run, budget, state_after, TurnHasRow, want_at, asked_at}
 use Rattle.row_laws.proofs.Along.{by_step, ask_by, quiet_row, asked_rows}
-use Rattle.row_laws.proofs.Asked.{want_at, asked_at}
 
-head_or : Row → List Row → Row
-head_or d [] = d
-head_or d (x ∷ xs) = x
+pub heads : {X : Type 0} (x y : X) (xs ys : List X) → x ∷ xs ≡ y ∷ ys → x ≡ y
+heads x y xs ys e = cc
 
-rest_of : List Row → List Row
-rest_of [] = []
-rest_of (x ∷ xs) = xs
-
-pub heads : (x y : Row) (xs ys : List Row) → x ∷ xs ≡ y ∷ ys → x ≡ y
-unfolding head_or
-heads x y xs ys e = ap (head_or x) e
-
-pub rests : (x y : Row) (xs ys : List Row) → x ∷ xs ≡ y ∷ ys → xs ≡ ys
-unfolding rest_of
-rests x y xs ys e = ap rest_of e
+pub rests : {X : Type 0} (x y : X) (xs ys : List X) → x ∷ xs ≡ y ∷ ys → xs ≡ ys
+rests x y xs ys e = cc
 
 -- the row of a quiet instruction at a state
 pub record IsQuietRow (h : ℕ) (i : Program) (before : HartState) (r : Row) : Type 0 where
@@ -47,13 +36,7 @@ split h i (suc n) s front r back w is = split_at h i n s (step i s) front r back
 
 want_short : (w : Want) (h : ℕ) (i : Program) (m : ℕ → ℕ) (s t : HartState) (r : Reply) → length (want_rows h i m w s t r) ≤ 1
 want_short (Load a wd g rd) h i m s t r = omega arith
-want_short (LoadReserved a rd) h i m s t r = omega arith
-want_short (Store a wd v) h i m s t r = omega arith
-want_short (Amo a o rd v) h i m s t r = omega arith
-want_short (StoreConditional a rd v) h i m s t r = omega arith
-want_short (System n args) h i m s t r = omega arith
-want_short Cut h i m s t r = omega arith
-want_short (Faulted f y) h i m s t r = omega arith
+want_short w h i m s t r = omega arith
 
 single : (w more back : List Row) (r : Row) → length w ≤ 1 → w ≡ more ++ r ∷ back → (more ≡ []) × (w ≡ r ∷ [])
 single w [] [] r short e = (refl, e)

@@ -1,5 +1,5 @@
 -- The rows of read calls that give bytes.
-use Rattle.row_laws.proofs.Common.{◌≡◌, ℕ, zero, suc, ◌+◌, ◌*◌, ◌/◌, ◌-◌, ◌<◌, ◌≤◌, Bool, true, false, ◌&&◌, [], ◌∷◌, Some, sym, ◌∙◌, ap, subst, inl, inr, arith, ◌==◌, ◌⊎◌, take, slice_index, list_any, false≢true, eq-eqb, Program, code_at, Row, RawSettings, HartState, Step, Quiet, Asks, step, reg, aligned, Want, System, Cut, Plan, call_row, access_point, accesses_from, Access, Writes, Write, Machine, answer_call, call_of, filled, planned, word_count, answered_reg, Run, point_of, call_span, budget, IsFillRow, IsFill, HasByte, result_of, FillRowsFill, AreRowsFrom, AsksOrderly}
+use Rattle.row_laws.proofs.Common.{◌≡◌, ℕ, zero, suc, ◌+◌, ◌*◌, ◌/◌, ◌-◌, ◌<◌, ◌≤◌, Bool, true, false, ◌&&◌, [], ◌∷◌, Some, sym, ◌∙◌, ap, subst, inl, inr, arith, ◌==◌, ◌⊎◌, take, slice_index, list_any, false≢true, eq-eqb, Program, code_at, Row, RawSettings, HartState, Step, Quiet, Asks, step, reg, aligned, Want, System, Cut, Plan, call_row, access_point, accesses_from, Access, Writes, Write, Machine, answer_call, call_of, filled, planned, word_count, answered_reg, Run, point_of, call_span, budget, IsFillRow, IsFill, HasByte, result_of, FillRowsFill, AreRowsFrom, AsksOrderly, want_at, asked_at, or_first, or_second}
 use Rattle.system_calls.specs.declared.effect.Plan.TheVariants as plans
 use Rattle.row_laws.proofs.Along.{asked_rows, want_each, came}
 use Rattle.row_laws.proofs.Cases.{heads, turn_row}
@@ -7,9 +7,7 @@ use Rattle.row_laws.proofs.Ecalls.{ecall_asks}
 use Rattle.row_laws.proofs.Plans.{read_gives}
 use Rattle.row_laws.proofs.Telling.{adds_point, no_row}
 use Rattle.replay_laws.proofs.Asked.{memory_after as answered_memory, span_to}
-use Rattle.row_laws.proofs.Asked.{want_at, asked_at, turn_served}
-use Rattle.race_log.proofs.BoolFacts.{or_first, or_second}
-use Rattle.row_laws.proofs.Points.{DecidesWrites}
+use Rattle.row_laws.proofs.Asked.{turn_served, DecidesWrites}
 
 -- ---- the words of the point
 

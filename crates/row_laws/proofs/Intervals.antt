@@ -1,8 +1,7 @@
 -- The rows of an interval whose Header is kept.
-use Rattle.row_laws.proofs.Common.{◌≡◌, ℕ, List, ◌++◌, [], ◌∷◌, sym, ◌∙◌, ap, subst, arith, inl, inr, ◌⊎◌, append_assoc, Program, Row, RawSettings, HartState, rows_of, start, run_of, Run, budget, state_after, HasRow, TurnHasRow, IntervalRowsAreOfTurns, BeginningsTellStates}
+use Rattle.row_laws.proofs.Common.{◌≡◌, ℕ, List, ◌++◌, [], ◌∷◌, sym, ◌∙◌, ap, subst, arith, inl, inr, ◌⊎◌, append_assoc, Program, Row, RawSettings, HartState, rows_of, start, run_of, Run, budget, state_after, HasRow, TurnHasRow, IntervalRowsAreOfTurns, BeginningsTellStates, run_append}
 use Rattle.replay_laws.specs.Law.{IntervalsBegin, IsBeforeTurn, IsAtGuard}
 use Rattle.row_laws.proofs.Along.{quiet_states, after_append}
-use Rattle.run_laws.proofs.Converse.{run_append}
 use Rattle.row_laws.proofs.Lists.{Known, AreMoves, all_move, both_move}
 use Rattle.row_laws.proofs.Places.{Found, found}
 

@@ -1,10 +1,8 @@
 mod Common
 pub mod Asked
-pub mod Points
 pub mod Along
 pub mod Cases
 pub mod Telling
-pub mod Faultless
 pub mod Lists
 pub mod Ecalls
 pub mod Plans

@@ -1,8 +1,7 @@
 -- Over the turns of a legal list.
-use Rattle.row_laws.proofs.Common.{◌≡◌, ℕ, Bool, true, false, List, [], ◌∷◌, ◌++◌, refl, sym, ◌∙◌, ap, subst, inl, inr, ◌==◌, eqb_tells, append_assoc, Program, IsSetting, Row, RawSettings, HartState, rows_of, turn_rows, start, run_of, run_from, legal_from, Run, turn, OwnAsksAreOrderly, TurnsMoveTheirHart, state_after, AreRowsFrom, AsksOrderly, RowsTellRuns}
+use Rattle.row_laws.proofs.Common.{◌≡◌, ℕ, Bool, true, false, List, [], ◌∷◌, ◌++◌, refl, sym, ◌∙◌, ap, subst, inl, inr, ◌==◌, eqb_tells, append_assoc, Program, IsSetting, Row, RawSettings, HartState, rows_of, turn_rows, start, run_of, run_from, legal_from, Run, turn, OwnAsksAreOrderly, TurnsMoveTheirHart, state_after, AreRowsFrom, AsksOrderly, RowsTellRuns, run_append, legal_front, equal_flip}
 use Rattle.row_laws.proofs.Along.{turn_each, turn_last, each_append, after_append}
-use Rattle.row_laws.proofs.Asked.{Moves, moves, equal_flip}
-use Rattle.run_laws.proofs.Converse.{run_append, legal_front}
+use Rattle.row_laws.proofs.Asked.{Moves, moves}
 
 -- what the laws of lists stand on
 pub record Known : Type 0 where

@@ -1,13 +1,11 @@
 -- The turns of rows and points.
-use Rattle.row_laws.proofs.Common.{◌≡◌, ℕ, ◌+◌, true, false, List, [], ◌∷◌, ◌++◌, length, Option, Some, None, refl, sym, ◌∙◌, ap, subst, inl, inr, arith, ◌==◌, ◌⊎◌, slice_get, eqb_tells, length-append, Program, Row, RawSettings, HartState, Point, rows_of, turn_rows, start, run_from, Run, turn, points_after, state_after, HasRow, TurnHasRow, AsksOrderly, Adds, RowsAreOfTurns, PointsAreOfTurns}
+use Rattle.row_laws.proofs.Common.{◌≡◌, ℕ, ◌+◌, true, false, List, [], ◌∷◌, ◌++◌, length, Option, Some, None, refl, sym, ◌∙◌, ap, subst, inl, inr, arith, ◌==◌, ◌⊎◌, slice_get, eqb_tells, length-append, Program, Row, RawSettings, HartState, Point, rows_of, turn_rows, start, run_from, Run, turn, points_after, state_after, HasRow, TurnHasRow, AsksOrderly, Adds, RowsAreOfTurns, PointsAreOfTurns, want_at, asked_at, point_at, in_after, equal_flip, span_to, none-some}
 use Rattle.row_laws.proofs.Along.{turn_last, after_append}
 use Rattle.row_laws.proofs.Cases.{heads, rests}
 use Rattle.row_laws.proofs.Lists.{Known, AreMoves, all_move, rows_by}
-use Rattle.row_laws.proofs.Telling.{not_some, adds_point}
+use Rattle.row_laws.proofs.Telling.{adds_point}
 use Rattle.row_laws.proofs.Writers.{point_is}
-use Rattle.replay_laws.proofs.Asked.{span_to}
-use Rattle.row_laws.proofs.Asked.{equal_flip, point_at, want_at, asked_at, turn_served, Moves}
-use Rattle.race_log.proofs.Next.{in_after}
+use Rattle.row_laws.proofs.Asked.{turn_served, Moves}
 
 -- ---- rows
 
@@ -122,6 +120,6 @@ placed c i m p (k ∷ ks) run o e = by_turn c i run k ks m p o.0.asks (placed c 
 
 pub points_are_of_turns : Known → PointsAreOfTurns
 points_are_of_turns known c i input b m p setting legal e = elim (placed c i m p b (start c i input) (all_move known c i input [] b setting legal) e) [
-  | inl old ↦ absurd (not_some p old)
+  | inl old ↦ absurd (none-some p old)
   | inr x ↦ record { front = x.front; back = x.back; turns = x.turns; turn_is = (let t = x.turn_is in omega (arith, t)); place = x.place; adds = x.adds }
 ]

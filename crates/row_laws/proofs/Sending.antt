@@ -1,42 +1,33 @@
 -- The rows of write calls that take bytes, and the words in which the bytes of calls lie.
-use Rattle.row_laws.proofs.Common.{◌≡◌, ℕ, zero, suc, ◌+◌, ◌-◌, ◌<◌, ◌≤◌, ◌^◌, min, Bool, true, false, ◌&&◌, [], ◌∷◌, Some, refl, sym, ◌∙◌, ap, subst, inl, inr, arith, ◌==◌, ◌||◌, nat_le, nat_lt, slice_index, list_all, range_with_len, false≢true, Program, code_at, may_load, may_store, is_writable, part_at, heap_start, heap_limit, Row, RawSettings, HartState, Asks, step, reg, aligned, Want, Load, Store, LoadReserved, StoreConditional, Amo, System, Cut, Faulted, read_plan, write_plan, plan_of, all_bytes, stream_size, stream_len, Plan, Kernel, call_row, access_point, Read, Machine, answer_call, call_of, planned, kernel_of, word_count, answered_reg, Run, point_of, call_span, budget, IsSendRow, AddsCall, result_of, SendRowsSend, AreRowsFrom, AsksOrderly}
+use Rattle.row_laws.proofs.Common.{◌≡◌, ℕ, zero, suc, ◌+◌, ◌-◌, ◌<◌, ◌≤◌, ◌^◌, min, Bool, true, ◌&&◌, [], ◌∷◌, Some, sym, ◌∙◌, ap, subst, inl, inr, arith, ◌==◌, ◌||◌, nat_le, nat_lt, slice_index, list_all, range_with_len, Program, code_at, may_load, may_store, is_writable, part_at, heap_start, heap_limit, Row, RawSettings, HartState, Asks, step, reg, aligned, Want, System, read_plan, write_plan, plan_of, all_bytes, stream_size, stream_len, Plan, Kernel, call_row, access_point, Read, Machine, answer_call, call_of, planned, kernel_of, word_count, answered_reg, Run, point_of, call_span, budget, IsSendRow, AddsCall, result_of, SendRowsSend, AreRowsFrom, AsksOrderly, and_parts, ltb-true, want_at, asked_at, span_to, same_Some, none-some}
 use Rattle.system_calls.specs.declared.effect.Plan.TheVariants as plans
 use Rattle.row_laws.proofs.Along.{asked_rows, want_each, came}
-use Rattle.replay_laws.proofs.Asked.{span_to}
-use Rattle.row_laws.proofs.Asked.{want_at, asked_at}
 use Rattle.row_laws.proofs.Cases.{heads, turn_row}
 use Rattle.row_laws.proofs.Ecalls.{ecall_asks}
 use Rattle.row_laws.proofs.Filling.{not_both, want_reads}
 use Rattle.row_laws.proofs.Plans.{if_so}
-use Rattle.row_laws.proofs.Telling.{adds_point, some_is, not_some}
+use Rattle.row_laws.proofs.Telling.{adds_point}
 
 -- ---- where the bytes lie
-
-both : (a b : Bool) → (a && b) ≡ true → (a ≡ true) × (b ≡ true)
-both true b e = (refl, e)
-both false b e = absurd (false≢true e)
-
-lt_of : (a b : ℕ) → nat_lt a b ≡ true → a < b
-lt_of a b e = grind arith
 
 all_at : (test : ℕ → Bool) (a n k : ℕ) → k < n → all_bytes test a n ≡ true → test (a + k) ≡ true
 all_at test a zero k low e = absurd (omega (arith, low))
 all_at test a (suc n) zero low e =
     let same : a ≡ a + 0 = omega arith in
-    subst (λ (x : ℕ). test x ≡ true) same (both (test a) (list_all test (range_with_len (a + 1) n)) e).0
+    subst (λ (x : ℕ). test x ≡ true) same (and_parts (test a) (list_all test (range_with_len (a + 1) n)) e).0
 all_at test a (suc n) (suc k) low e =
     let same : a + 1 + k ≡ a + suc k = omega arith in
-    subst (λ (x : ℕ). test x ≡ true) same (all_at test (a + 1) n k (omega (arith, low)) (both (test a) (list_all test (range_with_len (a + 1) n)) e).1)
+    subst (λ (x : ℕ). test x ≡ true) same (all_at test (a + 1) n k (omega (arith, low)) (and_parts (test a) (list_all test (range_with_len (a + 1) n)) e).1)
 
 within : (test : ℕ → Bool) (memory : ℕ) → ((x : ℕ) → test x ≡ true → x < memory) → (a n : ℕ) → all_bytes test a n ≡ true → 1 ≤ n → a + n ≤ memory
 within test memory below a zero e low = absurd (omega (arith, low))
 within test memory below a (suc n) e low = let last = below (a + n) (all_at test a (suc n) n (omega arith) e) in omega (arith, last)
 
 loads_below : (i : Program) (x : ℕ) → may_load i x ≡ true → x < i.memory
-loads_below i x e = lt_of x i.memory (both (nat_le 4096 x) (nat_lt x i.memory) e).1
+loads_below i x e = ltb-true x i.memory (and_parts (nat_le 4096 x) (nat_lt x i.memory) e).1
 
 stores_below : (i : Program) (x : ℕ) → may_store i x ≡ true → x < i.memory
-stores_below i x e = loads_below i x (both (may_load i x) (is_writable (part_at i.parts x)) e).0
+stores_below i x e = loads_below i x (and_parts (may_load i x) (is_writable (part_at i.parts x)) e).0
 
 -- the bytes of a plan lie below the memory's size
 abbrev IsInside : Program → Plan → Type 0
@@ -69,18 +60,9 @@ plan_inside n a0 a1 a2 k i =
     (λ g. if_so (IsInside i) (n == 94) _ _ (λ x. tt)
     (λ x. if_so (IsInside i) (n == 214) _ _ (λ y. if_so (IsInside i) (nat_le (heap_start i) a0 && nat_le a0 (heap_limit i)) _ _ (λ z. tt) (λ z. tt)) (λ y. tt)))))
 
-some_plan : (p q : Plan) → Some p ≡ Some q → p ≡ q
-some_plan p q e = some_is p q e
-
 pub call_inside : (i : Program) (m : Machine) (w : Want) (p : Plan) → call_of i m w ≡ Some p → IsInside i p
-call_inside i m (System n args) p e = subst (IsInside i) (some_plan (planned i m n args) p e) (plan_inside n (slice_index args 0) (slice_index args 1) (slice_index args 2) (kernel_of m) i)
-call_inside i m (Load a width signed rd) p e = absurd (not_some p e)
-call_inside i m (Store a width v) p e = absurd (not_some p e)
-call_inside i m (LoadReserved a rd) p e = absurd (not_some p e)
-call_inside i m (StoreConditional a rd v) p e = absurd (not_some p e)
-call_inside i m (Amo a op rd v) p e = absurd (not_some p e)
-call_inside i m Cut p e = absurd (not_some p e)
-call_inside i m (Faulted f y) p e = absurd (not_some p e)
+call_inside i m (System n args) p e = subst (IsInside i) (same_Some (planned i m n args) p e) (plan_inside n (slice_index args 0) (slice_index args 1) (slice_index args 2) (kernel_of m) i)
+call_inside i m w p e = absurd (none-some p e)
 
 -- ---- the plan of a write call, by its result
 
@@ -92,13 +74,13 @@ write_gives i m h a0 a1 a2 n low high =
     let count : ℕ = min a2 (min 4096 (stream_size - stream_len a0 (kernel_of m))) in
     if_so (GivesSend h m a0 a1 n) (a0 == 1 || (a0 == 2)) _ (plans.Answer (2 ^ 32 - 9))
     (λ e. if_so (GivesSend h m a0 a1 n) (a2 == 0) (plans.Answer 0) _
-    (λ f. (λ x. (let z : 0 ≡ n = some_is 0 n x in absurd (omega (arith, z, low)))))
+    (λ f. (λ x. (let z : 0 ≡ n = same_Some 0 n x in absurd (omega (arith, z, low)))))
     (λ f. if_so (GivesSend h m a0 a1 n) (nat_le stream_size (stream_len a0 (kernel_of m))) (plans.Answer (2 ^ 32 - 28)) _
-    (λ g. (λ x. (let z : 2 ^ 32 - 28 ≡ n = some_is (2 ^ 32 - 28) n x in absurd (omega (arith, z, high)))))
+    (λ g. (λ x. (let z : 2 ^ 32 - 28 ≡ n = same_Some (2 ^ 32 - 28) n x in absurd (omega (arith, z, high)))))
     (λ g. if_so (GivesSend h m a0 a1 n) (all_bytes (may_load i) a1 count) (plans.Send a0 a1 count) (plans.Answer (2 ^ 32 - 14))
-    (λ y. (λ x. ap (plans.Send a0 a1) (some_is count n x)))
-    (λ y. (λ x. (let z : 2 ^ 32 - 14 ≡ n = some_is (2 ^ 32 - 14) n x in absurd (omega (arith, z, high))))))))
-    (λ e. (λ x. (let z : 2 ^ 32 - 9 ≡ n = some_is (2 ^ 32 - 9) n x in absurd (omega (arith, z, high)))))
+    (λ y. (λ x. ap (plans.Send a0 a1) (same_Some count n x)))
+    (λ y. (λ x. (let z : 2 ^ 32 - 14 ≡ n = same_Some (2 ^ 32 - 14) n x in absurd (omega (arith, z, high))))))))
+    (λ e. (λ x. (let z : 2 ^ 32 - 9 ≡ n = same_Some (2 ^ 32 - 9) n x in absurd (omega (arith, z, high)))))
 
 -- ---- the ask
 

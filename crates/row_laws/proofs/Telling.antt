@@ -1,33 +1,22 @@
 -- The words that the row of an ask tells.
-use Rattle.row_laws.proofs.Common.{◌≡◌, ℕ, Bool, true, false, ◌&&◌, cond, List, [], ◌∷◌, Option, Some, None, sym, ◌∙◌, ap, subst, inl, inr, ◌==◌, is_some, false≢true, eq-eqb, eqb_tells, Program, may_load, may_store, Row, RawSettings, HartState, stored_word, amo_result, passes, is_counted, aligned, Want, Load, Store, LoadReserved, StoreConditional, Amo, System, Cut, Faulted, row_of, call_row, fault_row, at_address, Point, Machine, answer_sc, is_reserved, sc_store, answered_reg, Run, point_of, points_after, sc_span, budget, AsksOrderly, word_told, word_point, Adds, RowsTellWords}
+use Rattle.row_laws.proofs.Common.{◌≡◌, ℕ, Bool, true, false, ◌&&◌, cond, [], ◌∷◌, Option, Some, None, sym, ◌∙◌, ap, subst, inl, inr, ◌==◌, eq-eqb, eqb_tells, Program, may_load, may_store, Row, RawSettings, HartState, stored_word, amo_result, passes, is_counted, aligned, Want, Load, Store, LoadReserved, StoreConditional, Amo, System, Cut, Faulted, row_of, call_row, fault_row, at_address, Point, Machine, answer_sc, is_reserved, sc_store, answered_reg, Run, point_of, points_after, sc_span, budget, AsksOrderly, word_told, word_point, Adds, RowsTellWords, want_at, asked_at, point_at, aligned_own, same_Some, none-some, and_parts, refl, RowsThatTellHaveNoFault}
 use Rattle.bus_memory.specs.Contents.{updated}
 use Rattle.row_laws.proofs.Along.{asked_rows}
 use Rattle.row_laws.proofs.Cases.{heads, turn_row}
 use Rattle.replay_laws.proofs.Asked.{state_after as answered_state, reply_to, memory_after as answered_memory, span_to}
-use Rattle.row_laws.proofs.Asked.{want_at, asked_at, point_at, aligned_own, turn_served}
-
-value_of : {A : Type 0} → A → Option A → A
-value_of d None = d
-value_of d (Some x) = x
-
-pub some_is : {A : Type 0} (x y : A) → Some x ≡ Some y → x ≡ y
-unfolding value_of
-some_is x y e = ap (value_of x) e
-
-pub not_some : {A : Type 0} (x : A) → None ≡ Some x → ⊥
-not_some x e = false≢true (ap is_some e)
+use Rattle.row_laws.proofs.Asked.{turn_served}
 
 -- an access tells the word of its own address
 pub told_at : (b v a word : ℕ) → at_address a (Some (b, v)) None ≡ Some word → (aligned b ≡ a) × (v ≡ word)
 told_at b v a word e = elim (eqb_tells (aligned b) a) [
-  | inl p ↦ (p.1, some_is v word (sym (ap (λ x. elim x as (λ y. Option ℕ) [ true ↦ Some v | false ↦ None ]) p.0) ∙ e))
-  | inr p ↦ absurd (not_some word (sym (ap (λ x. elim x as (λ y. Option ℕ) [ true ↦ Some v | false ↦ None ]) p.0) ∙ e))
+  | inl p ↦ (p.1, same_Some v word (sym (ap (λ x. elim x as (λ y. Option ℕ) [ true ↦ Some v | false ↦ None ]) p.0) ∙ e))
+  | inr p ↦ absurd (none-some word (sym (ap (λ x. elim x as (λ y. Option ℕ) [ true ↦ Some v | false ↦ None ]) p.0) ∙ e))
 ]
 
 told_both : (b v w a word : ℕ) → at_address a (Some (b, v)) (at_address a (Some (b, w)) None) ≡ Some word → (aligned b ≡ a) × (v ≡ word)
 told_both b v w a word e = elim (eqb_tells (aligned b) a) [
-  | inl p ↦ (p.1, some_is v word (sym (by p.0) ∙ e))
-  | inr p ↦ absurd (not_some word (sym (by p.0) ∙ e))
+  | inl p ↦ (p.1, same_Some v word (sym (by p.0) ∙ e))
+  | inr p ↦ absurd (none-some word (sym (by p.0) ∙ e))
 ]
   where
     by : {x : Bool} → (aligned b == a) ≡ x → at_address a (Some (b, v)) (at_address a (Some (b, w)) None)
@@ -37,13 +26,8 @@ told_both b v w a word e = elim (eqb_tells (aligned b) a) [
 pub updated_here : (k v : ℕ) (m : ℕ → ℕ) (b : ℕ) → b ≡ k → updated k v m b ≡ v
 updated_here k v m b e = ap (λ x. cond x v (m b)) (eq-eqb b k e)
 
-has_rows : List Row → Bool
-has_rows [] = false
-has_rows (x ∷ xs) = true
-
 pub no_row : (r : Row) → [] ≡ r ∷ [] → ⊥
-unfolding has_rows
-no_row r e = false≢true (ap has_rows e)
+no_row r e = cc
 
 -- what is to be shown of a row of an ask
 abbrev Tells : RawSettings → Program → Machine → ℕ → Want → HartState → ℕ → ℕ → ℕ → Row → Type 0
@@ -60,7 +44,7 @@ sc_tells true i m h b v s t turns a word own e =
     let p = told_at b v a word e in
     let is : b ≡ a = sym own ∙ p.0 in
     (updated_here b v m.memory a (sym is) ∙ p.1, ap (λ z. Some (word_point h turns (row_of h i s t None (Some (b, v))) z)) is)
-sc_tells false i m h b v s t turns a word own e = absurd (not_some word e)
+sc_tells false i m h b v s t turns a word own e = absurd (none-some word e)
 
 want_tells : (w : Want) (c : RawSettings) (i : Program) (m : Machine) (h : ℕ) (s : HartState) (turns a word : ℕ) (r : Row) → passes i w ≡ true
     → asked_rows c i m h w s ≡ r ∷ [] → Tells c i m h w s turns a word r
@@ -88,17 +72,13 @@ want_tells (StoreConditional b rd v) c i m h s turns a word r fine is =
     let x : Row = row_of h i s (answered_state c i m h (StoreConditional b rd v) s) None (sc_store (reply_to c i m h (StoreConditional b rd v) s) b v) in
     subst (Tells c i m h (StoreConditional b rd v) s turns a word) (heads x r [] [] is)
     (sc_tells (is_reserved (m.reserved h) b) i m h b v s (answered_state c i m h (StoreConditional b rd v) s) turns a word (aligned_own b (may_load i b && may_store i b) fine))
-want_tells (System n args) c i m h s turns a word r fine is = λ e. absurd (not_some word (ap (λ (x : Row). word_told x a) (heads (call_row h i s (answered_reg (reply_to c i m h (System n args) s))) r [] [] is) ∙ e))
+want_tells (System n args) c i m h s turns a word r fine is = λ e. absurd (none-some word (ap (λ (x : Row). word_told x a) (heads (call_row h i s (answered_reg (reply_to c i m h (System n args) s))) r [] [] is) ∙ e))
 want_tells Cut c i m h s turns a word r fine is = absurd (no_row r is)
-want_tells (Faulted f y) c i m h s turns a word r fine is = λ e. absurd (not_some word (ap (λ (x : Row). word_told x a) (heads (fault_row h i s f y) r [] [] is) ∙ e))
-
-second : (a b : Bool) → (a && b) ≡ true → b ≡ true
-second true b e = e
-second false b e = absurd (false≢true e)
+want_tells (Faulted f y) c i m h s turns a word r fine is = λ e. absurd (none-some word (ap (λ (x : Row). word_told x a) (heads (fault_row h i s f y) r [] [] is) ∙ e))
 
 -- an orderly ask passes the program's tests
 pub passing : (c : RawSettings) (i : Program) (run : Run) (h : ℕ) → AsksOrderly c i run h → passes i (want_at c i run h) ≡ true
-passing c i run h o = second (is_counted (run.harts h).state.ic (budget c (run.harts h)) (want_at c i run h) (asked_at c i run h).ic) (passes i (want_at c i run h)) o
+passing c i run h o = (and_parts (is_counted (run.harts h).state.ic (budget c (run.harts h)) (want_at c i run h) (asked_at c i run h).ic) (passes i (want_at c i run h)) o).1
 
 -- the point that a turn adds
 pub adds_point : (c : RawSettings) (i : Program) (run : Run) (h : ℕ) (p : Point) → AsksOrderly c i run h → point_at c i run h ≡ Some p → Adds c i run h p
@@ -106,7 +86,24 @@ adds_point c i run h p o e = ap (λ (x : Run). x.points) (turn_served c i run h 
 
 pub rows_tell_words : RowsTellWords
 rows_tell_words c i run h before r a word o has e = elim (turn_row c i run h before r has) [
-  | inl q ↦ absurd (not_some word (ap (λ (x : Row). word_told x a) q.row ∙ e))
+  | inl q ↦ absurd (none-some word (ap (λ (x : Row). word_told x a) q.row ∙ e))
   | inr q ↦ (let t = want_tells (want_at c i run h) c i run.machine h (asked_at c i run h) run.turns a word r (passing c i run h o) q.row e in
       (ap (λ (x : Run). x.machine.memory a) (turn_served c i run h o) ∙ t.0, adds_point c i run h (word_point h run.turns r a) o t.1))
+]
+
+-- ---- a row that tells a word is of no fault
+
+module _ (c : RawSettings) (i : Program) (m : Machine) (h : ℕ) (s : HartState) (a word : ℕ) (r : Row) where
+  is_first : (x : Row) → x.fault ≡ None → x ∷ [] ≡ r ∷ [] → r.fault ≡ None
+  is_first x e f = ap (λ (y : Row). y.fault) (sym (heads x r [] [] f)) ∙ e
+
+  want_faultless : (w : Want) → asked_rows c i m h w s ≡ r ∷ [] → word_told r a ≡ Some word → r.fault ≡ None
+  want_faultless Cut e t = absurd (no_row r e)
+  want_faultless (Faulted f y) e t = absurd (none-some word (ap (λ (x : Row). word_told x a) (heads (fault_row h i s f y) r [] [] e) ∙ t))
+  want_faultless w e t = is_first _ refl e
+
+pub rows_that_tell : RowsThatTellHaveNoFault
+rows_that_tell c i run h before r a word has t = elim (turn_row c i run h before r has) [
+  | inl q ↦ absurd (none-some word (ap (λ (x : Row). word_told x a) q.row ∙ t))
+  | inr q ↦ want_faultless c i run.machine h (asked_at c i run h) a word r (want_at c i run h) q.row t
 ]

@@ -1,17 +1,14 @@
 -- The rows and points of whole runs.
-use Rattle.row_laws.proofs.Common.{◌≡◌, ℕ, suc, ◌+◌, Bool, true, false, List, [], ◌∷◌, ◌++◌, take, length, Option, Some, None, refl, sym, ◌∙◌, ap, subst, inl, inr, arith, ◌==◌, slice_get, slice_index, eq-eqb, append_assoc, Program, IsSetting, Row, RawSettings, HartState, access_point, Point, Read, Write, aligned, word_count, rows_of, turn_rows, start, run_of, run_from, legal_from, Run, turn, points_after, AddsCall, IsFill, TurnRowsAreRows, RunRowsTellWords, RunWritersHaveRows, RunFillRowsFill, RunCallsAccess, state_after, word_point, Adds, memory_after}
+use Rattle.row_laws.proofs.Common.{◌≡◌, ℕ, suc, ◌+◌, Bool, true, false, List, [], ◌∷◌, ◌++◌, take, length, Option, Some, None, refl, sym, ◌∙◌, ap, subst, inl, inr, arith, ◌==◌, slice_get, slice_index, eq-eqb, append_assoc, Program, IsSetting, Row, RawSettings, HartState, access_point, Point, Read, Write, aligned, word_count, rows_of, turn_rows, start, run_of, run_from, legal_from, Run, turn, points_after, AddsCall, IsFill, TurnRowsAreRows, RunRowsTellWords, RunWritersHaveRows, RunFillRowsFill, RunCallsAccess, state_after, word_point, Adds, memory_after, want_at, point_at, run_append, old_at, get_new}
 use Rattle.system_calls.specs.declared.effect.Plan.TheVariants as plans
 use Rattle.row_laws.proofs.Along.{after_append}
 use Rattle.row_laws.proofs.Filling.{fill_rows_fill}
 use Rattle.row_laws.proofs.Sending.{send_rows_send, call_inside}
-use Rattle.run_laws.proofs.Converse.{run_append}
 use Rattle.row_laws.proofs.Lists.{Known, AreMoves, all_move, both_move, rows_by, along}
 use Rattle.row_laws.proofs.Places.{points_are_of_turns}
 use Rattle.row_laws.proofs.Telling.{rows_tell_words}
 use Rattle.row_laws.proofs.Writers.{writers_have_rows}
-use Rattle.row_laws.proofs.Asked.{point_at, turn_served, want_at}
-use Rattle.race_log.proofs.Next.{old_at, get_new}
-use Rattle.row_laws.proofs.Points.{DecidesWrites}
+use Rattle.row_laws.proofs.Asked.{turn_served, DecidesWrites}
 
 -- ---- rows
 

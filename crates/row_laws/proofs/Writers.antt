@@ -1,16 +1,13 @@
 -- The rows of the points that write.
-use Rattle.row_laws.proofs.Common.{◌≡◌, ℕ, zero, suc, ◌+◌, ◌*◌, ◌<◌, Bool, true, false, ◌&&◌, List, [], ◌∷◌, ◌++◌, length, Option, Some, None, refl, sym, ◌∙◌, ap, subst, inl, inr, arith, ◌==◌, ◌⊎◌, slice_get, slice_index, list_any, false≢true, eq-eqb, eqb-true, length-append, Program, may_load, may_store, Row, RawSettings, HartState, stored_word, amo_result, Asks, step, passes, aligned, Want, Load, Store, LoadReserved, StoreConditional, Amo, System, Cut, Faulted, Plan, row_of, call_row, at_address, access_point, accesses_from, is_write, Point, Access, Writes, Read, Write, Span, Machine, answer_sc, answer_call, is_reserved, planned, word_count, sc_store, answered_reg, Run, point_of, points_after, sc_span, call_span, span, budget, HasCodeWords, Fills, WritersHaveRows, AsksOrderly, Adds}
+use Rattle.row_laws.proofs.Common.{◌≡◌, ℕ, zero, suc, ◌+◌, ◌*◌, ◌<◌, Bool, true, false, ◌&&◌, List, [], ◌∷◌, ◌++◌, length, Option, Some, None, refl, sym, ◌∙◌, ap, subst, inl, inr, arith, ◌==◌, ◌⊎◌, slice_get, slice_index, list_any, false≢true, eq-eqb, eqb-true, length-append, Program, may_load, may_store, Row, RawSettings, HartState, stored_word, amo_result, Asks, step, passes, aligned, Want, Load, Store, LoadReserved, StoreConditional, Amo, System, Cut, Plan, row_of, call_row, at_address, access_point, accesses_from, is_write, Point, Access, Writes, Read, Write, Span, Machine, answer_sc, answer_call, is_reserved, planned, word_count, sc_store, answered_reg, Run, point_of, points_after, sc_span, call_span, span, budget, HasCodeWords, Fills, WritersHaveRows, AsksOrderly, Adds, and_parts, want_at, asked_at, point_at, aligned_own, get_new, or_split, not_cut, same_Some, none-some}
 use Rattle.system_calls.specs.declared.effect.Plan.TheVariants as plans
 use Rattle.row_laws.proofs.Along.{asked_rows, quiet_states, came}
 use Rattle.row_laws.proofs.Cases.{ask_row}
 use Rattle.row_laws.proofs.Ecalls.{step_calls}
 use Rattle.row_laws.proofs.Plans.{IsFillOf, planned_fills}
-use Rattle.row_laws.proofs.Telling.{some_is, not_some, updated_here, passing}
+use Rattle.row_laws.proofs.Telling.{updated_here, passing}
 use Rattle.replay_laws.proofs.Asked.{state_after as answered_state, reply_to, memory_after as answered_memory, span_to}
-use Rattle.row_laws.proofs.Asked.{want_at, asked_at, point_at, aligned_own, not_cut, turn_served}
-use Rattle.race_log.proofs.Next.{get_new}
-use Rattle.race_log.proofs.BoolFacts.{or_split}
-use Rattle.row_laws.proofs.Points.{DecidesWrites}
+use Rattle.row_laws.proofs.Asked.{turn_served, DecidesWrites}
 
 -- ---- the words of a point
 
@@ -18,25 +15,21 @@ pub writes_range : (first n a : ℕ) (b : Bool) → list_any (λ (x : Access). (
     → (b ≡ true) × ((j : ℕ) × (j < n) × (a ≡ first + 4 * j))
 writes_range first zero a b e = absurd (false≢true e)
 writes_range first (suc n) a b e = elim (or_split ((first == a) && b) (list_any (λ (x : Access). (x.word == a) && x.writes) (accesses_from (first + 4) n b)) e) [
-  | inl here ↦ (let p = parts (first == a) b here in let is : first ≡ a = eqb-true first a p.0 in (p.1, (0, omega arith, omega (arith, is))))
+  | inl here ↦ (let p = and_parts (first == a) b here in let is : first ≡ a = eqb-true first a p.0 in (p.1, (0, omega arith, omega (arith, is))))
   | inr later ↦ (let r = writes_range (first + 4) n a b later in (r.0, (r.1.0 + 1, omega (arith, r.1.1), omega (arith, r.1.2))))
 ]
-  where
-    parts : (x y : Bool) → (x && y) ≡ true → (x ≡ true) × (y ≡ true)
-    parts true y f = (refl, f)
-    parts false y f = absurd (false≢true f)
 
 -- what a point of these words writes
 span_writes : DecidesWrites → (h ic turns : ℕ) (s : Span) (p : Point) (a : ℕ) → point_of h ic turns (Some s) ≡ Some p → Writes a p
     → (is_write s.mode ≡ true) × ((j : ℕ) × (j < s.count) × (a ≡ s.first + 4 * j))
 span_writes decides h ic turns s p a e w =
     let q : Point = access_point h ic turns s.first s.count s.mode in
-    writes_range s.first s.count a (is_write s.mode) ((decides a q).1 (subst (Writes a) (sym (some_is q p e)) w))
+    writes_range s.first s.count a (is_write s.mode) ((decides a q).1 (subst (Writes a) (sym (same_Some q p e)) w))
 
 pub point_is : (h ic turns : ℕ) (o : Option Span) (p : Point) → point_of h ic turns o ≡ Some p → (p.hart ≡ h) × (p.count ≡ ic) × (p.turn ≡ turns)
-point_is h ic turns None p e = absurd (not_some p e)
+point_is h ic turns None p e = absurd (none-some p e)
 point_is h ic turns (Some s) p e =
-    let is : p ≡ access_point h ic turns s.first s.count s.mode = sym (some_is (access_point h ic turns s.first s.count s.mode) p e) in
+    let is : p ≡ access_point h ic turns s.first s.count s.mode = sym (same_Some (access_point h ic turns s.first s.count s.mode) p e) in
     (ap (λ (x : Point). x.hart) is, ap (λ (x : Point). x.count) is, ap (λ (x : Point). x.turn) is)
 
 -- ---- the row of an ask whose point writes
@@ -56,7 +49,7 @@ sc_writes decides true m h b v ic turns p a own e w =
     let r = span_writes decides h ic turns (span b 1 Write) p a e w in
     let same : b ≡ a = omega (arith, r.1.1, r.1.2) in
     stores b v a m.memory _ (own ∙ same) (updated_here b v m.memory a (sym same))
-sc_writes decides false m h b v ic turns p a own e w = absurd (not_some p e)
+sc_writes decides false m h b v ic turns p a own e w = absurd (none-some p e)
 
 call_writes : DecidesWrites → (pl : Plan) (i : Program) (m : Machine) (h n : ℕ) (args : List ℕ) (s : HartState) (turns : ℕ) (p : Point) (a : ℕ) → HasCodeWords i → step i s ≡ Asks (System n args)
     → IsFillOf n (slice_index args 0) (slice_index args 1) pl → point_of h s.ic turns (call_span pl) ≡ Some p → Writes a p
@@ -71,10 +64,7 @@ call_writes decides (plans.Fill b z) i m h n args s turns p a codes asks f e w =
       byte = record { own = omega (arith, r.1.2); from = omega (arith, r.1.2, first); to = omega (arith, r.1.1, r.1.2, first) };
     }
 call_writes decides (plans.Send f b z) i m h n args s turns p a codes asks g e w = absurd (false≢true (span_writes decides h s.ic turns (span (aligned b) (word_count b z) Read) p a e w).0)
-call_writes decides (plans.Break x) i m h n args s turns p a codes asks g e w = absurd (not_some p e)
-call_writes decides (plans.Answer x) i m h n args s turns p a codes asks g e w = absurd (not_some p e)
-call_writes decides (plans.EndHart x) i m h n args s turns p a codes asks g e w = absurd (not_some p e)
-call_writes decides (plans.EndRun x) i m h n args s turns p a codes asks g e w = absurd (not_some p e)
+call_writes decides pl i m h n args s turns p a codes asks g e w = absurd (none-some p e)
 
 want_writes : DecidesWrites → (w : Want) (c : RawSettings) (i : Program) (m : Machine) (h : ℕ) (s : HartState) (turns : ℕ) (p : Point) (a : ℕ) → HasCodeWords i → passes i w ≡ true
     → (w ≡ Cut) ⊎ (step i s ≡ Asks w) → point_of h s.ic turns (span_to c i m h w s) ≡ Some p → Writes a p → Written c i m h w s a
@@ -114,8 +104,7 @@ want_writes decides (System n args) c i m h s turns p a codes fine asks e w =
       count = refl;
       writes = inr (call_writes decides (planned i m n args) i m h n args s turns p a codes (not_cut (System n args) i s refl asks) (planned_fills i m n args) e w);
     }
-want_writes decides Cut c i m h s turns p a codes fine asks e w = absurd (not_some p e)
-want_writes decides (Faulted f y) c i m h s turns p a codes fine asks e w = absurd (not_some p e)
+want_writes decides want c i m h s turns p a codes fine asks e w = absurd (none-some p e)
 
 -- ---- a turn
 

@@ -35,6 +35,7 @@ pub fn rows_tell_runs()
 }
 
 /// Each row of a hart is that of one of its turns, with the same state before it.
+#[tactic(auto, using(crate::proofs::Places::rows_are_of_turns))]
 pub fn rows_are_of_turns()
     ensures { RowsAreOfTurns }
 {
@@ -88,6 +89,7 @@ pub fn rows_that_tell_have_no_fault()
 {}
 
 /// Each point of a run is the one that a turn of its hart added, at its place.
+#[tactic(auto, using(crate::proofs::Places::points_are_of_turns))]
 pub fn points_are_of_turns()
     ensures { PointsAreOfTurns }
 {
@@ -107,6 +109,7 @@ pub fn writers_have_rows()
 
 /// Each point of a run that writes a word has a row of its hart and count: it stores the word, or is that
 /// of a read call that fills bytes of it.
+#[tactic(auto, using(crate::proofs::Whole::run_writers_have_rows))]
 pub fn run_writers_have_rows()
     ensures { RunWritersHaveRows }
 {
@@ -130,6 +133,7 @@ pub fn fill_rows_fill()
 }
 
 /// The run has the point of such a row, which writes each word with one of the bytes.
+#[tactic(auto, using(crate::proofs::Whole::run_fill_rows_fill))]
 pub fn run_fill_rows_fill()
     ensures { RunFillRowsFill }
 {
@@ -146,6 +150,7 @@ pub fn send_rows_send()
 
 /// The run has the point of each row of a call that fills or takes bytes: it accesses just the words in which
 /// they lie, and these are below the memory's size.
+#[tactic(auto, using(crate::proofs::Whole::run_calls_access))]
 pub fn run_calls_access()
     ensures { RunCallsAccess }
 {

@@ -1,8 +1,5 @@
-use Rattle.row_laws.proofs.Lists.{Known}
 use Rattle.row_laws.proofs.Intervals.{interval_rows}
 use Rattle.row_laws.proofs.interval_rows_are_of_turns.Goals as goal
 
 pub returns : goal.returns
-returns c =
-    let known : Known = record { asks = c.own_asks_are_orderly.ensures; moves = c.turns_move_their_hart.ensures } in
-    interval_rows known c.intervals_begin_in_the_run.ensures
+returns c = interval_rows (record { asks = c.own_asks_are_orderly.ensures; moves = c.turns_move_their_hart.ensures }) c.intervals_begin_in_the_run.ensures

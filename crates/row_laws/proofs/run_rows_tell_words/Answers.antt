@@ -1,8 +1,5 @@
-use Rattle.row_laws.proofs.Lists.{Known}
 use Rattle.row_laws.proofs.Whole.{run_rows_tell_words}
 use Rattle.row_laws.proofs.run_rows_tell_words.Goals as goal
 
 pub returns : goal.returns
-returns c =
-    let known : Known = record { asks = c.own_asks_are_orderly.ensures; moves = c.turns_move_their_hart.ensures } in
-    run_rows_tell_words known
+returns c = run_rows_tell_words (record { asks = c.own_asks_are_orderly.ensures; moves = c.turns_move_their_hart.ensures })

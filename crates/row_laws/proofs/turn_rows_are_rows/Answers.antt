@@ -1,8 +1,5 @@
-use Rattle.row_laws.proofs.Lists.{Known}
 use Rattle.row_laws.proofs.Whole.{turn_rows_are_rows}
 use Rattle.row_laws.proofs.turn_rows_are_rows.Goals as goal
 
 pub returns : goal.returns
-returns c =
-    let known : Known = record { asks = c.own_asks_are_orderly.ensures; moves = c.turns_move_their_hart.ensures } in
-    turn_rows_are_rows known
+returns c = turn_rows_are_rows (record { asks = c.own_asks_are_orderly.ensures; moves = c.turns_move_their_hart.ensures })
