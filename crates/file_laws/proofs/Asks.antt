@@ -1,11 +1,12 @@
 -- A hart's states and asks hold words, if the registers and the program do.
-use Rattle.file_laws.proofs.Common.{◌≡◌, ℕ, zero, suc, ◌+◌, ◌*◌, ◌/◌, ◌%◌, ◌<◌, ◌^◌, Bool, true, false, List, [], ◌∷◌, set, slice_index, length, refl, ◌∙◌, arith, mod-lt, pow_pos, ◌==◌, not, nat_lt, if◌then◌else◌, Option, Some, None, length-set, Program, code_at, may_load, may_store, HartState, TargetMisaligned, LoadOutside, LoadMisaligned, StoreOutside, StoreMisaligned, StoreReadOnly, wrap, add, less, AreWords, Step, Quiet, Asks, ask_of, fetched, executed, meaning, branch, reg, src1, src2, near, there, next_with, next_at, load_or, store_or, AmoOp, Ask, Want, Load, Store, LoadReserved, StoreConditional, Amo, System, Cut, Faulted}
+use Rattle.file_laws.proofs.Common.{◌≡◌, ℕ, zero, suc, ◌+◌, ◌*◌, ◌/◌, ◌%◌, ◌<◌, ◌^◌, Bool, true, false, List, [], ◌∷◌, set, slice_index, length, refl, ◌∙◌, arith, mod-lt, pow_pos, ◌==◌, not, nat_lt, if◌then◌else◌, Option, Some, None, Program, code_at, may_load, may_store, HartState, TargetMisaligned, LoadOutside, LoadMisaligned, StoreOutside, StoreMisaligned, StoreReadOnly, wrap, add, less, AreWords, Step, Quiet, Asks, ask_of, fetched, executed, meaning, branch, reg, src1, src2, near, there, next_with, next_at, load_or, store_or, AmoOp, Ask, Want, Load, Store, StoreConditional, Amo, System, Faulted}
 use Rattle.bn_base.specs.Registers.{put_reg}
 use Rattle.rv_decode.specs.Table.{Instruction, decoded}
 use Rattle.rv_decode.specs.declared.name.Name.{Name}
 use Rattle.rv_decode.specs.declared.name.Name.TheVariants.{Jal, Jalr, Beq, Bne, Blt, Bge, Bltu, Bgeu, Lb, Lh, Lw, Lbu, Lhu, Sb, Sh, Sw, Fence, Ecall, Ebreak, LrW, ScW, AmoswapW, AmoaddW, AmoxorW, AmoandW, AmoorW, AmominW, AmomaxW, AmominuW, AmomaxuW}
 use Rattle.rv_meaning.specs.Execute.{step}
 use Rattle.rv_meaning.specs.declared.amo.AmoOp.TheVariants as ops
+use Rattle.run_laws.proofs.Registers.{put_count}
 
 -- the law of registers that is used here
 abbrev pub StepsKeepWords : Type 0
@@ -19,24 +20,18 @@ pub record IsFormed (s : HartState) : Type 0 where
 
 -- the numbers of an ask that its answer or its mark takes in
 abbrev pub HoldsWords : Want → Type 0
-HoldsWords (Load addr width signed rd) = Unit {0}
-HoldsWords (LoadReserved addr rd) = Unit {0}
 HoldsWords (Store addr width value) = value < 2 ^ 32
 HoldsWords (StoreConditional addr rd value) = value < 2 ^ 32
 HoldsWords (Amo addr op rd value) = value < 2 ^ 32
 HoldsWords (System number args) = AreWords args
-HoldsWords Cut = Unit {0}
 HoldsWords (Faulted kind value) = value < 2 ^ 32
+HoldsWords want = Unit {0}
 
 -- ---- registers
 
 set_first : (x : List ℕ) (r v : ℕ) → slice_index (set x (suc r) v) 0 ≡ slice_index x 0
 set_first [] r v = refl
 set_first (y ∷ x) r v = refl
-
-put_count : (r v : ℕ) (x : List ℕ) → length (put_reg r v x) ≡ length x
-put_count zero v x = refl
-put_count (suc r) v x = length-set x (suc r) v
 
 put_first : (r v : ℕ) (x : List ℕ) → slice_index (put_reg r v x) 0 ≡ slice_index x 0
 put_first zero v x = refl

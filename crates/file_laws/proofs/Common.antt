@@ -1,7 +1,11 @@
 -- What several files of proofs/ cite of other crates and of specs/. They import it from here, by one line.
-pub use Rattle.std.proofs.Common.{Bool, Contains, IsTrue, List, None, Ok, Option, Result, Some, [], ap, append-nil, append_assoc, arith, cond, div-le_self, false, get_or, if◌then◌else◌, inl, inr, length, length-append, length-set, map, max, min, mod-lt, mul-le-mul, nat_le, nat_lt, not, pow_pos, refl, replicate, set, slice_get, slice_index, slice_set, subst, suc, sym, take, true, zero, ℕ, ◌%◌, ◌&&◌, ◌*◌, ◌++◌, ◌+◌, ◌-◌, ◌/◌, ◌<◌, ◌==◌, ◌^◌, ◌||◌, ◌↔◌, ◌∙◌, ◌∷◌, ◌≡◌, ◌≢◌, ◌≤◌, ◌⊎◌}
-pub use Rattle.std.proofs.lemmas.Bool.{false≢true}
+pub use Rattle.std.proofs.Common.{Bool, List, None, Ok, Option, Result, Some, [], ap, append-nil, append_assoc, arith, cond, div-le_self, eqb-true, false, get_or, if◌then◌else◌, inl, inr, length, length-append, length-set, ltb-true, map, max, min, mod-lt, mul-le-mul, nat_le, nat_lt, ne_eqb, not, pow_pos, refl, replicate, set, slice_get, slice_index, slice_set, subst, suc, sym, take, true, zero, ℕ, ◌%◌, ◌&&◌, ◌*◌, ◌++◌, ◌+◌, ◌-◌, ◌/◌, ◌<◌, ◌==◌, ◌^◌, ◌||◌, ◌∙◌, ◌∷◌, ◌≡◌, ◌≢◌, ◌≤◌, ◌⊎◌}
+pub use Rattle.std.proofs.lemmas.Bool.{and_from, and_parts, false≢true, leb-true, not-true, or_parts}
 pub use Rattle.std.proofs.lemmas.Bool.Decides.{eqb_tells}
+pub use Rattle.std.proofs.lemmas.Option.{same_Some, slice_get_within}
+pub use Rattle.run_laws.proofs.Few.{ListedEdges, all_contained}
+pub use Rattle.run_model.proofs.MoveOn.{budget_interval, budget_limit}
+pub use Rattle.run_model.proofs.Asked.{eqb_same}
 pub use Rattle.std.specs.List.{AllByRecursion, list_all}
 pub use Rattle.bn_base.specs.Programs.{AreApart, IsProgram, Part, Program, code_at, code_in, end_of, first_at, first_in, heap_limit, heap_start, highest_end, is_in, may_load, may_store, part_at, part_or, word_in}
 pub use Rattle.bn_base.specs.Ranges.{IsSetting, default_settings}
@@ -10,7 +14,7 @@ pub use Rattle.bn_base.specs.declared.fault.Fault.TheVariants.{Breakpoint, Fetch
 pub use Rattle.bn_base.specs.declared.settings.RawSettings.{RawSettings}
 pub use Rattle.bn_base.specs.declared.state.HartState.{HartState}
 pub use Rattle.bn_outside.specs.declared.turn_row.TurnRow.{TurnRow}
-pub use Rattle.elf_loader.specs.Laws.{HasWords, IsImage}
+pub use Rattle.elf_loader.specs.Laws.{HasWords, IsImage, LoadedProgramsAreImages}
 pub use Rattle.first_load_bits.specs.declared.warm.Warm.{Warm}
 pub use Rattle.hart_replay.specs.Replay.{Interval, interval_from, interval_of, nothing, puts, replayed}
 pub use Rattle.log_order.specs.Content.{Content, IsContent}
@@ -32,13 +36,15 @@ pub use Rattle.race_log.specs.Points.{Point}
 pub use Rattle.race_log.specs.Tests.{edges_into, name_of, sources_into}
 pub use Rattle.replay_laws.specs.Law.{EndsSuffice, LogSuffices}
 pub use Rattle.run_laws.specs.History.{IsLawful, after_rows, are_orderly}
-pub use Rattle.run_laws.specs.Laws.{EdgesAreFew, KeptIsAnEnd}
+pub use Rattle.run_laws.specs.Laws.{EdgesAreFew, KeptIsAnEnd, RunsEnd}
+pub use Rattle.run_laws.proofs.LastEnds.{first_or_later, other_is, own_is}
+pub use Rattle.run_laws.proofs.Turns.{AsksAreOrderly, all_first, all_less, fit_start, legal_first, one_less, ordered, other_state, own_state, served, uncut}
 pub use Rattle.run_model.specs.Counts.{EachTurnFits, EachTurnMovesOn, GuardedAsksFit, IsFit, IsRested, MovesOn, OthersStayFit, anew, is_on, is_there, turns_left}
 pub use Rattle.run_model.specs.KeptRecords.{IsEndOf, content_of, dropped_of, kept_of}
 pub use Rattle.run_model.specs.Machine.{Answered, Machine, answer, answer_access, answer_call, answer_sc, bytes_in, call_of, filled, is_reserved, kernel_of, planned, put_byte, sent}
 pub use Rattle.run_model.specs.Represents.Logs.{is_marked_next}
-pub use Rattle.run_model.specs.Runs.{any_live, first_headers, has_finished, is_live, legal_from, most_turns, run_from, run_of, start, start_hart, start_state}
-pub use Rattle.run_model.specs.Turn.{Run, Served, after_ask, after_call, ask_at, begun_anew, budget, by_guard, edge_records, edges_from, guard_records, guarded_run, hart_after, harts_after, header, is_guarded, is_orderly, load_record, loading, mark, next_of, next_records, other_after, point_of, points_after, run_over_records, sc_record, serve_disorderly, serve_orderly, served_if, skipped_after, span_of, stopped, stopped_records, turn, warmth, word_before}
+pub use Rattle.run_model.specs.Runs.{any_live, first_headers, has_finished, legal_from, most_turns, run_from, run_of, start, start_hart, start_state}
+pub use Rattle.run_model.specs.Turn.{Run, Served, after_ask, after_call, ask_at, begun_anew, budget, by_guard, edge_records, edges_from, guard_records, guarded_run, hart_after, harts_after, header, is_guarded, is_orderly, load_record, loading, mark, next_of, next_records, other_after, point_of, points_after, run_over_records, sc_record, serve_disorderly, served_if, skipped_after, span_of, stopped, stopped_records, turn, warmth, word_before}
 unfoldable pub use Rattle.run_model.specs.Turn.{serve}
 pub use Rattle.run_model.specs.declared.hart.Hart.{Hart}
 pub use Rattle.run_model.specs.declared.span.Span.{Span}
@@ -57,3 +63,4 @@ pub use Rattle.rv_meaning.specs.declared.asks.Want.TheVariants.{Amo, Cut, Faulte
 pub use Rattle.sha2.specs.Sha256.{sha256}
 pub use Rattle.system_calls.specs.declared.effect.Plan.{Plan}
 pub use Rattle.file_laws.specs.Recorded.{HoldsLogOfRows, KeepsRules, counts_of, ring_content}
+pub use Rattle.file_laws.specs.Laws.{FinishedLogsAreInOrder, KeptRecordsKeepTheRules, LogsAreContents, LogsOfRowsAreContents, SalvagedFilesSuffice, StreamsAreInOrder}

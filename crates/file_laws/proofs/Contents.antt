@@ -1,16 +1,15 @@
 -- What is kept of a recording is what a log says.
-use Rattle.file_laws.proofs.Common.{◌≡◌, ℕ, zero, suc, ◌+◌, ◌-◌, ◌*◌, ◌%◌, ◌<◌, ◌≤◌, ◌^◌, Bool, true, false, nat_lt, Option, Some, None, List, [], ◌∷◌, ◌++◌, length, replicate, set, refl, sym, ◌∙◌, ap, subst, arith, inl, inr, mod-lt, pow_pos, mul-le-mul, ◌==◌, if◌then◌else◌, slice_set, IsTrue, AllByRecursion, eqb_tells, length-append, Program, IsSetting, RawSettings, HartState, ask_of, absorbed, orderly, passes, is_counted, AreWords, Ask, Plan, Point, IsImage, Record, Fits, total, IsContent, broken_by, kept, Hart, TurnEnd, Span, Answered, answer, call_of, Run, Served, turn, ask_at, is_guarded, begun_anew, guarded_run, guard_records, after_ask, span_of, next_of, loading, warmth, word_before, budget, point_of, edge_records, load_record, sc_record, next_records, run_over_records, harts_after, is_orderly, start, start_state, first_headers, run_from, legal_from, most_turns, IsFit, MovesOn, kept_of, dropped_of, content_of, counts_of, EdgesAreFew}
+use Rattle.file_laws.proofs.Common.{◌≡◌, ℕ, zero, suc, ◌+◌, ◌-◌, ◌*◌, ◌%◌, ◌<◌, ◌≤◌, ◌^◌, Bool, true, false, nat_lt, Option, Some, None, List, [], ◌∷◌, ◌++◌, length, replicate, set, refl, sym, ◌∙◌, ap, subst, arith, inl, inr, mod-lt, pow_pos, mul-le-mul, ◌==◌, if◌then◌else◌, slice_set, AllByRecursion, eqb_tells, length-append, Program, IsSetting, RawSettings, HartState, absorbed, orderly, passes, is_counted, AreWords, Ask, Plan, Point, IsImage, Record, Fits, total, IsContent, broken_by, kept, Hart, TurnEnd, Span, Answered, answer, call_of, Run, Served, turn, ask_at, is_guarded, begun_anew, guarded_run, guard_records, after_ask, span_of, next_of, loading, warmth, word_before, budget, point_of, edge_records, load_record, sc_record, next_records, run_over_records, harts_after, is_orderly, start, start_state, first_headers, run_from, legal_from, most_turns, MovesOn, kept_of, dropped_of, content_of, counts_of, EdgesAreFew, and_parts, ltb-true, own_is, other_is, legal_first, own_state, other_state, uncut, served, ordered, run_of, sha256, same_Some, LogsAreContents, StreamsAreInOrder, LoadedProgramsAreImages, RunsEnd, AsksAreOrderly}
 use Rattle.file_laws.proofs.Asks.{StepsKeepWords, asks_well}
 use Rattle.file_laws.proofs.Machines.{HoldsMachine, IsWordState, EndIsWord, answer_well, state_after, end_word, code_words, first_words, heap_word}
 use Rattle.file_laws.proofs.Nexts.{EndsAs, next_ends}
-use Rattle.file_laws.proofs.Few.{few_edges}
+use Rattle.file_laws.proofs.Sources.{few_edges}
 use Rattle.file_laws.proofs.Fields.{header_fits, edge_records_fit, load_fits, conditional_fits, next_fits, over_fits, fits_any, guard_fits, load_few, conditional_few, next_few, over_few}
-use Rattle.file_laws.proofs.Turns.{Laws, Recording, Underway, all_both, own_hart, own_is, other_is, own_state, other_state, turn_within, asking, guard_is, uncut, anew_is, anew_other, asking_kept, asks, served, turn_kept}
-use Rattle.file_laws.proofs.Rows.{SuffixIsKept, both, below_of, last_part}
-use Rattle.run_laws.proofs.Turns.{legal_first}
-
-abbrev pub AsksAreOrderly : Type 0
-AsksAreOrderly = (i : Program) (b : ℕ) (s : HartState) → s.ic + b < 2 ^ 64 → IsTrue (orderly i s.ic b (ask_of i b s))
+use Rattle.file_laws.proofs.Turns.{Laws, Recording, Underway, all_both, own_hart, turn_within, asking, guard_is, anew_is, anew_other, asking_kept, asks, turn_kept}
+use Rattle.file_laws.proofs.Rows.{SuffixIsKept, last_part, FirstAreGivenUp, KeptAreInOrder, EarlyAreNotLate, kept_in_order, stream_in_order}
+use Rattle.sha2.proofs.Facts256.{length-sha256}
+use Rattle.file_laws.specs.Given.{IsRecording}
+use Rattle.file_laws.proofs.Starts.{NoneAreKept, started}
 
 -- the laws that are used here
 pub record AllLaws : Type 0 where
@@ -42,16 +41,7 @@ word_loaded (Some a) memory words = words a
 
 own_point : (span : Option Span) (k asked turns : ℕ) (p : Point) → point_of k asked turns span ≡ Some p → k < 256 → asked < 2 ^ 64 → (p.hart < 256) × (p.count < 2 ^ 64)
 own_point None k asked turns p e small low = cc
-own_point (Some x) k asked turns p e small low = let hart : k ≡ p.hart = hart_of_some _ p e in let count : asked ≡ p.count = count_of_some _ p e in (omega (arith, hart, small), omega (arith, count, low))
-  where
-    same_point : (q r : Point) → ◌≡◌ {A = Option Point} (Some q) (Some r) → q ≡ r
-    same_point q r e = cc
-
-    hart_of_some : (q r : Point) → ◌≡◌ {A = Option Point} (Some q) (Some r) → q.hart ≡ r.hart
-    hart_of_some q r e = ap (λ (x : Point). x.hart) (same_point q r e)
-
-    count_of_some : (q r : Point) → ◌≡◌ {A = Option Point} (Some q) (Some r) → q.count ≡ r.count
-    count_of_some q r e = ap (λ (x : Point). x.count) (same_point q r e)
+own_point (Some x) k asked turns p e small low = let hart : k ≡ p.hart = ap (λ (x : Point). x.hart) (same_Some _ p e) in let count : asked ≡ p.count = ap (λ (x : Point). x.count) (same_Some _ p e) in (omega (arith, hart, small), omega (arith, count, low))
 
 states_on : (c : RawSettings) (run : Run) (k : ℕ) (ask : Ask) (next : TurnEnd) (s : HartState) (bytes : ℕ) → ((j : ℕ) → j < c.harts → IsWordState (run.harts j).state) → IsWordState s → (j : ℕ) → j < c.harts
     → IsWordState (harts_after next k (own_hart c run k ask next s bytes) run.harts j).state
@@ -100,14 +90,8 @@ worded_after laws c run k ask call answered span next s setting known w there on
           omega (arith, five_parts run.stream es ls cs ns os, w.few, edges, load_few load k h.skipped word, conditional_few answered.reply k, next_few next k h.number s, over_few next k c.harts run.harts, harts));
     }
 
-budget_limit : (c : RawSettings) (h : Hart) → budget c h ≤ c.limit - h.state.ic
-budget_limit c h = omega arith
-
-ordered : AsksAreOrderly → (c : RawSettings) (i : Program) (h : Hart) → c.limit < 2 ^ 63 → IsFit c h → is_orderly c i h (ask_at c i h) ≡ true
-ordered asks c i h small fit = asks i (budget c h) h.state (omega (arith, small, fit.limit, budget_limit c h))
-
 passed : (i : Program) (from b : ℕ) (ask : Ask) → orderly i from b ask ≡ true → passes i ask.want ≡ true
-passed i from b ask e = (both (is_counted from b ask.want ask.state.ic) (passes i ask.want) e).1
+passed i from b ask e = (and_parts (is_counted from b ask.want ask.state.ic) (passes i ask.want) e).1
 
 -- once the guard has begun an interval
 anew_worded : (c : RawSettings) (run : Run) (k : ℕ) (s : HartState) → IsSetting c → Recording c run → Worded c 0 run → k < c.harts → c.format ≡ 2 → s.ic < 2 ^ 64 → IsWordState s → Worded c 2 (begun_anew run k s)
@@ -171,8 +155,8 @@ pub turns_after : AllLaws → (c : RawSettings) (i : Program) (run : Run) (b : L
 turns_after laws c i run [] n setting image a e = (let z : n ≡ n + 0 = omega arith in subst (λ (m : ℕ). After c m run) z a)
 turns_after laws c i run (k ∷ ks) n setting image a e =
     let first = legal_first c i run k ks e in
-    let live = both (nat_lt k c.harts) (run.harts k).live first.0 in
-    let there = below_of k c.harts live.0 in
+    let live = and_parts (nat_lt k c.harts) (run.harts k).live first.0 in
+    let there = ltb-true k c.harts live.0 in
     let o = ordered laws.asks c i (run.harts k) (omega (arith, setting.limit_high)) (a.known.fit k).fit in
     let next : After c (n + 1) (turn c i run k) = record {
       known = turn_kept laws.turns c i run k (ask_at c i (run.harts k)) setting a.known there live.1 o;
@@ -242,3 +226,21 @@ is_content suffix bound c digest n run setting size a few order =
       bound = bound c.log_size run.stream;
       order = order;
     }
+
+-- ---- the laws
+
+-- the run of a recording
+recorded : AllLaws → LoadedProgramsAreImages → NoneAreKept → (c : RawSettings) (i : Program) (elf input b : List ℕ) → IsRecording c i elf input b → After c (0 + length b) (run_of c i input b)
+recorded laws images none c i elf input b r =
+    let image : IsImage i = images elf c i r.bytes r.setting r.loaded in
+    let begin : After c 0 (start c i input) = record { known = started laws.turns.order none c i input r.setting; words = start_worded c i input r.setting image; count = refl } in
+    turns_after laws c i (start c i input) b 0 r.setting image begin r.legal
+
+pub contents : AllLaws → LoadedProgramsAreImages → RunsEnd → NoneAreKept → SuffixIsKept → KeptFit → FirstAreGivenUp → KeptAreInOrder → EarlyAreNotLate → LogsAreContents
+contents laws images ends none suffix fit given order early c i elf input b r =
+    let end = recorded laws images none c i elf input b r in
+    is_content suffix fit c (sha256 elf) _ (run_of c i input b) r.setting (length-sha256 elf) end (omega (arith, ends c i input b r.setting r.legal))
+    (kept_in_order suffix given order early c (run_of c i input b) end.known r.over)
+
+pub streams_in_order : AllLaws → LoadedProgramsAreImages → NoneAreKept → KeptAreInOrder → EarlyAreNotLate → StreamsAreInOrder
+streams_in_order laws images none order early c i elf input b r = stream_in_order order early c (run_of c i input b) (recorded laws images none c i elf input b r).known r.over

@@ -1,9 +1,9 @@
 -- The records of a turn fit their fields, and are few.
-use Rattle.file_laws.proofs.Common.{◌≡◌, ℕ, zero, suc, ◌+◌, ◌<◌, ◌≤◌, ◌^◌, Bool, true, false, not, ◌&&◌, ◌||◌, Option, Some, None, List, [], ◌∷◌, length, slice_index, refl, sym, ◌∙◌, ap, arith, ◌==◌, AllByRecursion, RawSettings, HartState, AreWords, Reply, Warm, Point, Record, EndMark, Header, FirstLoad, ScOk, ScFailed, Edge, End, Fits, AreRegisters, has_value, is_mark, is_marked, Hart, TurnEnd, GoesOn, NewInterval, HartOver, RunOver, is_marked_next, edges_from, edge_records, load_record, sc_record, next_records, stopped_records, run_over_records, by_guard, header, mark}
+use Rattle.file_laws.proofs.Common.{◌≡◌, ℕ, zero, suc, ◌+◌, ◌<◌, ◌≤◌, ◌^◌, Bool, true, false, not, ◌&&◌, ◌||◌, Option, Some, None, List, [], ◌∷◌, length, slice_index, refl, sym, ◌∙◌, ap, arith, ◌==◌, AllByRecursion, RawSettings, HartState, AreWords, Reply, Warm, Point, Record, EndMark, ScOk, ScFailed, End, Fits, AreRegisters, has_value, is_mark, is_marked, Hart, TurnEnd, GoesOn, NewInterval, HartOver, RunOver, is_marked_next, edges_from, edge_records, load_record, sc_record, next_records, stopped_records, run_over_records, by_guard, header, mark, ListedEdges}
 use Rattle.rv_meaning.specs.declared.asks.Reply.TheVariants as replies
 use Rattle.first_load_bits.specs.declared.warm.Warm.TheVariants as answers
 use Rattle.file_laws.proofs.Views.{AreSources}
-use Rattle.file_laws.proofs.Sources.{ListedEdges, ArePoints, sources_are}
+use Rattle.file_laws.proofs.Sources.{ArePoints, sources_are}
 use Rattle.file_laws.proofs.Nexts.{EndsAs}
 use Rattle.file_laws.proofs.Machines.{IsWordState, EndIsWord}
 
@@ -36,8 +36,7 @@ edge_records_fit listed (Some p) points n limit counts are high own harts low = 
 
 pub load_fits : (load : Option Warm) (k skipped word : ℕ) → k < 256 → skipped < 2 ^ 32 → word < 2 ^ 32 → AllByRecursion (Fits 1) (load_record load k skipped word)
 load_fits (Some answers.Cold) k skipped word small few w = (record { fields = (small, few, w); mark = refl }, tt)
-load_fits (Some answers.Warm) k skipped word small few w = tt
-load_fits None k skipped word small few w = tt
+load_fits load k skipped word small few w = tt
 
 pub conditional_fits : (reply : Reply) (k : ℕ) → k < 256 → AllByRecursion (Fits 1) (sc_record reply k)
 conditional_fits replies.ScOk k small = (record { fields = small; mark = refl }, tt)
@@ -69,9 +68,7 @@ stops_fit k j (suc n) harts within low =
 
 pub over_fits : (next : TurnEnd) (k n : ℕ) (harts : ℕ → Hart) → n ≤ 256 → ((i : ℕ) → (harts i).state.ic < 2 ^ 64) → AllByRecursion (Fits 1) (run_over_records next k n harts)
 over_fits (RunOver reason value) k n harts within low = stops_fit k 0 n harts (omega (arith, within)) low
-over_fits GoesOn k n harts within low = tt
-over_fits (NewInterval reason value) k n harts within low = tt
-over_fits (HartOver reason value) k n harts within low = tt
+over_fits next k n harts within low = tt
 
 -- ---- of any format
 
@@ -85,12 +82,8 @@ mark_any : (format : ℕ) (m : EndMark) → is_mark 1 m ≡ true → is_mark for
 mark_any format m e = any_by (has_value m.reason) (m.reason == 1 || m.reason == 5 || m.reason == 7 || m.reason == 18) ((format == 2) && (m.reason == 6)) (m.value == 0) e
 
 pub marked_any : (format : ℕ) (r : Record) → is_marked 1 r ≡ true → is_marked format r ≡ true
-marked_any format (Header h n ic pc x) e = refl
-marked_any format (FirstLoad h skip value) e = refl
-marked_any format (ScOk h) e = refl
-marked_any format (ScFailed h) e = refl
-marked_any format (Edge h ic s j) e = refl
 marked_any format (End h m) e = mark_any format m e
+marked_any format r e = refl
 
 pub fits_any : (format : ℕ) (rs : List Record) → AllByRecursion (Fits 1) rs → AllByRecursion (Fits format) rs
 fits_any format [] a = tt
@@ -104,19 +97,15 @@ guard_fits k number s small few low w = (record { fields = (small, low, omega ar
 
 pub load_few : (load : Option Warm) (k skipped word : ℕ) → length (load_record load k skipped word) ≤ 1
 load_few (Some answers.Cold) k skipped word = omega arith
-load_few (Some answers.Warm) k skipped word = omega arith
-load_few None k skipped word = omega arith
+load_few load k skipped word = omega arith
 
 pub conditional_few : (reply : Reply) (k : ℕ) → length (sc_record reply k) ≤ 1
 conditional_few replies.ScOk k = omega arith
-conditional_few replies.ScFailed k = omega arith
 conditional_few reply k = omega arith
 
 pub next_few : (next : TurnEnd) (k number : ℕ) (s : HartState) → length (next_records next k number s) ≤ 2
 next_few GoesOn k number s = omega arith
-next_few (NewInterval reason value) k number s = omega arith
-next_few (HartOver reason value) k number s = omega arith
-next_few (RunOver reason value) k number s = omega arith
+next_few next k number s = omega arith
 
 stop_few : (b : Bool) (j ic n : ℕ) (rs : List Record) → length rs ≤ n → length (elim b as (λ x. List Record) [ true ↦ End j (mark ic 5 0) ∷ rs | false ↦ rs ]) ≤ suc n
 stop_few true j ic n rs h = omega (arith, h)
@@ -128,6 +117,4 @@ stops_few k j (suc n) harts = stop_few (not (j == k) && (harts j).live) j (harts
 
 pub over_few : (next : TurnEnd) (k n : ℕ) (harts : ℕ → Hart) → length (run_over_records next k n harts) ≤ n
 over_few (RunOver reason value) k n harts = stops_few k 0 n harts
-over_few GoesOn k n harts = omega arith
-over_few (NewInterval reason value) k n harts = omega arith
-over_few (HartOver reason value) k n harts = omega arith
+over_few next k n harts = omega arith

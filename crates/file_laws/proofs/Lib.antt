@@ -9,7 +9,6 @@ pub mod Rows
 pub mod Asks
 pub mod Words
 pub mod Machines
-pub mod Few
 pub mod Fields
 pub mod Contents
 pub mod OfRows

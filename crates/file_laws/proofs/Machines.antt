@@ -163,8 +163,7 @@ call_well (plans.Fill a n) h m p k = record { reply = p; machine = record { memo
 call_well (plans.Send s a n) h m p k = record { reply = p; machine = sent_words (s == 1) (bytes_in m.memory a n) _ (record { memory = k.memory; brk = k.brk }) }
 call_well (plans.Break v) h m p k = record { reply = p; machine = record { memory = k.memory; brk = p } }
 call_well (plans.Answer v) h m p k = record { reply = p; machine = record { memory = k.memory; brk = k.brk } }
-call_well (plans.EndHart v) h m p k = record { reply = tt; machine = record { memory = k.memory; brk = k.brk } }
-call_well (plans.EndRun v) h m p k = record { reply = tt; machine = record { memory = k.memory; brk = k.brk } }
+call_well plan h m p k = record { reply = tt; machine = record { memory = k.memory; brk = k.brk } }
 
 sc_well : (b : Bool) (a v h : ℕ) (m : Machine) → v < 2 ^ 32 → HoldsMachine m → AnswersWell (answer_sc b a v h m)
 sc_well true a v h m p k = record { reply = tt; machine = record { memory = updated_words a v m.memory p k.memory; brk = k.brk } }
@@ -190,9 +189,8 @@ access_well (Store a width v) c i m h s p e k =
 access_well (Amo a op rd v) c i m h s p e k =
     record { reply = k.memory a; machine = record { memory = updated_words a (amo_result op (m.memory a) v) m.memory (amo_word op (m.memory a) v (k.memory a) p) k.memory; brk = k.brk } }
 access_well (StoreConditional a rd v) c i m h s p e k = sc_well (is_reserved (m.reserved h) a) a v h m p k
-access_well (System number args) c i m h s p e k = record { reply = tt; machine = k }
 access_well Cut c i m h s p e k = record { reply = cut_well (nat_le c.limit s.ic); machine = k }
-access_well (Faulted kind value) c i m h s p e k = record { reply = tt; machine = k }
+access_well want c i m h s p e k = record { reply = tt; machine = k }
 
 answer_by : (want : Want) (c : RawSettings) (i : Program) (m : Machine) (h : ℕ) (s : HartState) → HoldsWords want → passes i want ≡ true → HoldsMachine m → AnswersWell (answer c (call_of i m want) m h (asks want s))
 unfolding asks

@@ -1,5 +1,5 @@
 -- How an interval ends, and the records of that.
-use Rattle.file_laws.proofs.Common.{◌≡◌, ℕ, ◌+◌, ◌-◌, ◌<◌, ◌≤◌, ◌^◌, Bool, true, false, nat_le, Option, Some, None, List, [], ◌∷◌, ◌++◌, Ok, refl, sym, ◌∙◌, subst, arith, ◌==◌, slice_get, slice_set, if◌then◌else◌, false≢true, RawSettings, HartState, Illegal, Breakpoint, FetchOutside, TargetMisaligned, LoadOutside, LoadMisaligned, StoreOutside, StoreMisaligned, StoreReadOnly, Want, Faulted, Reply, Plan, Record, End, OrderLimits, HartView, Awaiting, Open, Done, step, order_limits_of, goes_on, Keeps, Hart, TurnEnd, GoesOn, NewInterval, HartOver, RunOver, next_of, after_call, mark, header, next_records, hart_after, is_on}
+use Rattle.file_laws.proofs.Common.{◌≡◌, ℕ, ◌+◌, ◌-◌, ◌<◌, ◌≤◌, ◌^◌, Bool, true, false, nat_le, Option, Some, None, List, [], ◌∷◌, ◌++◌, Ok, refl, sym, ◌∙◌, subst, arith, ◌==◌, slice_get, slice_set, if◌then◌else◌, false≢true, RawSettings, HartState, Illegal, Breakpoint, FetchOutside, TargetMisaligned, LoadOutside, LoadMisaligned, StoreOutside, StoreMisaligned, StoreReadOnly, Want, Faulted, Reply, Plan, Record, End, OrderLimits, HartView, Awaiting, Open, Done, step, order_limits_of, goes_on, Keeps, Hart, TurnEnd, GoesOn, NewInterval, HartOver, RunOver, next_of, after_call, mark, header, next_records, hart_after, is_on, leb-true}
 use Rattle.bn_base.specs.Faults.{fault_number}
 use Rattle.bn_base.specs.declared.fault.Fault.{Fault}
 use Rattle.rv_meaning.specs.declared.asks.Reply.TheVariants as replies
@@ -33,9 +33,7 @@ EndsAs c h ic (RunOver reason value) = EndsPlain c h ic reason false
 
 pub ends_on : (next : TurnEnd) (c : RawSettings) (h : Hart) (ic : ℕ) → EndsAs c h ic next → EndsOn c h ic next
 ends_on GoesOn c h ic e = tt
-ends_on (NewInterval reason value) c h ic e = e.so
-ends_on (HartOver reason value) c h ic e = e.so
-ends_on (RunOver reason value) c h ic e = e.so
+ends_on next c h ic e = e.so
 
 -- an end for a reason that neither a full interval, nor the limit, nor the guard gives
 plain_end : (c : RawSettings) (h : Hart) (ic reason : ℕ) (on : Bool) → (reason ≡ 1 → ⊥) → (reason ≡ 7 → ⊥) → goes_on reason ≡ on → (reason == 6) ≡ false → reason < 256 → EndsPlain c h ic reason on
@@ -45,15 +43,12 @@ plain_end c h ic reason on f g e u small = record { so = record { full = λ p. a
 pub guard_ends : (c : RawSettings) (h : Hart) (ic : ℕ) → EndsSo c h ic 6 true
 guard_ends c h ic = record { full = λ p. absurd cc; limit = λ p. absurd cc; kind = refl }
 
-le_of : (a b : ℕ) → nat_le a b ≡ true → a ≤ b
-le_of a b e = grind arith
-
 full_at : (b n ic : ℕ) → 1 ≤ n → nat_le n (ic - b) ≡ true → b + n ≤ ic
-full_at b n ic some e = omega (arith, some, le_of n (ic - b) e)
+full_at b n ic some e = omega (arith, some, leb-true n (ic - b) e)
 
 count_ends : (c : RawSettings) (h : Hart) (ic : ℕ) (end full : Bool) → nat_le c.limit ic ≡ end → nat_le c.interval (ic - h.begun) ≡ full → 1 ≤ c.interval
     → EndsAs c h ic (elim end as (λ x. TurnEnd) [ true ↦ HartOver 7 0 | false ↦ elim full as (λ x. TurnEnd) [ true ↦ NewInterval 1 0 | false ↦ GoesOn ] ])
-count_ends c h ic true full e f some = record { so = record { full = λ p. absurd cc; limit = λ p. le_of c.limit ic e; kind = refl }; unguarded = refl; small = omega arith }
+count_ends c h ic true full e f some = record { so = record { full = λ p. absurd cc; limit = λ p. leb-true c.limit ic e; kind = refl }; unguarded = refl; small = omega arith }
 count_ends c h ic false true e f some = record { so = record { full = λ p. full_at h.begun c.interval ic some f; limit = λ p. absurd cc; kind = refl }; unguarded = refl; small = omega arith }
 count_ends c h ic false false e f some = tt
 

@@ -1,15 +1,15 @@
 -- What a ring holds after lawful rows is what a log says.
-use Rattle.file_laws.proofs.Common.{◌≡◌, ℕ, zero, suc, ◌+◌, ◌*◌, ◌<◌, ◌≤◌, ◌^◌, Bool, true, false, not, ◌&&◌, nat_lt, Option, Some, None, List, [], ◌∷◌, ◌++◌, length, refl, sym, ◌∙◌, ap, subst, arith, inl, inr, ◌==◌, AllByRecursion, eqb_tells, length-append, Program, IsSetting, RawSettings, HartState, absorbed, Ask, Reply, Plan, Warm, Point, after, sources_into, TurnRow, Record, End, Fits, is_mark, is_marked, total, IsContent, broken_by, Held, kept, Hart, TurnEnd, GoesOn, NewInterval, HartOver, RunOver, Span, Answered, answer, call_of, is_marked_next, Run, Served, serve, after_ask, span_of, next_of, loading, warmth, word_before, point_of, edges_from, edge_records, load_record, sc_record, next_records, stopped_records, run_over_records, harts_after, is_orderly, mark, is_guarded, by_guard, begun_anew, guarded_run, guard_records, start, first_headers, most_turns, MovesOn, turns_left, IsRested, kept_of, dropped_of, after_rows, are_orderly, IsLawful, counts_of, HoldsLogOfRows, ring_content, EdgesAreFew}
+use Rattle.file_laws.proofs.Common.{◌≡◌, ℕ, zero, suc, ◌+◌, ◌*◌, ◌<◌, ◌≤◌, ◌^◌, Bool, true, false, not, ◌&&◌, nat_lt, Option, Some, None, List, [], ◌∷◌, ◌++◌, length, refl, sym, ◌∙◌, ap, subst, arith, inl, inr, ◌==◌, AllByRecursion, eqb_tells, length-append, Program, IsSetting, RawSettings, HartState, absorbed, Ask, Reply, Plan, Warm, Point, after, sources_into, TurnRow, Record, End, Fits, is_mark, is_marked, total, IsContent, broken_by, Held, kept, Hart, TurnEnd, GoesOn, NewInterval, HartOver, RunOver, Span, Answered, answer, call_of, is_marked_next, Run, Served, serve, after_ask, span_of, next_of, loading, warmth, word_before, point_of, edges_from, edge_records, load_record, sc_record, next_records, stopped_records, run_over_records, harts_after, is_orderly, mark, is_guarded, by_guard, begun_anew, guarded_run, guard_records, start, first_headers, most_turns, MovesOn, turns_left, IsRested, kept_of, dropped_of, after_rows, are_orderly, IsLawful, counts_of, HoldsLogOfRows, ring_content, EdgesAreFew, and_parts, ltb-true, eqb_same, own_is, other_is, all_less, one_less, all_first, uncut, served, LogsOfRowsAreContents}
 use Rattle.rv_meaning.specs.declared.asks.Reply.TheVariants as replies
 use Rattle.first_load_bits.specs.declared.warm.Warm.TheVariants as answers
 use Rattle.run_model.specs.Represents.Harts.{all_left}
 use Rattle.file_laws.proofs.Nexts.{EndsAs, next_ends}
-use Rattle.file_laws.proofs.Few.{few_edges}
+use Rattle.file_laws.proofs.Sources.{few_edges}
 use Rattle.file_laws.proofs.Fields.{plain_mark, load_few, conditional_few, next_few, over_few, marked_any}
-use Rattle.file_laws.proofs.Turns.{Laws, Recording, Underway, IsAsking, all_both, own_hart, own_is, other_is, asking, guard_is, uncut, asking_kept, asks, served, turn_kept}
-use Rattle.file_laws.proofs.Rows.{SuffixIsKept, both, below_of, last_part, orderly_first, held_records, held_dropped}
+use Rattle.file_laws.proofs.Turns.{Laws, Recording, Underway, IsAsking, all_both, own_hart, asking, guard_is, asking_kept, asks, turn_kept}
+use Rattle.file_laws.proofs.Rows.{SuffixIsKept, last_part, orderly_first, held_records, held_dropped, FirstAreGivenUp, KeptAreInOrder, EarlyAreNotLate, kept_in_order}
 use Rattle.file_laws.proofs.Contents.{KeptFit, few_harts, five_parts, headers_count, turns_bound}
-use Rattle.run_laws.proofs.Turns.{all_less, one_less, all_first}
+use Rattle.file_laws.proofs.Starts.{NoneAreKept, started}
 
 -- ---- records that a log of version 1 has, but for the size of their numbers
 
@@ -28,8 +28,7 @@ point_plain (Some p) points = edges_plain p.hart p.count (sources_into (after po
 load_plain : (load : Option Warm) (k skipped word : ℕ) → AllByRecursion IsPlain (load_record load k skipped word)
 unfolding IsPlain
 load_plain (Some answers.Cold) k skipped word = (refl, tt)
-load_plain (Some answers.Warm) k skipped word = tt
-load_plain None k skipped word = tt
+load_plain load k skipped word = tt
 
 conditional_plain : (reply : Reply) (k : ℕ) → AllByRecursion IsPlain (sc_record reply k)
 unfolding IsPlain
@@ -59,9 +58,7 @@ stops_plain k j (suc n) harts = stop_plain (not (j == k) && (harts j).live) j (h
 
 over_plain : (next : TurnEnd) (k n : ℕ) (harts : ℕ → Hart) → AllByRecursion IsPlain (run_over_records next k n harts)
 over_plain (RunOver reason value) k n harts = stops_plain k 0 n harts
-over_plain GoesOn k n harts = tt
-over_plain (NewInterval reason value) k n harts = tt
-over_plain (HartOver reason value) k n harts = tt
+over_plain next k n harts = tt
 
 headers_plain : (c : RawSettings) (i : Program) (k m : ℕ) → AllByRecursion IsPlain (first_headers c i k m)
 unfolding IsPlain
@@ -120,7 +117,7 @@ counted_after laws few c run k ask call answered span next s setting known rest 
     let os : List Record = run_over_records next k c.harts run.harts in
     let edges : length es ≤ c.harts = few_edges few point run.points c.harts (counts_of run) known.points in
     let fits = laws.fits c h ask.state.ic new.bytes s next span (loading ask.want) (run.events k) setting.interval_low live (known.fit k) on in
-    let mine : turns_left c (harts_after next k own run.harts k) < turns_left c h = subst (λ (x : Hart). turns_left c x < turns_left c h) (sym (own_is next k k own run.harts (same_self k))) fits.1 in
+    let mine : turns_left c (harts_after next k own run.harts k) < turns_left c h = subst (λ (x : Hart). turns_left c x < turns_left c h) (sym (own_is next k k own run.harts (eqb_same k))) fits.1 in
     let each : (j : ℕ) → turns_left c (harts_after next k own run.harts j) ≤ turns_left c (run.harts j) = λ j. elim (eqb_tells j k) [
       | inl p ↦ subst (λ (n : ℕ). turns_left c (harts_after next k own run.harts n) ≤ turns_left c (run.harts n)) (sym p.1) (omega (arith, mine))
       | inr p ↦ subst (λ (x : Hart). turns_left c x ≤ turns_left c (run.harts j)) (sym (other_is next k j own run.harts p.0)) (laws.others c (run.harts j) next (rest j p.0)).1
@@ -136,9 +133,6 @@ counted_after laws few c run k ask call answered span next s setting known rest 
           subst (λ (n : ℕ). n ≤ 16 + 0 + 40 * (run.turns + 1)) (sym (five_parts run.stream es ls cs ns os)) all);
       left = one_later run.turns (all_left c c.harts run.harts) (all_left c c.harts (harts_after next k own run.harts)) (most_turns c) (one_less c c.harts k run.harts (harts_after next k own run.harts) there each mine) w.left;
     }
-  where
-    same_self : (k : ℕ) → (k == k) ≡ true
-    same_self k = grind arith
 
 -- once the guard has begun an interval, if it does
 asking_counted : (g : Bool) (c : RawSettings) (i : Program) (run : Run) (k : ℕ) (ask : Ask) → IsAsking c i run (guarded_run g run k ask.state) k ask → Counted c 0 run → (g ≡ true → c.format ≡ 2) → Counted c 2 (guarded_run g run k ask.state)
@@ -176,8 +170,8 @@ pub record AfterRows (c : RawSettings) (run : Run) : Type 0 where
 rows_counted : Laws → EdgesAreFew → (c : RawSettings) (i : Program) (run : Run) (rows : List TurnRow) → IsSetting c → AfterRows c run → IsLawful c i run rows → are_orderly c i run rows ≡ true → AfterRows c (after_rows c i run rows)
 rows_counted laws few c i run [] setting a lawful orderly = a
 rows_counted laws few c i run (r ∷ rs) setting a lawful orderly =
-    let live = both (nat_lt r.hart c.harts) (run.harts r.hart).live lawful.0 in
-    let there = below_of r.hart c.harts live.0 in
+    let live = and_parts (nat_lt r.hart c.harts) (run.harts r.hart).live lawful.0 in
+    let there = ltb-true r.hart c.harts live.0 in
     let first = orderly_first (is_orderly c i (run.harts r.hart) r.ask) (are_orderly c i (serve c i run r.hart r.ask).run rs) orderly in
     let next : AfterRows c (serve c i run r.hart r.ask).run = record {
       known = turn_kept laws c i run r.hart r.ask setting a.known there live.1 first.0;
@@ -220,3 +214,8 @@ ring_is_content suffix bound c i input digest rows ring h size a order =
       bound = subst (λ (rs : List Record). total rs ≤ c.log_size) (sym records) (bound c.log_size run.stream);
       order = ap (λ (n : ℕ). broken_by c n ring.records) dropped ∙ ap (broken_by c (dropped_of c run)) records ∙ order;
     }
+
+pub ring_contents : Laws → EdgesAreFew → NoneAreKept → SuffixIsKept → KeptFit → FirstAreGivenUp → KeptAreInOrder → EarlyAreNotLate → LogsOfRowsAreContents
+ring_contents laws few none suffix fit given order early c i input digest rows ring h size =
+    let end = rows_end laws few c i input rows h.setting (started laws.order none c i input h.setting) h.lawful h.orderly in
+    ring_is_content suffix fit c i input digest rows ring h size end (kept_in_order suffix given order early c (after_rows c i (start c i input) rows) end.known h.over)

@@ -1,5 +1,5 @@
 -- An interval whose Header is kept is one that is replayed.
-use Rattle.file_laws.proofs.Common.{◌≡◌, ℕ, ◌==◌, Bool, true, false, ◌&&◌, Option, Some, List, [], ◌∷◌, ◌++◌, refl, sym, ap, subst, arith, Record, Header, FirstLoad, ScOk, ScFailed, Edge, End, Interval, interval_of, interval_from, puts, nothing, kept_of, run_of, LogSuffices}
+use Rattle.file_laws.proofs.Common.{◌≡◌, ℕ, ◌==◌, Bool, true, false, ◌&&◌, Option, Some, List, [], ◌∷◌, ◌++◌, refl, sym, ap, subst, arith, Record, Header, Interval, interval_of, interval_from, puts, nothing, kept_of, run_of, LogSuffices, and_from, eqb_same}
 use Rattle.run_laws.specs.Retained.{HasHeader, FaultsAreKept}
 use Rattle.file_laws.specs.Retained.{FaultsAreReplayed}
 
@@ -13,11 +13,7 @@ found_or false k n v rs h = h
 
 one_more : (r : Record) (k n : ℕ) (rs : List Record) → HasInterval k n rs → HasInterval k n (r ∷ rs)
 one_more (Header h m ic pc x) k n rs has = found_or (h == k && (m == n)) k n (interval_from (record { pc = pc; x = x; ic = ic }) (puts k rs nothing)) rs has
-one_more (FirstLoad h skip value) k n rs has = has
-one_more (ScOk h) k n rs has = has
-one_more (ScFailed h) k n rs has = has
-one_more (Edge h ic s j) k n rs has = has
-one_more (End h m) k n rs has = has
+one_more r k n rs has = has
 
 behind : (front : List Record) (k n : ℕ) (rs : List Record) → HasInterval k n rs → HasInterval k n (front ++ rs)
 behind [] k n rs has = has
@@ -26,14 +22,7 @@ behind (r ∷ front) k n rs has = one_more r k n (front ++ rs) (behind front k n
 at_header : (k n ic pc : ℕ) (x : List ℕ) (back : List Record) → HasInterval k n (Header k n ic pc x ∷ back)
 at_header k n ic pc x back =
     let v : Interval = interval_from (record { pc = pc; x = x; ic = ic }) (puts k back nothing) in
-    (v, ap (λ (b : Bool). elim b as (λ y. Option Interval) [ true ↦ Some v | false ↦ interval_of k n back ]) (both (k == k) (n == n) (same k) (same n)))
-  where
-    same : (m : ℕ) → (m == m) ≡ true
-    same m = grind arith
-
-    both : (a b : Bool) → a ≡ true → b ≡ true → (a && b) ≡ true
-    both true b e f = f
-    both false b e f = e
+    (v, ap (λ (b : Bool). elim b as (λ y. Option Interval) [ true ↦ Some v | false ↦ interval_of k n back ]) (and_from (k == k) (n == n) (eqb_same k) (eqb_same n)))
 
 has_interval : (k n begun : ℕ) (rs : List Record) → HasHeader k n begun rs → HasInterval k n rs
 has_interval k n begun rs h = subst (HasInterval k n) (sym h.parts) (behind h.front k n (Header k n begun h.pc h.x ∷ h.back) (at_header k n begun h.pc h.x h.back))

@@ -1,16 +1,10 @@
 -- A recording after lawful rows.
-use Rattle.file_laws.proofs.Common.{◌≡◌, ℕ, zero, suc, ◌+◌, ◌-◌, ◌<◌, Bool, true, false, ◌&&◌, ◌||◌, nat_lt, Option, Some, None, List, [], ◌∷◌, ◌++◌, length, replicate, Ok, refl, sym, ◌∙◌, ap, subst, arith, inl, inr, ◌⊎◌, ◌==◌, slice_get, AllByRecursion, false≢true, eqb_tells, length-append, Program, IsSetting, RawSettings, Ask, TurnRow, Record, OrderLimits, HartView, fresh, is_done, after_all, order_limits_of, late_edge, broken, broken_by, Keeps, IsEarly, EndsLast, Held, HoldsLog, kept, Hart, Run, Served, serve, serve_disorderly, served_if, is_orderly, is_live, any_live, kept_of, dropped_of, after_rows, are_orderly, IsLawful, counts_of, KeepsRules}
+use Rattle.file_laws.proofs.Common.{◌≡◌, ℕ, zero, suc, ◌+◌, ◌-◌, ◌<◌, Bool, true, false, nat_lt, Some, None, List, [], ◌∷◌, ◌++◌, length, replicate, Ok, refl, sym, ◌∙◌, ap, subst, arith, inl, inr, ◌⊎◌, ◌==◌, slice_get, AllByRecursion, false≢true, eqb_tells, length-append, Program, IsSetting, RawSettings, Ask, TurnRow, Record, OrderLimits, HartView, fresh, is_done, after_all, order_limits_of, late_edge, broken, broken_by, Keeps, IsEarly, EndsLast, Held, HoldsLog, kept, Hart, Run, Served, serve, serve_disorderly, served_if, is_orderly, any_live, kept_of, dropped_of, after_rows, are_orderly, IsLawful, counts_of, KeepsRules, and_parts, ltb-true, or_parts, slice_get_within, start, KeptRecordsKeepTheRules, FinishedLogsAreInOrder, same_Some}
 use Rattle.log_order.specs.Weak.{AreWeak}
 use Rattle.run_model.specs.Runs as runs
 use Rattle.file_laws.proofs.Views.{Views}
 use Rattle.file_laws.proofs.Turns.{Laws, Recording, turn_kept}
-
-pub both : (a b : Bool) → (a && b) ≡ true → (a ≡ true) × (b ≡ true)
-both true b e = (refl, e)
-both false b e = cc
-
-pub below_of : (a b : ℕ) → nat_lt a b ≡ true → a < b
-below_of a b e = grind arith
+use Rattle.file_laws.proofs.Starts.{NoneAreKept, started}
 
 -- what holds at all times
 pub record Written (c : RawSettings) (run : Run) : Type 0 where
@@ -28,14 +22,14 @@ disordered c i run k ask o = ap (λ (b : Bool). served_if b c i run k ask) o
 -- an ask that isn't orderly adds nothing, and no row comes after it
 after_disorder : (c : RawSettings) (i : Program) (run : Run) (rows : List TurnRow) → Recording c run → IsLawful c i (serve_disorderly run).run rows → Written c (after_rows c i (serve_disorderly run).run rows)
 after_disorder c i run [] known lawful = record { views = known.views; keeps = known.keeps; early = known.early }
-after_disorder c i run (r ∷ rs) known lawful = absurd (false≢true (both (nat_lt r.hart c.harts) false lawful.0).1)
+after_disorder c i run (r ∷ rs) known lawful = absurd (false≢true (and_parts (nat_lt r.hart c.harts) false lawful.0).1)
 
 by_order : (b : Bool) → Laws → (c : RawSettings) (i : Program) (run : Run) (r : TurnRow) (rs : List TurnRow) → IsSetting c → Recording c run → IsLawful c i run (r ∷ rs)
     → ((next : Run) → Recording c next → IsLawful c i next rs → Written c (after_rows c i next rs))
     → is_orderly c i (run.harts r.hart) r.ask ≡ b → Written c (after_rows c i run (r ∷ rs))
 by_order true laws c i run r rs setting known lawful rest o =
-    let live = both (nat_lt r.hart c.harts) (run.harts r.hart).live lawful.0 in
-    rest (serve c i run r.hart r.ask).run (turn_kept laws c i run r.hart r.ask setting known (below_of r.hart c.harts live.0) live.1 o) lawful.3
+    let live = and_parts (nat_lt r.hart c.harts) (run.harts r.hart).live lawful.0 in
+    rest (serve c i run r.hart r.ask).run (turn_kept laws c i run r.hart r.ask setting known (ltb-true r.hart c.harts live.0) live.1 o) lawful.3
 by_order false laws c i run r rs setting known lawful rest o =
     let e = disordered c i run r.hart r.ask o in
     subst (λ (s : Served). Written c (after_rows c i s.run rs)) (sym e) (after_disorder c i run rs known (subst (λ (s : Served). IsLawful c i s.run rs) e lawful.3))
@@ -54,10 +48,10 @@ orderly_first false x e = cc
 pub rows_recorded : Laws → (c : RawSettings) (i : Program) (run : Run) (rows : List TurnRow) → IsSetting c → Recording c run → IsLawful c i run rows → are_orderly c i run rows ≡ true → Recording c (after_rows c i run rows)
 rows_recorded laws c i run [] setting known lawful orderly = known
 rows_recorded laws c i run (r ∷ rs) setting known lawful orderly =
-    let live = both (nat_lt r.hart c.harts) (run.harts r.hart).live lawful.0 in
+    let live = and_parts (nat_lt r.hart c.harts) (run.harts r.hart).live lawful.0 in
     let first = orderly_first (is_orderly c i (run.harts r.hart) r.ask) (are_orderly c i (serve c i run r.hart r.ask).run rs) orderly in
     rows_recorded laws c i (serve c i run r.hart r.ask).run rs setting
-    (turn_kept laws c i run r.hart r.ask setting known (below_of r.hart c.harts live.0) live.1 first.0) lawful.3 first.1
+    (turn_kept laws c i run r.hart r.ask setting known (ltb-true r.hart c.harts live.0) live.1 first.0) lawful.3 first.1
 
 -- ---- what is kept
 
@@ -120,10 +114,6 @@ held_rules c run ring log size rules =
 
 -- ---- no hart is live
 
-either : (a b : Bool) → (a || b) ≡ false → (a ≡ false) × (b ≡ false)
-either false b x = (refl, x)
-either true b x = cc
-
 last_or_before : (j n : ℕ) → j < suc n → (j ≡ n) ⊎ (j < n)
 last_or_before j n h = elim (eqb_tells j n) [
   | inl p ↦ inl p.1
@@ -133,7 +123,7 @@ last_or_before j n h = elim (eqb_tells j n) [
 none_live : (n : ℕ) (harts : ℕ → Hart) → any_live n harts ≡ false → (j : ℕ) → j < n → (harts j).live ≡ false
 none_live zero harts e j h = absurd (omega (arith, h))
 none_live (suc n) harts e j h =
-    let parts = either (harts n).live (any_live n harts) e in
+    let parts = or_parts (harts n).live (any_live n harts) e in
     elim (last_or_before j n h) [
       | inl p ↦ subst (λ (x : ℕ). (harts x).live ≡ false) (sym p) parts.0
       | inr p ↦ none_live n harts parts.1 j p
@@ -143,17 +133,9 @@ over_known : (b : Bool) → elim b as (λ x. Bool) [ true ↦ false | false ↦ 
 over_known true e = cc
 over_known false e = refl
 
-same_view : (v w : HartView) (o : Option HartView) → o ≡ Some v → o ≡ Some w → v ≡ w
-same_view v w o e f = let g : ◌≡◌ {A = Option HartView} (Some v) (Some w) = sym e ∙ f in cc
-
 all_over : (vs : Views) → ((j : ℕ) (v : HartView) → slice_get vs j ≡ Some v → is_done v.phase ≡ true) → AllByRecursion (λ v. is_done v.phase ≡ true) vs
 all_over [] each = tt
 all_over (v ∷ vs) each = (each 0 v refl, all_over vs (λ j w e. each (suc j) w e))
-
-get_within : {X : Type 0} (xs : List X) (j : ℕ) (x : X) → slice_get xs j ≡ Some x → j < length xs
-get_within [] j x e = cc
-get_within (y ∷ xs) zero x e = omega arith
-get_within (y ∷ xs) (suc j) x e = omega (arith, get_within xs j x e)
 
 -- the view of a hart that isn't live
 record Ended (ic : ℕ) (v : HartView) : Type 0 where
@@ -162,15 +144,14 @@ record Ended (ic : ℕ) (v : HartView) : Type 0 where
 
 ended_at : (c : RawSettings) (run : Run) (known : Recording c run) → any_live c.harts run.harts ≡ false → (j : ℕ) (v : HartView) → slice_get known.views j ≡ Some v → Ended (counts_of run j) v
 ended_at c run known none j v e =
-    let within : j < c.harts = omega (arith, get_within known.views j v e, known.size) in
+    let within : j < c.harts = omega (arith, slice_get_within known.views j v e, known.size) in
     let done = (known.view j within).over (none_live c.harts run.harts none j within) in
-    subst (Ended (counts_of run j)) (same_view _ v (slice_get known.views j) done.is e) (record { over = refl; last = refl })
+    subst (Ended (counts_of run j)) (same_Some _ v (sym done.is ∙ e)) (record { over = refl; last = refl })
 
 ends_last : (c : RawSettings) (run : Run) (known : Recording c run) → any_live c.harts run.harts ≡ false → EndsLast (counts_of run) known.views
 ends_last c run known none s v last e l =
     let end = (ended_at c run known none s v e).last in
-    let g : ◌≡◌ {A = Option ℕ} (Some (counts_of run s)) (Some last) = sym end ∙ l in
-    let same : counts_of run s ≡ last = cc in omega (arith, same)
+    let same : counts_of run s ≡ last = same_Some _ _ (sym end ∙ l) in omega (arith, same)
 
 pub kept_in_order : SuffixIsKept → FirstAreGivenUp → KeptAreInOrder → EarlyAreNotLate → (c : RawSettings) (run : Run) → Recording c run → runs.has_finished c run ≡ true → broken_by c (dropped_of c run) (kept_of c run) ≡ None
 kept_in_order suffix given order early c run known over =
@@ -188,3 +169,13 @@ stream_in_order order early c run known over =
     order (order_limits_of c) c.harts 0 run.stream known.views w.keeps
     (all_over known.views (λ j v e. (ended_at c run known none j v e).over))
     (early (counts_of run) known.views 0 run.stream (ends_last c run known none) w.early)
+
+-- ---- the laws
+
+pub rules_are_kept : Laws → NoneAreKept → SuffixIsKept → FirstAreGivenUp → KeptKeepRules → KeptRecordsKeepTheRules
+rules_are_kept laws none suffix given rules c i input rows setting lawful =
+    kept_rules suffix given rules c _ (rows_kept laws c i (start c i input) rows setting (started laws.order none c i input setting) lawful)
+
+pub finished_in_order : Laws → NoneAreKept → SuffixIsKept → FirstAreGivenUp → KeptAreInOrder → EarlyAreNotLate → FinishedLogsAreInOrder
+finished_in_order laws none suffix given order early c i input rows setting lawful orderly over =
+    kept_in_order suffix given order early c _ (rows_recorded laws c i (start c i input) rows setting (started laws.order none c i input setting) lawful orderly) over

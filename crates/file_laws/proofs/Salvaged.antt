@@ -1,9 +1,8 @@
 -- What is read of a file, and what is salvaged of a damaged one.
-use Rattle.file_laws.proofs.Common.{◌≡◌, List, ◌++◌, append_assoc, Result, Ok, sym, ap, ◌∙◌, arith, sha256, Record, Content, Run, run_of, kept_of, content_of, IsEndOf, KeptIsAnEnd, EndsSuffice}
+use Rattle.file_laws.proofs.Common.{◌≡◌, List, ◌++◌, append_assoc, Result, Ok, sym, ap, ◌∙◌, arith, sha256, Record, Content, Run, run_of, kept_of, content_of, IsEndOf, KeptIsAnEnd, EndsSuffice, LogsAreContents, SalvagedFilesSuffice}
 use Rattle.log_blocks.specs.declared.damage.Damage.{Damage}
 use Rattle.log_blocks.specs.Cuts.{records_in}
 use Rattle.log_blocks.specs.Laws.{SalvagedAreAnEnd}
-use Rattle.file_laws.specs.Laws.{LogsAreContents, SalvagedFilesSuffice}
 
 abbrev pub says : Content → Result Content Damage
 says d = Ok d

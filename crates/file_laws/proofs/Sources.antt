@@ -1,12 +1,7 @@
 -- The sources of the Edges into a point are earlier points of other harts.
-use Rattle.file_laws.proofs.Common.{◌≡◌, ℕ, zero, suc, ◌+◌, ◌<◌, ◌≤◌, Option, Some, None, List, [], ◌∷◌, ◌++◌, length, map, refl, sym, ◌∙◌, ap, subst, arith, inl, inr, ◌≢◌, ◌⊎◌, ◌↔◌, slice_get, Contains, eqb_tells, AllByRecursion, IsEarly, Point, after, edges_into, name_of, sources_into, edges_from, edge_records}
-use Rattle.std.proofs.lemmas.Option.{slice_get_within}
+use Rattle.file_laws.proofs.Common.{◌≡◌, ℕ, zero, suc, ◌+◌, ◌<◌, ◌≤◌, Option, Some, None, List, [], ◌∷◌, ◌++◌, length, map, refl, sym, ◌∙◌, ap, subst, arith, inl, inr, ◌≢◌, ◌⊎◌, slice_get, eqb_tells, AllByRecursion, IsEarly, Point, after, edges_into, name_of, sources_into, edges_from, edge_records, slice_get_within, same_Some, ListedEdges, all_contained, EdgesAreFew}
 use Rattle.race_log.specs.Netzer.{IsEdge}
 use Rattle.file_laws.proofs.Views.{IsSource, AreSources}
-
--- the law of listed edges that is used here
-abbrev pub ListedEdges : Type 0
-ListedEdges = (run : List Point) (m n : ℕ) → Contains (edges_into run n) m ↔ IsEdge run m n
 
 -- ---- places in a list
 
@@ -20,12 +15,7 @@ get_last [] y = refl
 get_last (x ∷ xs) y = get_last xs y
 
 some_same : {X : Type 0} (x y : X) (o : Option X) → o ≡ Some x → o ≡ Some y → x ≡ y
-some_same {X = X} x y o e f = let g : ◌≡◌ {A = Option X} (Some x) (Some y) = sym e ∙ f in cc
-
--- each contained number has the property
-pub all_contained : (P : ℕ → Type 0) (ms : List ℕ) → ((m : ℕ) → Contains ms m → P m) → AllByRecursion P ms
-all_contained P [] each = tt
-all_contained P (m ∷ ms) each = (each m (0, omega arith, refl), all_contained P ms (λ n has. each n (suc has.0, omega (arith, has.1), has.2)))
+some_same x y o e f = same_Some x y (sym e ∙ f)
 
 -- ---- the sources
 
@@ -50,9 +40,6 @@ one_source points p n limit counts m are high e =
     let same : e.conflicts.second ≡ p = some_same e.conflicts.second p (slice_get (after points p) (length points)) e.conflicts.second_at (get_last points p) in
     let apart : q.hart ≢ p.hart = subst (λ (x : Point). q.hart ≢ x.hart) same e.conflicts.related.apart in
     by_name n limit p.hart counts q (slice_get (after points p) m) e.conflicts.first_at (record { source = record { hart = point.0; other = apart; below = omega (arith, point.1, high q.hart) }; done = point.1 })
-
-AreDone : ℕ → ℕ → ℕ → (ℕ → ℕ) → List (ℕ × ℕ) → Type 0
-AreDone n limit k counts ss = AllByRecursion (IsDoneSource n limit k counts) ss
 
 named : (run : List Point) (n limit k : ℕ) (counts : ℕ → ℕ) (ms : List ℕ) → AllByRecursion (λ m. IsDoneSource n limit k counts (name_of (slice_get run m))) ms
     → AllByRecursion (IsDoneSource n limit k counts) (map (λ m. name_of (slice_get run m)) ms)
@@ -102,3 +89,14 @@ points_go_on points p n counts later are on hart count m q e = elim (before_or_l
     long : (points : List Point) (p : Point) → length (after points p) ≡ length points + 1
     long [] p = refl
     long (x ∷ xs) p = omega (arith, long xs p)
+
+-- ---- a point has at most one Edge from each hart
+
+edges_count : (k ic : ℕ) (ss : List (ℕ × ℕ)) → length (edges_from k ic ss) ≡ length ss
+edges_count k ic [] = refl
+edges_count k ic (s ∷ ss) = ap suc (edges_count k ic ss)
+
+-- a point has at most n Edges, one from each of n harts
+pub few_edges : EdgesAreFew → (point : Option Point) (points : List Point) (n : ℕ) (counts : ℕ → ℕ) → ArePoints n counts points → length (edge_records point points) ≤ n
+few_edges few None points n counts are = omega arith
+few_edges few (Some p) points n counts are = omega (arith, edges_count p.hart p.count (sources_into (after points p) (length points)), few points p n (λ m q e. (are m q e).0))

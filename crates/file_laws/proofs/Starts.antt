@@ -1,8 +1,9 @@
 -- A recording at its start: the Header of each hart's first interval.
-use Rattle.file_laws.proofs.Common.{◌≡◌, ℕ, zero, suc, ◌+◌, ◌<◌, ◌≤◌, true, false, Some, None, List, [], ◌∷◌, ◌++◌, length, replicate, refl, sym, ◌∙◌, ap, subst, arith, append_assoc, inl, inr, ◌≢◌, ◌⊎◌, ◌==◌, slice_get, AllByRecursion, eqb_tells, append-nil, Program, IsSetting, RawSettings, HartState, Record, OrderLimits, HartView, Open, fresh, order_limits_of, Keeps, IsEarly, header, start, start_hart, start_state, first_headers, IsRested}
+use Rattle.file_laws.proofs.Common.{◌≡◌, ℕ, zero, suc, ◌+◌, ◌<◌, ◌≤◌, true, false, Some, None, List, [], ◌∷◌, ◌++◌, length, replicate, refl, sym, ◌∙◌, subst, arith, append_assoc, inl, inr, slice_get, AllByRecursion, append-nil, Program, IsSetting, RawSettings, Record, OrderLimits, HartView, Open, fresh, order_limits_of, Keeps, IsEarly, header, start, start_hart, start_state, first_headers, ne_eqb, first_or_later, fit_start}
 use Rattle.file_laws.proofs.Views.{OrderLaws, Views, IsOpen, Took, took_one}
 use Rattle.file_laws.proofs.Nexts.{open_view}
 use Rattle.file_laws.proofs.Turns.{Recording}
+use Rattle.std.proofs.lemmas.List.{length-replicate}
 
 -- the law of a recorder that begins
 abbrev pub NoneAreKept : Type 0
@@ -18,15 +19,6 @@ record Begins (c : RawSettings) (i : Program) (n : ℕ) (stream : List Record) (
 
 AreFresh : ℕ → ℕ → Views → Type 0
 AreFresh k m vs = (j : ℕ) → k ≤ j → j < k + m → slice_get vs j ≡ Some (fresh true)
-
-apart_of : (i j : ℕ) → i ≢ j → (i == j) ≡ false
-apart_of i j h = grind arith
-
-first_or_later : (i j m : ℕ) → j ≤ i → i < j + suc m → (i ≡ j) ⊎ ((j + 1 ≤ i) × (i < j + 1 + m))
-first_or_later i j m low high = elim (eqb_tells i j) [
-  | inl p ↦ inl p.1
-  | inr p ↦ inr (omega (arith, low, p.1), omega (arith, high))
-]
 
 begin_one : OrderLaws → (c : RawSettings) (i : Program) (n : ℕ) (stream : List Record) (vs : Views) (k : ℕ) → Keeps (order_limits_of c) n 0 stream vs → slice_get vs k ≡ Some (fresh true)
     → Took (order_limits_of c) n stream vs k (header k 0 (start_state c i k) ∷ []) (IsOpen 1 0 0)
@@ -48,7 +40,7 @@ begins laws c i n stream vs k zero kp are = record {
 begins laws c i n stream vs k (suc m) kp are =
     let first : Record = header k 0 (start_state c i k) in
     let one = begin_one laws c i n stream vs k kp (are k (omega arith) (omega arith)) in
-    let rest = begins laws c i n (stream ++ first ∷ []) one.views (k + 1) m one.keeps (λ j low high. one.others j (apart_of j k (omega (arith, low))) ∙ are j (omega (arith, low)) (omega (arith, high))) in
+    let rest = begins laws c i n (stream ++ first ∷ []) one.views (k + 1) m one.keeps (λ j low high. one.others j (ne_eqb j k (omega (arith, low))) ∙ are j (omega (arith, low)) (omega (arith, high))) in
     record {
       views = rest.views;
       keeps = subst (λ (x : List Record). Keeps (order_limits_of c) n 0 x rest.views) (append_assoc stream (first ∷ []) (first_headers c i (k + 1) m)) rest.keeps;
@@ -57,7 +49,7 @@ begins laws c i n stream vs k (suc m) kp are =
         | inl p ↦ (let here : IsOpen 1 0 0 (slice_get rest.views k) = subst (IsOpen 1 0 0) (sym (rest.before k (omega arith))) one.own in subst (λ (x : ℕ). IsOpen 1 0 0 (slice_get rest.views x)) (sym p) here)
         | inr p ↦ rest.inside j p.0 p.1
       ];
-      before = λ j low. rest.before j (omega (arith, low)) ∙ one.others j (apart_of j k (omega (arith, low)));
+      before = λ j low. rest.before j (omega (arith, low)) ∙ one.others j (ne_eqb j k (omega (arith, low)));
     }
 
 get_replicate : (n j : ℕ) (v : HartView) → j < n → slice_get (replicate n v) j ≡ Some v
@@ -65,19 +57,9 @@ get_replicate zero j v h = absurd (omega (arith, h))
 get_replicate (suc n) zero v h = refl
 get_replicate (suc n) (suc j) v h = get_replicate n j v (omega (arith, h))
 
-length_replicate : (n : ℕ) (v : HartView) → length (replicate n v) ≡ n
-length_replicate zero v = refl
-length_replicate (suc n) v = ap suc (length_replicate n v)
-
 headers_early : (c : RawSettings) (i : Program) (counts : ℕ → ℕ) (k m : ℕ) → AllByRecursion (IsEarly counts) (first_headers c i k m)
 headers_early c i counts k zero = tt
 headers_early c i counts k (suc m) = (tt, headers_early c i counts (k + 1) m)
-
-pub fit_start : (c : RawSettings) (k : ℕ) (s : HartState) → s.ic ≡ 0 → 1 ≤ c.interval → IsRested c (start_hart k s)
-fit_start c k s e some = record {
-  fit = record { number = omega arith; skipped = omega (arith, e); interval = omega (arith, e); limit = omega (arith, e); unfilled = λ p. omega (arith, e, some) };
-  number = λ p. omega arith;
-}
 
 pub started : OrderLaws → NoneAreKept → (c : RawSettings) (i : Program) (input : List ℕ) → IsSetting c → Recording c (start c i input)
 unfolding AreFresh
@@ -86,7 +68,7 @@ started laws none c i input setting =
     record {
       views = begin.views;
       keeps = begin.keeps;
-      size = begin.size ∙ length_replicate c.harts (fresh true);
+      size = begin.size ∙ length-replicate c.harts (fresh true);
       view = λ j within. open_view (start_hart j (start_state c i j)) (slice_get begin.views j) refl (begin.inside j (omega arith) (omega (arith, within)));
       fit = λ j. fit_start c j (start_state c i j) refl setting.interval_low;
       early = headers_early c i _ 0 c.harts;

@@ -1,5 +1,5 @@
 -- The end of the run stops the harts that are still live.
-use Rattle.file_laws.proofs.Common.{◌≡◌, ℕ, zero, suc, ◌+◌, ◌<◌, ◌≤◌, Bool, true, false, not, ◌&&◌, Option, Some, List, [], ◌∷◌, ◌++◌, length, refl, sym, ◌∙◌, ap, subst, arith, append_assoc, inl, inr, ◌≢◌, ◌⊎◌, ◌==◌, slice_get, false≢true, eqb_tells, append-nil, RawSettings, Record, End, HartView, order_limits_of, Keeps, Hart, IsFit, mark, stopped, stopped_records}
+use Rattle.file_laws.proofs.Common.{◌≡◌, ℕ, zero, suc, ◌+◌, ◌<◌, ◌≤◌, Bool, true, false, not, ◌&&◌, Option, Some, List, [], ◌∷◌, ◌++◌, length, refl, sym, ◌∙◌, ap, subst, arith, append_assoc, inl, inr, ◌==◌, slice_get, false≢true, append-nil, RawSettings, Record, End, HartView, order_limits_of, Keeps, Hart, IsFit, mark, stopped, stopped_records, ne_eqb, first_or_later}
 use Rattle.file_laws.proofs.Views.{OrderLaws, Views, IsDone, IsView, Took}
 use Rattle.file_laws.proofs.Nexts.{IsWithin, EndsSo, took_last, done_view}
 
@@ -31,15 +31,6 @@ stopped_live h e = ap (λ (b : Bool). elim b as (λ x. Hart) [ true ↦ record h
 
 stopped_dead : (h : Hart) → h.live ≡ false → stopped h ≡ h
 stopped_dead h e = ap (λ (b : Bool). elim b as (λ x. Hart) [ true ↦ record h { live = false; mark = Some (mark h.state.ic 5 0) } | false ↦ h ]) e
-
-first_or_later : (i j m : ℕ) → j ≤ i → i < j + suc m → (i ≡ j) ⊎ ((j + 1 ≤ i) × (i < j + 1 + m))
-first_or_later i j m low high = elim (eqb_tells i j) [
-  | inl p ↦ inl p.1
-  | inr p ↦ inr (omega (arith, low, p.1), omega (arith, high))
-]
-
-apart_of : (i j : ℕ) → i ≢ j → (i == j) ≡ false
-apart_of i j h = grind arith
 
 other_end : (c : RawSettings) (h : Hart) → EndsSo c h h.state.ic 5 false
 other_end c h = record { full = λ p. absurd cc; limit = λ p. absurd cc; kind = refl }
@@ -89,7 +80,7 @@ stops_one c n stream vs k j m harts off live e one rest =
             subst (λ (x : ℕ). IsView (stopped (harts x)) (slice_get rest.views x)) (sym same) there
         | inr p ↦ rest.inside i p.0 p.1 apart
       ];
-      before = λ i low. rest.before i (omega (arith, low)) ∙ one.others i (apart_of i j (omega (arith, low)));
+      before = λ i low. rest.before i (omega (arith, low)) ∙ one.others i (ne_eqb i j (omega (arith, low)));
       own = rest.own ∙ one.others k (turned j k off);
     }
   where
@@ -107,7 +98,7 @@ by_stop true laws c n stream vs k j m harts kp fit views rest e =
     let one = took_last laws c n stream vs j ((harts j).number + 1) (harts j) (harts j).state.ic 5 0 kp open_now (within_fit c (harts j) (fit j)) (other_end c (harts j)) in
     stops_one c n stream vs k j m harts known.0 known.1 e one
     (rest (stream ++ End j (mark (harts j).state.ic 5 0) ∷ []) one.views one.keeps
-    (λ i low high apart. subst (λ (o : Option HartView). IsView (harts i) o) (sym (one.others i (apart_of i j (omega (arith, low))))) (views i (omega (arith, low)) (omega (arith, high)) apart)))
+    (λ i low high apart. subst (λ (o : Option HartView). IsView (harts i) o) (sym (one.others i (ne_eqb i j (omega (arith, low))))) (views i (omega (arith, low)) (omega (arith, high)) apart)))
 
 pub stops : OrderLaws → (c : RawSettings) (n : ℕ) (stream : List Record) (vs : Views) (k j m : ℕ) (harts : ℕ → Hart) → Keeps (order_limits_of c) n 0 stream vs → ((i : ℕ) → IsFit c (harts i)) → AreViews k j m harts vs
     → Stops c n stream vs k j m harts

@@ -1,11 +1,10 @@
 -- One turn of a recording: its records keep the rules, and leave the harts' views as the harts are.
-use Rattle.file_laws.proofs.Common.{◌≡◌, ℕ, zero, suc, ◌+◌, ◌-◌, ◌<◌, ◌≤◌, ◌^◌, Bool, true, false, not, ◌&&◌, Option, Some, None, List, [], ◌∷◌, ◌++◌, length, refl, sym, ◌∙◌, ap, subst, arith, append_assoc, inl, inr, ◌==◌, slice_get, nat_le, nat_lt, if◌then◌else◌, AllByRecursion, eqb_tells, append-nil, Program, IsSetting, RawSettings, HartState, absorbed, is_cut, is_counted, passes, Ask, Want, Reply, Warm, Plan, Point, Record, Header, FirstLoad, ScOk, ScFailed, Edge, End, total, order_limits_of, Keeps, IsEarly, Hart, TurnEnd, GoesOn, NewInterval, HartOver, RunOver, Span, Answered, answer, call_of, Run, Served, serve, serve_orderly, served_if, is_guarded, by_guard, begun_anew, guarded_run, guard_records, after_ask, span_of, next_of, loading, warmth, skipped_after, word_before, budget, point_of, points_after, edge_records, load_record, sc_record, next_records, stopped_records, run_over_records, hart_after, other_after, harts_after, is_orderly, mark, IsFit, IsRested, is_there, is_on, MovesOn, anew, EachTurnMovesOn, EachTurnFits, OthersStayFit, GuardedAsksFit, turns_left, counts_of}
-use Rattle.std.proofs.lemmas.Grind.{common_steps}
+use Rattle.file_laws.proofs.Common.{◌≡◌, ℕ, zero, suc, ◌+◌, ◌<◌, ◌≤◌, ◌^◌, Bool, true, false, not, ◌&&◌, Option, Some, None, List, [], ◌∷◌, ◌++◌, length, refl, sym, ◌∙◌, ap, subst, arith, append_assoc, inl, inr, ◌==◌, slice_get, nat_le, nat_lt, if◌then◌else◌, AllByRecursion, eqb_tells, append-nil, Program, IsSetting, RawSettings, HartState, absorbed, is_cut, is_counted, passes, Ask, Want, Reply, Warm, Plan, Point, Record, ScOk, ScFailed, Edge, End, total, order_limits_of, Keeps, IsEarly, Hart, TurnEnd, GoesOn, NewInterval, RunOver, Span, Answered, answer, call_of, Run, Served, serve, is_guarded, by_guard, begun_anew, guarded_run, guard_records, after_ask, span_of, next_of, loading, warmth, skipped_after, word_before, budget, point_of, points_after, edge_records, load_record, sc_record, next_records, stopped_records, run_over_records, hart_after, other_after, harts_after, is_orderly, mark, IsFit, IsRested, is_there, is_on, MovesOn, anew, EachTurnMovesOn, EachTurnFits, OthersStayFit, GuardedAsksFit, turns_left, counts_of, and_parts, eqb-true, not-true, leb-true, ltb-true, eqb_same, budget_interval, budget_limit, own_is, other_is, own_state, other_state, uncut, served, ListedEdges}
 use Rattle.rv_meaning.specs.declared.asks.Reply.TheVariants as replies
 use Rattle.first_load_bits.specs.declared.warm.Warm.TheVariants as answers
 use Rattle.file_laws.proofs.Views.{OrderLaws, Views, IsOpen, IsView, Took, took_none, took_both, took_edges, took_load, took_conditional, open_later, AreSources}
 use Rattle.file_laws.proofs.Nexts.{EndsAs, IsWithin, next_ends, ends_on, guard_ends, took_next}
-use Rattle.file_laws.proofs.Sources.{ListedEdges, ArePoints, sources_are, edges_early, points_go_on}
+use Rattle.file_laws.proofs.Sources.{ArePoints, sources_are, edges_early, points_go_on}
 use Rattle.file_laws.proofs.Stops.{stops}
 
 -- the laws that are used here
@@ -48,12 +47,8 @@ all_both P [] ys a b = b
 all_both P (x ∷ xs) ys a b = (a.0, all_both P xs ys a.1 b)
 
 early_one : (counts later : ℕ → ℕ) (r : Record) → ((s : ℕ) → counts s ≤ later s) → IsEarly counts r → IsEarly later r
-early_one counts later (Header h n ic pc x) on e = tt
-early_one counts later (FirstLoad h skip value) on e = tt
-early_one counts later (ScOk h) on e = tt
-early_one counts later (ScFailed h) on e = tt
 early_one counts later (Edge h ic s j) on e = omega (arith, e, on s)
-early_one counts later (End h mark) on e = tt
+early_one counts later r on e = tt
 
 pub early_later : (counts later : ℕ → ℕ) (rs : List Record) → ((s : ℕ) → counts s ≤ later s) → AllByRecursion (IsEarly counts) rs → AllByRecursion (IsEarly later) rs
 early_later counts later [] on a = tt
@@ -61,8 +56,7 @@ early_later counts later (r ∷ rs) on a = (early_one counts later r on a.0, ear
 
 load_early : (load : Option Warm) (counts : ℕ → ℕ) (k skipped word : ℕ) → AllByRecursion (IsEarly counts) (load_record load k skipped word)
 load_early (Some answers.Cold) counts k skipped word = (tt, tt)
-load_early (Some answers.Warm) counts k skipped word = tt
-load_early None counts k skipped word = tt
+load_early load counts k skipped word = tt
 
 conditional_early : (reply : Reply) (counts : ℕ → ℕ) (k : ℕ) → AllByRecursion (IsEarly counts) (sc_record reply k)
 conditional_early replies.ScOk counts k = (tt, tt)
@@ -72,8 +66,7 @@ conditional_early reply counts k = tt
 next_early : (next : TurnEnd) (counts : ℕ → ℕ) (k number : ℕ) (s : HartState) → AllByRecursion (IsEarly counts) (next_records next k number s)
 next_early GoesOn counts k number s = tt
 next_early (NewInterval reason value) counts k number s = (tt, (tt, tt))
-next_early (HartOver reason value) counts k number s = (tt, tt)
-next_early (RunOver reason value) counts k number s = (tt, tt)
+next_early next counts k number s = (tt, tt)
 
 stop_early : (b : Bool) (counts : ℕ → ℕ) (j ic : ℕ) (rs : List Record) → AllByRecursion (IsEarly counts) rs → AllByRecursion (IsEarly counts) (elim b as (λ x. List Record) [ true ↦ End j (mark ic 5 0) ∷ rs | false ↦ rs ])
 stop_early true counts j ic rs a = (tt, a)
@@ -85,36 +78,9 @@ stops_early counts k j (suc n) harts = stop_early (not (j == k) && (harts j).liv
 
 over_early : (next : TurnEnd) (counts : ℕ → ℕ) (k n : ℕ) (harts : ℕ → Hart) → AllByRecursion (IsEarly counts) (run_over_records next k n harts)
 over_early (RunOver reason value) counts k n harts = stops_early counts k 0 n harts
-over_early GoesOn counts k n harts = tt
-over_early (NewInterval reason value) counts k n harts = tt
-over_early (HartOver reason value) counts k n harts = tt
+over_early next counts k n harts = tt
 
 -- ---- the harts after a turn
-
-pub own_state : (next : TurnEnd) (s : HartState) (skipped bytes : ℕ) (h : Hart) → (hart_after next s skipped bytes h).state ≡ s
-own_state GoesOn s skipped bytes h = refl
-own_state (NewInterval reason value) s skipped bytes h = refl
-own_state (HartOver reason value) s skipped bytes h = refl
-own_state (RunOver reason value) s skipped bytes h = refl
-
-stopped_state : (b : Bool) (h : Hart) → (elim b as (λ x. Hart) [ true ↦ record h { live = false; mark = Some (mark h.state.ic 5 0) } | false ↦ h ]).state ≡ h.state
-stopped_state true h = refl
-stopped_state false h = refl
-
-pub other_state : (next : TurnEnd) (h : Hart) → (other_after next h).state ≡ h.state
-other_state GoesOn h = refl
-other_state (NewInterval reason value) h = refl
-other_state (HartOver reason value) h = refl
-other_state (RunOver reason value) h = stopped_state h.live h
-
-pub own_is : (next : TurnEnd) (k j : ℕ) (own : Hart) (harts : ℕ → Hart) → (j == k) ≡ true → harts_after next k own harts j ≡ own
-own_is next k j own harts e = ap (λ (b : Bool). elim b as (λ x. Hart) [ true ↦ own | false ↦ other_after next (harts j) ]) e
-
-pub other_is : (next : TurnEnd) (k j : ℕ) (own : Hart) (harts : ℕ → Hart) → (j == k) ≡ false → harts_after next k own harts j ≡ other_after next (harts j)
-other_is next k j own harts e = ap (λ (b : Bool). elim b as (λ x. Hart) [ true ↦ own | false ↦ other_after next (harts j) ]) e
-
-same_self : (k : ℕ) → (k == k) ≡ true
-same_self k = grind arith
 
 -- the hart whose turn it was, where the stream has so many bytes now, and the count of each hart
 abbrev pub own_hart : RawSettings → Run → ℕ → Ask → TurnEnd → HartState → ℕ → Hart
@@ -135,15 +101,9 @@ counts_go_on c run k ask next s bytes on j = elim (eqb_tells j k) [
 ]
 
 own_count : (c : RawSettings) (run : Run) (k : ℕ) (ask : Ask) (next : TurnEnd) (s : HartState) (bytes : ℕ) → counts_after c run k ask next s bytes k ≡ s.ic
-own_count c run k ask next s bytes = ap (λ (h : Hart). h.state.ic) (own_is next k k (own_hart c run k ask next s bytes) run.harts (same_self k)) ∙ ap (λ (x : HartState). x.ic) (own_state next s (skipped_after (warmth c (loading ask.want) (run.events k)) (run.harts k).skipped) bytes (run.harts k))
+own_count c run k ask next s bytes = ap (λ (h : Hart). h.state.ic) (own_is next k k (own_hart c run k ask next s bytes) run.harts (eqb_same k)) ∙ ap (λ (x : HartState). x.ic) (own_state next s (skipped_after (warmth c (loading ask.want) (run.events k)) (run.harts k).skipped) bytes (run.harts k))
 
 -- ---- where the asking instruction is
-
-budget_interval : (c : RawSettings) (h : Hart) → budget c h ≤ c.interval - (h.state.ic - h.begun)
-budget_interval c h = grind (arith, common_steps)
-
-budget_limit : (c : RawSettings) (h : Hart) → budget c h ≤ c.limit - h.state.ic
-budget_limit c h = grind (arith, common_steps)
 
 pub turn_within : (c : RawSettings) (h : Hart) (asked after : ℕ) (next : TurnEnd) (span : Option Span) (load : Option ℕ) → IsFit c h → MovesOn c h asked after next span load → IsWithin c h after
 turn_within c h asked after next span load fit on = record {
@@ -245,9 +205,7 @@ with_stops laws c run k own reason value known rs took =
 turned_by : (next : TurnEnd) → OrderLaws → (c : RawSettings) (run : Run) (k : ℕ) (own : Hart) (known : Underway c run) (rs : List Record) → Took (order_limits_of c) c.harts run.stream known.views k rs (IsView own)
     → Turned c run.stream (rs ++ run_over_records next k c.harts run.harts) (harts_after next k own run.harts)
 turned_by (RunOver reason value) laws c run k own known rs took = with_stops laws c run k own reason value known rs took
-turned_by GoesOn laws c run k own known rs took = subst (λ (x : List Record). Turned c run.stream x (harts_after GoesOn k own run.harts)) (sym (append-nil rs)) (with_others c run k own GoesOn known rs (λ h. refl) took)
-turned_by (NewInterval reason value) laws c run k own known rs took = subst (λ (x : List Record). Turned c run.stream x (harts_after (NewInterval reason value) k own run.harts)) (sym (append-nil rs)) (with_others c run k own (NewInterval reason value) known rs (λ h. refl) took)
-turned_by (HartOver reason value) laws c run k own known rs took = subst (λ (x : List Record). Turned c run.stream x (harts_after (HartOver reason value) k own run.harts)) (sym (append-nil rs)) (with_others c run k own (HartOver reason value) known rs (λ h. refl) took)
+turned_by next laws c run k own known rs took = subst (λ (x : List Record). Turned c run.stream x (harts_after next k own run.harts)) (sym (append-nil rs)) (with_others c run k own next known rs (λ h. refl) took)
 
 -- ---- the whole turn
 
@@ -307,31 +265,15 @@ after_kept laws c run k ask call answered span next s setting known rest there l
 
 -- ---- the guard
 
--- the turn of an orderly ask
-pub served : (c : RawSettings) (i : Program) (run : Run) (k : ℕ) (ask : Ask) → is_orderly c i (run.harts k) ask ≡ true → serve c i run k ask ≡ serve_orderly c i run k ask
-unfolding serve
-served c i run k ask o = ap (λ (b : Bool). served_if b c i run k ask) o
-
 -- the run in which an ask is answered
 abbrev pub asking : RawSettings → Run → ℕ → Ask → Run
 asking c run k ask = guarded_run (is_guarded c run k ask.want) run k ask.state
 
-both_of : (a b : Bool) → (a && b) ≡ true → (a ≡ true) × (b ≡ true)
-both_of true b e = (refl, e)
-both_of false b e = cc
-
 -- a guarded ask is of format 2, and no cut
 pub guard_is : (c : RawSettings) (run : Run) (k : ℕ) (want : Want) → is_guarded c run k want ≡ true → (c.format ≡ 2) × (is_cut want ≡ false)
 guard_is c run k want e =
-    let p = both_of (c.format == 2) _ e in
-    (equal c.format 2 p.0, not_cut (is_cut want) (both_of (not (is_cut want)) _ p.1).0)
-  where
-    equal : (a b : ℕ) → (a == b) ≡ true → a ≡ b
-    equal a b e = grind arith
-
-    not_cut : (b : Bool) → not b ≡ true → b ≡ false
-    not_cut true e = cc
-    not_cut false e = refl
+    let p = and_parts (c.format == 2) _ e in
+    (eqb-true c.format 2 p.0, not-true (is_cut want) (and_parts (not (is_cut want)) _ p.1).0)
 
 -- the count of an ask that isn't a cut is within the budget
 record IsCounted (c : RawSettings) (h : Hart) (asked : ℕ) : Type 0 where
@@ -340,16 +282,10 @@ record IsCounted (c : RawSettings) (h : Hart) (asked : ℕ) : Type 0 where
 
 counted_at : (c : RawSettings) (i : Program) (h : Hart) (ask : Ask) → is_cut ask.want ≡ false → is_orderly c i h ask ≡ true → IsCounted c h ask.state.ic
 counted_at c i h ask cut o =
-    let count : is_counted h.state.ic (budget c h) ask.want ask.state.ic ≡ true = (both_of (is_counted h.state.ic (budget c h) ask.want ask.state.ic) (passes i ask.want) o).0 in
-    let p = both_of (nat_le h.state.ic ask.state.ic) (nat_lt ask.state.ic (h.state.ic + budget c h))
+    let count : is_counted h.state.ic (budget c h) ask.want ask.state.ic ≡ true = (and_parts (is_counted h.state.ic (budget c h) ask.want ask.state.ic) (passes i ask.want) o).0 in
+    let p = and_parts (nat_le h.state.ic ask.state.ic) (nat_lt ask.state.ic (h.state.ic + budget c h))
     (sym (ap (λ (b : Bool). if b then ask.state.ic == h.state.ic + budget c h else nat_le h.state.ic ask.state.ic && nat_lt ask.state.ic (h.state.ic + budget c h)) cut) ∙ count) in
-    record { low = le_of h.state.ic ask.state.ic p.0; high = lt_of ask.state.ic (h.state.ic + budget c h) p.1 }
-  where
-    le_of : (a b : ℕ) → nat_le a b ≡ true → a ≤ b
-    le_of a b e = grind arith
-
-    lt_of : (a b : ℕ) → nat_lt a b ≡ true → a < b
-    lt_of a b e = grind arith
+    record { low = leb-true h.state.ic ask.state.ic p.0; high = ltb-true ask.state.ic (h.state.ic + budget c h) p.1 }
 
 -- the hart that begins an interval at its ask, and the others, once it has
 pub anew_is : (run : Run) (k j : ℕ) (s : HartState) → (j == k) ≡ true → (begun_anew run k s).harts j ≡ anew s (run.bytes + total (guard_records run k s)) (run.harts k)
@@ -413,7 +349,7 @@ asks true laws c i run k ask setting known live o cut =
     let s = ask.state in
     let bytes = run.bytes + total (guard_records run k s) in
     let f = laws.guarded c i (run.harts k) bytes ask setting.interval_low (known.fit k) live o (cut refl) in
-    let own = anew_is run k k s (same_self k) in
+    let own = anew_is run k k s (eqb_same k) in
     record {
       live = ap (λ (x : Hart). x.live) own ∙ live;
       orderly = subst (λ (x : Hart). is_orderly c i x ask ≡ true) (sym own) f.1;
@@ -423,9 +359,6 @@ asks true laws c i run k ask setting known live o cut =
       ];
       others = λ j apart. subst (IsRested c) (sym (anew_other run k j s apart)) (known.fit j);
     }
-
-pub uncut : (c : RawSettings) (run : Run) (k : ℕ) (want : Want) → is_guarded c run k want ≡ true → is_cut want ≡ false
-uncut c run k want e = (guard_is c run k want e).1
 
 -- a live hart's orderly ask is recorded
 pub turn_kept : Laws → (c : RawSettings) (i : Program) (run : Run) (k : ℕ) (ask : Ask) → IsSetting c → Recording c run → k < c.harts → (run.harts k).live ≡ true → is_orderly c i (run.harts k) ask ≡ true → Recording c (serve c i run k ask).run

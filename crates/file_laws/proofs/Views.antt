@@ -1,5 +1,5 @@
 -- What is known of a hart from the records so far, and the records of a turn that are its hart's own.
-use Rattle.file_laws.proofs.Common.{◌≡◌, ℕ, zero, suc, ◌+◌, ◌<◌, ◌≤◌, ◌^◌, max, Bool, true, false, Option, Some, None, List, [], ◌∷◌, ◌++◌, length, Ok, refl, sym, ◌∙◌, subst, arith, append_assoc, ◌≢◌, ◌==◌, slice_get, slice_set, length-set, append-nil, EndMark, Reply, Warm, Record, Header, FirstLoad, ScOk, ScFailed, Edge, End, OrderLimits, HartView, Awaiting, Open, Done, phase_after, step, Keeps, Hart, edges_from, load_record, sc_record}
+use Rattle.file_laws.proofs.Common.{◌≡◌, ℕ, zero, suc, ◌+◌, ◌<◌, ◌≤◌, ◌^◌, max, Bool, true, false, Option, Some, List, [], ◌∷◌, ◌++◌, length, Ok, refl, sym, ◌∙◌, subst, arith, append_assoc, ◌≢◌, ◌==◌, slice_get, slice_set, length-set, append-nil, EndMark, Reply, Warm, Record, Header, FirstLoad, ScOk, ScFailed, Edge, End, OrderLimits, HartView, Awaiting, Open, Done, phase_after, step, Keeps, Hart, edges_from, load_record, sc_record}
 use Rattle.rv_meaning.specs.declared.asks.Reply.TheVariants as replies
 use Rattle.first_load_bits.specs.declared.warm.Warm.TheVariants as answers
 
@@ -158,8 +158,7 @@ pub took_load : OrderLaws → (t : OrderLimits) (n : ℕ) (stream : List Record)
     → Took t n stream vs k (load_record load k skipped word) (IsOpen next since ic)
 took_load laws t n stream vs k ic next since (Some answers.Cold) skipped word kp v =
     took_other laws.more t n stream vs k ic next since (FirstLoad k skipped word) v kp (laws.other t vs k skipped word next since v.seen v.met v.last v.is).0
-took_load laws t n stream vs k ic next since (Some answers.Warm) skipped word kp v = took_none t n stream vs k (IsOpen next since ic) kp v
-took_load laws t n stream vs k ic next since None skipped word kp v = took_none t n stream vs k (IsOpen next since ic) kp v
+took_load laws t n stream vs k ic next since load skipped word kp v = took_none t n stream vs k (IsOpen next since ic) kp v
 
 pub took_conditional : OrderLaws → (t : OrderLimits) (n : ℕ) (stream : List Record) (vs : Views) (k ic next since : ℕ) (reply : Reply) → Keeps t n 0 stream vs → IsOpen next since ic (slice_get vs k)
     → Took t n stream vs k (sc_record reply k) (IsOpen next since ic)

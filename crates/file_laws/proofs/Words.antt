@@ -1,5 +1,5 @@
 -- What loads, stores and atomic operations make of words are words.
-use Rattle.file_laws.proofs.Common.{◌≡◌, ℕ, ◌+◌, ◌-◌, ◌*◌, ◌/◌, ◌%◌, ◌<◌, ◌^◌, Bool, true, false, ◌&&◌, refl, sym, subst, arith, mod-lt, pow_pos, div-le_self, inl, inr, ◌==◌, ◌⊎◌, nat_lt, if◌then◌else◌, eqb_tells, less, with_bytes, extended, loaded_value, stored_word, amo_result, is_aligned, AmoOp}
+use Rattle.file_laws.proofs.Common.{◌≡◌, ℕ, ◌+◌, ◌-◌, ◌*◌, ◌/◌, ◌%◌, ◌<◌, ◌^◌, Bool, true, false, ◌&&◌, refl, sym, subst, arith, mod-lt, pow_pos, div-le_self, inl, inr, ◌==◌, ◌⊎◌, nat_lt, if◌then◌else◌, eqb_tells, less, with_bytes, extended, loaded_value, stored_word, amo_result, is_aligned, AmoOp, eqb-true}
 use Rattle.std.specs.Int.Bits.{and_lt}
 use Rattle.std.proofs.lemmas.Nat.{or_of_32, xor_of_32}
 use Rattle.rv_meaning.specs.declared.amo.AmoOp.TheVariants as ops
@@ -88,16 +88,13 @@ stored_by false true a v w even k h = with_half a v w (even refl) h
 stored_by false false a v w even k h = k
 
 half_even : (a width : ℕ) → is_aligned a width ≡ true → (width == 2) ≡ true → a % 2 ≡ 0
-half_even a width e f = even_by width (same_of width 2 f) e
+half_even a width e f = even_by width (eqb-true width 2 f) e
   where
-    same_of : (a b : ℕ) → (a == b) ≡ true → a ≡ b
-    same_of a b e = grind arith
-
     at_two : (b : Bool) → (true && b) ≡ true → b ≡ true
     at_two b x = x
 
     even_by : (n : ℕ) → n ≡ 2 → is_aligned a n ≡ true → a % 2 ≡ 0
-    even_by n p x = let y : is_aligned a 2 ≡ true = subst (λ (m : ℕ). is_aligned a m ≡ true) p x in same_of (a % 2) 0 y
+    even_by n p x = let y : is_aligned a 2 ≡ true = subst (λ (m : ℕ). is_aligned a m ≡ true) p x in eqb-true (a % 2) 0 y
 
 pub stored : (a width v w : ℕ) → is_aligned a width ≡ true → v < 2 ^ 32 → w < 2 ^ 32 → stored_word a width v w < 2 ^ 32
 stored a width v w e k h = stored_by (width == 1) (width == 2) a v w (λ f. half_even a width e f) k h
@@ -112,5 +109,4 @@ amo_word ops.And w b h k = and_lt 32 w b h k
 amo_word ops.Or w b h k = or_of_32 w b h k
 amo_word ops.Min w b h k = if_word (less w b) w b h k
 amo_word ops.Max w b h k = if_word (less w b) b w k h
-amo_word ops.MinU w b h k = omega (arith, h, k)
-amo_word ops.MaxU w b h k = omega (arith, h, k)
+amo_word op w b h k = omega (arith, h, k)

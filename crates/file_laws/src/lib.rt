@@ -28,6 +28,7 @@ use rv_meaning::{each_ask_is_orderly, registers_stay_words};
 /// At all times the kept records keep the rules of single records, and each kept Edge comes from an
 /// instruction that its source has done. This holds after any rows, each of which had a live hart and the
 /// machine's reply, even if an ask was not one that its hart could make.
+#[tactic(auto, using(crate::proofs::Rows::rules_are_kept))]
 pub fn kept_records_keep_their_rules()
     ensures { KeptRecordsKeepTheRules }
 {
@@ -58,6 +59,7 @@ pub fn rings_keep_their_rules()
 
 /// If each ask was one that its hart could make, and no hart is live any more, the kept records keep all
 /// rules of the order of records.
+#[tactic(auto, using(crate::proofs::Rows::finished_in_order))]
 pub fn finished_logs_are_in_order()
     ensures { FinishedLogsAreInOrder }
 {
@@ -108,6 +110,7 @@ pub fn logs_are_contents()
 
 /// All records of a recording are in order. So are the last ones of them, wherever they begin
 /// (`log_order::laws::order_stays_without_the_first_records`).
+#[tactic(auto, using(crate::proofs::Contents::streams_in_order))]
 pub fn streams_are_in_order()
     ensures { StreamsAreInOrder }
 {
@@ -170,6 +173,7 @@ pub fn salvaged_files_suffice()
 
 /// What a ring holds after lawful rows of orderly asks that leave no hart live is what a log can say,
 /// whoever made the asks. Nothing is asked of the harts' own lists, nor of the program.
+#[tactic(auto, using(crate::proofs::OfRows::ring_contents))]
 pub fn logs_of_rows_are_contents()
     ensures { LogsOfRowsAreContents }
 {
