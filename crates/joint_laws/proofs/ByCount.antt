@@ -1,39 +1,24 @@
 -- Chains of program order and kept Edges, by hart and count.
-use Rattle.joint_laws.proofs.Common.{◌≡◌, ℕ, zero, suc, ◌<◌, inl, inr, refl, ap, ◌∙◌, subst, subst₂, arith, List, [], ◌∷◌, length, slice_get, slice_index_or, Some, Contains, AllPairs, slice_get_within, Record, Header, FirstLoad, ScOk, ScFailed, Edge, End, Point, IsSameHart, IsInOrder, name_of, edge_record, edge_between, KeptEdge, HasEdge, StepTo, Leads, one as lead_one, ChainsLead}
+use Rattle.joint_laws.proofs.Common.{◌≡◌, ℕ, zero, suc, ◌<◌, inl, inr, refl, ap, ◌∙◌, subst, subst₂, arith, List, [], ◌∷◌, length, slice_get, slice_index_or, Some, Contains, Record, Edge, Point, IsSameHart, IsInOrder, name_of, edge_record, edge_between, KeptEdge, HasEdge, StepTo, Leads, one as lead_one, ChainsLead, pair_at}
 use Rattle.race_log.specs.Netzer.{ProgramOrder, Either, Chain, one, more}
 use Rattle.joint_replay.specs.Chains.{more as lead_more}
-use Rattle.joint_laws.proofs.Lists.{some_is}
+use Rattle.joint_laws.proofs.Moves.{some_is}
 
 get_index : {X : Type 0} (xs : List X) (k : ℕ) (x d : X) → slice_get xs k ≡ Some x → slice_index_or xs k d ≡ x
 get_index [] k x d e = cc
 get_index (y ∷ ys) zero x d e = some_is y x (Some y) refl e
 get_index (y ∷ ys) (suc k) x d e = get_index ys k x d e
 
-pub pair_at : (R : Point → Point → Type 0) (run : List Point) (m n : ℕ) (p q : Point) → AllPairs R run → m < n → slice_get run m ≡ Some p → slice_get run n ≡ Some q → R p q
-pair_at R run m n p q all up e f = subst₂ R (get_index run m p p e) (get_index run n q p f) (all m n p up (slice_get_within run n q f))
-
 abbrev pub of_edge : (ℕ → ℕ → ℕ → ℕ → ℕ) → Record → ℕ
-of_edge f (Header a n c pc x) = 0
-of_edge f (FirstLoad a skip value) = 0
-of_edge f (ScOk a) = 0
-of_edge f (ScFailed a) = 0
 of_edge f (Edge x y z w) = f x y z w
-of_edge f (End a m) = 0
+of_edge f r = 0
 
 has_edge : (rs : List Record) (h ic s j k : ℕ) → k < length rs → slice_index_or rs k (Edge h ic s j) ≡ Edge h ic s j → HasEdge rs h ic s j
 has_edge [] h ic s j k low e = absurd (omega arith)
-has_edge (Header a n c pc x ∷ rs) h ic s j zero low e = cc
-has_edge (FirstLoad a skip value ∷ rs) h ic s j zero low e = cc
-has_edge (ScOk a ∷ rs) h ic s j zero low e = cc
-has_edge (ScFailed a ∷ rs) h ic s j zero low e = cc
-has_edge (End a m ∷ rs) h ic s j zero low e = cc
 has_edge (Edge a n b c ∷ rs) h ic s j zero low e = inl (ap (of_edge (λ x y z w. x)) e, ap (of_edge (λ x y z w. y)) e, ap (of_edge (λ x y z w. z)) e, ap (of_edge (λ x y z w. w)) e)
-has_edge (Header a n c pc x ∷ rs) h ic s j (suc k) low e = has_edge rs h ic s j k (omega arith) e
-has_edge (FirstLoad a skip value ∷ rs) h ic s j (suc k) low e = has_edge rs h ic s j k (omega arith) e
-has_edge (ScOk a ∷ rs) h ic s j (suc k) low e = has_edge rs h ic s j k (omega arith) e
-has_edge (ScFailed a ∷ rs) h ic s j (suc k) low e = has_edge rs h ic s j k (omega arith) e
-has_edge (End a m ∷ rs) h ic s j (suc k) low e = has_edge rs h ic s j k (omega arith) e
 has_edge (Edge a n b c ∷ rs) h ic s j (suc k) low e = inr (has_edge rs h ic s j k (omega arith) e)
+has_edge rs h ic s j zero low e = cc
+has_edge (r ∷ rs) h ic s j (suc k) low e = has_edge rs h ic s j k (omega arith) e
 
 module _ (records : List Record) (points : List Point) (order : IsInOrder points) where
   step_to : (m n : ℕ) → Either (ProgramOrder points) (KeptEdge records points) m n → (p q : Point) → slice_get points m ≡ Some p → slice_get points n ≡ Some q → StepTo records p.hart p.count q.hart q.count

@@ -1,8 +1,6 @@
 -- In each beginning of an allowed order the harts' rows follow the run's.
-use Rattle.joint_laws.proofs.Common.{◌≡◌, ℕ, zero, suc, ◌+◌, ◌<◌, Bool, true, false, ◌&&◌, ◌==◌, inl, inr, refl, sym, ap, ◌∙◌, subst, arith, List, [], ◌∷◌, ◌++◌, slice_get, slice_set, is_some, Option, Some, None, AllByRecursion, flat_map, eq-eqb, ne_eqb, eqb_tells, append_assoc, Program, Row, HartState, Record, Header, FirstLoad, ScOk, ScFailed, Edge, End, Interval, Replayed, Done, interval_of, replayed, after_row, intervals_in, Cursor, Lane, Item, Passing, Doing, Ending, with_cursor, cursors_of, lane_of, row_given, lane_step, Joining, Taken, Walk, begun, longer, lanes_from, IsBegun, EndsSuffice, IsWhole, IntervalRowsAreOfTurns, state_after, IsRowOfTurn, Recording, IsLogOf, begin, interval_rows, row_in, rows_done}
-use Rattle.joint_laws.proofs.Lists.{after_append, some_is}
-use Rattle.joint_replay.proofs.Soundness.{get_same, get_other}
-use Rattle.joint_laws.proofs.Moves.{IsMove, StepOf, along, by_kind}
+use Rattle.joint_laws.proofs.Common.{◌≡◌, ℕ, zero, suc, ◌+◌, ◌<◌, Bool, true, false, ◌&&◌, ◌==◌, inl, inr, refl, sym, ap, ◌∙◌, subst, arith, List, [], ◌∷◌, ◌++◌, slice_get, slice_set, is_some, Option, Some, None, AllByRecursion, flat_map, eq-eqb, ne_eqb, eqb_tells, append_assoc, Program, Row, HartState, Record, Header, FirstLoad, ScOk, ScFailed, Edge, End, Interval, Replayed, Done, interval_of, replayed, after_row, intervals_in, Cursor, Lane, Item, Doing, with_cursor, cursors_of, lane_of, row_given, lane_step, Joining, Taken, Walk, begun, longer, lanes_from, IsBegun, EndsSuffice, IsWhole, IntervalRowsAreOfTurns, state_after, IsRowOfTurn, Recording, IsLogOf, begin, interval_rows, row_in, rows_done, get_same, get_other, after_append, OfBeginnings}
+use Rattle.joint_laws.proofs.Moves.{IsMove, StepOf, along, by_kind, some_is}
 
 -- ---- the retained intervals are there
 
@@ -77,9 +75,8 @@ module _ (r : Recording) (records : List Record) where
 
   -- the row of a step is one of the run, with the same state before it
   abbrev pub IsItemOf : ℕ → Item → Type 0
-  IsItemOf h (Passing ic) = Unit {0}
   IsItemOf h (Doing before row) = IsRowOfTurn r.settings r.program r.input r.turns h before row
-  IsItemOf h (Ending n m) = Unit {0}
+  IsItemOf h item = Unit {0}
 
   abbrev pub AreTaken : List Taken → Type 0
   AreTaken [] = Unit {0}
@@ -219,3 +216,6 @@ module _ (r : Recording) (records : List Record) where
 
     pub followed : (order : List ℕ) (w : Walk) → IsBegun r.program r.settings.harts records order w → IsFollowed w
     followed order w b = along IsFollowed (λ v h x f m. step_followed v h x f m) (begun (begin r records)) order at_first w b.allowed
+
+pub follows : EndsSuffice → IntervalRowsAreOfTurns → OfBeginnings IsFollowed
+follows suffice rows_are r records order w log b = followed r records suffice rows_are log order w b

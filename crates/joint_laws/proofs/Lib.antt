@@ -1,5 +1,4 @@
 mod Common
-pub mod Lists
 pub mod ByCount
 pub mod RaceOrder
 pub mod Times
@@ -11,11 +10,7 @@ pub mod Rows
 pub mod Words
 pub mod Once
 pub mod Memory
-pub mod Starts
-pub mod States
 pub mod Said
 pub mod Worked
-pub mod Stands
 pub mod Shown
-pub mod Reached
 pub mod Texts

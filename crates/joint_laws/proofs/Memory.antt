@@ -1,11 +1,11 @@
 -- The joint memory, by the rows and points of the run.
-use Rattle.joint_laws.proofs.Common.{◌≡◌, ℕ, zero, suc, ◌+◌, ◌<◌, ◌≤◌, Bool, true, false, ◌⊎◌, inl, inr, refl, sym, ap, ◌∙◌, subst, arith, List, [], ◌∷◌, ◌++◌, length, map, slice_get, is_some, Option, Some, None, ◌==◌, range_with_len, false≢true, Program, Row, HartState, aligned, at_address, Record, Point, Touches, Writes, run_of, RowsAreCounted, HasCodeWords, Fills, RowsThatTellHaveNoFault, RunRowsTellWords, RunWritersHaveRows, TurnRowsAreRows, PartsHaveCodeWords, state_after, HasRow, RunHasRow, IsRowOfTurn, Item, Passing, Doing, Ending, Taken, Walk, IsRowAt, IsSound, Did, StepsPass, SoundnessStays, FillsAreFilled, BeginsSound, KeepsOrder, HasMemory, IsRecordedWord, Recording, IsLogOf, OfBeginnings, begin, points_of, told_by}
+use Rattle.joint_laws.proofs.Common.{◌≡◌, ℕ, zero, suc, ◌+◌, ◌≤◌, Bool, true, false, ◌⊎◌, inl, inr, refl, sym, ap, ◌∙◌, subst, arith, List, [], ◌∷◌, ◌++◌, length, map, slice_get, is_some, Option, Some, None, ◌==◌, range_with_len, false≢true, Program, Row, HartState, aligned, at_address, Record, Point, Touches, Writes, run_of, RowsAreCounted, HasCodeWords, Fills, RowsThatTellHaveNoFault, RunRowsTellWords, RunWritersHaveRows, TurnRowsAreRows, PartsHaveCodeWords, state_after, HasRow, RunHasRow, IsRowOfTurn, Item, Doing, Taken, Walk, IsRowAt, IsSound, Did, StepsPass, SoundnessStays, FillsAreFilled, BeginsSound, KeepsOrder, HasMemory, IsRecordedWord, Recording, IsLogOf, OfBeginnings, begin, points_of, told_by, none-some, eqb-true, cases_lt, EndsSuffice, IntervalRowsAreOfTurns}
 use Rattle.elf_loader.specs.Laws.{LoadedProgramsAreImages}
 use Rattle.row_laws.specs.Words.{word_told, HasWord}
-use Rattle.joint_laws.proofs.Lists.{some_is, not_some, heads, rests}
-use Rattle.joint_laws.proofs.Follows.{IsFollowed, IsItemOf, AreTaken}
+use Rattle.joint_laws.proofs.Follows.{IsFollowed, IsItemOf, AreTaken, follows}
 use Rattle.joint_laws.proofs.Once.{IsDoneOnce, done_once}
 use Rattle.joint_laws.proofs.Words.{IsLatest, forgets, latest, words_are}
+use Rattle.joint_laws.proofs.Moves.{some_is}
 
 -- ---- a row that tells a word
 
@@ -15,9 +15,6 @@ told_access None rest a (inl e) t = absurd (false≢true (ap is_some (sym e) ∙
 told_access None rest a (inr own) t = own
 told_access (Some x) rest a q t = by (aligned x.0 == a) refl t
   where
-    number : (m n : ℕ) → (m == n) ≡ true → m ≡ n
-    number m n e = grind arith
-
     own : (b a : ℕ) → aligned b ≡ a → aligned a ≡ a
     own b a e = omega (arith, e)
 
@@ -26,7 +23,7 @@ told_access (Some x) rest a q t = by (aligned x.0 == a) refl t
     left (inr o) t = o
 
     by : (b : Bool) → (aligned x.0 == a) ≡ b → is_some (elim b as (λ y. Option ℕ) [ true ↦ Some x.1 | false ↦ rest ]) ≡ true → aligned a ≡ a
-    by true e t = own x.0 a (number (aligned x.0) a e)
+    by true e t = own x.0 a (eqb-true (aligned x.0) a e)
     by false e t = left q t
 
 load_or : (o : Option (ℕ × ℕ)) (a : ℕ) → (at_address a o None ≡ None) ⊎ (aligned a ≡ a)
@@ -41,14 +38,20 @@ told_aligned r a word e = told_access r.store (at_address a r.load None) a (load
 
 -- a row that stores the word tells it
 store_tells : (o : Option (ℕ × ℕ)) (rest : Option ℕ) (a v : ℕ) → at_address a o None ≡ Some v → at_address a o rest ≡ Some v
-store_tells None rest a v e = absurd (not_some v e)
+store_tells None rest a v e = absurd (none-some v e)
 store_tells (Some x) rest a v e = by (aligned x.0 == a) e
   where
     by : (b : Bool) → elim b as (λ y. Option ℕ) [ true ↦ Some x.1 | false ↦ None ] ≡ Some v → elim b as (λ y. Option ℕ) [ true ↦ Some x.1 | false ↦ rest ] ≡ Some v
     by true f = f
-    by false f = absurd (not_some v f)
+    by false f = absurd (none-some v f)
 
 -- ---- a hart has one row of a count
+
+heads : {X : Type 0} (x y : X) (xs ys : List X) → x ∷ xs ≡ y ∷ ys → x ≡ y
+heads x y xs ys e = cc
+
+rests : {X : Type 0} (x y : X) (xs ys : List X) → x ∷ xs ≡ y ∷ ys → xs ≡ ys
+rests x y xs ys e = cc
 
 counted_at : (front back : List Row) (r : Row) (k n : ℕ) → map (λ (x : Row). x.ic) (front ++ r ∷ back) ≡ range_with_len k n → r.ic ≡ k + length front
 counted_at [] back r k zero e = absurd cc
@@ -87,14 +90,12 @@ pub record IsDoing (r : Recording) (h : ℕ) (item : Item) : Type 0 where
   pub of_run : IsRowOfTurn r.settings r.program r.input r.turns h before row
 
 of_told : (r : Recording) (records : List Record) (h : ℕ) (item : Item) (a word : ℕ) → IsItemOf r records h item → told_by a item ≡ Some word → IsDoing r h item
-of_told r records h (Passing ic) a word o t = absurd (not_some word t)
 of_told r records h (Doing before row) a word o t = record { before = before; row = row; is = refl; of_run = o }
-of_told r records h (Ending n m) a word o t = absurd (not_some word t)
+of_told r records h item a word o t = absurd (none-some word t)
 
 of_row : (r : Recording) (records : List Record) (h k : ℕ) (item : Item) → IsItemOf r records h item → IsRowAt k item → IsDoing r h item
-of_row r records h k (Passing ic) o d = absurd d
 of_row r records h k (Doing before row) o d = record { before = before; row = row; is = refl; of_run = o }
-of_row r records h k (Ending n m) o d = absurd d
+of_row r records h k item o d = absurd d
 
 touches : (a : ℕ) (q : Point) → Writes a q → Touches a q
 touches a q w = (w.0, w.1, w.2, w.3, w.4.0)
@@ -116,7 +117,7 @@ module _ (r : Recording) (records : List Record) (order : List ℕ) (w : Walk) (
       let same = same_row r.program _ _ d.before x.before d.row x.row
       (counted r.settings r.program r.input r.turns q.hart (omega (arith, limit)) (record { legal = legal; over = log.recording.over })) mine x.has (count ∙ x.count) in
       elim x.writes [
-        | inl stored ↦ not_some _ (sym none ∙ (ap (told_by a) d.is ∙ (ap (λ (z : Row). word_told z a) same.1 ∙ store_tells x.row.store (at_address a x.row.load None) a _ stored)))
+        | inl stored ↦ none-some _ (sym none ∙ (ap (told_by a) d.is ∙ (ap (λ (z : Row). word_told z a) same.1 ∙ store_tells x.row.store (at_address a x.row.load None) a _ stored)))
         | inr fill ↦ false≢true (sym kept ∙ (ap (forgets a) d.is ∙ (fills d.before d.row a own).0 (subst (λ (s : HartState). Fills s d.row a) (sym same.0) (subst (λ (z : Row). Fills x.before z a) (sym same.1) fill))))
       ]
 
@@ -144,11 +145,8 @@ module _ (r : Recording) (records : List Record) (order : List ℕ) (w : Walk) (
     touched : Touches a has.point
     touched = subst (Touches a) (sym has.is) ((0, record { word = a; writes = is_some d.row.store }, omega arith, refl, refl))
 
-    less_or : (m n : ℕ) → (m < n) ⊎ (n ≤ m)
-    less_or m n = grind arith
-
     no_later : (n y : ℕ) (q : Point) → slice_get (points_of r) n ≡ Some q → Writes a q → Did w.taken y q.hart q.count → n ≤ has.place
-    no_later n y q at writes dq = elim (less_or has.place n) [
+    no_later n y q at writes dq = elim (cases_lt has.place n) [
       | inr low ↦ low
       | inl later ↦ (let x = keeps a has.place n y (record { earlier = later; first = has.point; second = q; first_at = has.at; second_at = at; related = record { first = touched; second = touches a q writes; written = inr writes } }) (once.to_do l.place has.point.hart has.point.count did) dq in
           let same : x.0 ≡ l.place = once.once x.0 l.place has.point.hart has.point.count x.1 did in
@@ -160,7 +158,7 @@ module _ (r : Recording) (records : List Record) (order : List ℕ) (w : Walk) (
     pub is_recorded : IsRecordedWord r w a word
     is_recorded = record {
       step = l.place;
-      last = record { step = l.step; at = l.at; tells = λ e. not_some word (sym e ∙ l.tells); no_later = λ y t low at. (l.no_later y t low at).0 };
+      last = record { step = l.step; at = l.at; tells = λ e. none-some word (sym e ∙ l.tells); no_later = λ y t low at. (l.no_later y t low at).0 };
       place = has.place;
       point = has.point;
       at = has.at;
@@ -170,10 +168,10 @@ module _ (r : Recording) (records : List Record) (order : List ℕ) (w : Walk) (
       no_later = no_later;
     }
 
-pub has_memory : StepsPass → SoundnessStays → RowsThatTellHaveNoFault → BeginsSound → OfBeginnings IsFollowed → OfBeginnings KeepsOrder → LoadedProgramsAreImages → PartsHaveCodeWords → RunRowsTellWords → RunWritersHaveRows → TurnRowsAreRows → RowsAreCounted → FillsAreFilled → OfBeginnings HasMemory
-has_memory pass stay faultless starts follow keeps images parts tell writers turn_rows counted fills r records order w log b a word e =
+pub has_memory : StepsPass → SoundnessStays → RowsThatTellHaveNoFault → BeginsSound → EndsSuffice → IntervalRowsAreOfTurns → OfBeginnings KeepsOrder → LoadedProgramsAreImages → PartsHaveCodeWords → RunRowsTellWords → RunWritersHaveRows → TurnRowsAreRows → RowsAreCounted → FillsAreFilled → OfBeginnings HasMemory
+has_memory pass stay faultless starts suffice rows_are keeps images parts tell writers turn_rows counted fills r records order w log b a word e =
     let sound : IsSound (begin r records) = starts r records log in
     let image = images r.elf r.settings r.program log.recording.bytes log.recording.setting log.recording.loaded in
     let codes : HasCodeWords r.program = parts r.program image.words in
     let l : IsLatest w.taken a word = latest w.taken a word (sym (words_are r records order w b a) ∙ e) in
-    is_recorded r records order w log (follow r records order w log b) (done_once pass stay r records order w sound b) (keeps r records order w log b) writers turn_rows counted fills codes faultless tell a word l
+    is_recorded r records order w log (follows suffice rows_are r records order w log b) (done_once pass stay r records order w sound b) (keeps r records order w log b) writers turn_rows counted fills codes faultless tell a word l

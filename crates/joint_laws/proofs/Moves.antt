@@ -1,7 +1,9 @@
 -- What a step of a ready hart does, and what each beginning of an allowed order keeps.
-use Rattle.joint_laws.proofs.Common.{◌≡◌, ℕ, refl, subst, List, [], ◌∷◌, slice_get, slice_set, Option, Some, None, Result, Ok, Err, Program, Row, ReplayError, Outcome, Done, Refused, Readiness, Cursor, Lane, Item, Passing, Doing, Ending, row_given, cursor_step, lane_step, memory_after, Joining, Walk, longer, readiness_of, move, ready_step, walk_on}
+use Rattle.joint_laws.proofs.Common.{◌≡◌, ℕ, refl, subst, List, [], ◌∷◌, slice_get, slice_set, Option, Some, None, Result, Ok, Err, Program, Row, ReplayError, Outcome, Done, Refused, Readiness, Cursor, Lane, Item, Passing, Doing, Ending, row_given, cursor_step, lane_step, memory_after, Joining, Walk, longer, readiness_of, move, ready_step, walk_on, none-some, same_Some, sym, ◌∙◌}
 use Rattle.joint_replay.specs.declared.kinds.Readiness.TheVariants as is
-use Rattle.joint_laws.proofs.Lists.{some_is, not_some}
+
+pub some_is : {X : Type 0} (x y : X) (o : Option X) → o ≡ Some x → o ≡ Some y → x ≡ y
+some_is x y o e f = same_Some x y (sym e ∙ f)
 
 -- a hart of those that there are takes its next step, and isn't refused
 pub record IsMove (now : Joining) (h : ℕ) (x : Item × Joining) : Type 0 where
@@ -25,8 +27,6 @@ module _ (now : Joining) (h : ℕ) (x : Item × Joining) (goes : ready_step now 
 
   by_step : (lane : Lane) → slice_get now.lanes h ≡ Some lane → readiness_of now.records now.lanes h lane ≡ is.Ready
       → (o : Option (Result (Item × Lane) ReplayError)) → lane_step now.program lane ≡ o → only_ok (move now h o) ≡ Some x → IsMove now h x
-  by_step lane at ready None e f = absurd (not_some x f)
-  by_step lane at ready (Some (Err g)) e f = absurd (not_some x f)
   by_step lane at ready (Some (Ok y)) e f =
       let made : Item × Joining = (y.0, record now { lanes = slice_set now.lanes h y.1; memory = memory_after y.0 now.memory }) in
       let same : made ≡ x = some_is made x (Some made) refl f in
@@ -39,23 +39,23 @@ module _ (now : Joining) (h : ℕ) (x : Item × Joining) (goes : ready_step now 
         step = subst (λ (z : Item × Joining). lane_step now.program lane ≡ Some (Ok (z.0, y.1))) same e;
         is = subst (λ (z : Item × Joining). z.1 ≡ record now { lanes = slice_set now.lanes h y.1; memory = memory_after z.0 now.memory }) same refl;
       }
+  by_step lane at ready o e f = absurd (none-some x f)
 
   by_refusal : (lane : Lane) → slice_get now.lanes h ≡ Some lane → readiness_of now.records now.lanes h lane ≡ is.Ready
       → (refused : Option ReplayError) → only_ok (unrefused refused (move now h (lane_step now.program lane))) ≡ Some x → IsMove now h x
-  by_refusal lane at ready (Some g) f = absurd (not_some x f)
+  by_refusal lane at ready (Some g) f = absurd (none-some x f)
   by_refusal lane at ready None f = by_step lane at ready (lane_step now.program lane) refl f
 
   by_ready : (lane : Lane) → slice_get now.lanes h ≡ Some lane → (r : Readiness) → readiness_of now.records now.lanes h lane ≡ r
       → if_ready r (only_ok (unrefused now.refused (move now h (lane_step now.program lane)))) ≡ Some x → IsMove now h x
   by_ready lane at is.Ready e f = by_refusal lane at e now.refused f
-  by_ready lane at (is.Waits s ic) e f = absurd (not_some x f)
-  by_ready lane at is.Done e f = absurd (not_some x f)
+  by_ready lane at r e f = absurd (none-some x f)
 
   by_lane : (o : Option Lane) → slice_get now.lanes h ≡ o
       → if_ready (elim o as (λ y. Readiness) [ None ↦ is.Done | Some lane ↦ readiness_of now.records now.lanes h lane ])
       (only_ok (unrefused now.refused (elim o as (λ y. Option (Result (Item × Joining) ReplayError)) [ None ↦ None | Some lane ↦ move now h (lane_step now.program lane) ]))) ≡ Some x
       → IsMove now h x
-  by_lane None e f = absurd (not_some x f)
+  by_lane None e f = absurd (none-some x f)
   by_lane (Some lane) e f = by_ready lane e (readiness_of now.records now.lanes h lane) refl f
 
   pub is_move : IsMove now h x
@@ -69,7 +69,7 @@ along P keeps w (h ∷ hs) p v e = by (ready_step w.now h) refl (λ x q f. along
   where
     by : (o : Option (Item × Joining)) → ready_step w.now h ≡ o → ((x : Item × Joining) → P (longer w h x) → walk_on (longer w h x) hs ≡ Some v → P v)
         → elim o as (λ y. Option Walk) [ None ↦ None | Some x ↦ walk_on (longer w h x) hs ] ≡ Some v → P v
-    by None f rest g = absurd (not_some v g)
+    by None f rest g = absurd (none-some v g)
     by (Some x) f rest g = rest x (keeps w h x p (is_move w.now h x f)) g
 
 -- ---- the three steps of a hart
@@ -106,7 +106,7 @@ module _ (i : Program) (P : Item → Lane → Type 0) (lane : Lane) (does : Step
 
   by_cursors : lane.points ≡ [] → (cursors : List Cursor) → lane.cursors ≡ cursors
       → elim cursors as (λ y. Option (Result (Item × Lane) ReplayError)) [ [] ↦ None | c ∷ cs ↦ Some (cursor_step i c cs) ] ≡ Some (Ok (item, next)) → P item next
-  by_cursors e [] f k = absurd (not_some (Ok (item, next)) k)
+  by_cursors e [] f k = absurd (none-some (Ok (item, next)) k)
   by_cursors e (c ∷ cs) f k = by_rows c cs e f c.left.rows refl k
 
   by_points : (points : List ℕ) → lane.points ≡ points

@@ -1,10 +1,8 @@
 -- In each beginning of an allowed order an instruction is done once at most, and it is one of a retained interval.
-use Rattle.joint_laws.proofs.Common.{nat_lt, Bool, false, not, ◌&&◌, ◌||◌, ◌≡◌, ℕ, zero, suc, ◌<◌, ◌≤◌, true, ◌⊎◌, inl, inr, refl, sym, ap, ◌∙◌, subst, arith, List, [], ◌∷◌, slice_get, slice_set, is_some, Option, Some, None, false≢true, eqb_tells, Program, Row, HartState, Record, after_row, Coming, RowAt, EndAt, count_of, has_row, is_within, Cursor, Lane, Item, Doing, row_given, Joining, Taken, Walk, begun, longer, is_passed, IsBegun, AreFrom, AreCursors, IsLane, last_count, InCursors, IsRowAt, Passes, PassesIf, IsSound, SoundIf, Did, IsLeft, IsToDo, StepsPass, SoundnessStays, Recording, begin}
+use Rattle.joint_laws.proofs.Common.{◌≡◌, ℕ, zero, suc, ◌<◌, ◌≤◌, true, ◌⊎◌, inl, inr, refl, sym, ap, ◌∙◌, subst, arith, List, [], ◌∷◌, slice_get, slice_set, is_some, Option, Some, None, false≢true, eqb_tells, Program, Row, HartState, Record, after_row, Cursor, Lane, Item, Doing, row_given, Joining, Taken, Walk, begun, longer, is_passed, IsBegun, AreFrom, AreCursors, IsLane, last_count, InCursors, IsRowAt, Passes, PassesIf, IsSound, SoundIf, Did, IsLeft, IsToDo, StepsPass, SoundnessStays, Recording, begin, lt-ltb, ltb-true, cases_lt, get_same, get_other}
 use Rattle.joint_replay.specs.Counts.{RowsFrom}
-use Rattle.joint_replay.specs.Ways.{GoesOn}
-use Rattle.joint_replay.proofs.Soundness.{get_same, get_other}
-use Rattle.joint_laws.proofs.Lists.{some_is, lt_true, true_lt}
-use Rattle.joint_laws.proofs.Moves.{IsMove, StepOf, along, by_kind}
+use Rattle.joint_laws.proofs.Moves.{IsMove, StepOf, along, by_kind, some_is}
+use Rattle.joint_replay.proofs.LaneSteps.{cursor_passed, first_goes}
 
 -- ---- a step of one hart
 
@@ -15,38 +13,14 @@ record IsFresh (old : Lane) (item : Item) (next : Lane) : Type 0 where
   before : (k : ℕ) → IsRowAt k item → is_passed (Some old) k ≡ true → ⊥
   after : (k : ℕ) → IsRowAt k item → is_passed (Some next) k ≡ true
 
-less_or : (m n : ℕ) → (m < n) ⊎ (n ≤ m)
-less_or m n = grind arith
-
 none_some : {X : Type 0} (o : Option X) → o ≡ None → is_some o ≡ true → ⊥
 none_some None e f = false≢true f
 none_some (Some x) e f = absurd cc
 
--- what is passed of a hart at an interval, by the count that comes next
-false_le : (m n : ℕ) → nat_lt m n ≡ false → n ≤ m
-false_le m n h = grind arith
-
-or_left : (a b : Bool) → (a || b) ≡ false → a ≡ false
-or_left true b e = e
-or_left false b e = refl
-
-passed_by : (c : Cursor) (k : ℕ) (b : Bool) → (b ≡ false → c.mark.ic ≡ c.state.ic)
-    → elim (elim b as (λ x. Option Coming) [ true ↦ Some (RowAt c.state.ic) | false ↦ Some (EndAt c.mark.ic) ]) as (λ x. Bool) [ None ↦ true | Some d ↦ nat_lt k (count_of d) ] ≡ nat_lt k c.state.ic
-passed_by c k true e = refl
-passed_by c k false e = ap (nat_lt k) (e refl)
-
 module _ (i : Program) where
-  cursor_passed : (c : Cursor) (cs : List Cursor) (k : ℕ) → c.state.ic ≤ c.mark.ic → is_passed (Some (record { points = []; cursors = c ∷ cs })) k ≡ nat_lt k c.state.ic
-  cursor_passed c cs k low =
-      passed_by c k (has_row c) (λ e. let past = false_le c.state.ic c.mark.ic (or_left (is_within c) (nat_lt 16 c.mark.reason && not c.faulted) e) in omega (arith, past, low))
-
-  first_goes : (c : Cursor) (cs : List Cursor) → AreFrom i c cs → GoesOn i c
-  first_goes c [] a = a
-  first_goes c (d ∷ ds) a = a.0
-
   last_up : (c : Cursor) (cs : List Cursor) → AreFrom i c cs → c.mark.ic ≤ last_count c cs
   last_up c [] a = omega arith
-  last_up c (d ∷ ds) a = let rest = last_up d ds a.2 in let goes = (first_goes d ds a.2).0 in omega (arith, rest, goes, a.1)
+  last_up c (d ∷ ds) a = let rest = last_up d ds a.2 in let goes = (first_goes i d ds a.2).0 in omega (arith, rest, goes, a.1)
 
   -- a hart at a row
   module _ (c : Cursor) (cs : List Cursor) (row : Row) (rs : List Row) (all : AreFrom i c cs) (rows : c.left.rows ≡ row ∷ rs) where
@@ -57,14 +31,14 @@ module _ (i : Program) where
     next_at = record { points = []; cursors = row_given i c row rs ∷ cs }
 
     from : RowsFrom i c.mark.ic c.left.outcome c.state (row ∷ rs)
-    from = subst (RowsFrom i c.mark.ic c.left.outcome c.state) rows (first_goes c cs all).1
+    from = subst (RowsFrom i c.mark.ic c.left.outcome c.state) rows (first_goes i c cs all).1
 
     -- an instruction, and no fault, is below the End's count
     within : row.fault ≡ None → c.state.ic < c.mark.ic
-    within e = elim (less_or c.state.ic c.mark.ic) [ inl low ↦ low | inr high ↦ absurd (none_some row.fault e (from.2 high).0) ]
+    within e = elim (cases_lt c.state.ic c.mark.ic) [ inl low ↦ low | inr high ↦ absurd (none_some row.fault e (from.2 high).0) ]
 
     higher : c.state.ic ≤ (after_row i c.state row).ic
-    higher = elim (less_or c.state.ic c.mark.ic) [
+    higher = elim (cases_lt c.state.ic c.mark.ic) [
       | inl low ↦ (let up = (from.1 low).1 in omega (arith, up))
       | inr high ↦ (let same = ap (λ (s : HartState). s.ic) (from.2 high).1 in omega (arith, same))
     ]
@@ -80,9 +54,9 @@ module _ (i : Program) where
     row_fresh = record {
       back = λ k h. (let low = h.0 in let up = higher in let last = last_same (row_given i c row rs) refl in let high = h.1 in (omega (arith, low, up), omega (arith, high, last)));
       to_do = λ k d. (let at : c.state.ic ≡ k = sym from.0 ∙ d.0 in let low = within d.1 in let up = last_up c cs all in (omega (arith, at), omega (arith, at, low, up)));
-      before = λ k d e. (let at : c.state.ic ≡ k = sym from.0 ∙ d.0 in let low = true_lt k c.state.ic (sym (cursor_passed c cs k (first_goes c cs all).0) ∙ e) in omega (arith, at, low));
+      before = λ k d e. (let at : c.state.ic ≡ k = sym from.0 ∙ d.0 in let low = ltb-true k c.state.ic (sym (cursor_passed i c cs k (first_goes i c cs all).0) ∙ e) in omega (arith, at, low));
       after = λ k d. (let at : c.state.ic ≡ k = sym from.0 ∙ d.0 in let low = within d.1 in let up = (from.1 low).1 in
-          cursor_passed (row_given i c row rs) cs k (omega (arith, low, up)) ∙ lt_true k (after_row i c.state row).ic (omega (arith, at, up)));
+          cursor_passed i (row_given i c row rs) cs k (omega (arith, low, up)) ∙ lt-ltb k (after_row i c.state row).ic (omega (arith, at, up)));
     }
 
   end_back : (c : Cursor) (cs : List Cursor) → AreFrom i c cs → (k : ℕ) → InCursors cs k → InCursors (c ∷ cs) k

@@ -1,8 +1,8 @@
 -- The rows of whole allowed orders.
-use Rattle.joint_laws.proofs.Common.{◌≡◌, ℕ, zero, suc, ◌+◌, Bool, true, false, ◌⊎◌, inl, inr, refl, sym, ap, ◌∙◌, subst, List, [], ◌∷◌, ◌++◌, slice_get, Option, Some, None, append-nil, Record, Coming, RowAt, EndAt, Readiness, Next, Hart, AllDone, NoneReady, sources_into, Cursor, Lane, has_row, coming_of, point_of, readiness_of, waits_for, first_waited, choice_from, OfWholeOrders, OfBeginnings, HasFirstRows, HasRows, rows_done}
+use Rattle.joint_laws.proofs.Common.{◌≡◌, ℕ, zero, suc, ◌+◌, Bool, true, false, ◌⊎◌, inl, inr, refl, sym, ap, ◌∙◌, subst, List, [], ◌∷◌, ◌++◌, slice_get, Option, Some, None, append-nil, Record, Coming, RowAt, EndAt, Readiness, Next, Hart, AllDone, NoneReady, sources_into, Cursor, Lane, has_row, coming_of, point_of, readiness_of, waits_for, first_waited, choice_from, OfWholeOrders, OfBeginnings, HasFirstRows, HasRows, rows_done, EndsSuffice, IntervalRowsAreOfTurns}
 use Rattle.joint_replay.specs.declared.kinds.Readiness.TheVariants as is
-use Rattle.joint_laws.proofs.Lists.{some_is}
-use Rattle.joint_laws.proofs.Follows.{IsFollowed, rows_left}
+use Rattle.joint_laws.proofs.Follows.{IsFollowed, rows_left, follows}
+use Rattle.joint_laws.proofs.Moves.{some_is}
 
 -- a hart that is done has nothing left
 pub nothing_comes : (points : List ℕ) (cursors : List Cursor) → coming_of (record { points = points; cursors = cursors }) ≡ None → cursors ≡ []
@@ -40,8 +40,7 @@ module _ (records : List Record) (lanes : List Lane) where
       by : (o : Readiness) → elim o as (λ y. Next) [ is.Ready ↦ Hart h | is.Waits s ic ↦ choice_from records lanes (h + 1) ls true | is.Done ↦ choice_from records lanes (h + 1) ls true ] ≡ AllDone
           → (choice_from records lanes (h + 1) ls true ≡ AllDone → ⊥) → ⊥
       by is.Ready f rest = not_all (Hart h) f (inl (h, refl))
-      by (is.Waits s ic) f rest = rest f
-      by is.Done f rest = rest f
+      by o f rest = rest f
 
   pub all_done : (ls : List Lane) (h : ℕ) → choice_from records lanes h ls false ≡ AllDone → (k : ℕ) (lane : Lane) → slice_get ls k ≡ Some lane → coming_of lane ≡ None
   all_done [] h e k lane at = absurd cc
@@ -56,15 +55,15 @@ module _ (records : List Record) (lanes : List Lane) where
       by is.Done o f rest zero g = subst (λ (x : Lane). coming_of x ≡ None) (some_is l lane (Some l) refl g) (is_done h l (coming_of l) (point_of l) o)
       by is.Done o f rest (suc k) g = rest f k lane g
 
-pub has_rows : OfBeginnings IsFollowed → OfWholeOrders HasRows
-has_rows follow r records order w log a h low =
-    let f : IsFollowed r records w = follow r records order w log a.begun in
+pub has_rows : EndsSuffice → IntervalRowsAreOfTurns → OfWholeOrders HasRows
+has_rows suffice rows_are r records order w log a h low =
+    let f : IsFollowed r records w = follows suffice rows_are r records order w log a.begun in
     let l = f.there h low in
     let none : l.0.cursors ≡ [] = nothing_comes l.0.points l.0.cursors (all_done w.now.records w.now.lanes w.now.lanes 0 a.whole h l.0 l.1) in
     sym (append-nil (rows_done h w.taken)) ∙ (ap (λ (cs : List Cursor). rows_done h w.taken ++ rows_left cs) (sym none) ∙ f.rows h l.0 l.1)
 
-pub first_rows : OfBeginnings IsFollowed → OfBeginnings HasFirstRows
-first_rows follow r records order w log b h low =
-    let f : IsFollowed r records w = follow r records order w log b in
+pub first_rows : EndsSuffice → IntervalRowsAreOfTurns → OfBeginnings HasFirstRows
+first_rows suffice rows_are r records order w log b h low =
+    let f : IsFollowed r records w = follows suffice rows_are r records order w log b in
     let l = f.there h low in
     (rows_left l.0.cursors, f.rows h l.0 l.1)

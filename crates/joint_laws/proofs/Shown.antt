@@ -1,10 +1,11 @@
 -- The states that are shown of harts.
-use Rattle.joint_laws.proofs.Common.{◌≡◌, ℕ, true, refl, sym, ap, ◌∙◌, subst, arith, List, [], ◌∷◌, ◌++◌, slice_get, Option, Some, None, append_assoc, Row, HartState, Record, start, run_of, legal_from, Run, BeginsIn, IntervalsBegin, BeginningsTellStates, RowsTellRuns, state_after, Cursor, Lane, state_of, Recording, IsLogOf, OfBeginnings, first_state, IsStateOfRun, HasShownStates}
+use Rattle.joint_laws.proofs.Common.{◌≡◌, ℕ, true, refl, sym, ap, ◌∙◌, subst, arith, List, [], ◌∷◌, ◌++◌, slice_get, Option, Some, None, append_assoc, Row, HartState, Record, start, run_of, legal_from, Run, BeginsIn, IntervalsBegin, BeginningsTellStates, RowsTellRuns, state_after, Cursor, Lane, state_of, Recording, IsLogOf, OfBeginnings, first_state, IsStateOfRun, HasShownStates, none-some, after_append, HasStates, EndsSuffice, IntervalRowsAreOfTurns}
 use Rattle.run_model.specs.Rows.{rows_of}
-use Rattle.joint_laws.proofs.Lists.{some_is, not_some, after_append}
-use Rattle.joint_laws.proofs.Follows.{IsOf, AreOf, IsFollowed}
+use Rattle.joint_laws.proofs.Follows.{IsOf, AreOf, IsFollowed, IsItemOf, follows}
 use Rattle.row_laws.proofs.Whole.{rows_append}
 use Rattle.run_laws.proofs.Converse.{legal_front}
+use Rattle.joint_laws.proofs.Memory.{item_of}
+use Rattle.joint_laws.proofs.Moves.{some_is}
 
 -- ---- an interval under way
 
@@ -34,15 +35,20 @@ module _ (begins : IntervalsBegin) (begun : BeginningsTellStates) (tell : RowsTe
       }
 
   of_lane : (s : HartState) (points : List ℕ) (cursors : List Cursor) → AreOf r records h cursors → state_of (record { points = points; cursors = cursors }) ≡ Some s → IsStateOfRun r h s
-  of_lane s (p ∷ ps) cursors all e = absurd (not_some s e)
-  of_lane s [] [] all e = absurd (not_some s e)
+  of_lane s (p ∷ ps) cursors all e = absurd (none-some s e)
+  of_lane s [] [] all e = absurd (none-some s e)
   of_lane s [] (c ∷ cs) all e = subst (IsStateOfRun r h) (some_is c.state s (Some c.state) refl e) (of_cursor c all.0)
 
   of_hart : (s : HartState) (o : Option Lane) → ((lane : Lane) → o ≡ Some lane → AreOf r records h lane.cursors) → elim o as (λ x. Option HartState) [ None ↦ None | Some lane ↦ state_of lane ] ≡ Some s → IsStateOfRun r h s
-  of_hart s None all e = absurd (not_some s e)
+  of_hart s None all e = absurd (none-some s e)
   of_hart s (Some lane) all e = of_lane s lane.points lane.cursors (all lane refl) e
 
-pub has_shown_states : IntervalsBegin → BeginningsTellStates → RowsTellRuns → OfBeginnings IsFollowed → OfBeginnings HasShownStates
-has_shown_states begins begun tell follow r records order w log b h s e =
-    let f : IsFollowed r records w = follow r records order w log b in
+pub has_shown_states : IntervalsBegin → BeginningsTellStates → RowsTellRuns → EndsSuffice → IntervalRowsAreOfTurns → OfBeginnings HasShownStates
+has_shown_states begins begun tell suffice rows_are r records order w log b h s e =
+    let f : IsFollowed r records w = follows suffice rows_are r records order w log b in
     of_hart begins begun tell r records log h s (slice_get w.now.lanes h) (λ lane at. f.cursors h lane at) e
+
+-- the rows of a joint replay are done from the run's states
+pub has_states : EndsSuffice → IntervalRowsAreOfTurns → OfBeginnings HasStates
+has_states suffice rows_are r records order w log b x t before row at is =
+    subst (IsItemOf r records t.hart) is (item_of r records w.taken x t (follows suffice rows_are r records order w log b).taken at)

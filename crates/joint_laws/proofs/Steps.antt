@@ -1,10 +1,10 @@
 -- Ready harts step, and a run with the lowest ready hart first goes to the end.
-use Rattle.joint_laws.proofs.Common.{◌≡◌, ℕ, zero, suc, ◌+◌, ◌<◌, Bool, true, false, ◌⊎◌, inl, inr, refl, sym, ap, ◌∙◌, subst, arith, List, [], ◌∷◌, ◌++◌, length, slice_get, slice_set, Option, Some, None, Result, Ok, Err, Program, Row, Record, ReplayError, Outcome, Done, Refused, Coming, Readiness, Next, Hart, AllDone, NoneReady, sources_into, Cursor, Lane, Item, Passing, Doing, Ending, row_given, coming_of, point_of, lane_step, cursors_steps, lane_steps, memory_after, Joining, Walk, Ran, begun, longer, readiness, readiness_of, waits_for, first_waited, choice, choice_from, next_step, move, error_of, ran, run_for, steps_left, positions_from, ready_step, walk_on, IsBegun, Recording, IsLogOf, Allowed, OfBeginnings, begin, GoesOn, RanToTheEnd}
+use Rattle.joint_laws.proofs.Common.{◌≡◌, ℕ, zero, suc, ◌+◌, ◌<◌, refl, sym, ap, ◌∙◌, subst, arith, List, [], ◌∷◌, ◌++◌, length, slice_get, slice_set, Option, Some, None, Result, Ok, Err, Program, Row, Record, ReplayError, Outcome, Done, Refused, Coming, Readiness, Next, Hart, AllDone, NoneReady, sources_into, Cursor, Lane, Item, Passing, Doing, Ending, row_given, coming_of, point_of, lane_step, cursors_steps, lane_steps, memory_after, Joining, Walk, Ran, begun, longer, readiness, readiness_of, waits_for, first_waited, choice, next_step, move, error_of, ran, run_for, steps_left, positions_from, ready_step, walk_on, IsBegun, Recording, IsLogOf, Allowed, OfBeginnings, begin, GoesOn, RanToTheEnd, RunsToTheEnd, EndsSuffice, IntervalRowsAreOfTurns}
 use Rattle.joint_replay.specs.declared.error.JointError.TheVariants.{Stuck}
 use Rattle.joint_replay.specs.declared.kinds.Readiness.TheVariants as is
-use Rattle.joint_laws.proofs.Lists.{some_is}
-use Rattle.joint_laws.proofs.Moves.{IsMove, StepOf, by_kind, is_move}
-use Rattle.joint_laws.proofs.Follows.{AreOf, IsFollowed}
+use Rattle.joint_laws.proofs.Moves.{IsMove, StepOf, by_kind, is_move, some_is}
+use Rattle.joint_laws.proofs.Follows.{AreOf, IsFollowed, follows}
+use Rattle.joint_replay.proofs.Telling.{chosen_ready}
 
 -- ---- a hart with something to come has a step
 
@@ -88,40 +88,6 @@ module _ (r : Recording) (records : List Record) (w : Walk) (f : IsFollowed r re
   pub steps : readiness w.now h ≡ is.Ready → Stepped
   steps e = of_lane (slice_get w.now.lanes h) refl e
 
--- ---- the lowest ready hart
-
-module _ (records : List Record) (lanes : List Lane) where
-  abbrev Ready : ℕ → List Lane → ℕ → Type 0
-  Ready h ls k = (j : ℕ) × (lane : Lane) × (k ≡ h + j) × (slice_get ls j ≡ Some lane) × (readiness_of records lanes k lane ≡ is.Ready)
-
-  same_hart : (h k : ℕ) → Hart h ≡ Hart k → h ≡ k
-  same_hart h k e = cc
-
-  not_hart : (k : ℕ) (n : Next) → n ≡ Hart k → (n ≡ AllDone) ⊎ (n ≡ NoneReady) → ⊥
-  not_hart k n e (inl f) = cc
-  not_hart k n e (inr f) = cc
-
-  later : (h : ℕ) (l : Lane) (ls : List Lane) (k : ℕ) → Ready (h + 1) ls k → Ready h (l ∷ ls) k
-  later h l ls k x = let at : k ≡ h + suc x.0 = omega (arith, x.2) in (suc x.0, x.1, at, x.3, x.4)
-
-  chosen : (ls : List Lane) (h : ℕ) (waiting : Bool) (k : ℕ) → choice_from records lanes h ls waiting ≡ Hart k → Ready h ls k
-  chosen [] h true k e = absurd (not_hart k NoneReady e (inr refl))
-  chosen [] h false k e = absurd (not_hart k AllDone e (inl refl))
-  chosen (l ∷ ls) h waiting k e = by (readiness_of records lanes h l) refl e (chosen ls (h + 1))
-    where
-      by : (o : Readiness) → readiness_of records lanes h l ≡ o
-          → elim o as (λ y. Next) [ is.Ready ↦ Hart h | is.Waits s ic ↦ choice_from records lanes (h + 1) ls true | is.Done ↦ choice_from records lanes (h + 1) ls waiting ] ≡ Hart k
-          → ((b : Bool) (n : ℕ) → choice_from records lanes (h + 1) ls b ≡ Hart n → Ready (h + 1) ls n) → Ready h (l ∷ ls) k
-      by is.Ready o f rest = let same = same_hart h k f in let at : k ≡ h + 0 = omega (arith, same) in (0, l, at, refl, subst (λ n. readiness_of records lanes n l ≡ is.Ready) same o)
-      by (is.Waits s ic) o f rest = later h l ls k (rest true k f)
-      by is.Done o f rest = later h l ls k (rest waiting k f)
-
-pub hart_ready : (now : Joining) (h : ℕ) → choice now ≡ Hart h → readiness now h ≡ is.Ready
-hart_ready now h e =
-    let x = chosen now.records now.lanes now.lanes 0 false h e in
-    let at : h ≡ x.0 = omega (arith, x.2) in
-    ap (λ (o : Option Lane). elim o as (λ y. Readiness) [ None ↦ is.Done | Some lane ↦ readiness_of now.records now.lanes h lane ]) (subst (λ n. slice_get now.lanes n ≡ Some x.1) (sym at) x.3) ∙ x.4
-
 -- ---- a run
 
 less : (lanes : List Lane) (h : ℕ) (lane next : Lane) → slice_get lanes h ≡ Some lane → lane_steps next + 1 ≡ lane_steps lane → steps_left (slice_set lanes h next) + 1 ≡ steps_left lanes
@@ -166,7 +132,7 @@ module _ (r : Recording) (records : List Record) (log : IsLogOf r records) (go :
     where
       hart : (h : ℕ) → choice w.now ≡ Hart h → ((v : Walk) (os : List ℕ) → IsBegun r.program r.settings.harts records os v → steps_left v.now.lanes < n → Ends (run_for n v)) → Ends (after_choice n w (Hart h))
       hart h e rest =
-          let ready : readiness w.now h ≡ is.Ready = hart_ready w.now h e in
+          let ready : readiness w.now h ≡ is.Ready = chosen_ready w.now h e in
           let s = steps r records w (follow r records order w log b) h ready in
           let taken : ready_step w.now h ≡ Some s.0 =
           ap (λ (o : Readiness). elim o as (λ y. Option (Item × Joining)) [ is.Ready ↦ elim (next_step w.now h) as (λ y. Option (Item × Joining)) [ None ↦ None | Some x ↦ elim x as (λ y. Option (Item × Joining)) [ Err g ↦ None | Ok y ↦ Some y ] ] | is.Waits s ic ↦ None | is.Done ↦ None ]) ready
@@ -187,8 +153,11 @@ module _ (r : Recording) (records : List Record) (log : IsLogOf r records) (go :
       by NoneReady e rest = absurd (go r records order w log b e)
       by (Hart h) e rest = hart h e rest
 
-  pub to_the_end : RanToTheEnd r records
+  to_the_end : RanToTheEnd r records
   to_the_end =
       let low : steps_left (begin r records).lanes < steps_left (begin r records).lanes + 1 = omega arith in
       let x = runs (steps_left (begin r records).lanes + 1) (begun (begin r records)) [] (record { allowed = refl }) low in
       record { order = x.0; allowed = x.1; stopped = x.2 }
+
+pub run_to_the_end : OfBeginnings GoesOn → EndsSuffice → IntervalRowsAreOfTurns → RunsToTheEnd
+run_to_the_end go suffice rows_are r records log = to_the_end r records log go (follows suffice rows_are)

@@ -1,8 +1,8 @@
 -- The Edges of a recording follow its times.
-use Rattle.joint_laws.proofs.Common.{◌≡◌, ℕ, zero, suc, ◌<◌, ◌≤◌, Bool, true, false, ◌&&◌, ◌==◌, inl, inr, refl, sym, ap, ◌∙◌, subst, arith, List, [], ◌∷◌, length, slice_get, Option, Some, None, Contains, Result, Ok, Err, nat_le, slice_get_within, Record, Header, FirstLoad, ScOk, ScFailed, Edge, End, ReplayError, Point, IsInOrder, name_of, IsEndOf, OfLists, HasOrder, KeepsEdgesAlone, edge_record, Readiness, Lane, Item, lane_step, Joining, Walk, begun, longer, fresh, readiness, next_step, move, ready_step, walk_on, HasEdge, HaveTimes, NeverStuck, Recording, points_of, recorded, OfBeginnings, GoesOn}
+use Rattle.joint_laws.proofs.Common.{◌≡◌, ℕ, zero, suc, ◌<◌, ◌≤◌, Bool, true, false, ◌&&◌, ◌==◌, inl, inr, refl, sym, ap, ◌∙◌, subst, arith, List, [], ◌∷◌, length, slice_get, Option, Some, None, Contains, Result, Ok, Err, nat_le, slice_get_within, Record, Edge, ReplayError, Point, IsInOrder, name_of, IsEndOf, OfLists, HasOrder, KeepsEdgesAlone, edge_record, Readiness, Lane, Item, lane_step, Joining, Walk, begun, longer, fresh, readiness, next_step, move, ready_step, walk_on, HasEdge, HaveTimes, NeverStuck, Recording, points_of, recorded, OfBeginnings, GoesOn, pair_at}
 use Rattle.joint_replay.specs.declared.kinds.Readiness.TheVariants as is
-use Rattle.joint_laws.proofs.Lists.{some_is}
-use Rattle.joint_laws.proofs.ByCount.{pair_at, of_edge}
+use Rattle.joint_laws.proofs.ByCount.{of_edge}
+use Rattle.joint_laws.proofs.Moves.{some_is}
 
 -- the place of the first point of hart h with count k or more
 abbrev time : List Point → ℕ → ℕ → ℕ
@@ -57,14 +57,10 @@ least (q ∷ ps) (suc n) h k low all = by (q.hart == h && nat_le k q.count) refl
 
 contains_edge : (rs : List Record) (h ic s j : ℕ) → HasEdge rs h ic s j → Contains rs (Edge h ic s j)
 contains_edge [] h ic s j e = absurd e
-contains_edge (Header a n c pc x ∷ rs) h ic s j e = let r = contains_edge rs h ic s j e in (suc r.0, (let low = r.1 in omega (arith, low)), r.2)
-contains_edge (FirstLoad a skip value ∷ rs) h ic s j e = let r = contains_edge rs h ic s j e in (suc r.0, (let low = r.1 in omega (arith, low)), r.2)
-contains_edge (ScOk a ∷ rs) h ic s j e = let r = contains_edge rs h ic s j e in (suc r.0, (let low = r.1 in omega (arith, low)), r.2)
-contains_edge (ScFailed a ∷ rs) h ic s j e = let r = contains_edge rs h ic s j e in (suc r.0, (let low = r.1 in omega (arith, low)), r.2)
-contains_edge (End a m ∷ rs) h ic s j e = let r = contains_edge rs h ic s j e in (suc r.0, (let low = r.1 in omega (arith, low)), r.2)
 contains_edge (Edge a n b c ∷ rs) h ic s j (inl e) =
     (0, omega arith, ap (λ x. Edge x n b c) e.0 ∙ (ap (λ x. Edge h x b c) e.1 ∙ (ap (λ x. Edge h ic x c) e.2 ∙ ap (λ x. Edge h ic s x) e.3)))
 contains_edge (Edge a n b c ∷ rs) h ic s j (inr e) = let r = contains_edge rs h ic s j e in (suc r.0, (let low = r.1 in omega (arith, low)), r.2)
+contains_edge (entry ∷ rs) h ic s j e = let r = contains_edge rs h ic s j e in (suc r.0, (let low = r.1 in omega (arith, low)), r.2)
 
 -- ---- a walk keeps its records
 
@@ -77,9 +73,8 @@ module _ (now : Joining) (h : ℕ) where
   only_ok o = elim o [ None ↦ None | Some r ↦ elim r [ Err e ↦ None | Ok x ↦ Some x ] ]
 
   by_move : (o : Option (Result (Item × Lane) ReplayError)) → SameIf now (only_ok (move now h o))
-  by_move None = tt
-  by_move (Some (Err e)) = tt
   by_move (Some (Ok x)) = refl
+  by_move o = tt
 
   by_lane : (o : Option Lane) → SameIf now (only_ok (elim o as (λ x. Option (Result (Item × Joining) ReplayError)) [ None ↦ None | Some lane ↦ move now h (lane_step now.program lane) ]))
   by_lane None = tt
@@ -91,8 +86,7 @@ module _ (now : Joining) (h : ℕ) where
 
   by_ready : (r : Readiness) → SameIf now (elim r as (λ x. Option (Item × Joining)) [ is.Ready ↦ only_ok (next_step now h) | is.Waits s ic ↦ None | is.Done ↦ None ])
   by_ready is.Ready = by_refused now.refused
-  by_ready (is.Waits s ic) = tt
-  by_ready is.Done = tt
+  by_ready r = tt
 
 abbrev WalkSame : List Record → Option Walk → Type 0
 WalkSame records None = Unit {0}

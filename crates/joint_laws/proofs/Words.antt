@@ -1,7 +1,6 @@
 -- The known words, by the steps.
-use Rattle.joint_laws.proofs.Common.{◌≡◌, ℕ, zero, suc, ◌+◌, ◌<◌, ◌≤◌, Bool, true, false, cond, not, ◌==◌, nat_lt, inl, inr, refl, sym, ap, ◌∙◌, subst, arith, List, [], ◌∷◌, filter, length, map, slice_get, slice_index_or, Option, Some, None, eq-eqb, ne_eqb, eqb_tells, aligned, at_address, Record, Item, Passing, Doing, Ending, Bytes, filled, has_byte, known_after, word_after, put_word, put_access, forget, memory_after, word_in, Joining, Taken, Walk, begun, IsBegun, Recording, OfBeginnings, begin, WordsAscend, HasWordsOnce, told_by}
-use Rattle.joint_laws.proofs.Lists.{some_is}
-use Rattle.joint_laws.proofs.Moves.{along}
+use Rattle.joint_laws.proofs.Common.{◌≡◌, ℕ, zero, suc, ◌+◌, ◌<◌, ◌≤◌, Bool, true, false, cond, not, ◌==◌, nat_lt, inl, inr, refl, sym, ap, ◌∙◌, subst, arith, List, [], ◌∷◌, filter, length, map, slice_get, slice_index_or, Option, Some, None, eq-eqb, ne_eqb, eqb_tells, aligned, at_address, Record, Item, Doing, Bytes, filled, has_byte, known_after, word_after, put_word, put_access, forget, memory_after, word_in, Joining, Taken, Walk, begun, IsBegun, Recording, OfBeginnings, begin, WordsAscend, HasWordsOnce, told_by, eqb-true, ltb-true}
+use Rattle.joint_laws.proofs.Moves.{along, some_is}
 
 -- ---- one step
 
@@ -28,10 +27,7 @@ put_found (m ∷ ms) b v a = by (b == m.0) refl (nat_lt b m.0) (put_found ms b v
     ]
       where
         apart : (a b c : ℕ) → (b == c) ≡ true → (b ≡ a → ⊥) → (a == c) ≡ false
-        apart a b c e n = elim (eqb_tells a c) [ inl p ↦ absurd (n (number b c e ∙ sym p.1)) | inr p ↦ p.0 ]
-          where
-            number : (m n : ℕ) → (m == n) ≡ true → m ≡ n
-            number m n e = grind arith
+        apart a b c e n = elim (eqb_tells a c) [ inl p ↦ absurd (n (eqb-true b c e ∙ sym p.1)) | inr p ↦ p.0 ]
 
     before : (rest : Option ℕ) → elim (a == b) as (λ y. Option ℕ) [ true ↦ Some v | false ↦ rest ] ≡ elim (b == a) as (λ y. Option ℕ) [ true ↦ Some v | false ↦ rest ]
     before rest = ap (λ x. elim x as (λ y. Option ℕ) [ true ↦ Some v | false ↦ rest ]) (same a b)
@@ -92,11 +88,10 @@ forget_found None ms a = refl
 forget_found (Some b) ms a = forgotten b ms a
 
 step_found : (item : Item) (ms : List (ℕ × ℕ)) (a : ℕ) → word_in (memory_after item ms) a ≡ known_after item a (word_in ms a)
-step_found (Passing ic) ms a = refl
-step_found (Ending n m) ms a = refl
 step_found (Doing s row) ms a =
     access_found row.store (put_access row.load (forget (filled s row) ms)) a
     ∙ ap (at_address a row.store) (access_found row.load (forget (filled s row) ms) a ∙ ap (at_address a row.load) (forget_found (filled s row) ms a))
+step_found item ms a = refl
 
 -- ---- the steps of a walk
 
@@ -113,9 +108,8 @@ words_are r records order w b = along (λ v. (a : ℕ) → word_in v.now.memory 
 
 -- a step fills bytes of a word
 abbrev pub forgets : ℕ → Item → Bool
-forgets a (Passing ic) = false
 forgets a (Doing before row) = has_byte (filled before row) a
-forgets a (Ending n m) = false
+forgets a item = false
 
 pub record IsLatest (ts : List Taken) (a word : ℕ) : Type 0 where
   pub place : ℕ
@@ -137,11 +131,10 @@ at_told a (Some x) told gone before rest e = by (aligned x.0 == a)
     by false = e
 
 known_is : (item : Item) (a : ℕ) (before : Option ℕ) → known_after item a before ≡ next_known (told_by a item) (forgets a item) before
-known_is (Passing ic) a before = refl
-known_is (Ending n m) a before = refl
 known_is (Doing s row) a before =
     at_told a row.store (at_address a row.load None) (has_byte (filled s row) a) before (at_address a row.load (cond (has_byte (filled s row) a) None before))
     (at_told a row.load None (has_byte (filled s row) a) before (cond (has_byte (filled s row) a) None before) refl)
+known_is item a before = refl
 
 no_word : (word : ℕ) → ◌≡◌ {A = Option ℕ} None (Some word) → ⊥
 no_word word e = cc
@@ -169,19 +162,13 @@ put_ascends : (low b v : ℕ) (ms : List (ℕ × ℕ)) → low ≤ b → WordsAs
 put_ascends low b v [] le a = (le, tt)
 put_ascends low b v (m ∷ ms) le a = by (b == m.0) refl (nat_lt b m.0) refl (λ up. put_ascends (m.0 + 1) b v ms up a.1)
   where
-    number : (m n : ℕ) → (m == n) ≡ true → m ≡ n
-    number m n e = grind arith
-
-    lower : (m n : ℕ) → nat_lt m n ≡ true → m < n
-    lower m n e = grind arith
-
     higher : (m n : ℕ) → (m == n) ≡ false → nat_lt m n ≡ false → n + 1 ≤ m
     higher m n e f = grind arith
 
     by : (x : Bool) → (b == m.0) ≡ x → (y : Bool) → nat_lt b m.0 ≡ y → (m.0 + 1 ≤ b → WordsAscend (m.0 + 1) (put_word b v ms))
         → WordsAscend low (elim x as (λ z. List (ℕ × ℕ)) [ true ↦ (b, v) ∷ ms | false ↦ elim y as (λ z. List (ℕ × ℕ)) [ true ↦ (b, v) ∷ m ∷ ms | false ↦ m ∷ put_word b v ms ] ])
-    by true e y f rest = (le, weaker (b + 1) (m.0 + 1) ms (let same = number b m.0 e in omega (arith, same)) a.1)
-    by false e true f rest = (le, ((let up = lower b m.0 f in omega (arith, up)), a.1))
+    by true e y f rest = (le, weaker (b + 1) (m.0 + 1) ms (let same = eqb-true b m.0 e in omega (arith, same)) a.1)
+    by false e true f rest = (le, ((let up = ltb-true b m.0 f in omega (arith, up)), a.1))
     by false e false f rest = (a.0, rest (higher b m.0 e f))
 
 access_ascends : (o : Option (ℕ × ℕ)) (ms : List (ℕ × ℕ)) → WordsAscend 0 ms → WordsAscend 0 (put_access o ms)
@@ -201,9 +188,8 @@ forget_ascends None ms a = a
 forget_ascends (Some b) ms a = without_ascends 0 b ms a
 
 step_ascends : (item : Item) (ms : List (ℕ × ℕ)) → WordsAscend 0 ms → WordsAscend 0 (memory_after item ms)
-step_ascends (Passing ic) ms a = a
-step_ascends (Ending n m) ms a = a
 step_ascends (Doing s row) ms a = access_ascends row.store (put_access row.load (forget (filled s row) ms)) (access_ascends row.load (forget (filled s row) ms) (forget_ascends (filled s row) ms a))
+step_ascends item ms a = a
 
 -- a word of the list is above the ones before it, and so it is the one that is found
 above : (low k : ℕ) (ms : List (ℕ × ℕ)) (m : ℕ × ℕ) → WordsAscend low ms → k < length ms → slice_index_or ms k m ≡ m → low ≤ m.0

@@ -40,7 +40,7 @@ pub fn own_logs_are_logs()
 }
 
 /// The joint replay of a log of a recording begins sound: its records are in order.
-#[tactic(auto, using(crate::proofs::Starts::begins_sound))]
+#[tactic(auto, using(crate::proofs::Said::begins_sound))]
 pub fn joint_replays_begin_sound()
     ensures { BeginsSound }
 {
@@ -107,6 +107,7 @@ pub fn steps_are_not_refused()
 }
 
 /// The lowest ready hart first, the joint replay goes through a whole allowed order, and isn't stopped.
+#[tactic(auto, using(crate::proofs::Steps::run_to_the_end))]
 pub fn recordings_run_to_the_end()
     ensures { RunsToTheEnd }
 {
@@ -117,6 +118,7 @@ pub fn recordings_run_to_the_end()
 
 /// Each hart's rows are the first of its retained intervals' part of the run's rows, and all of them in a
 /// whole allowed order.
+#[tactic(auto, using(crate::proofs::Rows::has_rows))]
 pub fn the_rows_are_recorded()
     ensures first { OfBeginnings HasFirstRows }
     ensures all { OfWholeOrders HasRows }

@@ -1,4 +1,4 @@
-use Rattle.joint_laws.proofs.Reached.{reached_say_the_run}
+use Rattle.joint_laws.proofs.Said.{reached_say_the_run}
 use Rattle.joint_laws.proofs.reached_joint_replays_say_the_run.Goals as goal
 
 pub returns : goal.returns

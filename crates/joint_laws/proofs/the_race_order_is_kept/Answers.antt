@@ -1,5 +1,4 @@
-use Rattle.joint_laws.proofs.RaceOrder.{keeps_order}
-use Rattle.joint_laws.proofs.Stands.{stands_in_order}
+use Rattle.joint_laws.proofs.RaceOrder.{keeps_order, stands_in_order}
 use Rattle.joint_laws.proofs.the_race_order_is_kept.Goals as goal
 
 pub returns-clause-begun : goal.returns-clause-begun
