@@ -1,9 +1,9 @@
 -- The points of the joint replay and the recorded points.
-use Rattle.report_laws.proofs.Common.{◌≡◌, ◌⊎◌, inl, inr, ℕ, ◌+◌, ◌<◌, true, refl, sym, ap, ◌∙◌, subst, arith, List, [], ◌∷◌, ◌++◌, Any, slice_get, Option, Some, None, Fault, Row, HartState, LoadedProgramsAreImages, Record, IsInOrder, StandByCounts, In, Point, Access, MeetAt, IsConflict, start, legal_from, RowsAreCounted, HasOrder, OfLists, PointsAreOfTurns, RunRowsTellWords, RunCallsAccess, TurnRowsAreRows, IsRowOfTurn, Taken, Walk, Ran, run_all, Item, Doing, Touched as Touch, AreAlike, Accessing, accessing, touch_of, or_else, word_with, is_atomic, loaded_touch, accesses_of, whole_point, SaysTheRun, JointReplaysSayTheRun, DoesRetained, Recording, IsLogOf, IsRetained, OfBeginnings, begin, points_of, retained_rows, DidPoint, rows_done, replayed_points, PointsAreRecorded, StandAsRecorded, ConflictsStandAsRecorded, IsPointOf, accessing_at, kept_at, recorded_points}
+use Rattle.report_laws.proofs.Common.{◌≡◌, inl, inr, ℕ, ◌<◌, true, refl, sym, ap, ◌∙◌, subst, arith, List, [], ◌∷◌, Any, slice_get, Option, Some, None, Fault, Row, HartState, LoadedProgramsAreImages, Record, IsInOrder, StandByCounts, In, Point, Access, MeetAt, IsConflict, start, legal_from, RowsAreCounted, HasOrder, OfLists, PointsAreOfTurns, RunRowsTellWords, RunCallsAccess, TurnRowsAreRows, IsRowOfTurn, Taken, run_all, Doing, Touched as Touch, AreAlike, Accessing, touch_of, or_else, word_with, is_atomic, loaded_touch, accesses_of, whole_point, SaysTheRun, JointReplaysSayTheRun, DoesRetained, Recording, IsLogOf, OfBeginnings, begin, points_of, retained_rows, DidPoint, replayed_points, PointsAreRecorded, StandAsRecorded, ConflictsStandAsRecorded, IsPointOf, kept_at, recorded_points, some_is}
 use Rattle.race_log.specs.Netzer.{AtPlaces}
-use Rattle.joint_replay.specs.Chains.{Did, IsToDo}
+use Rattle.joint_replay.specs.Chains.{Did}
 use Rattle.joint_replay.specs.Ways.{IsRowAt}
-use Rattle.report_laws.proofs.Lists.{some_is, order_of, ComesFrom, ComeFrom, comes_from, come_from, given}
+use Rattle.report_laws.proofs.Lists.{order_of, ComesFrom, ComeFrom, comes_from, come_from, given}
 use Rattle.report_laws.proofs.Recorded.{one_kept, at_row, kept_point, IsKept, is_kept_row, given_point, same_place}
 use Rattle.report_laws.proofs.Rows.{row_at, hart_below, IsRowAt as IsAtCount}
 use Rattle.report_laws.proofs.Steps.{IsStepOf, AreSteps, IsRowStep, step_of, steps_of, place_of, in_rows, from_rows}

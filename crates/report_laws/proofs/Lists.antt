@@ -1,20 +1,8 @@
 -- Items of lists.
-use Rattle.report_laws.proofs.Common.{◌≡◌, ◌⊎◌, inl, inr, ℕ, zero, suc, ◌+◌, ◌<◌, ◌≤◌, ◌==◌, Bool, true, false, ◌||◌, refl, sym, ap, ◌∙◌, subst, arith, List, [], ◌∷◌, ◌++◌, length, slice_get, take, Option, Some, None, list_any, flat_map, In}
-
-pub some_is : {X : Type 0} (x y : X) (o : Option X) → o ≡ Some x → o ≡ Some y → x ≡ y
-some_is {X = X} x y o e f = let g : ◌≡◌ {A = Option X} (Some x) (Some y) = sym e ∙ f in cc
-
-pub not_some : {X : Type 0} (x : X) → ◌≡◌ {A = Option X} None (Some x) → ⊥
-not_some x e = cc
+use Rattle.report_laws.proofs.Common.{◌≡◌, ◌⊎◌, inl, inr, ℕ, zero, suc, ◌+◌, ◌<◌, Bool, true, false, ◌||◌, refl, ap, ◌∙◌, subst, arith, List, [], ◌∷◌, ◌++◌, length, slice_get, take, Some, list_any, flat_map, In, none-some, some_is}
 
 pub order_of : (m n : ℕ) → (m < n) ⊎ ((m ≡ n) ⊎ (n < m))
 order_of m n = grind arith
-
-pub same_number : (a b : ℕ) → (a == b) ≡ true → a ≡ b
-same_number a b h = grind arith
-
-pub is_number : (a b : ℕ) → a ≡ b → (a == b) ≡ true
-is_number a b h = grind arith
 
 -- ---- one list after another
 
@@ -31,29 +19,10 @@ get_cases (z ∷ zs) ys (suc k) x e = elim (get_cases zs ys k x e) [
   | inr p ↦ (let is = p.is in inr (record { place = p.place; is = omega (arith, is); at = p.at }))
 ]
 
-pub get_left : {X : Type 0} (xs ys : List X) (k : ℕ) (x : X) → slice_get xs k ≡ Some x → slice_get (xs ++ ys) k ≡ Some x
-get_left [] ys k x e = absurd cc
-get_left (z ∷ zs) ys zero x e = e
-get_left (z ∷ zs) ys (suc k) x e = get_left zs ys k x e
-
 pub get_right : {X : Type 0} (xs ys : List X) (j k : ℕ) (x : X) → k ≡ length xs + j → slice_get ys j ≡ Some x → slice_get (xs ++ ys) k ≡ Some x
 get_right [] ys j k x is e = let same : j ≡ k = omega (arith, is) in subst (λ (n : ℕ). slice_get ys n ≡ Some x) same e
 get_right (z ∷ zs) ys j zero x is e = absurd (omega (arith, is))
 get_right (z ∷ zs) ys j (suc k) x is e = get_right zs ys j k x (omega (arith, is)) e
-
-pub in_left : {X : Type 0} (xs ys : List X) (x : X) → In xs x → In (xs ++ ys) x
-in_left [] ys x i = absurd i
-in_left (z ∷ zs) ys x (inl e) = inl e
-in_left (z ∷ zs) ys x (inr i) = inr (in_left zs ys x i)
-
-pub in_right : {X : Type 0} (xs ys : List X) (x : X) → In ys x → In (xs ++ ys) x
-in_right [] ys x i = i
-in_right (z ∷ zs) ys x i = inr (in_right zs ys x i)
-
-pub in_cases : {X : Type 0} (xs ys : List X) (x : X) → In (xs ++ ys) x → In xs x ⊎ In ys x
-in_cases [] ys x i = inr i
-in_cases (z ∷ zs) ys x (inl e) = inl (inl e)
-in_cases (z ∷ zs) ys x (inr i) = elim (in_cases zs ys x i) [ inl j ↦ inl (inr j) | inr j ↦ inr j ]
 
 -- the item after a prefix, and that prefix
 pub get_middle : {X : Type 0} (front back : List X) (x : X) (k : ℕ) → k ≡ length front → slice_get (front ++ x ∷ back) k ≡ Some x
@@ -152,7 +121,7 @@ pub given : {X Y : Type 0} (f : X → List Y) (xs : List X) (place : ℕ) (y : Y
 given f [] place y c = absurd (none place c)
   where
     none : (n : ℕ) → ComesFrom f [] y n → ⊥
-    none n d = not_some d.source d.at
+    none n d = none-some d.source d.at
 given {Y = Y} f (x ∷ xs) zero y c =
     let same = some_is x c.source (Some x) refl c.at in
     (0, ap (λ (ys : List Y). slice_get (ys ++ flat_map f xs) 0) (ap f same ∙ c.gives))

@@ -1,6 +1,6 @@
 -- The recorded points.
-use Rattle.report_laws.proofs.Common.{◌≡◌, ◌⊎◌, inl, inr, ℕ, zero, suc, ◌+◌, ◌<◌, ◌==◌, Bool, true, false, cond, refl, sym, ap, ◌∙◌, subst, arith, List, [], ◌∷◌, slice_get, take, Option, Some, None, list_any, flat_map, Row, HartState, Record, IsInOrder, StandByCounts, In, Point, Touched as Touch, Accessing, accessing, touch_of, state_after, IsRowOfTurn, Recording, points_of, rows_of_hart, first_state, retained_rows, accessing_at, is_kept, kept_at, recorded_points}
-use Rattle.report_laws.proofs.Lists.{some_is, order_of, same_number, is_number, any_in, in_any, GivesOneAtMost, ComesFrom, ComeFrom, comes_from, come_from, given}
+use Rattle.report_laws.proofs.Common.{◌≡◌, ◌⊎◌, inl, inr, ℕ, ◌==◌, Bool, true, false, cond, refl, sym, ap, ◌∙◌, arith, List, [], ◌∷◌, slice_get, take, Option, Some, None, Row, HartState, Record, IsInOrder, StandByCounts, In, Point, Touched as Touch, Accessing, accessing, touch_of, state_after, Recording, rows_of_hart, first_state, retained_rows, accessing_at, is_kept, kept_at, eqb-true, eq-eqb, some_is}
+use Rattle.report_laws.proofs.Lists.{order_of, any_in, in_any, GivesOneAtMost}
 use Rattle.report_laws.proofs.Rows.{IsRowAt}
 
 module _ (r : Recording) (records : List Record) where
@@ -35,7 +35,7 @@ module _ (r : Recording) (records : List Record) where
   kept_point q p before hart count row_in x touch =
       ap (λ (h : ℕ). cond (is_kept r records h q.count) (accessing_at r h q.count) []) hart
       ∙ (ap (λ (k : ℕ). cond (is_kept r records p.hart k) (accessing_at r p.hart k) []) count
-      ∙ (ap (λ (b : Bool). cond b (accessing_at r p.hart p.row.ic) []) (any_in (λ (z : Row). z.ic == p.row.ic) (retained_rows r records p.hart) p.row row_in (is_number p.row.ic p.row.ic refl))
+      ∙ (ap (λ (b : Bool). cond b (accessing_at r p.hart p.row.ic) []) (any_in (λ (z : Row). z.ic == p.row.ic) (retained_rows r records p.hart) p.row row_in (eq-eqb p.row.ic p.row.ic refl))
       ∙ (at_row p.hart before p.row x ∙ ap (accessing p.hart p.row) touch)))
 
   -- and back: what a point gives is of a retained row
@@ -51,7 +51,7 @@ module _ (r : Recording) (records : List Record) where
       by : (b : Bool) → is_kept r records q.hart q.count ≡ b → cond b (accessing_at r q.hart q.count) [] ≡ p ∷ [] → IsKept q p
       by true f g =
           let x = in_any (λ (z : Row). z.ic == q.count) (retained_rows r records q.hart) f in
-          let count = same_number x.0.ic q.count x.2 in
+          let count = eqb-true x.0.ic q.count x.2 in
           record { row = x.0; row_in = x.1; count = count; gives = ap (accessing_at r q.hart) count ∙ g }
       by false f g = absurd cc
 

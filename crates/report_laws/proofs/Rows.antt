@@ -1,26 +1,15 @@
 -- The rows of the run by their counts.
-use Rattle.report_laws.proofs.Common.{◌≡◌, ℕ, zero, suc, ◌+◌, ◌<◌, Bool, true, false, ◌&&◌, nat_lt, refl, sym, ap, ◌∙◌, subst, arith, List, [], ◌∷◌, ◌++◌, length, map, slice_get, take, Option, Some, None, range_with_len, false≢true, Row, RawSettings, HartState, start, legal_from, is_live, RowsAreCounted, TurnRowsAreRows, RowsTellRuns, state_after, AreRowsFrom, HasRow, RunHasRow, IsRowOfTurn, Recording, IsRecorded, rows_of_hart, first_state}
+use Rattle.report_laws.proofs.Common.{◌≡◌, ℕ, ◌+◌, ◌<◌, Bool, true, false, nat_lt, refl, sym, ap, ◌∙◌, subst, arith, List, [], ◌∷◌, ◌++◌, length, map, slice_get, take, Some, Row, RawSettings, HartState, legal_from, is_live, RowsAreCounted, TurnRowsAreRows, RowsTellRuns, state_after, AreRowsFrom, RunHasRow, IsRowOfTurn, Recording, IsRecorded, rows_of_hart, first_state, ltb-true, and_parts, zero, suc, range_with_len}
 use Rattle.bn_base.specs.Programs.{Program}
 use Rattle.hart_replay.specs.Coming.{after_row}
-use Rattle.run_model.specs.Rows.{rows_of}
 use Rattle.run_model.specs.Turn.{Run, turn}
 use Rattle.report_laws.proofs.Lists.{get_middle, take_front}
 
-head_or : {X : Type 0} → X → List X → X
-head_or d [] = d
-head_or d (x ∷ xs) = x
-
-rest_of : {X : Type 0} → List X → List X
-rest_of [] = []
-rest_of (x ∷ xs) = xs
-
 heads : {X : Type 0} (x y : X) (xs ys : List X) → x ∷ xs ≡ y ∷ ys → x ≡ y
-unfolding head_or
-heads x y xs ys e = ap (head_or x) e
+heads x y xs ys e = cc
 
 rests : {X : Type 0} (x y : X) (xs ys : List X) → x ∷ xs ≡ y ∷ ys → xs ≡ ys
-unfolding rest_of
-rests x y xs ys e = ap rest_of e
+rests x y xs ys e = cc
 
 counted_at : (front back : List Row) (r : Row) (k n : ℕ) → map (λ (x : Row). x.ic) (front ++ r ∷ back) ≡ range_with_len k n → r.ic ≡ k + length front
 counted_at [] back r k zero e = absurd cc
@@ -61,17 +50,10 @@ row_hart turn_rows tell r is h before row of_turn =
 
 -- ---- the harts of a legal list
 
-lt_of : (a b : ℕ) → nat_lt a b ≡ true → a < b
-lt_of a b e = grind arith
-
-first_true : (a b : Bool) → (a && b) ≡ true → a ≡ true
-first_true true b e = refl
-first_true false b e = absurd (false≢true e)
-
 at_true : (x b : Bool) → elim x as (λ y. Bool) [ true ↦ b | false ↦ false ] ≡ true → (x ≡ true) × (b ≡ true)
 at_true true b e = (refl, e)
-at_true false b e = absurd (false≢true e)
+at_true false b e = cc
 
 pub hart_below : (c : RawSettings) (i : Program) (run : Run) (front : List ℕ) (h : ℕ) (back : List ℕ) → legal_from c i run (front ++ h ∷ back) ≡ true → h < c.harts
-hart_below c i run [] h back e = lt_of h c.harts (first_true (nat_lt h c.harts) (run.harts h).live (at_true (is_live c run h) (legal_from c i (turn c i run h) back) e).0)
+hart_below c i run [] h back e = ltb-true h c.harts (and_parts (nat_lt h c.harts) (run.harts h).live (at_true (is_live c run h) (legal_from c i (turn c i run h) back) e).0).0
 hart_below c i run (k ∷ ks) h back e = hart_below c i (turn c i run k) ks h back (at_true (is_live c run k) (legal_from c i (turn c i run k) (ks ++ h ∷ back)) e).1

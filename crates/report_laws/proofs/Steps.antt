@@ -1,7 +1,9 @@
 -- The points of steps.
-use Rattle.report_laws.proofs.Common.{◌≡◌, ◌⊎◌, inl, inr, ℕ, zero, suc, ◌+◌, ◌<◌, ◌==◌, Bool, true, false, refl, sym, ap, ◌∙◌, subst, arith, List, [], ◌∷◌, ◌++◌, length, slice_get, Option, Some, None, Row, HartState, In, Item, Passing, Doing, Ending, Taken, row_in, rows_done, Touched as Touch, Accessing, accessing, touch_of, point_in}
+use Rattle.report_laws.proofs.Common.{◌≡◌, inl, inr, ℕ, zero, suc, ◌+◌, ◌<◌, ◌==◌, Bool, true, false, refl, sym, ap, ◌∙◌, subst, arith, List, [], ◌∷◌, ◌++◌, length, slice_get, Option, Some, None, Row, HartState, In, Item, Doing, Taken, row_in, rows_done, Touched as Touch, Accessing, accessing, touch_of, point_in, none-some, eqb-true, eq-eqb, some_is}
 use Rattle.race_report.specs.Points.{points_of}
-use Rattle.report_laws.proofs.Lists.{some_is, not_some, same_number, is_number, IsBehind, get_cases, get_left, get_right, in_left, in_right, in_cases}
+use Rattle.report_laws.proofs.Lists.{get_cases, get_right}
+use Rattle.race_laws.proofs.Members.{in_left, in_right, in_parts}
+use Rattle.joint_replay.proofs.Merging.{get_more}
 
 -- a step of hart h did the row of a point
 pub record IsPointIn (h : ℕ) (item : Item) (p : Accessing) : Type 0 where
@@ -18,9 +20,8 @@ one_of h before row (Some touch) zero p t e =
 one_of h before row (Some touch) (suc j) p t e = absurd cc
 
 point_at : (h : ℕ) (item : Item) (j : ℕ) (p : Accessing) → slice_get (point_in h item) j ≡ Some p → (j ≡ 0) × IsPointIn h item p
-point_at h (Passing ic) j p e = absurd cc
 point_at h (Doing before row) j p e = one_of h before row (touch_of before row) j p refl e
-point_at h (Ending n m) j p e = absurd cc
+point_at h item j p e = absurd cc
 
 point_is : (h : ℕ) (item : Item) (p : Accessing) → IsPointIn h item p → point_in h item ≡ p ∷ []
 point_is h item p i = ap (point_in h) i.is ∙ (ap (accessing h p.row) i.touch ∙ ap (λ (k : ℕ). record { hart = k; row = p.row; touch = p.touch } ∷ []) i.hart)
@@ -68,23 +69,23 @@ steps_of (t ∷ ts) m n p q e f low = elim (get_cases (points_of ts) (point_in t
 ]
 
 pub place_of : (ts : List Taken) (x : ℕ) (p : Accessing) → IsStepOf ts x p → (m : ℕ) × (slice_get (points_of ts) m ≡ Some p)
-place_of [] x p s = absurd (not_some s.step s.at)
+place_of [] x p s = absurd (none-some s.step s.at)
 place_of (t ∷ ts) zero p s =
     let same : s.step ≡ t = some_is s.step t (Some t) s.at refl in
     let here : IsPointIn t.hart t.item p = subst (λ (u : Taken). IsPointIn u.hart u.item p) same s.point in
     let none : length (points_of ts) ≡ length (points_of ts) + 0 = omega arith in
     (length (points_of ts), get_right (points_of ts) (point_in t.hart t.item) 0 (length (points_of ts)) p none (ap (λ (ps : List Accessing). slice_get ps 0) (point_is t.hart t.item p here)))
-place_of (t ∷ ts) (suc x) p s = let r = place_of ts x p (record { step = s.step; at = s.at; point = s.point }) in (r.0, get_left (points_of ts) (point_in t.hart t.item) r.0 p r.1)
+place_of (t ∷ ts) (suc x) p s = let r = place_of ts x p (record { step = s.step; at = s.at; point = s.point }) in (r.0, get_more (points_of ts) (point_in t.hart t.item) r.0 p r.1)
 
 -- ---- rows
 
 pub in_rows : (ts : List Taken) (x : ℕ) (p : Accessing) → IsStepOf ts x p → In (rows_done p.hart ts) p.row
-in_rows [] x p s = absurd (not_some s.step s.at)
+in_rows [] x p s = absurd (none-some s.step s.at)
 in_rows (t ∷ ts) zero p s =
     let same : s.step ≡ t = some_is s.step t (Some t) s.at refl in
     let here : IsPointIn t.hart t.item p = subst (λ (u : Taken). IsPointIn u.hart u.item p) same s.point in
     let row : In (row_in t.item) p.row = subst (λ (i : Item). In (row_in i) p.row) (sym here.is) (inl refl) in
-    subst (λ (b : Bool). In (elim b as (λ y. List Row) [ true ↦ rows_done p.hart ts ++ row_in t.item | false ↦ rows_done p.hart ts ]) p.row) (sym (is_number t.hart p.hart here.hart)) (in_right (rows_done p.hart ts) (row_in t.item) p.row row)
+    subst (λ (b : Bool). In (elim b as (λ y. List Row) [ true ↦ rows_done p.hart ts ++ row_in t.item | false ↦ rows_done p.hart ts ]) p.row) (sym (eq-eqb t.hart p.hart here.hart)) (in_right (rows_done p.hart ts) (row_in t.item) p.row row)
 in_rows (t ∷ ts) (suc x) p s = by (t.hart == p.hart) (in_rows ts x p (record { step = s.step; at = s.at; point = s.point }))
   where
     by : (b : Bool) → In (rows_done p.hart ts) p.row → In (elim b as (λ y. List Row) [ true ↦ rows_done p.hart ts ++ row_in t.item | false ↦ rows_done p.hart ts ]) p.row
@@ -101,10 +102,9 @@ pub record IsRowStep (ts : List Taken) (h : ℕ) (row : Row) : Type 0 where
   pub is : step.item ≡ Doing before row
 
 row_of : (item : Item) (row : Row) → In (row_in item) row → (before : HartState) × (item ≡ Doing before row)
-row_of (Passing ic) row i = absurd i
 row_of (Doing before r) row (inl e) = (before, ap (Doing before) e)
 row_of (Doing before r) row (inr i) = absurd i
-row_of (Ending n m) row i = absurd i
+row_of item row i = absurd i
 
 pub from_rows : (ts : List Taken) (h : ℕ) (row : Row) → In (rows_done h ts) row → IsRowStep ts h row
 from_rows [] h row i = absurd i
@@ -117,5 +117,5 @@ from_rows (t ∷ ts) h row i = by (t.hart == h) refl i (λ j. from_rows ts h row
     here e j = let r = row_of t.item row j in record { place = 0; step = t; at = refl; hart = e; before = r.0; is = r.1 }
 
     by : (b : Bool) → (t.hart == h) ≡ b → In (elim b as (λ y. List Row) [ true ↦ rows_done h ts ++ row_in t.item | false ↦ rows_done h ts ]) row → (In (rows_done h ts) row → IsRowStep ts h row) → IsRowStep (t ∷ ts) h row
-    by true e j rest = elim (in_cases (rows_done h ts) (row_in t.item) row j) [ inl k ↦ earlier (rest k) | inr k ↦ here (same_number t.hart h e) k ]
+    by true e j rest = elim (in_parts (rows_done h ts) (row_in t.item) row j) [ inl k ↦ earlier (rest k) | inr k ↦ here (eqb-true t.hart h e) k ]
     by false e j rest = earlier (rest j)

@@ -1,5 +1,5 @@
 -- The point of the run that a row with its accesses is.
-use Rattle.report_laws.proofs.Common.{◌≡◌, ◌⊎◌, inl, inr, ℕ, zero, suc, ◌+◌, ◌*◌, ◌/◌, ◌%◌, ◌-◌, ◌^◌, ◌<◌, ◌≤◌, Bool, true, false, ◌&&◌, ◌||◌, refl, sym, ap, ◌∙◌, subst, arith, List, [], ◌∷◌, map, Option, Some, None, ◌==◌, nat_lt, nat_le, slice_index, is_some, false≢true, eq-eqb, eqb-true, Fault, Row, HartState, LoadedProgramsAreImages, accesses_from, access_point, is_write, Point, Access, Touched as Touch, Accessing, sent, words_with, or_else, is_atomic, word_with, call_touch, loaded_touch, touch_of, words_from, accesses_of, RunRowsTellWords, RunCallsAccess, IsRowOfTurn, Recording, IsRecorded, IsPointOf}
+use Rattle.report_laws.proofs.Common.{◌≡◌, ◌⊎◌, inl, inr, ℕ, suc, ◌+◌, ◌*◌, ◌/◌, ◌%◌, ◌^◌, ◌<◌, ◌≤◌, Bool, true, false, ◌&&◌, ◌||◌, refl, sym, ap, ◌∙◌, subst, arith, List, [], ◌∷◌, map, Option, Some, None, ◌==◌, nat_lt, nat_le, slice_index, is_some, eq-eqb, eqb-true, Fault, Row, HartState, LoadedProgramsAreImages, accesses_from, access_point, is_write, Point, Access, Touched as Touch, sent, words_with, or_else, is_atomic, word_with, call_touch, loaded_touch, touch_of, words_from, RunRowsTellWords, RunCallsAccess, IsRowOfTurn, Recording, IsRecorded, IsPointOf, none-some, and_parts, or_cases, leb-true, ltb-true, some_is}
 use Rattle.rv_meaning.specs.Rows.{at_address}
 use Rattle.race_log.specs.declared.mode.Mode.{Mode}
 use Rattle.race_log.specs.declared.mode.Mode.TheVariants.{Read, Write}
@@ -8,24 +8,9 @@ use Rattle.run_model.specs.Machine.{word_count}
 use Rattle.joint_replay.specs.Memory.{Bytes, call_result, filled}
 use Rattle.row_laws.specs.Calls.{IsSendRow, HasCall}
 use Rattle.row_laws.specs.Fills.{IsFillRow, result_of}
-use Rattle.row_laws.specs.Words.{word_told, word_point, HasWord}
-use Rattle.report_laws.proofs.Lists.{some_is, not_some}
+use Rattle.row_laws.specs.Words.{word_told, HasWord}
 
 -- ---- tests
-
-parts : (a b : Bool) → (a && b) ≡ true → (a ≡ true) × (b ≡ true)
-parts true b e = (refl, e)
-parts false b e = absurd (false≢true e)
-
-either : (a b : Bool) → (a || b) ≡ true → (a ≡ true) ⊎ (b ≡ true)
-either true b e = inl refl
-either false b e = inr e
-
-le_of : (a b : ℕ) → nat_le a b ≡ true → a ≤ b
-le_of a b e = grind arith
-
-lt_of : (a b : ℕ) → nat_lt a b ≡ true → a < b
-lt_of a b e = grind arith
 
 -- ---- the rows of calls
 
@@ -33,12 +18,12 @@ abbrev result_by : ℕ → Option ℕ → ℕ → Option (ℕ × ℕ) → Option
 result_by number o x reg = elim o [ None ↦ None | Some w ↦ elim (w == 0x73 && (x == number)) [ true ↦ result_of reg | false ↦ None ] ]
 
 is_result : (number : ℕ) (o : Option ℕ) (x n : ℕ) (reg : Option (ℕ × ℕ)) → result_by number o x reg ≡ Some n → (o ≡ Some 0x73) × (x ≡ number) × (result_of reg ≡ Some n)
-is_result number None x n reg e = absurd (not_some n e)
+is_result number None x n reg e = absurd (none-some n e)
 is_result number (Some w) x n reg e = by (w == 0x73 && (x == number)) refl e
   where
     by : (b : Bool) → (w == 0x73 && (x == number)) ≡ b → elim b as (λ y. Option ℕ) [ true ↦ result_of reg | false ↦ None ] ≡ Some n → (Some w ≡ Some 0x73) × (x ≡ number) × (result_of reg ≡ Some n)
-    by true f g = (ap Some (eqb-true w 0x73 (parts (w == 0x73) (x == number) f).0), eqb-true x number (parts (w == 0x73) (x == number) f).1, g)
-    by false f g = absurd (not_some n g)
+    by true f g = (ap Some (eqb-true w 0x73 (and_parts (w == 0x73) (x == number) f).0), eqb-true x number (and_parts (w == 0x73) (x == number) f).1, g)
+    by false f g = absurd (none-some n g)
 
 -- bytes, by the result of the call, a test of a0, and a1
 abbrev bytes_by : Bool → ℕ → Option ℕ → Option Bytes
@@ -52,17 +37,17 @@ record HasBytes (test : Bool) (first : ℕ) (o : Option ℕ) (b : Bytes) : Type 
   pub first_is : b.first ≡ first
 
 has_bytes : (test : Bool) (first : ℕ) (o : Option ℕ) (b : Bytes) → bytes_by test first o ≡ Some b → HasBytes test first o b
-has_bytes test first None b e = absurd (not_some b e)
+has_bytes test first None b e = absurd (none-some b e)
 has_bytes test first (Some n) b e = by (test && (nat_lt 0 n && nat_le n 4096)) refl e
   where
     by : (t : Bool) → (test && (nat_lt 0 n && nat_le n 4096)) ≡ t → elim t as (λ y. Option Bytes) [ true ↦ Some (record { first = first; count = n }) | false ↦ None ] ≡ Some b → HasBytes test first (Some n) b
     by true f g =
-        let p = parts test (nat_lt 0 n && nat_le n 4096) f in
-        let q = parts (nat_lt 0 n) (nat_le n 4096) p.1 in
-        let some : 0 < n = lt_of 0 n q.0 in
+        let p = and_parts test (nat_lt 0 n && nat_le n 4096) f in
+        let q = and_parts (nat_lt 0 n) (nat_le n 4096) p.1 in
+        let some : 0 < n = ltb-true 0 n q.0 in
         let bytes : Bytes = record { first = first; count = n } in
-        subst (HasBytes test first (Some n)) (some_is bytes b (Some bytes) refl g) (record { result = refl; file = p.0; low = omega (arith, some); high = le_of n 4096 q.1; first_is = refl })
-    by false f g = absurd (not_some b g)
+        subst (HasBytes test first (Some n)) (some_is bytes b (Some bytes) refl g) (record { result = refl; file = p.0; low = omega (arith, some); high = leb-true n 4096 q.1; first_is = refl })
+    by false f g = absurd (none-some b g)
 
 fill_row : (before : HartState) (row : Row) (b : Bytes) → filled before row ≡ Some b → IsFillRow before row b.count × (b.first ≡ slice_index before.x 11)
 fill_row before row b e =
@@ -75,7 +60,7 @@ send_row before row b e =
     let a0 : ℕ = slice_index before.x 10 in
     let h = has_bytes (a0 == 1 || (a0 == 2)) (slice_index before.x 11) (call_result 64 before row) b e in
     let g = is_result 64 row.word (slice_index before.x 17) b.count row.reg h.result in
-    (record { ecall = g.0; number = g.1; file = file (either (a0 == 1) (a0 == 2) h.file); answered = g.2; low = h.low; high = h.high }, h.first_is)
+    (record { ecall = g.0; number = g.1; file = file (or_cases (a0 == 1) (a0 == 2) h.file); answered = g.2; low = h.low; high = h.high }, h.first_is)
   where
     file : ((slice_index before.x 10 == 1) ≡ true) ⊎ ((slice_index before.x 10 == 2) ≡ true) → (slice_index before.x 10 ≡ 1) ⊎ (slice_index before.x 10 ≡ 2)
     file (inl f) = inl (eqb-true (slice_index before.x 10) 1 f)
@@ -84,12 +69,11 @@ send_row before row b e =
 -- ---- words one after another
 
 same_accesses : (first n : ℕ) (writes : Bool) → first + 4 * n ≤ 2 ^ 32 → accesses_from first n writes ≡ map (λ w. record { word = w; writes = writes }) (words_from first n)
-same_accesses first zero writes low = refl
-same_accesses first (suc zero) writes low = refl
 same_accesses first (suc (suc n)) writes low =
     let next : first + 4 ≡ (first + 4) % 2 ^ 32 = omega (arith, low) in
     ap (λ (xs : List Access). record { word = first; writes = writes } ∷ xs) (same_accesses (first + 4) (suc n) writes (omega (arith, low)))
     ∙ ap (λ (a : ℕ). record { word = first; writes = writes } ∷ map (λ w. record { word = w; writes = writes }) (words_from a (suc n))) next
+same_accesses first n writes low = refl
 
 call_accesses : (a n : ℕ) (writes : Bool) → 1 ≤ n → a + n ≤ 2 ^ 26 → accesses_from (aligned a) (word_count a n) writes ≡ map (λ w. record { word = w; writes = writes }) (words_from (aligned a) ((a % 4 + n + 3) / 4))
 call_accesses a n writes low high =
@@ -170,7 +154,7 @@ module _ (images : LoadedProgramsAreImages) (tell : RunRowsTellWords) (calls : R
   this u t e x = subst Recorded (some_is u t (Some u) refl e) x
 
   by_send : (o : Option Bytes) → sent before row ≡ o → IfSo (words_with o false)
-  by_send None e t f = absurd (not_some t f)
+  by_send None e t f = absurd (none-some t f)
   by_send (Some b) e t f = this (called b false) t f (of_send b e)
 
   by_fill : (o : Option Bytes) → filled before row ≡ o → IfSo (or_else (words_with o true) (words_with (sent before row) false))
@@ -186,7 +170,7 @@ module _ (images : LoadedProgramsAreImages) (tell : RunRowsTellWords) (calls : R
   by_store (Some access) e t f = this (told true access.0) t f (of_store access e)
 
   by_fault : (o : Option (Fault × ℕ)) → IfSo (elim o as (λ y. Option Touch) [ Some f ↦ None | None ↦ or_else (word_with row.store true (is_atomic row)) (loaded_touch before row) ])
-  by_fault (Some x) t f = absurd (not_some t f)
+  by_fault (Some x) t f = absurd (none-some t f)
   by_fault None t f = by_store row.store refl t f
 
   pub row_is_recorded : (t : Touch) → touch_of before row ≡ Some t → (place : ℕ) × IsPointOf r (record { hart = h; row = row; touch = t }) place

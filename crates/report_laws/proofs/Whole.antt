@@ -1,5 +1,5 @@
 -- The races of a recording's log.
-use Rattle.report_laws.proofs.Common.{◌≡◌, ◌↔◌, ℕ, ◌+◌, ◌<◌, ◌^◌, refl, sym, ap, ◌∙◌, subst, arith, List, ◌++◌, length, slice_get, Some, None, RawSettings, Record, StandByCounts, In, HasOrder, OfLists, TurnRowsAreRows, RowsTellRuns, run_all, AreCounted, HaveOwnRows, IsRaceOf, PointsAreCounted, RacesAreListed, RacesAscend, RacesGoByConflicts, Accessing, races_of, OwnLogsAreLogs, JointReplaysSayTheRun, Recording, IsLogOf, begin, kept, points_of, recorded, replayed_points, StandAsRecorded, ConflictsStandAsRecorded, SayTheRun, RacesSayTheRun, ReportsSayTheRun, recorded_points}
+use Rattle.report_laws.proofs.Common.{◌≡◌, ◌↔◌, ℕ, ◌+◌, sym, ap, ◌∙◌, subst, arith, List, ◌++◌, length, None, RawSettings, Record, StandByCounts, In, HasOrder, OfLists, TurnRowsAreRows, RowsTellRuns, run_all, AreCounted, HaveOwnRows, IsRaceOf, PointsAreCounted, RacesAreListed, RacesAscend, RacesGoByConflicts, races_of, OwnLogsAreLogs, JointReplaysSayTheRun, Recording, IsLogOf, begin, kept, points_of, recorded, replayed_points, StandAsRecorded, ConflictsStandAsRecorded, SayTheRun, RacesSayTheRun, ReportsSayTheRun, recorded_points}
 use Rattle.sha2.specs.Sha256.{sha256}
 use Rattle.log_order.specs.Content.{Content}
 use Rattle.log_order.specs.Order.{broken_by}
