@@ -1,6 +1,6 @@
--- The rows of replays, counted one after another.
-use Rattle.demo_run.proofs.Common.{◌≡◌, ℕ, zero, suc, ◌+◌, ◌*◌, ◌^◌, ◌<◌, ◌≤◌, Bool, true, false, List, [], ◌∷◌, length, drop, Option, Some, None, slice_index_or, ◌==◌, ◌&&◌, sym, ap, subst, arith, Program, Record, Done, Replayed, Interval, interval_of, EndMark, Content, rows_in, ComesToEnd, AllComeToEnd}
-use Rattle.log_record.specs.declared.record.Record.TheVariants.{Header, FirstLoad, ScOk, ScFailed, Edge, End}
+-- The rows of replays, counted one after another, and sums over the last marks of harts.
+use Rattle.demo_run.proofs.Common.{◌≡◌, ℕ, zero, suc, ◌+◌, ◌*◌, ◌^◌, ◌<◌, ◌≤◌, Bool, true, false, List, [], ◌∷◌, length, drop, Option, Some, None, slice_index_or, ◌==◌, ◌&&◌, sym, ap, subst, arith, Program, Record, Done, Replayed, Interval, interval_of, EndMark, Content, rows_in, ComesToEnd, AllComeToEnd, counts_in}
+use Rattle.log_record.specs.declared.record.Record.TheVariants.{Header}
 use Rattle.hart_replay.specs.Coming.{Replaying, Begins}
 
 -- of the rows of a replay that goes to its End so many were given, and these are left
@@ -24,26 +24,15 @@ first-there : (t : Bool) (v : Interval) (later : Option Interval) → t ≡ true
 first-there true v later h e = grind arith
 first-there false v later h e = grind arith
 
-itself : (n : ℕ) → (n == n) ≡ true
-itself n = grind arith
-
 same-header : (hart n ic pc : ℕ) (x : List ℕ) (k m jc qc : ℕ) (y : List ℕ) → Header k m jc qc y ≡ Header hart n ic pc x → (k == hart && (m == n)) ≡ true
 same-header hart n ic pc x k m jc qc y e = grind arith
 
 header-there : (hart n ic pc : ℕ) (x : List ℕ) (rs : List Record) (place : ℕ) (other : Record) → place < length rs → slice_index_or rs place other ≡ Header hart n ic pc x → interval_of hart n rs ≡ None → ⊥
 header-there hart n ic pc x [] place other low is none = omega (arith, low)
 header-there hart n ic pc x (Header k m jc qc y ∷ rs) zero other low is none = first-there _ _ (interval_of hart n rs) (same-header hart n ic pc x k m jc qc y is) none
-header-there hart n ic pc x (FirstLoad k skip value ∷ rs) zero other low is none = absurd cc
-header-there hart n ic pc x (ScOk k ∷ rs) zero other low is none = absurd cc
-header-there hart n ic pc x (ScFailed k ∷ rs) zero other low is none = absurd cc
-header-there hart n ic pc x (Edge k jc s j ∷ rs) zero other low is none = absurd cc
-header-there hart n ic pc x (End k m ∷ rs) zero other low is none = absurd cc
 header-there hart n ic pc x (Header k m jc qc y ∷ rs) (suc p) other low is none = there-or _ _ (interval_of hart n rs) (header-there hart n ic pc x rs p other (omega (arith, low)) is) none
-header-there hart n ic pc x (FirstLoad k skip value ∷ rs) (suc p) other low is none = header-there hart n ic pc x rs p other (omega (arith, low)) is none
-header-there hart n ic pc x (ScOk k ∷ rs) (suc p) other low is none = header-there hart n ic pc x rs p other (omega (arith, low)) is none
-header-there hart n ic pc x (ScFailed k ∷ rs) (suc p) other low is none = header-there hart n ic pc x rs p other (omega (arith, low)) is none
-header-there hart n ic pc x (Edge k jc s j ∷ rs) (suc p) other low is none = header-there hart n ic pc x rs p other (omega (arith, low)) is none
-header-there hart n ic pc x (End k m ∷ rs) (suc p) other low is none = header-there hart n ic pc x rs p other (omega (arith, low)) is none
+header-there hart n ic pc x rs zero other low is none = absurd cc
+header-there hart n ic pc x (r ∷ rs) (suc p) other low is none = header-there hart n ic pc x rs p other (omega (arith, low)) is none
 
 -- so it is of the records that a call hands over, for the Header's hart as a wider number
 pub has-interval : (h hart n ic pc : ℕ) (x : List ℕ) (rs records : List Record) (place : ℕ) (other : Record) → h ≡ hart → rs ≡ records → place < length records
@@ -62,3 +51,10 @@ begun-few i d h n r ends b low =
     let few : length r.left.rows ≤ b.interval.mark.ic + 1 = (begun-ends i d h n r ends b).few in
     let same : r.mark.ic ≡ b.interval.mark.ic = ap (λ (m : EndMark). m.ic) b.mark in
     omega (arith, few, same, low)
+
+-- ---- the last marks of harts
+
+-- the counts of the first k marks sum to this, and each is below 2 ^ 64
+pub record Summing (marks : List (Option EndMark)) (k sum : ℕ) : Type 0 where
+  pub so_far : sum + counts_in (drop k marks) ≡ counts_in marks
+  pub bound : sum ≤ k * 2 ^ 64

@@ -1,8 +1,5 @@
 -- The steps of a joint replay that goes through, and the bytes of known words.
-use Rattle.demo_run.proofs.Common.{◌≡◌, ℕ, ◌*◌, nat_lt, Bool, true, false, List, [], ◌∷◌, ◌++◌, length, length-append, Some, None, ◌∙◌, ap, sym, refl, arith, inl, inr, append_assoc, Ok, Err, flat_map, flat_map-cons, number_bytes, known_from, Joining, Ran, begun, ran, run_all, Advances, IsFirstTaken, RunsGoOn, RunsEnd, word_bytes}
-use Rattle.joint_replay.specs.declared.error.JointError.{JointError}
-use Rattle.joint_replay.specs.declared.error.JointError.TheVariants.{Replay, Stuck}
-use Rattle.joint_replay.specs.declared.error.JointError.TheVariants as joint
+use Rattle.demo_run.proofs.Common.{◌≡◌, ℕ, ◌*◌, nat_lt, Bool, true, false, List, [], ◌∷◌, ◌++◌, length, length-append, None, ◌∙◌, ap, sym, refl, arith, Ok, flat_map, flat_map-cons, number_bytes, known_from, Joining, run_all, Advances, IsFirstTaken, RunsGoOn, word_bytes}
 
 -- ---- steps
 
@@ -16,20 +13,6 @@ pub walks-more : RunsGoOn → (whole now next : Joining) (waiting text : List �
 walks-more go whole now next waiting text a w =
     let first : IsFirstTaken now a.taken next = go now a.taken next a.step in
     record { last = w.last ∙ first.now; stopped = sym first.stopped ∙ w.stopped }
-
--- no step is left
-pub walks-done : RunsEnd → (whole now next : Joining) (waiting text : List ℕ) → Advances now (Ok false) next waiting text → Walks whole now → (run_all whole).walk.now ≡ next
-walks-done end whole now next waiting text a w =
-    let at : run_all now ≡ ran (begun next) None = end now next None a.0 in
-    w.last ∙ ap (λ (r : Ran). r.walk.now) at
-
--- running out of memory alone stops it
-pub walks-starved : RunsEnd → (whole now next : Joining) (waiting text : List ℕ) (e : JointError) → Advances now (Err e) next waiting text → Walks whole now → e ≡ joint.OutOfMemory
-walks-starved end whole now next waiting text e (same, inl f) w =
-    let at : run_all now ≡ ran (begun next) (Some e) = end now next (Some e) f in
-    let stopped : Some e ≡ None = sym (ap (λ (r : Ran). r.stopped) at) ∙ w.stopped in
-    grind arith
-walks-starved end whole now next waiting text e (same, inr m) w = m.0
 
 -- ---- known words
 
@@ -46,16 +29,6 @@ all-known (m ∷ ms) = ap (λ (b : Bool). elim b as (λ y. List (ℕ × ℕ)) [ 
 
 pub lists-none : (ms : List (ℕ × ℕ)) → Lists ms 0 []
 lists-none ms = ap (λ (xs : List (ℕ × ℕ)). flat_map word_bytes xs) (all-known ms)
-
-pub lists-more : (ms : List (ℕ × ℕ)) (from next a w : ℕ) (bytes one two : List ℕ) → known_from from ms ≡ (a, w) ∷ known_from next ms → one ≡ bytes ++ number_bytes 4 a → two ≡ one ++ number_bytes 4 w
-    → Lists ms from bytes → Lists ms next two
-lists-more ms from next a w bytes one two e p q l =
-    let left : List ℕ = flat_map word_bytes (known_from next ms) in
-    ap (λ (t : List ℕ). t ++ left) (q ∙ ap (λ (t : List ℕ). t ++ number_bytes 4 w) p ∙ append_assoc bytes (number_bytes 4 a) (number_bytes 4 w))
-    ∙ append_assoc bytes (word_bytes (a, w)) left
-    ∙ ap (λ (t : List ℕ). bytes ++ t) (sym (flat_map-cons word_bytes (a, w) (known_from next ms)))
-    ∙ ap (λ (xs : List (ℕ × ℕ)). bytes ++ flat_map word_bytes xs) (sym e)
-    ∙ l
 
 -- each word has eight bytes
 eight : (m : ℕ × ℕ) → length (word_bytes m) ≡ 8

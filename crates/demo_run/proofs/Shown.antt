@@ -1,5 +1,5 @@
 -- What is counted of a demonstration.
-use Rattle.demo_run.proofs.Common.{◌≡◌, ℕ, ◌-◌, ◌/◌, ◌≤◌, nat_lt, Bool, true, false, List, [], length, take, drop, length-take, ◌∙◌, ap, subst, sym, arith, Result, Ok, Err, if◌then◌else◌, flat_map, Program, Content, counts_of, IsVersion1, Done, Replayed, replayed, fresh, run_all, start, demo, demo_settings, demo_program, demo_elf, demo_turns, demo_log, word_bytes, rows_in, known_words, instructions_of, figures_of, DemonstrationsAreRecordings, AllComeToEnd, GoesThrough}
+use Rattle.demo_run.proofs.Common.{◌≡◌, ℕ, ◌-◌, ◌/◌, ◌≤◌, nat_lt, Bool, true, false, List, [], length, take, drop, length-take, ◌∙◌, ap, subst, sym, arith, Result, Ok, Err, if◌then◌else◌, flat_map, Program, Content, counts_of, IsVersion1, Done, Replayed, replayed, fresh, run_all, start, demo, demo_settings, demo_program, demo_elf, demo_turns, demo_log, word_bytes, rows_in, known_words, instructions_of, figures_of, DemonstrationsAreRecordings, AllComeToEnd, GoesThrough, IsRecorded, kept}
 use Rattle.log_file.specs.declared.error.FileError.{FileError}
 use Rattle.sha2.specs.Sha256.{sha256}
 use Rattle.bn_base.specs.declared.row.Row.{Row}
@@ -8,7 +8,6 @@ use Rattle.run_model.specs.Rows as run
 use Rattle.run_model.specs.Rows.{rows_of}
 use Rattle.replay_laws.specs.Law.{LogSuffices, RowsStandTogether, IsWhole, end_of}
 use Rattle.file_laws.specs.Laws.{LogsAreContents}
-use Rattle.joint_laws.specs.Recordings.{IsRecorded, kept}
 use Rattle.joint_laws.specs.Laws.{OwnLogsAreLogs, RunsToTheEnd}
 use Rattle.demo_run.specs.declared.figures.Figures.{Figures}
 use Rattle.demo_run.proofs.Joins.{eight-each}

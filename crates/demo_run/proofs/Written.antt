@@ -1,5 +1,5 @@
 -- The run of a demonstration, as its closed bus has it.
-use Rattle.demo_run.proofs.Common.{◌≡◌, ◌==◌, ℕ, Bool, true, false, List, length, ◌∙◌, ap, arith, Option, Program, EndMark, RawSettings, file_bytes, file_bytes2, saved_bytes, content, Record, run_of, seeded, counts_in, demo, demo_settings, demo_program, demo_turns, demo_log, instructions_of, IsStart}
+use Rattle.demo_run.proofs.Common.{◌≡◌, ◌==◌, ℕ, Bool, true, false, List, length, ◌∙◌, ap, arith, Option, Program, EndMark, RawSettings, file_bytes, file_bytes2, saved_bytes, content, Record, run_of, seeded, counts_in, demo, demo_settings, demo_program, demo_turns, demo_log, instructions_of, IsStart, recorded}
 use Rattle.bn_outside.specs.declared.turn_row.TurnRow.{TurnRow}
 use Rattle.log_ring.specs.Kept.{kept}
 use Rattle.run_model.specs.KeptRecords.{kept_of, dropped_of}
@@ -9,7 +9,6 @@ use Rattle.bus_core.specs.Bus.{began_of, marks}
 use Rattle.bus_core.specs.declared.closed.Closed.{Closed}
 use Rattle.whole_runs.specs.Closed.{IsClosed}
 use Rattle.whole_runs.specs.Lists.{list_run}
-use Rattle.joint_laws.specs.Recordings.{recorded}
 use Rattle.demo_run.proofs.Whole.{first_format}
 
 -- the turns that the number chooses

@@ -1,4 +1,4 @@
-use Rattle.demo_run.proofs.Sums.{Summing}
+use Rattle.demo_run.proofs.Counts.{Summing}
 use Rattle.demo_run.proofs.recording.counts_in.Given as goal
 
 abbrev pub invariant-loop-place : goal.invariant-loop-place
