@@ -14,11 +14,20 @@ lay() ( # PREFIX PROGRAM
         install -D -m 644 -- "$top/$name" "$1/lib/zelkuma/$name" || exit
     done <"$top/tools/files.txt" &&
         commit_of_tree >"$1/lib/zelkuma/release/COMMIT" &&
-        install -D -m 644 -- "$top/packaging/zelkuma.1" "$1/${beside[1]}" &&
-        install -D -m 644 -- "$top/packaging/zelkuma.bash" "$1/${beside[2]}" &&
+        lay_help "$1" &&
         install -D -m 755 -- "$2" "$1/lib/zelkuma/zelkuma" &&
         install -D -m 755 -- "$top/zelkuma" "$1/${beside[0]}"
 )
+
+# Lays the manual page and the completion of words, which are made by it. Those of an earlier version never stay.
+lay_help() { # PREFIX
+    if type -P python3 >/dev/null; then
+        python3 -B "$top/tools/help/make.py" --under "$1"
+    else
+        say "note: python3 isn't here, which makes the manual page and the completion of words"
+        rm -f -- "$1/${beside[1]}" "$1/${beside[2]}"
+    fi
+}
 
 # Prints the files that lie in lib/zelkuma, but for the program. Versions without a list had two folders there.
 laid() { # PREFIX
@@ -73,7 +82,9 @@ install_under() { # PREFIX
     while IFS= read -r name; do
         [ -z "$name" ] || grep -qxF -- "$name" "$top/tools/files.txt" || remove "$prefix" "$name"
     done <<<"$old"
-    printf '%s\n' "${prefix%/}"/{"${beside[0]}",lib/zelkuma,"${beside[1]}","${beside[2]}"}
+    for name in "${beside[0]}" lib/zelkuma "${beside[@]:1}"; do
+        [ ! -e "$prefix/$name" ] || printf '%s\n' "${prefix%/}/$name"
+    done
 }
 
 uninstall_from() { # PREFIX

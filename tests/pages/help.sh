@@ -5,7 +5,7 @@
 # tests/pages/help.sh PROGRAM
 . "$(dirname "$0")/../asserts.sh"
 program=$(readlink -f -- "${1:?the words are PROGRAM}")
-made=(tools/help/{page.txt,each.txt,words.sh} tools/files.txt packaging/zelkuma.1 packaging/zelkuma.bash docs/COMMANDS.md)
+made=(tools/help/{page.txt,each.txt,words.sh} tools/files.txt docs/COMMANDS.md)
 
 # A tree with the help's source, the document whose tables are made, and the files that are listed.
 tree=$work/tree
@@ -38,12 +38,13 @@ touch "$tree/companion/nudge.py"
 sed -i 's/^  default 100000$/  default 100001/' "$tree/tools/help/options.txt"
 sed -i 's/^21 .*/21 no frob/; s/no row IC/no frob IC/; s/give a greater MAX,/give "$(more)",/' "$tree/tools/help/statuses.txt"
 runs 0 "$tree/tools/help/make.py"
+runs 0 "$tree/tools/help/make.py" --under "$tree"
 for place in page.txt:"frobs a log" page.txt:100001 page.txt:"no frob" zelkuma.1:"Frobs a log." zelkuma.1:100001 \
-    zelkuma.1:"no frob IC" zelkuma.1:"Zelkuma 7.8.9" zelkuma.bash:"frob LOG TIMES" zelkuma.bash:"frob --twice N" \
+    zelkuma.1:"no frob IC" zelkuma.1:"Zelkuma 7.8.9" zelkuma:"frob LOG TIMES" zelkuma:"frob --twice N" \
     words.sh:'[frob.]="LOG TIMES"' words.sh:'[frob.twice]="N"' words.sh:'[frob.gently]="flag"' words.sh:'[TIMES]="2 to 5"' \
     words.sh:'[20]="give \"\$(more)\", up to 1000000"' words.sh:" nudge " each.txt:"  frobs a log" files.txt:companion/nudge.py \
     "COMMANDS.md:| \`frob LOG TIMES [--twice N] [--gently]\` | frobs a log |" "COMMANDS.md:| 100001 |" "COMMANDS.md:| 21 | \`no frob IC\` |"; do
-    grep -rqF -- "${place#*:}" "$tree"/*/"${place%%:*}" "$tree"/*/*/"${place%%:*}" 2>/dev/null || fails "it isn't in $place"
+    grep -qF -- "${place#*:}" "$tree"/*/"${place%%:*}" "$tree"/*/*/"${place%%:*}" "$tree"/*/*/*/"${place%%:*}" 2>/dev/null || fails "it isn't in $place"
 done
 
 what="a table of the document that has no end"
@@ -152,20 +153,22 @@ runs 10 "$program" record --seed 1 "${given[@]}" "$top/examples/wild_store.elf" 
 equals plain told
 
 what="the manual page"
+runs 0 "$top/tools/help/make.py" --under "$work/laid"
+manual=$work/laid/share/man/man1/zelkuma.1
 tools=0
 if type -P mandoc >/dev/null; then
     tools=1
     # (it has no date, which would be that of its making)
-    mandoc -T lint -W warning "$top/packaging/zelkuma.1" | grep -v 'missing date' >"$work/out" && fails "mandoc has something to say"
+    mandoc -T lint -W warning "$manual" | grep -v 'missing date' >"$work/out" && fails "mandoc has something to say"
 fi
 if type -P groff >/dev/null; then
     tools=1
-    runs 0 groff -man -ww -z -Tutf8 "$top/packaging/zelkuma.1"
+    runs 0 groff -man -ww -z -Tutf8 "$manual"
     [ ! -s "$work/err" ] || fails "groff has something to say"
 fi
 if type -P man >/dev/null; then
     tools=1
-    LC_ALL=C.UTF-8 MANWIDTH=100 runs 0 man -P cat -l "$top/packaging/zelkuma.1"
+    LC_ALL=C.UTF-8 MANWIDTH=100 runs 0 man -P cat -l "$manual"
     has out "record [OPTION..] ELF LOG BOOK"
 fi
 [ "$tools" -eq 1 ] || skips "whether the manual page is well formed: mandoc, groff and man aren't here"

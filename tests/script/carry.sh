@@ -11,7 +11,7 @@ python=$(type -P python3) || skips "calls of companions: python3 isn't here"
 # Sources of which to lay: with a companion that tells how it was called, and with what isn't to be laid.
 sources=$work/sources
 mkdir -p "$sources/release" "$sources/companion/__pycache__"
-cp -r "$top/"{zelkuma,crates.txt,tools,packaging,companion,python} "$sources"
+cp -r "$top/"{zelkuma,crates.txt,tools,companion,python} "$sources"
 cp "$top/VERSION" "$sources"
 cp "$top/release/"{STAMP,COMMIT} "$sources/release"
 cp "$program" "$sources/release/zelkuma-x86_64-linux"
@@ -52,8 +52,9 @@ everything() { find "$1" -printf '%p %m %s %t\n' | LC_ALL=C sort; }
 # The files under a folder.
 files_in() { (cd "$1" && find . ! -type d -printf '%P\n' | LC_ALL=C sort); }
 
-# What install lays under a folder, a line each.
-laid_under() { printf '%s\n' "$1"/{bin/zelkuma,lib/zelkuma,share/man/man1/zelkuma.1,share/bash-completion/completions/zelkuma}; }
+# What install lays under a folder, a line each; the last two are made by python3.
+manual=share/man/man1/zelkuma.1 completion=share/bash-completion/completions/zelkuma
+laid_under() { printf '%s\n' "$1"/{bin/zelkuma,lib/zelkuma} ${python:+"$1/$manual" "$1/$completion"}; }
 
 # The companions that are told.
 companions() (
@@ -67,8 +68,11 @@ runs 0 "$sources/zelkuma" install "$prefix"
 laid_under "$prefix" >"$work/wanted"
 equals "$work/wanted" "$work/out"
 works "$prefix/bin/zelkuma" "$prefix/lib/zelkuma/zelkuma"
-equals "$top/packaging/zelkuma.1" "$prefix/share/man/man1/zelkuma.1"
-equals "$top/packaging/zelkuma.bash" "$prefix/share/bash-completion/completions/zelkuma"
+if [ -n "$python" ]; then
+    "$top/tools/help/make.py" --under "$work/made"
+    equals "$work/made/$manual" "$prefix/$manual"
+    equals "$work/made/$completion" "$prefix/$completion"
+fi
 { cat "$top/tools/files.txt" && echo zelkuma; } | LC_ALL=C sort >"$work/wanted"
 files_in "$prefix/lib/zelkuma" >"$work/files"
 equals "$work/wanted" "$work/files"
@@ -126,6 +130,18 @@ for list in "" "tools/files.txt" ; do
     files_in "$older" >"$work/files"
     equals "$work/more" "$work/files"
 done
+
+what="a machine without Python, to which one with it has laid"
+mkdir "$work/without"
+ln -sf -t "$work/without" /bin/* /usr/bin/* && rm -f "$work/without/python"*
+runs 0 "$sources/zelkuma" install "$work/plain"
+PATH=$work/without runs 0 "$sources/zelkuma" install "$work/plain"
+printf '%s\n' "$work/plain/"{bin,lib}/zelkuma >"$work/wanted"
+equals "$work/wanted" "$work/out"
+has err "zelkuma: note: python3 isn't here, which makes the manual page and the completion of words"
+grep -vE '^share/' "$work/whole" >"$work/fewer"
+files_in "$work/plain" >"$work/files"
+equals "$work/fewer" "$work/files"
 
 what="taking it away"
 runs 0 "$older/bin/zelkuma" uninstall "$older"
@@ -286,8 +302,8 @@ root=$work/root
 runs 0 dpkg-deb -x "$package" "$root"
 works "$root/usr/bin/zelkuma" "$root/usr/lib/zelkuma/zelkuma"
 equals "$program" "$root/usr/lib/zelkuma/zelkuma"
-gzip -dc "$root/usr/share/man/man1/zelkuma.1.gz" >"$work/page"
-equals "$top/packaging/zelkuma.1" "$work/page"
+gzip -dc "$root/usr/$manual.gz" >"$work/page"
+equals "$work/made/$manual" "$work/page"
 if type -P man >/dev/null; then
     runs 0 man -M "$root/usr/share/man" -P cat zelkuma
     has out "record [OPTION..] ELF LOG BOOK"

@@ -3,6 +3,8 @@
 # what the shell then runs is compared. It takes a second.
 . "$(dirname "$0")/../asserts.sh"
 type -P script >/dev/null || end_skipped "script isn't here"
+type -P python3 >/dev/null || end_skipped "python3 isn't here, which makes the completion"
+"$top/tools/help/make.py" --under "$work/laid"
 : >"$work/typed"
 : >"$work/wanted"
 
@@ -35,7 +37,7 @@ mkdir -p "$work/files/folder"
 touch "$work/files/mylog" "$work/files/program.elf" "$work/files/with space"
 {
     echo 'zelkuma() { printf GOT; printf "<%s>" "$@"; echo; }'
-    echo "source '$top/packaging/zelkuma.bash'; cd '$work/files'"
+    echo "source '$work/laid/share/bash-completion/completions/zelkuma'; cd '$work/files'"
     cat "$work/typed"
     echo exit
 } | INPUTRC=/dev/null TERM=dumb script -qec "bash --norc --noprofile -i" /dev/null >"$work/out" 2>"$work/err"

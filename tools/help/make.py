@@ -1,11 +1,12 @@
 #!/usr/bin/env python3
 """Makes all that tells the words of zelkuma from the tables beside this file, so that no two of them differ.
 
-tools/help/make.py [TOP]    TOP is the folder of the sources that these are written to, at first its own
+tools/help/make.py                   renews what the sources have of it
+tools/help/make.py --under PREFIX    what `zelkuma install` lays of it: the manual page, and the completion of words in bash
 
-These are the pages that `zelkuma help` and `zelkuma COMMAND --help` print, what the script knows of words, the manual
-page, the completion of words in bash, and the tables of docs/COMMANDS.md, which stand there between two comments. It also
-lists the files that `zelkuma install` lays. tests/pages/help.sh tries that it was called. A table has this form:
+Written to the sources are the pages that `zelkuma help` and `zelkuma COMMAND --help` print, what the script knows of words,
+and the tables of docs/COMMANDS.md, which stand there between two comments. It also lists the files that `zelkuma install`
+lays. tests/pages/help.sh tries that it was called. A table has this form:
 
     # a comment
     ENTRY              at the line's start; several with nothing between them share what follows,
@@ -21,6 +22,7 @@ import textwrap
 from typing import Callable, Dict, Iterable, Iterator, List, NamedTuple, Tuple
 
 HERE = pathlib.Path(__file__).resolve().parent
+TOP = HERE.parent.parent
 BEGINS, ENDS = re.compile(r"(<!-- made by tools/help/make\.py: (\w+) (\w+) ?(.*?) -->\n)"), "<!-- end of the table -->\n"
 OPTIONAL = r"\[[^]]*\](?:\.\.\.)?"
 
@@ -280,11 +282,11 @@ def lines_of(kind: str, form: str, table: str) -> str:
     return "".join(f"{line}\n" for line in make(read(table)))
 
 
-def filled(top: pathlib.Path, kind: str) -> str:
+def filled(kind: str) -> str:
     """The text of NAME.in, in which each line `@FORM TABLE@` is replaced by a table."""
     text = (HERE / f"{kind}.in").read_text(encoding="utf-8")
     text = re.sub(r"^@(\w+) (\w+)@\n", lambda found: lines_of(kind, found[1], found[2]), text, flags=re.M)
-    return text.replace("@VERSION@", (top / "VERSION").read_text(encoding="utf-8").strip())
+    return text.replace("@VERSION@", (TOP / "VERSION").read_text(encoding="utf-8").strip())
 
 
 def heads_of(form: str, first: str) -> List[str]:
@@ -304,14 +306,14 @@ def renewed(name: str, text: str) -> str:
     return made
 
 
-def listed(top: pathlib.Path) -> str:
+def listed() -> str:
     """The names of the files that an installed script has in lib/zelkuma, beside the program."""
     names = ["VERSION", "release/COMMIT", "release/STAMP", *(f"tools/{name}" for name in (
         "files.txt", "install.sh", "say.sh", "version.sh", "help/each.txt", "help/page.txt", "help/words.sh"))]
-    found = [*top.glob("tools/launcher/*.sh"), *(
+    found = [*TOP.glob("tools/launcher/*.sh"), *(
         file for ending in ("py", "html", "js", "css", "typed") for folder in ("companion", "companion/*", "companion/view/page", "python/zelkuma")
-        for file in top.glob(f"{folder}/*.{ending}"))]
-    return "".join(f"{name}\n" for name in sorted([*names, *(str(file.relative_to(top)) for file in found)]))
+        for file in TOP.glob(f"{folder}/*.{ending}"))]
+    return "".join(f"{name}\n" for name in sorted([*names, *(str(file.relative_to(TOP)) for file in found)]))
 
 
 def write(file: pathlib.Path, text: str) -> None:
@@ -322,20 +324,27 @@ def write(file: pathlib.Path, text: str) -> None:
     new.replace(file)
 
 
-def main(words: List[str]) -> None:
-    top = pathlib.Path(words[0]).resolve() if words else HERE.parent.parent
-    document = top / "docs" / "COMMANDS.md"
-    made: Dict[str, str] = {
-        "tools/help/page.txt": filled(top, "page"),
-        "tools/help/each.txt": filled(top, "each"),
-        "tools/help/words.sh": filled(top, "words"),
-        "tools/files.txt": listed(top),
-        "packaging/zelkuma.1": filled(top, "man"),
-        "packaging/zelkuma.bash": filled(top, "completion"),
+def kept() -> Dict[str, str]:
+    """What the sources have, by name."""
+    document = TOP / "docs" / "COMMANDS.md"
+    return {
+        "tools/help/page.txt": filled("page"),
+        "tools/help/each.txt": filled("each"),
+        "tools/help/words.sh": filled("words"),
+        "tools/files.txt": listed(),
         "docs/COMMANDS.md": renewed("docs/COMMANDS.md", document.read_text(encoding="utf-8")),
     }
+
+
+def laid() -> Dict[str, str]:
+    """What is laid beside the script that is installed, by name."""
+    return {"share/man/man1/zelkuma.1": filled("man"), "share/bash-completion/completions/zelkuma": filled("completion")}
+
+
+def main(words: List[str]) -> None:
+    folder, made = (pathlib.Path(words[1]), laid()) if words[:1] == ["--under"] else (TOP, kept())
     for name, text in made.items():
-        write(top / name, text)
+        write(folder / name, text)
 
 
 if __name__ == "__main__":
