@@ -50,6 +50,6 @@ over:
     .bss
     .balign 32
 own:
-    .zero   256
+    .zero   512
 words:
-    .zero   8192
+    .zero   16384

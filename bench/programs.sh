@@ -2,10 +2,8 @@
 # Times the whole program, beside what is like it. It prints ratios; the times beside them are those of the machine and
 # of the moment.
 #
-# - on examples/sort.elf: its recording, the audit of it and the replay of its longest interval; a demonstration; the
-#   reading of a full log of 64 MiB, with the memory that it takes
-# - beside them: qemu-riscv32 on the same program, also one instruction at a time; the demonstration's parts by single
-#   commands; sha256sum on the same log
+# - a demonstration, beside its parts by single commands
+# - the reading of a full log of 64 MiB, with the memory that it takes, beside sha256sum on the same log
 # - the memory of the list of turns
 # - harts in threads beside harts by a seed, by the clock
 # - the joint replay beside single replays of the same intervals, the race report beside the joint replay, and a slice
@@ -96,44 +94,6 @@ rate() {
     }' "$@"
 }
 
-# The recording, with an interval of a million instructions so that one replay takes a while.
-record=(record --seed 1 --interval 1000000 --log-size 67108864)
-recorded=$(seconds 0 "$zelkuma" "${record[@]}" "$elf" "$work/LOG" "$work/BOOK")
-instructions=$(told instructions)
-turns=$(told turns)
-"$zelkuma" list "$work/LOG" >"$work/list"
-# The sort ends with its checksum as its code, and a process has the lower 8 bits of that.
-code=$((16#$(awk '$5 == "exit" { print $6 }' "$work/list") % 256))
-
-others=()
-if command -v qemu-riscv32 >/dev/null; then
-    single=-singlestep
-    if qemu-riscv32 -help | grep -q one-insn-per-tb; then
-        single=-one-insn-per-tb
-    fi
-    stepped=$(seconds "$code" qemu-riscv32 "$single" "$elf")
-    whole=$(seconds "$code" qemu-riscv32 "$elf")
-    others=("qemu-riscv32 $single" "$stepped" "qemu-riscv32" "$whole")
-else
-    echo "qemu-riscv32 (Debian's qemu-user) is not installed: nothing stands beside the recording"
-fi
-rate record "$instructions" instructions "$recorded" "${others[@]}"
-
-# The audit of that recording does the run again, and compares its log.
-audited=$(seconds 0 "$zelkuma" audit "$work/LOG" "$elf" "$work/BOOK")
-rate audit "$instructions" instructions "$audited" "the recording" "$recorded"
-
-# The longest interval, beside how long so many instructions took in the other ways.
-read -r hart interval rows < <(awk '
-    { n = $4 - $3; if (n > most) { most = n; which = $1 " " $2 } }
-    END { print which, most }' "$work/list")
-share() { awk -v s="$1" -v n="$rows" -v of="$instructions" 'BEGIN { print s * n / of }'; }
-replayed=$(seconds 0 "$zelkuma" replay "$work/LOG" "$elf" "$hart" "$interval")
-for i in $(seq 1 2 "${#others[@]}"); do
-    others[i]=$(share "${others[i]}")
-done
-rate replay "$rows" rows "$replayed" "the recording of as many" "$(share "$recorded")" "${others[@]}"
-
 # A demonstration, beside the same by single commands: the recording, the reading of the log, the replay
 # of each interval that it keeps, and the joint replay.
 python3 "$top/bench/guest.py" 7 >"$work/guest.elf"
@@ -169,8 +129,15 @@ for command in check list; do
         'BEGIN { printf "%s: %.2f bytes of memory at the peak for a byte of log\n", what, most * 1024 / bytes }'
 done
 
-# What a turn takes is the difference between this recording and one of half as many instructions.
+# What a turn takes is the difference between this recording and one of half as many instructions. An interval has a
+# million of them, so that one replay takes a while.
+record=(record --seed 1 --interval 1000000 --log-size 67108864)
 most=$(peak "$zelkuma" "${record[@]}" "$elf" "$work/LOG" "$work/BOOK")
+instructions=$(told instructions)
+turns=$(told turns)
+"$zelkuma" list "$work/LOG" >"$work/list"
+# The sort ends with its checksum as its code, and a process has the lower 8 bits of that.
+code=$((16#$(awk '$5 == "exit" { print $6 }' "$work/list") % 256))
 less=$(peak "$zelkuma" "${record[@]}" --limit $((instructions / 2)) "$elf" "$work/LOG" "$work/BOOK")
 fewer=$(told turns)
 awk -v most="$most" -v less="$less" -v turns="$turns" -v fewer="$fewer" 'BEGIN {
@@ -235,8 +202,7 @@ else
     echo "harts in threads, $long turns: not recorded in 2 GB"
 fi
 
-# The joint replay of so many harts, 800,000 instructions together, beside single replays of all their
-# intervals, and what memory it takes beyond that of the log's list of records.
+# The joint replay of so many harts, 800,000 instructions together, beside single replays of all their intervals.
 joint() { # HARTS
     local hart interval alone=0 rows joined one
     harts "$1" $((800000 / $1 / 18)) 4
@@ -249,16 +215,13 @@ joint() { # HARTS
     joined=$(seconds 0 "$zelkuma" joint "$work/LOG" "$top/bench/harts.elf")
     rows=$("$zelkuma" joint "$work/LOG" "$top/bench/harts.elf" | grep -c '^[0-9]')
     rate "joint, $1 harts" "$rows" rows "$joined" "single replays" "$alone"
-    awk -v most="$(peak "$zelkuma" joint "$work/LOG" "$top/bench/harts.elf")" \
-        -v less="$(peak "$zelkuma" list "$work/LOG")" -v bytes="$(stat -c %s "$work/LOG")" \
-        'BEGIN { printf "  %d KiB at the peak, %d without the joint replay, for a log of %d KiB\n", most, less, bytes / 1024 }'
 }
 for count in 1 2 4 8; do
     joint "$count"
 done
 
 # Ways back in a session, after all steps of four harts, a million instructions together: how long one takes, beside
-# 65,536 of the steps, and what memory a step takes. Each is done so many times, since one is soon done.
+# 65,536 of the steps. Each is done so many times, since one is soon done.
 harts 4 $((1000000 / 4 / 18)) 4
 "$zelkuma" "${harts[@]}" --seed 1 --log-size 67108864 "$top/bench/harts.elf" "$work/LOG" "$work/BOOK" 2>/dev/null
 session() { printf '%s\n' "$@" | "$zelkuma" debug "$work/LOG" "$top/bench/harts.elf"; }
@@ -278,9 +241,6 @@ back() { # TIMES WORD..
 back 40 "back 1"
 back 8 "back 100000"
 back 1 "break 10054" rgo
-awk -v most="$(peak bash -c 'printf "go\n" | "$0" debug "$1" "$2"' "$zelkuma" "$work/LOG" "$top/bench/harts.elf")" \
-    -v less="$(peak "$zelkuma" joint "$work/LOG" "$top/bench/harts.elf")" -v n="$steps" \
-    'BEGIN { printf "  %.1f bytes of memory a step beyond those of the joint replay\n", (most - less) * 1024 / n }'
 
 # The race report of four harts, 800,000 instructions together, beside their joint replay: each on words of its
 # own, which has no race, and all on the same words.
@@ -360,7 +320,9 @@ beside_emulator() { # NAME ELF INPUT CODE WORD..
     }'
 }
 
-if [ ${#others[@]} -gt 0 ]; then
+if command -v qemu-riscv32 >/dev/null; then
+    single=-singlestep
+    ! qemu-riscv32 -help | grep -q one-insn-per-tb || single=-one-insn-per-tb
     guests=${ZELKUMA_GUESTS:-$work/guests}
     [ -e "$guests/SOURCES" ] || "$top/bench/guests.sh" "$guests" >/dev/null
     cat "$guests/SOURCES"
@@ -370,4 +332,6 @@ if [ ${#others[@]} -gt 0 ]; then
         [ ! -e "$guests/$name.elf" ] ||
             beside_emulator "$name" "$guests/$name.elf" "$guests/$name.input" 0 --memory 4194304
     done
+else
+    echo "qemu-riscv32 (Debian's qemu-user) is not installed: nothing stands beside the recording"
 fi

@@ -1,6 +1,7 @@
 #!/usr/bin/env bash
-# Times a turn of a recording by a seed: of one hart in runs of ever more turns, and of eight harts that all load and store
-# the same words. Of one hart's runs it prints the most memory too, beside the list of turns, which has a byte for each.
+# Times a turn of a recording by a seed: of one hart in runs of ever more turns, of eight harts that all load and store the
+# same words, and with format 2 of sixteen harts beside eight, each on words of its own. Of one hart's runs it prints the
+# most memory too, beside the list of turns, which has a byte for each.
 # With an earlier program beside it, each is timed with that too, in turns. It prints ratios; the times beside them are
 # those of the machine and of the moment.
 #
@@ -19,15 +20,15 @@ number() {
     printf "$(printf '\\x%02x' $(($1 & 255)) $(($1 >> 8 & 255)) $(($1 >> 16 & 255)) $(($1 >> 24)))"
 }
 
-# once PROGRAM NAME HARTS TIMES: records HARTS harts, each with TIMES loads and stores of the same words. It adds the
-# processor time to the file of the name, and leaves turns and most memory (in KiB) beside it.
-once() {
+# Records HARTS harts, each with TIMES loads and stores of words that lie so many bytes APART from those of the hart before
+# it. It adds the processor time to the file of the name, and leaves turns and most memory (in KiB) beside it.
+once() { # PROGRAM NAME HARTS TIMES APART OPTION..
     local program=$1 name=$2 count=$3 hart
     for hart in $(seq "$count"); do
-        number "$4" && number 0 && number 0
+        number "$4" && number 0 && number "$5"
     done >"$work/input"
     /usr/bin/time -f '%U %S %M' -o "$work/time" "$program" record --seed 1 --harts "$count" --input "$work/input" \
-        "$top/bench/harts.elf" "$work/LOG" "$work/BOOK" >/dev/null 2>"$work/err"
+        "${@:6}" "$top/bench/harts.elf" "$work/LOG" "$work/BOOK" >/dev/null 2>"$work/err"
     cat "$work/time" >>"$work/$name"
     sed -n 's/^bugnet: turns \([0-9]*\).*/\1/p' "$work/err" >"$work/$name.turns"
 }
@@ -36,11 +37,11 @@ once() {
 turn() { awk -v turns="$(cat "$work/$1.turns")" '{ s = $1 + $2; if (NR == 1 || s < least) least = s } END { print least * 1e9 / turns }' "$work/$1"; }
 memory() { awk -v turns="$(cat "$work/$1.turns")" '{ if ($3 > most) most = $3 } END { printf "%d\n", most - turns / 1024 }' "$work/$1"; }
 
-measured() { # NAME HARTS TIMES
+measured() { # NAME HARTS TIMES APART OPTION..
     local run
     for run in $(seq "$runs"); do
-        once "$zelkuma" "$1" "$2" "$3"
-        [ -z "$before" ] || once "$before" "$1.before" "$2" "$3"
+        once "$zelkuma" "$@"
+        [ -z "$before" ] || once "$before" "$1.before" "${@:2}"
     done
 }
 
@@ -50,14 +51,23 @@ beside() { # NAME: the end of its line
 
 first=
 for turns in ${ZELKUMA_TURNS:-1000000 10000000 100000000}; do
-    measured "$turns" 1 $((turns / 2))
+    measured "$turns" 1 $((turns / 2)) 0
     first=${first:-$turns}
     awk -v turns="$(cat "$work/$turns.turns")" -v ns="$(turn "$turns")" -v one="$(turn "$first")" -v memory="$(memory "$turns")" \
         -v beside="$(beside "$turns")" 'BEGIN {
         printf "one hart, %d turns: %.0f ns a turn, %.2f of the first; %d KiB at the peak without the list of turns%s\n", turns, ns, ns / one, memory, beside
     }'
 done
-measured eight 8 125000
-awk -v turns="$(cat "$work/eight.turns")" -v ns="$(turn eight)" -v one="$(turn "$first")" -v beside="$(beside eight)" 'BEGIN {
-    printf "eight harts on the same words, %d turns: %.0f ns a turn, %.2f of one hart'\''s%s\n", turns, ns, ns / one, beside
-}'
+
+# Says what a turn takes beside one of OTHER.
+tell() { # WHAT NAME OTHER OF_WHOM
+    awk -v what="$1" -v turns="$(cat "$work/$2.turns")" -v ns="$(turn "$2")" -v one="$(turn "$3")" -v whose="$4" -v beside="$(beside "$2")" 'BEGIN {
+        printf "%s, %d turns: %.0f ns a turn, %.2f of %s%s\n", what, turns, ns, ns / one, whose, beside
+    }'
+}
+measured eight 8 125000 0
+tell "eight harts on the same words" eight "$first" "one hart's"
+own=(1024 --format 2 --memory 2097152)
+measured own8 8 125000 "${own[@]}"
+measured own16 16 62500 "${own[@]}"
+tell "sixteen harts on words of their own, format 2" own16 own8 "eight harts'"
