@@ -1,7 +1,7 @@
 #!/usr/bin/env bash
-# Times a turn of a recording by a seed: of one hart in runs of ever more turns, of eight harts that all load and store the
-# same words, and with format 2 of sixteen harts beside eight, each on words of its own. Of one hart's runs it prints the
-# most memory too, beside the list of turns, which has a byte for each.
+# Times a turn of a recording by a seed: of one hart in runs of ever more turns, and of eight harts that all load and store the
+# same words. With format 2 one of sixteen harts stands beside one of eight, each on words of its own. Of one hart's runs the
+# most memory is printed too, beside the list of turns, which has a byte for each.
 # With an earlier program beside it, each is timed with that too, in turns. It prints ratios; the times beside them are
 # those of the machine and of the moment.
 #
