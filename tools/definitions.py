@@ -1,11 +1,10 @@
 #!/usr/bin/env python3
 """Prints a page of all definitions, with the comments that they have in crates/*/specs.
 
-tools/definitions.py [TOP]           the page of the sources at TOP, at first its own
-tools/definitions.py --bare [TOP]    the definitions that have no comment, a line each
+tools/definitions.py [TOP]    the page of the sources at TOP, at first its own
 
 The crates stand in the order of crates.txt, under its headings. The files of a crate stand in the order of its `pub mod`
-lines. A definition's comment is the lines of `--` right before it; one that has none is listed by its name alone.
+lines. A definition's comment is the lines of `--` right before it; if one has none, that is said, and the status is 1.
 """
 import pathlib
 import re
@@ -88,9 +87,10 @@ def file_lines(top, crate, file):
     name = file.relative_to(crate / "specs").with_suffix("")
     link = f"[{name}]({file.relative_to(top)})"
     lines = ["", f"**{link}.** {sentence(head)}".strip(), ""]
-    lines += [f"- `{name}`: {sentence(comment)}" for name, comment in definitions if comment]
-    bare = [f"`{name}`" for name, comment in definitions if not comment]
-    return lines + ([f"- without a comment: {', '.join(bare)}"] if bare else [])
+    bare = [name for name, comment in definitions if not comment]
+    if bare:
+        sys.exit(f"{file.relative_to(top)}: without a comment: {', '.join(bare)}")
+    return lines + [f"- `{name}`: {sentence(comment)}" for name, comment in definitions]
 
 
 def crate_lines(top, name):
@@ -115,21 +115,11 @@ def page(top):
     return "\n".join(lines) + "\n"
 
 
-def bare(top):
-    """The lines of the definitions without a comment: file and name."""
-    for _, crates in crate_layers(top):
-        for crate in crates:
-            folder = top / "crates" / crate / "specs"
-            for file in spec_files(folder, folder / "Lib.antt") if folder.is_dir() else []:
-                yield from (f"{file.relative_to(top)}: {name}\n" for name, comment in definitions_in(file)[1] if not comment)
-
-
 def main(words):
-    lists_bare, words = words[:1] == ["--bare"], words[words[:1] == ["--bare"]:]
     if len(words) > 1:
         sys.exit(__doc__)
     top = pathlib.Path(words[0]).resolve() if words else pathlib.Path(__file__).resolve().parent.parent
-    sys.stdout.write("".join(bare(top)) if lists_bare else page(top))
+    sys.stdout.write(page(top))
 
 
 if __name__ == "__main__":
