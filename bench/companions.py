@@ -12,41 +12,18 @@ import sys
 import tempfile
 
 TOP = os.path.dirname(os.path.dirname(os.path.realpath(__file__)))
-sys.path.insert(0, f"{TOP}/tests/hostile")
+sys.path[:0] = [f"{TOP}/tests/hostile", f"{TOP}/tests/companions/lib"]
 import forge  # noqa: E402
+from recordings import A0, A1, A2, A7, ECALL, PROGRAM, T0, T1, T2, addi, branch_unless_equal, load, lui, store  # noqa: E402
 
-PROGRAM = os.environ.get("ZELKUMA_PROGRAM", f"{TOP}/release/zelkuma-x86_64-linux")
 HALTED = (0, 10, 11)
-T0, T1, T2, S0, S1, A0, A1, A2, A7, ROUNDS = 5, 6, 7, 8, 9, 10, 11, 12, 17, 28
-ECALL, FOREVER = 0x73, 0x6F
+S0, S1, ROUNDS, FOREVER = 8, 9, 28, 0x6F
 MEGABYTES = 200
 STAND_IN = 26_600_000                   # rounds of three instructions
 
 
-def immediate(code, kind, to, base, value):
-    return (value & 0xFFF) << 20 | base << 15 | kind << 12 | to << 7 | code
-
-
-def addi(to, base, value):
-    return immediate(0x13, 0, to, base, value)
-
-
-def load(to, base, offset=0):
-    return immediate(0x03, 2, to, base, offset)
-
-
-def store(value, base, offset=0):
-    return (offset >> 5) << 25 | value << 20 | base << 15 | 2 << 12 | (offset & 31) << 7 | 0x23
-
-
-def lui(to, value):
-    return value & 0xFFFFF000 | to << 7 | 0x37
-
-
 def unless_zero(one, words):
-    offset = 4 * words
-    low, high = offset & 0x1E, offset >> 5 & 0x3F
-    return (offset >> 12 & 1) << 31 | high << 25 | one << 15 | 1 << 12 | low << 7 | (offset >> 11 & 1) << 7 | 0x63
+    return branch_unless_equal(one, 0, 4 * words)
 
 
 def rounds(count, register, words):

@@ -28,9 +28,8 @@ PROGRAMS = [*EXAMPLES, "hang_signal", "hang_kitchen", "race_gauges", "race_ticke
 ROW = "| {:<13} | {:>14} | {:>14} | {:>10} | {:>9} | {} |"
 
 
-def recorded(name, folder):
+def recorded(name):
     """LOG, ELF, BOOK, the file with names and the guilty line of a program."""
-    log, book = (os.path.join(folder, f"{name}.{kind}") for kind in ("log", "book"))
     if name in EXAMPLES:
         options, schedule, text = EXAMPLES[name]
         with open(os.path.join(TOP, "examples", name + ".c")) as file:
@@ -39,10 +38,8 @@ def recorded(name, folder):
     else:
         crash = common.crashes()[name]
         options, schedule, elf, named, guilty = crash.options, "", crash.elf, crash.elf, crash.guilty
-    subprocess.run([os.path.join(TOP, "zelkuma"), "record", "--format", "2", *options, elf, log, book], check=False,
-                   stdout=subprocess.DEVNULL, stderr=subprocess.DEVNULL,
-                   env=dict(os.environ, **({"ZELKUMA_SCHEDULE": schedule} if schedule else {})))
-    return [log, elf, book], named, guilty
+    log = common.record(name, elf, *options, schedule=schedule)
+    return [log, elf, common.path(name + ".book")], named, guilty
 
 
 def lines_in(switch):
@@ -76,7 +73,7 @@ def main(names):
     print("|---" * 6 + "|")
     with tempfile.TemporaryDirectory() as folder:
         for name in names:
-            recording, named, guilty = recorded(name, folder)
+            recording, named, guilty = recorded(name)
             before = processor_seconds()
             done = subprocess.run([sys.executable, common.COMPANION, "shrink", *recording, os.path.join(folder, "short.log"),
                                    os.path.join(folder, "short.book"), "--names", named, "--json"], stdout=subprocess.PIPE,

@@ -1,14 +1,13 @@
-"""Bad input to names, why and bucket: one line on err and a status, never a traceback; and nothing of a file gets into a
+"""Bad input to companions: one line on err and a status, never a traceback; and nothing of a file gets into a
 page or a terminal but as text."""
 import hashlib
 import os
 import random
 import subprocess
-import sys
 
 import case
 import forged
-from common import COMPANION, CRASHES, PROGRAM, companion, example, path
+from common import CRASHES, PROGRAM, companion, content, example, path, record, text_of, written
 from companion.recording.elf import Elf
 from companion.call.errors import CompanionError
 from companion.recording.places import Places
@@ -17,16 +16,14 @@ HEAD = 92                                       # the bytes before the records i
 
 
 def write(name, data):
-    with open(path(name), "wb") as file:
-        file.write(data)
-    return path(name)
+    return written(path(name), data)
 
 
 class BadInputTest(case.Case):
     def test_logs(self):
-        log, elf = self.crash("use_after_free")
+        log, elf = record("read", example("tills"), "--seed", "1", "--harts", "2"), example("tills")
         stuck = forged.stuck(example("counter"))
-        for word in ("why", "bucket"):
+        for word in ("why", "race", "view", "bucket", "output"):
             self.refused("%s: a log of another program" % word, 8, "program differs", word, log, example("sort"))
             self.refused("%s: an empty file" % word, 7, "log: ", word, write("empty", b""), elf)
             self.refused("%s: no log" % word, 7, "log: BadMagic", word, write("text", b"x" * 500), elf)
@@ -52,8 +49,7 @@ class BadInputTest(case.Case):
 
     def test_a_log_that_changes_once_it_is_checked(self):
         log, elf = self.crash("use_after_free")
-        with open(log, "rb") as file:
-            good = file.read()
+        good = content(log)
         program, other = path("program.sh"), path("other.log")
         write("program.sh", f"""#!/bin/bash
 {PROGRAM} "$@"
@@ -70,25 +66,10 @@ exit $status
                 self.refused(f"{word}: of {len(good)} bytes {len(data)} are left", 7, "log: ", word, path("changes.log"), elf,
                              environment={"ZELKUMA_PROGRAM": program}, bound=60)
 
-    def test_closed_pipe(self):
-        log, elf = self.crash("use_after_free")
-        for words in (("why", log, elf, "--more"), ("names", elf)):
-            process = subprocess.Popen([sys.executable, COMPANION] + list(words), stdin=subprocess.PIPE, stdout=subprocess.PIPE,
-                                       stderr=subprocess.PIPE)
-            process.stdout.close()
-            try:
-                process.stdin.write(b"0 0 00010074 00002197 auipc gp,0x2\n" * 20000)
-                process.stdin.close()
-            except BrokenPipeError:
-                pass
-            err = process.stderr.read()
-            self.check("%s: a closed pipe is status 13, without a word" % words[0], process.wait() == 13 and not err, err)
-
     def test_hostile_elf(self):
         """Any bytes after the first few: refused, or read; never another error."""
         elf = self.crash("use_after_free")[1]
-        with open(elf, "rb") as file:
-            good = file.read()
+        good = content(elf)
         draw, bad = random.Random(5), []
         for _ in range(300):
             data = bytearray(good[:draw.choice((52, 300, len(good)))])
@@ -108,8 +89,7 @@ exit $status
         """Records of any bytes under a good digest: what the program takes, `why` takes, and what it refuses, `why` refuses."""
         subprocess.run([PROGRAM, "record", "--seed", "1", "--harts", "2", "--limit", "40", example("counter"), path("two.log"),
                         path("two.book")], stdout=subprocess.PIPE, stderr=subprocess.PIPE)
-        with open(path("two.log"), "rb") as file:
-            good = file.read()
+        good = content(path("two.log"))
         draw, seen = random.Random(7), {}
         for _ in range(25):
             data = bytearray(good[:-32])
@@ -123,18 +103,13 @@ exit $status
 
     def test_hostile_names(self):
         log, elf = self.crash("use_after_free")
-        with open(elf, "rb") as file:
-            data = file.read()
+        data = content(elf)
         named = write("x.elf", data.replace(b"main\0", b"<b>\x1b\0").replace(b"arena\0", b"<img>\0"))
         status, text, err = companion("why", log, elf, "--names", named, "--html", path("<img src=x>.html"))
-        with open(path("<img src=x>.html")) as file:
-            page = file.read()
+        page = text_of(path("<img src=x>.html"))
         self.check("a symbol's control characters stay out of the terminal", status == 0 and "\x1b" not in text and "<b>?" in text, err + text[:500])
         self.check("a symbol stays text in the page", "&lt;b&gt;?" in page and "<b>" not in page and "<img" not in page)
-        odd = path("<script>\x1b.elf")
-        with open(odd, "wb") as file:
-            file.write(data)
+        odd = written(path("<script>\x1b.elf"), data)
         companion("why", log, odd, "--html", path("odd.html"))
-        with open(path("odd.html")) as file:
-            page = file.read()
+        page = text_of(path("odd.html"))
         self.check("a file's name stays text in the page", "&lt;script&gt;?.elf" in page and "<script" not in page)

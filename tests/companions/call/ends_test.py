@@ -2,6 +2,7 @@
 import contextlib
 import os
 import pty
+import re
 import shutil
 import signal
 import subprocess
@@ -9,7 +10,7 @@ import sys
 import time
 
 import cases
-from common import COMPANION, CRASHES, EXAMPLES, PROGRAM, companion
+from common import COMPANION, CRASHES, EXAMPLES, PROGRAM, companion, content
 
 HAND_OVER = os.path.join(EXAMPLES, "hand_over.elf")
 BOUND = 60                  # seconds after which a call hangs
@@ -179,11 +180,12 @@ def case_what_seeds_has_found_is_kept(recordings):
                               calls.new + "2")
         awaits(lambda: any("sleeper-0.1" in names for _, _, names in os.walk(calls.folder))
                and len(below(process.pid)) == 4)        # three are guards
-        process.send_signal(number)
+        send = os.killpg if number == signal.SIGINT else os.kill        # Ctrl-C comes to all of its group
+        send(process.pid, number)
         out, err = process.communicate(timeout=BOUND)
         assert process.returncode == status and out.startswith(b"sleeper 0: status 0\n") and err == b"", (out, err)
-        with open(calls.new, "rb") as file:
-            assert file.read() == b"BUGNETLG"
+        assert re.search(rb"\n0 +1 +sleeper 0 +-\n\Z", out), out
+        assert content(calls.new) == b"BUGNETLG" and sorted(os.listdir(calls.folder)) == ["BOOK", "LOG", "NEW", "NEW2", "program"]
 
 
 def case_the_end_of_the_terminal_can_be_ignored(recordings):

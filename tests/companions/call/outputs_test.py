@@ -43,10 +43,15 @@ class OutputsTest(case.Case):
         self.assertIn("takes no more", self.refuses(13, "why", log, elf, "--html", "/dev/full"))
 
     def test_a_reader_that_ends_is_13_without_a_word(self):
-        for words in self.words()[:2]:
-            script = '{ "$@" 2>&3; echo $? >&3; } 3>&1 | head -c 0 >/dev/null'
-            status, said, err = self.shell("exec 4>&1; " + script.replace("3>&1", "3>&4"), words)
-            self.assertEqual((status, said, err), (0, b"13\n", ""), words)
+        for words in self.words():
+            if words[0] == "gdb":               # who asks it may leave at any time
+                continue
+            process = subprocess.Popen([sys.executable, common.COMPANION, *words], stdin=subprocess.PIPE, stdout=subprocess.PIPE,
+                                       stderr=subprocess.PIPE)
+            process.stdout.close()
+            process.stdout = None               # nothing is read of it
+            _, err = process.communicate(self.given(words), timeout=BOUND)
+            self.assertEqual((process.returncode, err), (13, b""), words)
 
     def test_err_that_takes_nothing_changes_no_status(self):
         log, elf = self.crash("race_settings")

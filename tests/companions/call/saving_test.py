@@ -8,7 +8,7 @@ import subprocess
 import sys
 
 import cases
-from common import COMPANION, EXAMPLES, companion
+from common import COMPANION, EXAMPLES, companion, content, written
 
 HAND_OVER = os.path.join(EXAMPLES, "hand_over.elf")
 HARTS = "--harts", "2"
@@ -16,11 +16,6 @@ PAGE_BEGINS = b"<!doctype html>\n"
 # A POSIX access list: owner, a user of its own, group, mask, others (acl(5); tag, permissions, who).
 ACCESS_LIST = struct.pack("<I", 2) + b"".join(struct.pack("<HHI", *entry) for entry in (
     (1, 6, 0xffffffff), (2, 6, 12345), (4, 4, 0xffffffff), (16, 6, 0xffffffff), (32, 0, 0xffffffff)))
-
-
-def content(name):
-    with open(name, "rb") as file:
-        return file.read()
 
 
 # Of each companion that saves how an older file of its kind begins.
@@ -59,8 +54,7 @@ class Call:
 
     def old(self, mode=0o644):
         """What may be overwritten: an older file of the same kind."""
-        with open(self.target, "wb") as file:
-            file.write(self.head + b"of before")
+        written(self.target, self.head + b"of before")
         os.chmod(self.target, mode)
         return self.target
 
@@ -103,8 +97,7 @@ def case_what_is_no_older_one_is_never_overwritten(recordings):
     for call in each(recordings, "other", tuple(HEADS)[:6]):
         shutil.copy(os.path.join(EXAMPLES, "heap.elf"), call.path("v.elf"))
         for name, data in (("notes", b"my notes\n"), ("log.gz", b"\x1f\x8b\x08"), ("turns", b"\0\1")):
-            with open(call.path(name), "wb") as file:
-                file.write(data)
+            written(call.path(name), data)
             call.refuses(call.path(name))
         call.refuses(call.path("v.elf"))
         call.refuses(call.folder, 3)

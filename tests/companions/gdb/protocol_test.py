@@ -9,7 +9,7 @@ import sys
 
 import cases
 from client import Client, Stop
-from common import COMPANION, EXAMPLES
+from common import COMPANION, EXAMPLES, content
 from recordings import EXIT, FAULTS, SEGV, T0, T2, TRAP, addi, pc_of
 from reference import Reference, agrees, run
 
@@ -137,8 +137,7 @@ def case_15_refusals(recordings):
 def case_15_a_log_whose_harts_wait_for_each_other(recordings):
     """The program takes its records, and refuses it when no hart can continue."""
     log, elf = recordings.example("counter", "--harts", "2", "--limit", "20")
-    with open(log, "rb") as file:
-        data = file.read()[:-32]
+    data = content(log)[:-32]
     edges = b"".join(struct.pack("<BBQBQ", 5, hart, 5, 1 - hart, 9) for hart in (0, 1))
     headers = 92 + 2 * 146
     size, = struct.unpack_from("<I", data, 88)

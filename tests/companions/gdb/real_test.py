@@ -13,7 +13,7 @@ import sys
 
 import cases
 from cases import Skipped
-from common import COMPANION, EXAMPLES, TOP, crash
+from common import COMPANION, EXAMPLES, TOP, content, crash, named_examples, path
 from recordings import FAULTS, T2, addi
 from reference import run
 
@@ -67,36 +67,29 @@ def compare(session, target, names):
 
 
 class Names:
-    """The examples with their names, in a scratch folder."""
+    """The examples with their names, and the recordings of a test."""
 
     def __init__(self, recordings):
-        self.recordings, self._folder = recordings, recordings.path("names")
-
-    def _compile(self):
-        if os.path.isdir(self._folder):
-            return
-        if not shutil.which(COMPILER):
-            raise Skipped(f"{COMPILER} isn't installed")
-        build = [os.path.join(EXAMPLES, "build.sh"), self.recordings.path("built"), self._folder]
-        subprocess.run(build, check=True, stdout=subprocess.DEVNULL)
+        self.recordings = recordings
 
     def of(self, example):
         """Returns the example with names, if it is the kept one but for these."""
-        self._compile()
-        kept, built = os.path.join(EXAMPLES, example), self.recordings.path("built/" + example)
-        with open(kept + ".elf", "rb") as one, open(built + ".elf", "rb") as other:
-            if one.read() != other.read():
-                raise Skipped(f"this {COMPILER} makes another {example}.elf")
-        return os.path.join(self._folder, example + ".elf")
+        folder = named_examples()
+        if not folder:
+            raise Skipped(f"{COMPILER} isn't installed")
+        if content(os.path.join(EXAMPLES, example + ".elf")) != content(path("built/" + example + ".elf")):
+            raise Skipped(f"this {COMPILER} makes another {example}.elf")
+        return os.path.join(folder, example + ".elf")
 
     def without_optimisation(self, example):
-        self._compile()
-        path, library = self.recordings.path(example + ".O0.elf"), os.path.join(EXAMPLES, "lib")
+        if not shutil.which(COMPILER):
+            raise Skipped(f"{COMPILER} isn't installed")
+        elf, library = path(example + ".O0.elf"), os.path.join(EXAMPLES, "lib")
         sources = [os.path.join(library, "start.S"), os.path.join(library, "machine.c"),
                    os.path.join(EXAMPLES, example + ".c")]
-        subprocess.run([COMPILER, *FLAGS, "-O0", "-I", library, "-T", os.path.join(library, "program.ld"), "-o", path,
+        subprocess.run([COMPILER, *FLAGS, "-O0", "-I", library, "-T", os.path.join(library, "program.ld"), "-o", elf,
                         *sources], check=True)
-        return path
+        return elf
 
 
 def case_one_hart(names):

@@ -53,9 +53,9 @@ class Case(unittest.TestCase):
             self.assertTrue(good, seen)
 
     def refused(self, what, status, words, *call, **given):
-        """A call that has to end with a status and one line on err, which holds these words."""
-        found, _, err = common.companion(*call, **given)
-        good = found == status and err.count("\n") == 1 and words in err and "Traceback" not in err
+        """A call that has to end with a status and one line on err, which holds these words, and print nothing."""
+        found, said, err = common.companion(*call, **given)
+        good = (found, said) == (status, "") and err.count("\n") == 1 and words in err and "Traceback" not in err
         self.check(what, good, (found, err[-2000:]))
 
     def refuses(self, status, *words):

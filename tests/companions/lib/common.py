@@ -25,14 +25,46 @@ def path(name):
     return os.path.join(scratch.name, name)
 
 
-def record(name, elf, *words):
-    """Records a program: the log's name. Format 2 keeps each crash."""
+def content(name):
+    """The bytes of a file."""
+    with open(name, "rb") as file:
+        return file.read()
+
+
+def text_of(name):
+    return content(name).decode()
+
+
+def written(name, data):
+    """Writes a file of these bytes or of this text, and gives its name."""
+    os.makedirs(os.path.dirname(name), exist_ok=True)
+    with open(name, "wb") as file:
+        file.write(data.encode() if isinstance(data, str) else data)
+    return name
+
+
+def version():
+    return text_of(os.path.join(TOP, "VERSION")).strip()
+
+
+def record(name, elf, *words, schedule=""):
+    """Records a program, by turns that a schedule names, if there is one: the log's name. Format 2 keeps each crash."""
     log = path(name + ".log")
     done = subprocess.run([PROGRAM, "record", "--format", "2"] + list(words) + [elf, log, path(name + ".book")],
-                          stdout=subprocess.PIPE, stderr=subprocess.PIPE)
+                          stdout=subprocess.PIPE, stderr=subprocess.PIPE, env=scheduled(schedule))
     if not os.path.exists(log):
         sys.exit("no recording of %s: %s" % (elf, done.stderr.decode()))
     return log
+
+
+def scheduled(schedule):
+    """The environment of a recording by such turns."""
+    return dict(os.environ, ZELKUMA_SCHEDULE=schedule) if schedule else None
+
+
+def turns_of(order):
+    """The turns of an order as `shrink` prints it."""
+    return b"".join(bytes([int(hart)]) * int(turns) for hart, turns in (piece.split("x") for piece in order.split()))
 
 
 def present_tools():
@@ -74,8 +106,7 @@ class Crash(NamedTuple):
 
     @property
     def lines(self):
-        with open(os.path.join(CRASHES, self.name + ".c")) as file:
-            return file.read().count("\n")
+        return text_of(os.path.join(CRASHES, self.name + ".c")).count("\n")
 
 
 def crashes():
@@ -98,6 +129,11 @@ def example(name):
 def output(*words):
     """What a command of the program prints."""
     return subprocess.run([PROGRAM] + list(words), stdout=subprocess.PIPE, stderr=subprocess.DEVNULL).stdout
+
+
+def rows(log, elf):
+    """The rows of `joint`, each as its words: hart, count, address, code and what comes after."""
+    return [line.split(" ") for line in output("joint", log, elf).decode().split("\n") if line[:1].isdigit()]
 
 
 def companion(*words, given=b"", environment=None, bound=None):

@@ -14,14 +14,12 @@ def stuck(elf):
     log = common.path("stuck.log")
     subprocess.run([common.PROGRAM, "record", "--seed", "1", "--harts", "2", elf, log, common.path("book")],
                    stdout=subprocess.DEVNULL, stderr=subprocess.DEVNULL)
-    with open(log, "rb") as file:
-        data = bytearray(file.read())
+    data = bytearray(common.content(log))
     at = RECORDS
     while data[at] != EDGE:
         at += SIZES[data[at]]
     count, = struct.unpack_from("<Q", data, at + 11)
     struct.pack_into("<Q", data, at + 11, count + 42)
     data[-DIGEST:] = hashlib.sha256(data[:-DIGEST]).digest()
-    with open(log, "wb") as file:
-        file.write(data)
+    common.written(log, data)
     return log

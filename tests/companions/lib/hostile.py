@@ -14,8 +14,7 @@ SYMBOL_TABLE, STRINGS = 2, 3
 
 def with_symbols(elf, functions, objects):
     """The bytes of a stripped ELF with a symbol table; both are lists of (name, address, size)."""
-    with open(elf, "rb") as file:
-        data = bytearray(file.read())
+    data = bytearray(common.content(elf))
     strings, symbols = b"\0", b"\0" * 16
     for kind, items in ((FUNCTION, functions), (OBJECT, objects)):
         for name, address, size in items:
@@ -34,8 +33,7 @@ def with_symbols(elf, functions, objects):
 
 def code_range(elf):
     """The address and the size of the first segment that can be executed."""
-    with open(elf, "rb") as file:
-        data = file.read()
+    data = common.content(elf)
     first, = struct.unpack_from("<I", data, 28)
     count, = struct.unpack_from("<H", data, 44)
     for i in range(count):
@@ -55,8 +53,7 @@ def files(elf, log):
     start, size = code_range(elf)
     functions = [(name, start + size * i // len(NAMES), 0) for i, name in enumerate(NAMES)]
     objects = [(name, 0x11000 + 0x100 * i, 0x100) for i, name in enumerate(NAMES * 3)]
-    with open(names, "wb") as file:
-        file.write(with_symbols(elf, functions, objects))
+    common.written(names, with_symbols(elf, functions, objects))
     return new_log, new_elf, "--names", names
 
 
@@ -72,8 +69,7 @@ int other_harts(int hart, int harts) { return hart + harts; }
 def compiled():
     """A program that crashes in a source of a hostile name, in a line of hostile text."""
     source, elf = common.path("<img src=x onerror=alert(1)>.c"), common.path("compiled.elf")
-    with open(source, "w") as file:
-        file.write(SOURCE)
+    common.written(source, SOURCE)
     library = os.path.join(common.EXAMPLES, "lib")
     subprocess.run(["riscv64-unknown-elf-gcc", "-march=rv32ima", "-mabi=ilp32", "-O1", "-g", "-ffreestanding", "-nostdlib",
                     "-static", "-I", library, "-T", os.path.join(library, "program.ld"), "-z", "max-page-size=4096",

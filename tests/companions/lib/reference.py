@@ -4,7 +4,7 @@ import struct
 import subprocess
 from collections import namedtuple
 
-from recordings import PROGRAM
+from common import PROGRAM, content
 
 SIZES = {"sb": 1, "lb": 1, "lbu": 1, "sh": 2, "lh": 2, "lhu": 2}
 
@@ -44,8 +44,7 @@ class Reference:
         self.harts = sorted({int(line.split()[0]) for line in run("list", log).splitlines()})
         with open(log, "rb") as file:
             self.memory, = struct.unpack_from("<I", file.read(36), 32)
-        with open(elf, "rb") as file:
-            self._load(file.read())
+        self._load(content(elf))
         self.states = {}
         self._walk(log, elf)
         self.fills = [fill for row in self.rows for fill in self._fills_of(row)]

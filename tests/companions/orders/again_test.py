@@ -4,21 +4,16 @@ import shutil
 import subprocess
 
 import cases
-from common import EXAMPLES, PROGRAM, companion, output
+from common import EXAMPLES, PROGRAM, companion, content, output, scheduled
 
 TABLE, COUNTER, FILTERS, WORDS = (os.path.join(EXAMPLES, name + ".elf") for name in ("table", "counter", "filters", "word_count"))
-
-
-def content(name):
-    with open(name, "rb") as file:
-        return file.read()
 
 
 def recorded(recordings, name, *words, schedule=""):
     """A recording without a seed unless the words have one: LOG and BOOK."""
     log, book = recordings.path(name + ".log"), recordings.path(name + ".book")
     done = subprocess.run([PROGRAM, "record", *words, log, book], stdout=subprocess.DEVNULL, stderr=subprocess.DEVNULL,
-                          env=dict(os.environ, **({"ZELKUMA_SCHEDULE": schedule} if schedule else {})), check=False)
+                          env=scheduled(schedule), check=False)
     assert done.returncode in (0, 10), (done.returncode, words)
     return log, book
 

@@ -4,8 +4,6 @@ import re
 import case
 import common
 
-import forged
-
 from companion.recording import fences, races
 
 LOAD, STORE, ADD, BRANCH = 0x0007a703, 0x00e7a023, 0x00000013, 0xfef6fce3       # lw, sw, addi, bgeu
@@ -86,13 +84,7 @@ class RaceTest(case.Case):
     def test_refusals(self):
         log = self.tills()
         self.assertIn("more than 100 pairs", self.refuses(20, "race", log, self.elf("tills"), "--max", "100"))
-        self.refuses(8, "race", log, self.elf("counter"))
-        self.refuses(7, "race", self.elf("tills"), self.elf("tills"))
-        self.assertIn("Stuck", self.refuses(15, "race", forged.stuck(self.elf("tills")), self.elf("tills")))
-        self.refuses(2, "race", log)
         self.refuses(2, "race", log, self.elf("tills"), "--max", "0")
-        self.refuses(2, "race", log, self.elf("tills"), "--most", "9")
-        self.refuses(4, "race", common.path("none"), self.elf("tills"))
 
 
 class FencesTest(case.Case):

@@ -1,5 +1,4 @@
-"""Tries `zelkuma seeds`: the kinds of turns, the lowest hit and its files, the table, Ctrl-C, what is refused, and GNU
-parallel on this machine."""
+"""Tries `zelkuma seeds`: the kinds of turns, the lowest hit and its files, the table, Ctrl-C, and what is refused."""
 import json
 import os
 import pty
@@ -12,8 +11,7 @@ import sys
 import time
 
 import cases
-from cases import Skipped
-from common import COMPANION, EXAMPLES, PROGRAM
+from common import COMPANION, EXAMPLES, PROGRAM, content
 from recordings import elf_of
 
 SEEDS = [sys.executable, COMPANION, "seeds"]
@@ -52,11 +50,6 @@ def json_of(*words):
     status, out, err = seeds("--json", *words)
     assert status == 0, (status, out, err)
     return json.loads(out)
-
-
-def content(name):
-    with open(name, "rb") as file:
-        return file.read()
 
 
 class Folder:
@@ -254,12 +247,12 @@ def case_refusals(recordings):
     assert folder.names() == ["elf"] and content(elf) == content(HAND_OVER)
 
 
-def interrupted(folder, is_due, *words, program=PROGRAM):
+def interrupted(folder, is_due, *words):
     """Ctrl-C once this holds of the process: what is printed then."""
     process = subprocess.Popen([*SEEDS, *words, folder.log, folder.book], stdout=subprocess.PIPE, stderr=subprocess.PIPE,
-                               start_new_session=True, universal_newlines=True, env=dict(os.environ, ZELKUMA_PROGRAM=program))
+                               start_new_session=True, universal_newlines=True)
     try:
-        while not is_due(process):
+        while not is_due():
             assert process.poll() is None, process.communicate()
             time.sleep(0.02)
         os.killpg(process.pid, signal.SIGINT)
@@ -324,24 +317,9 @@ def case_interrupted(recordings):
     folder = Folder(recordings, "stopped")
     spins = recordings.write("spins.elf", elf_of([0x6f]))       # a jump to itself
     words = "--only", "seeds", "0", "1000000", "--", "--limit=100000000"
-    assert interrupted(folder, lambda _: folder.names(), *words, spins) == "" and folder.names() == []
-    out = interrupted(folder, lambda _: any(re.match(r"seed-([2-9]|\d\d)", name) for name in trials(folder)), "-j1", *words, HAND_OVER)
+    assert interrupted(folder, folder.names, *words, spins) == "" and folder.names() == []
+    out = interrupted(folder, lambda: any(re.match(r"seed-([2-9]|\d\d)", name) for name in trials(folder)), "-j1", *words, HAND_OVER)
     assert rows(out)[0][2] == "seed 0" and folder.names() == [], out
-
-
-def case_interrupted_when_one_is_found(recordings):
-    """What was found is kept, though a lower one may come."""
-    folder = Folder(recordings, "kept")
-    script = program_of(recordings, "kept.sh", '[ -n "${ZELKUMA_SCHEDULE-}" ] || exec sleep 600')
-
-    def is_found(process):
-        with open(f"/proc/{process.pid}/task/{process.pid}/children", encoding="ascii") as children:
-            return "sleeper-0.1" in trials(folder) and len(children.read().split()) == 4     # three are guards
-
-    words = ["-j2", "--only", "seeds,sleepers", "--until", "0", "0", "9", "--", TWO_LOCKS]
-    out = interrupted(folder, is_found, *words, program=script)
-    assert out.startswith("sleeper 0: status 0\n") and rows(out) == [["0", "1", "sleeper 0", "-"]], out
-    assert folder.names() == ["BOOK", "LOG"] and content(folder.log) == b"BUGNETLG"
 
 
 def case_progress_on_a_terminal(recordings):
@@ -355,23 +333,6 @@ def case_progress_on_a_terminal(recordings):
     assert done.returncode == NOT_FOUND
     assert re.search(r"\r\d of 1 to 2, [\d.]+ runs a second, \d of status 0\x1b\[K", said), said
     assert said.replace("\r\n", "").endswith("\r\x1b[Kzelkuma: none of seeds from 1 to 2 ends with status 10"), said
-
-
-def case_blocks_of_seeds_by_parallel(recordings):
-    """As over several machines, with a list of machines that has this one alone."""
-    if not shutil.which("parallel") or b"GNU" not in subprocess.run(
-            ["parallel", "--version"], stdout=subprocess.PIPE, stderr=subprocess.DEVNULL, check=False).stdout:
-        raise Skipped("GNU parallel isn't installed")
-    folder = Folder(recordings, "machines")
-    command = " ".join(map(shlex.quote, SEEDS)) + " --only seeds {} $(({} + 2)) -- --harts 2 " + " ".join(
-        map(shlex.quote, (HAND_OVER, folder.log))) + ".{} " + shlex.quote(folder.book) + ".{}"
-    done = subprocess.run(["parallel", "--will-cite", "--jobs", "1", "--sshloginfile",
-                           recordings.write("MACHINES", b":\n"), command, ":::", "1", "4", "7"],
-                          stdout=subprocess.PIPE, stderr=subprocess.PIPE, universal_newlines=True, timeout=600,
-                          check=False)
-    found = sorted((line for line in done.stdout.splitlines() if ": status" in line), key=lambda line: int(line.split()[1].rstrip(":")))
-    assert found == ["seed 3: status 10", "seed 5: status 10"], (done.stdout, done.stderr)
-    assert folder.names() == ["BOOK.1", "BOOK.4", "LOG.1", "LOG.4"]
 
 
 Cases = cases.tests_of(globals())

@@ -9,25 +9,16 @@ import time
 
 import case
 import common
+from common import content
 
 EIGHTH_ROUND = "0x15 1x11 0x13 2x11 0x13 1x12 0x13 1x12 0x13 1x12 0x13 1x12 0x13 2x12 0x14 1x20 0x15 2x17 0x13 2x3"
 LOCKS = "--harts", "2", "--seed", "8", "--limit", "20000"
 MOST_SWITCHES = 12
 
 
-def content(name):
-    with open(name, "rb") as file:
-        return file.read()
-
-
 def pieces_of(turns):
     """As docs/COMMANDS.md says of BOOK: a byte a turn."""
     return [(found[0][0], len(found[0])) for found in re.finditer(rb"(.)\1*", turns, re.S)]
-
-
-def turns_of(order):
-    """The turns of an order as it is printed."""
-    return b"".join(bytes([int(hart)]) * int(turns) for hart, turns in (piece.split("x") for piece in order.split()))
 
 
 def is_searching(process):
@@ -48,9 +39,7 @@ class ShrinkTest(case.Case):
         """LOG, ELF and BOOK of an example."""
         log, book = common.path(f"{name}.log"), common.path(f"{name}.book")
         if not os.path.exists(log):
-            environment = dict(os.environ, **({"ZELKUMA_SCHEDULE": schedule} if schedule else {}))
-            subprocess.run([common.PROGRAM, "record", "--format", "2", *options, self.elf(name), log, book], env=environment,
-                           stdout=subprocess.DEVNULL, stderr=subprocess.DEVNULL, check=False)
+            common.record(name, self.elf(name), *options, schedule=schedule)
         return log, self.elf(name), book
 
     def filters(self):
@@ -102,12 +91,10 @@ class ShrinkTest(case.Case):
         _, _, book = self.shrunk(self.filters(), "needed")
         pieces = pieces_of(content(book))
         for left_out in range(len(pieces)):
-            turns = common.path("turns")
-            with open(turns, "wb") as file:
-                file.write(b"".join(bytes([hart]) * n for at, (hart, n) in enumerate(pieces) if at != left_out))
+            turns = common.written(common.path("turns"), b"".join(bytes([hart]) * n for at, (hart, n) in enumerate(pieces) if at != left_out))
             done = subprocess.run([common.PROGRAM, "record", "--format", "2", "--harts", "4", self.elf("filters"),
                                    common.path("left.log"), common.path("left.book")], stdout=subprocess.DEVNULL,
-                                  stderr=subprocess.DEVNULL, env=dict(os.environ, ZELKUMA_SCHEDULE="book:" + turns), check=False)
+                                  stderr=subprocess.DEVNULL, env=common.scheduled("book:" + turns), check=False)
             found = pieces_of(content(common.path("left.book")))
             self.assertTrue(done.returncode != 10 or len(found) >= len(pieces), (left_out, found))
 
@@ -118,13 +105,11 @@ class ShrinkTest(case.Case):
         ends = [line.split(" ")[4] for line in common.output("list", log).decode().splitlines()]
         self.assertEqual(set(ends), {"limit"})
         order = re.search(r"^order: (.*) \.\.$", said, re.M)[1]
-        turns = common.path("hang.turns")
-        with open(turns, "wb") as file:
-            file.write(turns_of(order))
+        turns = common.written(common.path("hang.turns"), common.turns_of(order))
         # The rest is drawn by seed 0, which lets no hart wait for long.
         done = subprocess.run([common.PROGRAM, "record", "--format", "2", "--harts", "2", "--limit", "100000", recording[1],
                                common.path("again.log"), common.path("again.book")], stdout=subprocess.DEVNULL,
-                              stderr=subprocess.DEVNULL, env=dict(os.environ, ZELKUMA_SCHEDULE="book:" + turns), check=False)
+                              stderr=subprocess.DEVNULL, env=common.scheduled("book:" + turns), check=False)
         self.assertEqual(done.returncode, 11)
         self.assertLessEqual(len(pieces_of(content(book))) - 1, MOST_SWITCHES)
 
@@ -132,14 +117,10 @@ class ShrinkTest(case.Case):
         """A worker of hang_signal.c falls asleep after its last look into its box, here in the eighth round. Each round costs
         two switches, so the same has to be found in an earlier one."""
         self.needs_addr2line()
-        log, book, asked = (common.path(f"signal.{kind}") for kind in ("log", "book", "asked"))
         crash = common.crashes()["hang_signal"]
-        with open(asked, "wb") as file:
-            file.write(turns_of(EIGHTH_ROUND))
-        subprocess.run([common.PROGRAM, "record", "--format", "2", "--harts", crash.harts, "--limit", "2500", crash.elf, log, book],
-                       env=dict(os.environ, ZELKUMA_SCHEDULE="book:" + asked), stdout=subprocess.DEVNULL, stderr=subprocess.DEVNULL,
-                       check=False)
-        said, _, new_book = self.shrunk((log, crash.elf, book), "round")
+        asked = common.written(common.path("signal.asked"), common.turns_of(EIGHTH_ROUND))
+        log = common.record("signal", crash.elf, "--harts", crash.harts, "--limit", "2500", schedule="book:" + asked)
+        said, _, new_book = self.shrunk((log, crash.elf, common.path("signal.book")), "round")
         self.assertLessEqual(len(pieces_of(content(new_book))) - 1, MOST_SWITCHES)
         self.assertIn("\nfrom then on harts 0, 1, 2 wait\n", said)
         self.assertRegex(said, rf"\n +it has to come between release .*\) and nap {re.escape(crash.guilty)} \(in work ")

@@ -15,8 +15,7 @@ from companion.recording.trace import read_trace
 
 def documented(word):
     """The keys that docs/JSON.md tells of a word, in its section's table or text."""
-    with open(os.path.join(common.TOP, "docs", "JSON.md"), encoding="utf-8") as file:
-        section = re.search(r"^## %s\n(.*?)(?=^## |\Z)" % word, file.read(), re.S | re.M).group(1)
+    section = re.search(r"^## %s\n(.*?)(?=^## |\Z)" % word, common.text_of(os.path.join(common.TOP, "docs", "JSON.md")), re.S | re.M).group(1)
     cells = re.findall(r"^\| (`[^|]*) \|", section, re.M)
     told = re.findall(r"`(\w+)`", " ".join(cells) or section)
     return set(told)
@@ -28,8 +27,7 @@ class AnswersTest(case.Case):
         self.assertEqual(said.count("\n"), 1)
         found = json.loads(said)
         self.assertEqual((found.pop("answer"), found.pop("version")), (words[0], 1))
-        with open(os.path.join(common.TOP, "VERSION"), encoding="ascii") as file:
-            self.assertEqual(found.pop("zelkuma") + "\n", file.read())
+        self.assertEqual(found.pop("zelkuma"), common.version())
         return found
 
     def test_why(self):
@@ -116,8 +114,7 @@ class PythonTest(case.Case):
     def test_the_script_of_the_page(self):
         self.needs_addr2line()
         log, _ = self.crash("use_after_free")
-        with open(os.path.join(common.TOP, "docs", "PYTHON.md"), encoding="utf-8") as file:
-            script = re.findall(r"<<'END'\n(.*?)^END$", file.read(), re.S | re.M)[-1]
+        script = re.findall(r"<<'END'\n(.*?)^END$", common.text_of(os.path.join(common.TOP, "docs", "PYTHON.md")), re.S | re.M)[-1]
         done = subprocess.run([sys.executable, "-c", script.replace("/tmp/LOG", log)], cwd=common.TOP, stdout=subprocess.PIPE,
                               env=dict(os.environ, PYTHONPATH=os.path.join(common.TOP, "python")), check=False)
         self.assertRegex(done.stdout.decode(), r"\A\d+ stores\n0 \d+ 000103f4 .* in note use_after_free.c:40\ncalled from "

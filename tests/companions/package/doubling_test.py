@@ -102,9 +102,7 @@ def call_of(word, family, log, elf, other):
 class DoublingTest(case.Case):
     def recorded(self, family, rounds, limit, harts):
         name = f"{family.__name__}{rounds + limit}-{harts}"
-        elf = common.path(name + ".elf")
-        with open(elf, "wb") as file:
-            file.write(elf_of(family(rounds)))
+        elf = common.written(common.path(name + ".elf"), elf_of(family(rounds)))
         with open(common.path("input"), "wb") as file:
             file.write(bytes(range(256)) * 4096)
 

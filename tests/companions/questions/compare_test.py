@@ -1,7 +1,6 @@
 """zelkuma compare: the first row that isn't the same, beside a plain reading of the rows; waits are no difference."""
 import json
 import re
-import subprocess
 import unittest
 
 import case
@@ -16,10 +15,8 @@ from companion.questions.ways import Lane
 def pcs(log, elf):
     """{hart: the addresses of its rows}"""
     found = {}
-    for line in common.output("joint", log, elf).decode().split("\n"):
-        words = line.split(" ")
-        if words[0].isdigit():
-            found.setdefault(int(words[0]), []).append((words[2], int(words[1])))
+    for hart, count, address, *_ in common.rows(log, elf):
+        found.setdefault(int(hart), []).append((address, int(count)))
     return found
 
 
@@ -32,12 +29,8 @@ class CompareTest(case.Case):
     def test_two_inputs(self):
         logs = []
         for at, text in enumerate((b"some words\nof a text\n", b"some words\nof  a text\n")):
-            given, log = common.path(f"compared{at}.input"), common.path(f"compared{at}.log")
-            with open(given, "wb") as file:
-                file.write(text)
-            subprocess.run([common.PROGRAM, "record", "--format", "2", "--seed", "1", "--input", given, self.elf("word_count"), log,
-                            common.path("compared.book")], stdout=subprocess.DEVNULL, stderr=subprocess.DEVNULL, check=True)
-            logs.append(log)
+            given = common.written(common.path(f"compared{at}.input"), text)
+            logs.append(common.record(f"compared{at}", self.elf("word_count"), "--seed", "1", "--input", given))
         good, bad = (pcs(log, self.elf("word_count"))[0] for log in logs)
         first = next(at for at, (one, other) in enumerate(zip(good, bad)) if one[0] != other[0])
         said = json.loads(self.says("compare", *logs, self.elf("word_count"), "--json"))

@@ -15,17 +15,7 @@ from companion.questions import export
 
 def rows_at(log, elf):
     """{address: how many rows}"""
-    found = collections.Counter()
-    for line in common.output("joint", log, elf).decode().split("\n"):
-        words = line.split(" ")
-        if words[0].isdigit():
-            found[int(words[2], 16)] += 1
-    return found
-
-
-def text_of(name):
-    with open(name) as file:
-        return file.read()
+    return collections.Counter(int(words[2], 16) for words in common.rows(log, elf))
 
 
 class ExportTest(case.Case):
@@ -48,18 +38,18 @@ class ExportTest(case.Case):
         symbol = next(item for item in Elf(elf).symbols if item.name == "put_text")
         own = sum(rows[pc] for pc in range(symbol.address, symbol.address + symbol.size))
         self.assertRegex(said, rf"\n *{own:,} \( ?[\d.]+%\)  .*machine.c:put_text")
-        calls = re.search(r"\ncfn=put_text\ncalls=(\d+) ", text_of(file))
+        calls = re.search(r"\ncfn=put_text\ncalls=(\d+) ", common.text_of(file))
         self.assertEqual(int(calls[1]), rows[symbol.address])
 
     def test_inclusive_costs_are_those_of_the_calls(self):
         log, elf, file = self.exported("--callgrind", "heap", "--seed", "1")
-        taken = sum(int(cost) for cost in re.findall(r"\ncfn=put_text\ncalls=\d+ \d+\n\d+ (\d+)\n", text_of(file)))
+        taken = sum(int(cost) for cost in re.findall(r"\ncfn=put_text\ncalls=\d+ \d+\n\d+ (\d+)\n", common.text_of(file)))
         said = json.loads(self.says("calls", log, elf, "put_text", "--last", "1000", "--json"))
         self.assertEqual(taken, sum(each["rows"] for each in said["entries"]))
 
     def test_lcov_and_genhtml(self):
         log, elf, file = self.exported("--lcov", "heap", "--seed", "1")
-        text = text_of(file)
+        text = common.text_of(file)
         rows = rows_at(log, elf)
         main = next(item for item in Elf(elf).symbols if item.name == "main")
         self.assertIn(f"\nFNDA:{rows[main.address]},main\n", text)
@@ -78,8 +68,7 @@ class ExportTest(case.Case):
     def test_trace_events(self):
         """The form is that of the Trace Event Format: what each kind of event has to have."""
         log, elf, file = self.exported("--perfetto", "filters", "--seed", "10", "--harts", "4")
-        with open(file) as opened:
-            events = json.load(opened)["traceEvents"]
+        events = json.loads(common.text_of(file))["traceEvents"]
         needs = {"X": {"ts", "dur"}, "M": {"args"}, "i": {"ts", "s"}, "s": {"ts", "id", "cat"}, "f": {"ts", "id", "cat"}}
         for event in events:
             self.assertLessEqual({"name", "ph", "pid", "tid"} | needs[event["ph"]], set(event))
@@ -87,7 +76,7 @@ class ExportTest(case.Case):
                          {f"hart {hart}" for hart in range(4)})
         faults = [event for event in events if event["ph"] == "i" and event["args"]["fault"]]
         self.assertEqual([(event["name"], event["tid"], event["args"]["count"]) for event in faults], [("LoadOutside", 2, 444)])
-        harts = [line.split(" ")[0] for line in common.output("joint", log, elf).decode().split("\n") if line[:1].isdigit()]
+        harts = [words[0] for words in common.rows(log, elf)]
         turns = sum(one != other for one, other in zip(harts, harts[1:])) + 1
         self.assertEqual(sum(event["pid"] == 2 and event["ph"] == "X" for event in events), turns)
         starts = {event["id"]: event["ts"] for event in events if event["ph"] == "s"}
@@ -100,11 +89,10 @@ class ExportTest(case.Case):
         """Two harts wait for two locks up to their limit; those that got theirs wait a moment at most."""
         for seed, many in (("8", 2), ("1", 0)):
             log, elf, file = self.exported("--perfetto", "two_locks", "--seed", seed, "--harts", "2", "--limit", "20000")
-            with open(file) as opened:
-                waits = [event for event in json.load(opened)["traceEvents"] if event["pid"] == 3 and event["ph"] == "X"]
+            waits = [event for event in json.loads(common.text_of(file))["traceEvents"] if event["pid"] == 3 and event["ph"] == "X"]
             long = [wait for wait in waits if wait["dur"] > 1000]
             self.assertEqual([wait["tid"] for wait in long], list(range(many)))
-            rows = [line.split(" ")[0] for line in common.output("joint", log, elf).decode().split("\n") if line[:1].isdigit()]
+            rows = [words[0] for words in common.rows(log, elf)]
             for wait in long:
                 self.assertTrue(wait["name"].startswith("waits in "))
                 last = max(at for at, hart in enumerate(rows) if int(hart) == wait["tid"])
@@ -117,11 +105,9 @@ class ExportTest(case.Case):
         self.refuses_here(2, export, log, elf, "--lcov", common.path("a"), "--callgrind", common.path("b"))
         other = common.path("precious.txt")
         for name, text in ((other, "mine"), (common.path("log.log"), "")):
-            with open(name, "w") as file:
-                file.write(text)
+            common.written(name, text)
         self.refuses_here(2, export, log, elf, "--lcov", other)
         self.refuses_here(2, export, log, elf, "--lcov", log)
-        with open(other) as file:
-            self.assertEqual(file.read(), "mine")
+        self.assertEqual(common.text_of(other), "mine")
         self.refuses(8, "export", log, self.elf("counter"), "--lcov", common.path("none.info"))
         self.assertFalse(os.path.exists(common.path("none.info")))

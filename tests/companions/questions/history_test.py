@@ -94,8 +94,7 @@ class HistoryTest(case.Case):
 
     def test_what_a_read_call_fills_is_unknown_until_a_row_tells_it(self):
         log = common.path("words.log")
-        with open(common.path("words.input"), "wb") as file:
-            file.write(b"a bc def\n" * 600)
+        common.written(common.path("words.input"), b"a bc def\n" * 600)
         subprocess.run([common.PROGRAM, "record", "--format", "2", "--seed", "1", "--input", common.path("words.input"),
                         self.elf("word_count"), log, common.path("words.book")], stdout=subprocess.DEVNULL,
                        stderr=subprocess.DEVNULL, check=True)
@@ -170,8 +169,7 @@ class NamesTest(case.Case):
         with open(self.elf("heap"), "rb") as file, open(elf, "wb") as copy:
             copy.write(file.read())
         made = common.path("loaded")
-        with open(elf + "-gdb.py", "w") as file:
-            file.write(f"open({made!r}, 'w')\n")
+        common.written(elf + "-gdb.py", f"open({made!r}, 'w')\n")
         log = self.record("heap", "--seed", "1")
         self.assertIn("struct order *", self.says("history", log, elf, "orders[3]"))
         self.assertFalse(os.path.exists(made))

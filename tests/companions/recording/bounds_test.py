@@ -26,8 +26,7 @@ def saved(name, elf, data):
     """The names of a log and of its program."""
     names = common.path(name + ".log"), common.path(name + ".elf")
     for file_name, content in zip(names, (data, elf)):
-        with open(file_name, "wb") as file:
-            file.write(content)
+        common.written(file_name, content)
     return names
 
 

@@ -15,19 +15,14 @@ BOUND = 25                  # seconds after which a call hangs
 
 def forged(name):
     """A program that crashes in a function of such a name, by its symbols and by its lines: (log, elf)."""
-    with open(os.path.join(common.CRASHES, "race_ring.elf"), "rb") as file:
-        data = file.read()
-    elf = common.path("forged_name.elf")
-    with open(elf, "wb") as file:
-        file.write(data.replace(NAME.encode() + b"\0", name.encode().ljust(len(NAME) + 1, b"\0")))
+    data = common.content(os.path.join(common.CRASHES, "race_ring.elf"))
+    elf = common.written(common.path("forged_name.elf"), data.replace(NAME.encode() + b"\0", name.encode().ljust(len(NAME) + 1, b"\0")))
     return common.record("forged_name", elf, "--harts", "2", "--seed", "3"), elf
 
 
 def tool(name, script):
     """A program that is asked as addr2line is."""
-    found = common.path(name)
-    with open(found, "w", encoding="utf-8") as file:
-        file.write("#!/bin/sh\n" + script + "\n")
+    found = common.written(common.path(name), "#!/bin/sh\n" + script + "\n")
     os.chmod(found, 0o755)
     return found
 
@@ -49,11 +44,8 @@ class PlacesTest(case.Case):
     def test_names_of_a_file_are_told_whatever_stands_beside_them(self):
         """A name with an end of a line costs its own line alone: the others have theirs."""
         self.needs_addr2line()
-        with open(os.path.join(common.CRASHES, "use_after_free.elf"), "rb") as file:
-            data = file.read()
-        elf = common.path("newline.elf")
-        with open(elf, "wb") as file:
-            file.write(data.replace(b"\0close_session\0", b"\0close\nsession\0"))
+        data = common.content(os.path.join(common.CRASHES, "use_after_free.elf"))
+        elf = common.written(common.path("newline.elf"), data.replace(b"\0close_session\0", b"\0close\nsession\0"))
         for tools in [(name,) for name in common.TOOLS if name in common.present_tools()]:
             found = places.Places(Elf(elf), tools)
             self.addCleanup(found.close)
@@ -84,16 +76,13 @@ class PlacesTest(case.Case):
 
     def test_many_sections_over_one_table_are_read_once(self):
         """60,000 sections name one table of 400,000 entries without names: a bound on what is taken isn't enough."""
-        with open(self.elf("tills"), "rb") as file:
-            data = bytearray(file.read())
+        data = bytearray(common.content(self.elf("tills")))
         table, sections = len(data), 60000
         data += bytes(16 * 400000)
         first = len(data)
         data += struct.pack("<10I", 0, 2, 0, 0, table, 16 * 400000, 0, 0, 4, 16) * sections
         struct.pack_into("<I", data, 32, first)
         struct.pack_into("<H", data, 48, sections)
-        elf = common.path("sections.elf")
-        with open(elf, "wb") as file:
-            file.write(data)
+        elf = common.written(common.path("sections.elf"), data)
         status, _, err = common.companion("names", elf, "main", bound=BOUND)
         self.assertEqual((status, "has no main" in err), (4, True), err)

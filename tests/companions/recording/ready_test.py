@@ -55,11 +55,9 @@ class ReadyTest(case.Case):
             self.assertRegex(before[-1], rf"^ +{place} ")
 
     def test_switches_of_the_short_run(self):
-        elf, book = self.elf("filters"), common.path("ready.book")
-        self.files = [common.path("ready.log"), elf]
-        subprocess.run([common.PROGRAM, "record", "--format", "2", "--seed", "10", "--harts", "4", elf, common.path("whole.log"), book],
-                       stdout=subprocess.DEVNULL, stderr=subprocess.DEVNULL, check=False)
-        found = self.commands("shrink", common.path("whole.log"), elf, book, self.files[0], common.path("ready.turns"))
+        elf = self.elf("filters")
+        self.files, whole = [common.path("ready.log"), elf], common.record("whole", elf, "--seed", "10", "--harts", "4")
+        found = self.commands("shrink", whole, elf, common.path("whole.book"), self.files[0], common.path("ready.turns"))
         self.assertTrue(found)
         with_rows = common.output("joint", *self.files).decode()
         for place, before in found:

@@ -100,12 +100,9 @@ class NamesOfTest(case.Case):
     def test_names_of_another_build_are_refused(self):
         """A rebuild that differs in one byte of its code isn't the same program."""
         log, elf = self.crash("race_settings")
-        with open(elf, "rb") as file:
-            data = bytearray(file.read())
+        data = bytearray(common.content(elf))
         data[0x200] ^= 1
-        other = common.path("rebuilt.elf")
-        with open(other, "wb") as file:
-            file.write(data)
+        other = common.written(common.path("rebuilt.elf"), data)
         for word in ("why", "race", "view", "bucket"):
             said = self.refuses(8, word, log, elf, "--names", other)
             self.assertRegex(said, r"is another build than .*race_settings.elf, so its names would be wrong: other bytes from "

@@ -20,8 +20,7 @@ class SourcesTest(case.Case):
         self.log, self.elf_file = shutil.copy(log, self.folder), shutil.copy(elf, self.folder)
         self.source, self.outside = os.path.join(self.folder, NAME), common.path("outside")
         os.makedirs(self.outside, exist_ok=True)
-        with open(os.path.join(common.CRASHES, NAME), encoding="ascii") as file:
-            lines = file.read().split("\n")
+        lines = common.text_of(os.path.join(common.CRASHES, NAME)).split("\n")
         here = common.path("here")
         os.makedirs(here, exist_ok=True)
         self.addCleanup(os.chdir, os.getcwd())
@@ -30,8 +29,7 @@ class SourcesTest(case.Case):
 
     def write(self, *names):
         name = os.path.join(*names)
-        with open(name, "w", encoding="ascii") as file:
-            file.write(self.text)
+        common.written(name, self.text)
         return name
 
     def says_of(self, word, *words):
@@ -114,8 +112,7 @@ class SourcesTest(case.Case):
     def test_races_have_the_same_sources(self):
         log, elf = self.crash("race_list")
         self.log, self.elf_file = shutil.copy(log, self.folder), shutil.copy(elf, self.folder)
-        with open(os.path.join(common.CRASHES, "race_list.c"), encoding="ascii") as file:
-            self.text = file.read().replace(";", f"; /* {SECRET} */")
+        self.text = common.text_of(os.path.join(common.CRASHES, "race_list.c")).replace(";", f"; /* {SECRET} */")
         outside = self.write(self.outside, "race_list.c")
         os.symlink(outside, os.path.join(self.folder, "race_list.c"))
         said = self.says_of("race")
@@ -126,8 +123,7 @@ class SourcesTest(case.Case):
     def test_switches_and_partings_have_the_same_sources(self):
         bad, elf = self.crash("race_list")
         good, elf = common.record("good", elf, "--harts", "3", "--seed", "2", "--limit", "300000"), shutil.copy(elf, self.folder)
-        with open(os.path.join(common.CRASHES, "race_list.c"), encoding="ascii") as file:
-            self.text = file.read().replace("\n", f" /* {SECRET} */\n")
+        self.text = common.text_of(os.path.join(common.CRASHES, "race_list.c")).replace("\n", f" /* {SECRET} */\n")
         os.symlink(self.write(self.outside, "race_list.c"), os.path.join(self.folder, "race_list.c"))
         short = common.path("short")
         for words in (["shrink", "--seconds", "2", bad, elf, bad[:-4] + ".book", short, short + ".book"], ["compare", good, bad, elf]):

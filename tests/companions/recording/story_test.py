@@ -2,7 +2,6 @@
 import json
 import os
 import re
-import subprocess
 from unittest import mock
 
 import case
@@ -16,28 +15,19 @@ SHORT = "0x26 3x14 0x14 3x3"                    # of filters, as `shrink` finds 
 TOO_MANY = 42                                   # pieces
 
 
-def turns_of(order):
-    return b"".join(bytes([int(hart)]) * int(turns) for hart, turns in (piece.split("x") for piece in order.split()))
-
-
 class StoryTest(case.Case):
     def recording(self, name, to, *options, order="", seed=""):
         """LOG, ELF and BOOK of an example."""
-        log, book, asked = (common.path(f"{to}.{kind}") for kind in ("log", "book", "asked"))
-        with open(asked, "wb") as file:
-            file.write(turns_of(order))
-        words = ["--seed", seed] if seed else []
-        subprocess.run([common.PROGRAM, "record", "--format", "2", *options, *words, self.elf(name), log, book], check=False,
-                       stdout=subprocess.DEVNULL, stderr=subprocess.DEVNULL,
-                       env=os.environ if seed else dict(os.environ, ZELKUMA_SCHEDULE="book:" + asked))
-        return log, self.elf(name), book
+        asked = common.written(common.path(f"{to}.asked"), common.turns_of(order))
+        given = {"schedule": "" if seed else "book:" + asked}
+        log = common.record(to, self.elf(name), *options, *(["--seed", seed] if seed else []), **given)
+        return log, self.elf(name), common.path(f"{to}.book")
 
     def filters(self):
         return self.recording("filters", "short", "--harts", "4", order=SHORT)
 
     def lines_of_filters(self):
-        with open(os.path.join(common.EXAMPLES, "filters.c")) as file:
-            source = file.read().split("\n")
+        source = common.text_of(os.path.join(common.EXAMPLES, "filters.c")).split("\n")
         return [next(at for at, line in enumerate(source, 1) if text in line)
                 for text in ("filter = __atomic_load_n(&current", "__atomic_store_n(&current")]
 
@@ -70,8 +60,7 @@ class StoryTest(case.Case):
 
     def test_a_long_order_is_counted_alone(self):
         log, elf, book = self.recording("filters", "long", "--harts", "4", seed="10")
-        with open(book, "rb") as file:
-            turns = file.read()
+        turns = common.content(book)
         switches = sum(one != other for one, other in zip(turns, turns[1:]))
         self.assertGreaterEqual(switches, TOO_MANY)
         said = self.says("why", "--book", book, log, elf)
@@ -96,9 +85,7 @@ class StoryTest(case.Case):
 
     def test_a_run_that_read_a_file(self):
         """`audit` runs the program again, and so needs what it read."""
-        text = common.path("text")
-        with open(text, "w") as file:
-            file.write("one word or two\n")
+        text = common.written(common.path("text"), "one word or two\n")
         log, elf, book = self.recording("word_count", "counted", "--input", text, seed="1")
         self.assertIn("or the input isn't that of the recording", self.refuses(17, "why", "--book", book, log, elf))
         self.assertRegex(self.says("why", "--book", book, "--input", text, log, elf), r"BOOK\n  0x\d+\n")
@@ -121,9 +108,7 @@ class StoryTest(case.Case):
         if not chromium.find():
             self.skipTest("no chromium is installed")
         log, elf, book = self.filters()
-        page = common.path("page.html")
-        with open(page, "w") as file:
-            file.write(self.says("view", "--book", book, log, elf))
+        page = common.written(common.path("page.html"), self.says("view", "--book", book, log, elf))
         with chromium.Browser() as browser:
             browser.open(page)
             self.assertEqual(browser.errors(), [])

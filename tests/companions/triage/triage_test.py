@@ -12,21 +12,10 @@ import xml.etree.ElementTree
 import case
 import common
 import forged
-from common import COMPANION, CRASHES, PROGRAM, TOP, companion, path
+from common import COMPANION, CRASHES, PROGRAM, TOP, companion, content, path, written
 from companion.triage import pool as triage_pool, work as triage_work
 
 USED, FREED, LARGE = "use_after_free", "double_free", "libc_scale"      # the log of the last has several blocks
-
-
-def written(name, data):
-    os.makedirs(os.path.dirname(name), exist_ok=True)
-    with open(name, "wb") as file:
-        file.write(data)
-
-
-def content(name):
-    with open(name, "rb") as file:
-        return file.read()
 
 
 def with_flipped(data, at):
@@ -223,8 +212,7 @@ class LimitsTest(unittest.TestCase):
 
     def script(self, line):
         """A program that does something else for one log."""
-        name = path("script.sh")
-        written(name, f"#!/bin/bash\n[[ $* != *joint*odd* ]] || {{ {line}; }}\nexec {PROGRAM} \"$@\"\n".encode())
+        name = written(path("script.sh"), f"#!/bin/bash\n[[ $* != *joint*odd* ]] || {{ {line}; }}\nexec {PROGRAM} \"$@\"\n".encode())
         os.chmod(name, 0o755)
         os.environ["ZELKUMA_PROGRAM"] = name
         self.addCleanup(os.environ.__setitem__, "ZELKUMA_PROGRAM", PROGRAM)
@@ -289,7 +277,8 @@ class SeedsTest(case.Case):
             os.mkdir(path(folder))
         subprocess.run([*search, "--all", path("whole/0"), *words], stdout=subprocess.DEVNULL, check=True)
         command = " ".join(map(shlex.quote, search + ["--all", path("found/{}"), "--part", "{}/3"] + words))
-        subprocess.run(["parallel", "--will-cite", "--jobs", "1", "-S", ":", command, ":::", "1", "2", "3"],
+        machines = written(path("MACHINES"), b":\n")
+        subprocess.run(["parallel", "--will-cite", "--jobs", "1", "--sshloginfile", machines, command, ":::", "1", "2", "3"],
                        stdout=subprocess.DEVNULL, check=True)
         lines = []
         for folder in ("whole", "found"):

@@ -52,8 +52,7 @@ class PageTest(case.Case):
         return self.pages[key]
 
     def save(self, name, text):
-        with open(common.path(name), "w", encoding="utf-8") as file:
-            file.write(text)
+        common.written(common.path(name), text)
         return common.path(name)
 
     def wild(self):
@@ -245,8 +244,7 @@ class PageTest(case.Case):
 
     def test_markup_in_the_page_would_do_nothing(self):
         """The page's policy is a second wall behind the escaping of names."""
-        with open(self.wild(), encoding="utf-8") as file:
-            page = file.read()
+        page = common.text_of(self.wild())
         inserted = "<img src=x onerror=\"document.title='hit'\"><script>document.title='hit'</script></main>"
         self.assertIn("</main>", page)
         self.browser.open(self.save("inserted.html", page.replace("</main>", inserted)))

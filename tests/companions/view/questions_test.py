@@ -57,8 +57,7 @@ class QuestionsTest(Pages):
 @unittest.skipUnless(chromium.find(), "chromium isn't installed")
 class ClickTest(Pages):
     def opened(self, browser, text, **more):
-        with open(common.path("page.html"), "w", encoding="utf-8") as file:
-            file.write(text)
+        common.written(common.path("page.html"), text)
         browser.open(common.path("page.html"), **more)
         self.assertEqual(browser.errors(), [])
 

@@ -38,9 +38,7 @@ class ControlTest(case.Case):
 
     @classmethod
     def setUpClass(cls):
-        elf = common.path("control.elf")
-        with open(elf, "wb") as file:
-            file.write(elf_of(PROGRAM))
+        elf = common.written(common.path("control.elf"), elf_of(PROGRAM))
         cls.trace = read_trace(read_log(common.record("control", elf, "--seed", "1")), elf)
         cls.control = Control(cls.trace, Elf(elf))
 

@@ -14,10 +14,8 @@ HANGS = "hang_width", "hang_wakeup", "hang", "lock_left_held"
 def rows_of(log, elf):
     """{hart: [(count, address)] of its rows}"""
     found = {}
-    for line in common.output("joint", log, elf).decode().split("\n"):
-        words = line.split(" ", 4)
-        if len(words) > 3 and words[0].isdigit():
-            found.setdefault(int(words[0]), []).append((int(words[1]), int(words[2], 16)))
+    for hart, count, address, *_ in common.rows(log, elf):
+        found.setdefault(int(hart), []).append((int(count), int(address, 16)))
     return found
 
 

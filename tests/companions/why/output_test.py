@@ -25,16 +25,13 @@ class OutputTest(case.Case):
     def recorded(self, name, elf, *options, given=b""):
         """The log of a program, and what it wrote."""
         log, given_file = common.path(name + ".log"), common.path(name + ".input")
-        with open(given_file, "wb") as file:
-            file.write(given)
+        common.written(given_file, given)
         done = subprocess.run([common.PROGRAM, "record", "--format", "2", "--seed", "1", "--input", given_file, *options, elf,
                                log, common.path(name + ".book")], stdout=subprocess.PIPE, stderr=subprocess.DEVNULL, check=False)
         return log, done.stdout.decode("latin-1")
 
     def words(self, name, words):
-        elf = common.path(name + ".elf")
-        with open(elf, "wb") as file:
-            file.write(elf_of(words, b"of the file\n"))
+        elf = common.written(common.path(name + ".elf"), elf_of(words, b"of the file\n"))
         return elf
 
     def test_it_is_what_the_guest_wrote(self):
@@ -84,9 +81,6 @@ class OutputTest(case.Case):
         log, elf = self.crash("wrong_total")
         for byte, status in (("0:68", 14), ("4:0", 14), ("0", 2), (":", 2), ("-1:0", 2), ("0:1:2", 2)):
             self.refuses(status, "why", log, elf, "--output", byte)
-        self.refuses(2, "output", log)
-        self.refuses(7, "output", elf, elf)
-        self.refuses(8, "output", log, self.elf("counter"))
 
 
 class ByteTest(case.Case):
@@ -135,8 +129,6 @@ class ByteTest(case.Case):
         self.assertNotIn("A library", self.says("why", *self.crash("wrong_price"), "--output", "6:27"))
 
     def test_a_byte_that_no_row_stored(self):
-        elf = common.path("constant.elf")
-        with open(elf, "wb") as file:
-            file.write(elf_of(call(WRITE, 1, FIRST, 4) + list(EXIT)))
+        elf = common.written(common.path("constant.elf"), elf_of(call(WRITE, 1, FIRST, 4) + list(EXIT)))
         log = common.record("constant", elf, "--seed", "1")
         self.assertIn("No row stored the byte: below is the write.\n", self.says("why", log, elf, "--output", "0:1"))

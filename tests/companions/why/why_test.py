@@ -5,7 +5,7 @@ import shutil
 import subprocess
 
 import case
-from common import TOP, companion, example, output, path, record
+from common import TOP, companion, example, output, path, record, text_of
 from companion.why.analysis import analysed
 
 
@@ -155,7 +155,6 @@ class WhyTest(case.Case):
     def test_hang(self):
         text = companion("why", *self.crash("hang"), "--html", path("hang.html"))[1]
         self.check("a hang names the store that closed the circle", "hang.c:19" in suspects(text)[0] and "closed a circle" in text, text)
-        with open(path("hang.html")) as file:
-            page = file.read()
+        page = text_of(path("hang.html"))
         self.check("--html holds the same text, and nothing to load", "<h2>CALLS</h2>" in page and not re.search(r"src=|href=|https?:|<script", page))
         self.check("--html tells the version", re.search(r'name="generator" content="Zelkuma [0-9.]+"', page))
