@@ -55,7 +55,7 @@ class Case(unittest.TestCase):
     def refused(self, what, status, words, *call, **given):
         """A call that has to end with a status and one line on err, which holds these words, and print nothing."""
         found, said, err = common.companion(*call, **given)
-        good = (found, said) == (status, "") and err.count("\n") == 1 and words in err and "Traceback" not in err
+        good = (found, said, err[:9]) == (status, "", "zelkuma: ") and err.count("\n") == 1 and words in err
         self.check(what, good, (found, err[-2000:]))
 
     def refuses(self, status, *words):
