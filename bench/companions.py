@@ -75,8 +75,8 @@ class Logs:
 
 
 def measured(words):
-    """Processor seconds and megabytes of a companion."""
-    process = subprocess.Popen([sys.executable, "-B", f"{TOP}/companion", *words], stdout=subprocess.DEVNULL)
+    """Processor seconds of a call and what it starts, and the most megabytes of one of them."""
+    process = subprocess.Popen(words, stdin=subprocess.DEVNULL, stdout=subprocess.DEVNULL)
     _, status, used = os.wait4(process.pid, 0)
     if status:
         sys.exit(f"{words}: {os.WEXITSTATUS(status)}")
@@ -84,7 +84,7 @@ def measured(words):
 
 
 def told(what, words, goal):
-    seconds, memory = measured(words)
+    seconds, memory = measured([sys.executable, "-B", f"{TOP}/companion", *words])
     within = "within" if seconds <= goal and memory <= MEGABYTES else "over"
     print(f"{what:<44} {words[0]:<7} {seconds:6.1f} s  {memory:4.0f} MB  {within} {goal} s and {MEGABYTES} MB", flush=True)
 

@@ -6,12 +6,12 @@
 Each number of rounds is a recording of bench/questions.c; 9000 are a million rows, and 727000 are 80 million. For `compare`
 there are two with three harts, which have about as many rows together. It needs riscv64-unknown-elf-gcc."""
 import os
-import resource
 import subprocess
 import sys
 import tempfile
 
-TOP = os.path.dirname(os.path.dirname(os.path.abspath(__file__)))
+from companions import TOP, measured
+
 FLAGS = ("-march=rv32ima -mabi=ilp32 -mstrict-align -O2 -g -ffreestanding -nostdlib -static -fno-tree-loop-distribute-patterns "
          "-I examples/lib -T examples/lib/program.ld -Wl,--build-id=none examples/lib/start.S examples/lib/machine.c "
          "bench/questions.c").split()
@@ -19,16 +19,8 @@ QUESTIONS = (("history", "total"), ("history", "device"), ("calls", "find"), ("f
 FEWER = 6                   # so many times fewer rounds has each hart of two recordings of three
 
 
-def measured(words):
-    """Processor seconds and megabytes of a call in a process of its own."""
-    child = os.fork()
-    if not child:
-        with open(os.devnull, "w") as null:
-            subprocess.run(words, stdin=subprocess.DEVNULL, stdout=null, stderr=null, check=True)
-        used = resource.getrusage(resource.RUSAGE_CHILDREN)
-        print(f"{used.ru_utime + used.ru_stime:.2f} s, {used.ru_maxrss / 1024:.0f} MB", flush=True)
-        os._exit(0)
-    os.waitpid(child, 0)
+def told(what, *words):
+    print("{}: {:.2f} s, {:.0f} MB".format(what, *measured(["./zelkuma", *words])), flush=True)
 
 
 def recorded(folder, rounds, *options):
@@ -45,13 +37,10 @@ def main(rounds):
         for number in rounds:
             log, elf = recorded(folder, number, "--seed", "1")
             for word, name in QUESTIONS:
-                print(f"{number} rounds, {word} {name}: ", end="", flush=True)
-                measured(["./zelkuma", word, log, elf, name])
-            print(f"{number} rounds, gdb --run up to its prompt: ", end="", flush=True)
-            measured(["./zelkuma", "gdb", "--run", log, elf])
+                told(f"{number} rounds, {word} {name}", word, log, elf, name)
+            told(f"{number} rounds, gdb --run up to its prompt", "gdb", "--run", log, elf)
             (good, elf), (bad, _) = (recorded(folder, int(number) // FEWER, "--harts", "3", "--seed", seed) for seed in "12")
-            print(f"{number} rounds, compare of two recordings with three harts: ", end="", flush=True)
-            measured(["./zelkuma", "compare", good, bad, elf])
+            told(f"{number} rounds, compare of two recordings with three harts", "compare", good, bad, elf)
 
 
 if __name__ == "__main__":
