@@ -1,11 +1,18 @@
 """unittest on top of the companions' common test functions: recordings by example, and what a companion says."""
+import json
 import os
+import re
 import unittest
 
 import common
 from companion.call.errors import CompanionError
 
 logs = {}
+
+
+def data_of(page):
+    """The data that a page of `view` holds."""
+    return json.loads(re.search(r'<script type="application/json" id="data">(.*?)</script>', page, re.S)[1])
 
 
 class Case(unittest.TestCase):

@@ -14,11 +14,6 @@ SCRIPT = """import sys, zelkuma
 with zelkuma.Recording(*sys.argv[1:]) as run: print(zelkuma.__file__, run.fault)"""
 
 
-def version():
-    with open(os.path.join(common.TOP, "VERSION")) as file:
-        return file.read().strip()
-
-
 def builder():
     """A Python with what builds packages, or None."""
     for python in (sys.executable, "/usr/bin/python3"):
@@ -47,7 +42,7 @@ class PipTest(case.Case):
         log, elf = self.record("heap", "--seed", "1"), self.elf("heap")
         self.assertTrue(self.output(command, "why", log, elf).startswith("FAULT\n  LoadOutside 00657360, hart 0"))
         page = self.output(command, "view", log, elf)
-        self.assertIn(f"Zelkuma {version()}\"", page)
+        self.assertIn(f"Zelkuma {common.version()}\"", page)
         self.assertIn("function showHeading() {", page)
         said = self.output(python, "-c", SCRIPT, log, elf)
         self.assertTrue(said.startswith(folder), said)

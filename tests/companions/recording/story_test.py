@@ -94,7 +94,7 @@ class StoryTest(case.Case):
         log, elf, book = self.filters()
         status, page, err = common.companion("view", "--book", book, log, elf)
         self.assertEqual((status, err), (0, ""))
-        story = json.loads(re.search(r'id="data">(.*?)</script>', page)[1])["story"]
+        story = case.data_of(page)["story"]
         self.assertEqual([piece[:2] for piece in story["pieces"]], [[0, 26], [3, 14], [0, 14], [3, 3]])
         ends = {}
         for hart, _, begin, _, end, _ in story["pieces"]:
@@ -102,7 +102,7 @@ class StoryTest(case.Case):
             self.assertGreater(end, begin)
             ends[hart] = end
         self.assertEqual([len(lines) for lines in story["switches"]], [2, 3, 3])
-        self.assertIsNone(json.loads(re.search(r'id="data">(.*?)</script>', self.says("view", log, elf))[1])["story"])
+        self.assertIsNone(case.data_of(self.says("view", log, elf))["story"])
 
     def test_what_a_browser_draws(self):
         if not chromium.find():

@@ -1,18 +1,14 @@
 """zelkuma view --with-questions: the page has what history and calls tell, and a click on a word or a name opens it."""
 import json
-import re
 import unittest
 
 import case
 import chromium
 import common
 import hostile
+from case import data_of
 
 RACE = "race_settings"
-
-
-def data_of(page):
-    return json.loads(re.search(r'<script type="application/json" id="data">(.*?)</script>', page, re.S)[1])
 
 
 class Pages(case.Case):

@@ -11,6 +11,7 @@ import unittest
 import case
 import common
 import hostile
+from case import data_of
 
 from companion.recording import log as logs, trace
 from companion.view import data as view_data
@@ -40,10 +41,6 @@ class Reader(html.parser.HTMLParser):
             self.scripts[-1] += data
         elif self.inside == "title":
             self.title += data
-
-
-def data_of(page):
-    return json.loads(Reader(page).scripts[0])
 
 
 class ViewTest(case.Case):
