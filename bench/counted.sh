@@ -7,6 +7,7 @@ set -eu
 top=$(cd "$(dirname "$0")/.." && pwd)
 work=$(mktemp -d)
 trap 'rm -rf "$work"' EXIT
+. "$top/bench/harts.sh"
 [ $# -gt 0 ] || { echo "bench/counted.sh: it takes the programs whose commands are counted" >&2 && exit 2; }
 
 # Prints the instructions of a command, which leaves its text in out.
@@ -16,15 +17,6 @@ count() { # WORD..
 }
 
 turns() { sed -n 's/^bugnet: turns \([0-9]*\).*/\1/p' "$work/err"; }
-
-# Each hart loads and stores the same words so many times.
-input() { # HARTS TIMES
-    local hart
-    for ((hart = 0; hart < $1; hart++)); do
-        # shellcheck disable=SC2059 # these are its bytes
-        printf "$(printf '\\x%02x' $(($2 & 255)) $(($2 >> 8 & 255)) $(($2 >> 16 & 255)) 0)\0\0\0\0\0\0\0\0"
-    done >"$work/input"
-}
 
 tell() { # WHAT COUNT PARTS UNIT [BESIDE]
     awk -v what="$1" -v count="$2" -v parts="$3" -v unit="$4" -v beside="${5-}" 'BEGIN {
@@ -48,10 +40,10 @@ for program; do
     tell "replay of its first million rows" "$replay" "$(wc -l <"$work/out")" "a row"
     joint=$(count joint "$work/LOG" "$top/examples/sort.elf")
     tell "joint of them" "$joint" "$(wc -l <"$work/out")" "a row"
-    input 8 12500
+    harts_input 8 12500 0 0 >"$work/input"
     harts=$(count record --seed 1 --format 2 --harts 8 --input "$work/input" "$top/bench/harts.elf" "$work/LOG" "$work/BOOK")
     tell "record, eight harts on the same words" "$harts" "$(turns)" "a turn"
-    input 4 12500
+    harts_input 4 12500 0 0 >"$work/input"
     harts=$(count record --seed 1 --format 2 --harts 4 --input "$work/input" "$top/bench/harts.elf" "$work/LOG" "$work/BOOK")
     tell "record, four harts on the same words" "$harts" "$(turns)" "a turn"
     each=$((harts / $(turns)))

@@ -19,6 +19,7 @@ set -eu
 top=$(cd "$(dirname "$0")/.." && pwd)
 work=$(mktemp -d)
 trap 'rm -rf "$work"' EXIT
+. "$top/bench/harts.sh"
 runs=${1:-3}
 elf=$top/examples/sort.elf
 [ -x /usr/bin/time ] || { echo "bench/programs.sh: /usr/bin/time (Debian's time) isn't installed" >&2 && exit 1; }
@@ -145,21 +146,10 @@ awk -v most="$most" -v less="$less" -v turns="$turns" -v fewer="$fewer" 'BEGIN {
     printf ", %d KiB at the peak of %d turns, %d KiB of %d\n", most, turns, less, fewer
 }'
 
-# number N..: each as the four bytes of a word.
-number() {
-    local n
-    for n in "$@"; do
-        printf "$(printf '\\x%02x' $((n & 255)) $((n >> 8 & 255)) $((n >> 16 & 255)) $((n >> 24)))"
-    done
-}
-
 # harts COUNT TIMES LOOPS [APART]: sets `harts` to the words that record COUNT harts of bench/harts.elf. Each does TIMES
 # loads and stores, with LOOPS loops of two instructions before each, on the same words or APART bytes apart.
 harts() {
-    local hart
-    for hart in $(seq "$1"); do
-        number "$2" "$3" "${4:-0}"
-    done >"$work/input"
+    harts_input "$1" "$2" "$3" "${4:-0}" >"$work/input"
     harts=(record --harts "$1" --input "$work/input")
 }
 

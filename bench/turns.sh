@@ -11,22 +11,16 @@ set -eu
 top=$(cd "$(dirname "$0")/.." && pwd)
 work=$(mktemp -d)
 trap 'rm -rf "$work"' EXIT
+. "$top/bench/harts.sh"
 runs=${1:-3}
 zelkuma=${ZELKUMA_PROGRAM:-$("$top/zelkuma" build)} # the program itself
 before=${ZELKUMA_BEFORE:-}
 
-# number N: as the four bytes of a word.
-number() {
-    printf "$(printf '\\x%02x' $(($1 & 255)) $(($1 >> 8 & 255)) $(($1 >> 16 & 255)) $(($1 >> 24)))"
-}
-
 # Records HARTS harts, each with TIMES loads and stores of words that lie so many bytes APART from those of the hart before
 # it. It adds the processor time to the file of the name, and leaves turns and most memory (in KiB) beside it.
 once() { # PROGRAM NAME HARTS TIMES APART OPTION..
-    local program=$1 name=$2 count=$3 hart
-    for hart in $(seq "$count"); do
-        number "$4" && number 0 && number "$5"
-    done >"$work/input"
+    local program=$1 name=$2 count=$3
+    harts_input "$count" "$4" 0 "$5" >"$work/input"
     /usr/bin/time -f '%U %S %M' -o "$work/time" "$program" record --seed 1 --harts "$count" --input "$work/input" \
         "${@:6}" "$top/bench/harts.elf" "$work/LOG" "$work/BOOK" >/dev/null 2>"$work/err"
     cat "$work/time" >>"$work/$name"
