@@ -9,15 +9,15 @@ to be replayed to their last row. Then a bit after the head is flipped: what `sa
 
 import collections
 import glob
-import os
 import random
 import subprocess
 import sys
 import tempfile
 import time
 
-TOP = os.path.dirname(os.path.dirname(os.path.dirname(os.path.realpath(__file__))))
-PROGRAM = os.environ.get("ZELKUMA_PROGRAM", f"{TOP}/crates/bugnet_main/out/bugnet_main")
+import tried
+from tried import PROGRAM, TOP
+
 SETTINGS = {
     "harts": (1, 2, 3, 8, 9, 13, 16),
     "limit": (50, 1_000, 3_000),
@@ -35,12 +35,10 @@ class Calls:
         self.folder, self.ended, self.wrong = folder, collections.Counter(), []
 
     def read(self, name):
-        with open(f"{self.folder}/{name}", "rb") as file:
-            return file.read()
+        return tried.read(f"{self.folder}/{name}")
 
     def write(self, name, data):
-        with open(f"{self.folder}/{name}", "wb") as file:
-            file.write(data)
+        tried.write(f"{self.folder}/{name}", data)
 
     def run(self, what, wanted, *words):
         """Runs a command, which has to end with one of some statuses, and returns its status and its lines."""

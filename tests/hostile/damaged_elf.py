@@ -17,7 +17,8 @@ import sys
 import tempfile
 import time
 
-TOP = os.path.dirname(os.path.dirname(os.path.dirname(os.path.realpath(__file__))))
+from tried import TOP, read, write
+
 sys.path.insert(0, TOP)
 from companion.call import words as call, program             # noqa: E402
 
@@ -112,8 +113,7 @@ def in_child(words, folder):
             traceback.print_exc()
             os._exit(99)
     _, status = os.waitpid(child, 0)
-    with open(os.path.join(folder, "err"), "rb") as file:
-        said = file.read()
+    said = read(os.path.join(folder, "err"))
     if os.WIFSIGNALED(status):
         return f"signal {os.WTERMSIG(status)}"
     code = os.WEXITSTATUS(status)
@@ -138,8 +138,7 @@ def main(words):
     ended, wrong, slowest, done = collections.Counter(), [], (0.0, ""), 0
     with contextlib.suppress(KeyboardInterrupt), tempfile.TemporaryDirectory() as folder:
         for word in ("names", "why", "bucket", "view", "gdb"):
-            with open(os.path.join(folder, word + ".input"), "wb") as file:
-                file.write(packets() if word == "gdb" else b"0 0 00010074 00000013 addi zero,zero,0\n" * 3)
+            write(os.path.join(folder, word + ".input"), packets() if word == "gdb" else b"0 0 00010074 00000013 addi zero,zero,0\n" * 3)
         damaged, logs = os.path.join(folder, "damaged.elf"), {}
         elves = [name for name in (f"{TOP}/tests/crashes/{each}.elf" for each in PROGRAMS) if os.path.exists(name)]
         for elf in elves:
@@ -148,10 +147,7 @@ def main(words):
         for number in range(first, count):      # Ctrl-C or a time limit ends it; what was tried is told
             draw = random.Random(seed << 40 | number)
             elf = draw.choice(elves)
-            with open(elf, "rb") as file:
-                data = Damage(file.read(), draw).made()
-            with open(damaged, "wb") as file:
-                file.write(data)
+            write(damaged, Damage(read(elf), draw).made())
             for each in calls_of(damaged, elf, logs[elf], folder, draw):
                 began = time.monotonic()
                 said = in_child(list(each), folder)

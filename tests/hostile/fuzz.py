@@ -41,10 +41,10 @@ import time
 from typing import Dict
 
 import forge
+import tried
 import verdict
+from tried import PROGRAM, TOP
 
-TOP = os.path.dirname(os.path.dirname(os.path.dirname(os.path.realpath(__file__))))
-PROGRAM = os.environ.get("ZELKUMA_PROGRAM", f"{TOP}/crates/bugnet_main/out/bugnet_main")
 SECONDS, BYTES, PATIENCE = 1.0, 64 << 20, 30
 CASES = os.environ.get("ZELKUMA_CASES")
 KEPT = "/tmp/fuzz-kept"
@@ -115,12 +115,10 @@ class Calls:
         return f"{self.folder}/{name}"
 
     def write(self, name, data):
-        with open(self.path(name), "wb") as file:
-            file.write(data)
+        tried.write(self.path(name), data)
 
     def read(self, name):
-        with open(self.path(name), "rb") as file:
-            return file.read()
+        return tried.read(self.path(name))
 
     def spawn(self, words, out):
         """Runs the program, and returns how it ended, and what it took; None if it didn't end."""
@@ -175,8 +173,7 @@ class Calls:
         os.makedirs(KEPT, exist_ok=True)
         place = f"{KEPT}/{os.getpid()}-{len(self.wrong)}"
         for name, data in self.kept().items():
-            with open(f"{place}-{name}", "wb") as file:
-                file.write(data)
+            tried.write(f"{place}-{name}", data)
         self.wrong.append(f"{place}: {' '.join(words)}: {what}")
 
     def numbers(self):
@@ -295,8 +292,7 @@ def recordings(folder):
     for name in sorted(os.listdir(f"{TOP}/examples")):
         if name.endswith(".elf"):
             path = f"{TOP}/examples/{name}"
-            with open(path, "rb") as file:
-                elf = file.read()
+            elf = tried.read(path)
             for harts, limit, interval, small in RECORDED:
                 words = ("--harts", harts, "--limit", limit, "--interval", interval)
                 data = recorded(calls, path, "--seed", len(found[1]), *words)

@@ -41,9 +41,8 @@ import tempfile
 from typing import Any, Dict
 
 import forge
+from tried import PROGRAM, TOP, read, write
 
-TOP = os.path.dirname(os.path.dirname(os.path.dirname(os.path.realpath(__file__))))
-PROGRAM = os.environ.get("ZELKUMA_PROGRAM", f"{TOP}/crates/bugnet_main/out/bugnet_main")
 KINDS = ("alloc", "open", "read", "write", "short", "sync", "rename")
 SAVING = ("record", "convert", "salvage")
 # Two harts: hart 0 loads a word twice, hart 1 has four bytes read into it.
@@ -114,16 +113,6 @@ class Ran:
 
     def ending(self):
         return self.status, self.out, self.err, self.files, self.left
-
-
-def read(name):
-    with open(name, "rb") as file:
-        return file.read()
-
-
-def write(name, data):
-    with open(name, "wb") as file:
-        file.write(data)
 
 
 def saved_by(ran):

@@ -15,9 +15,8 @@ import sys
 import tempfile
 
 import forge
+from tried import PROGRAM, write
 
-TOP = os.path.dirname(os.path.dirname(os.path.dirname(os.path.realpath(__file__))))
-PROGRAM = os.environ.get("ZELKUMA_PROGRAM", f"{TOP}/crates/bugnet_main/out/bugnet_main")
 SECONDS = 300
 GREAT = {"log_size": 2**28, "limit": 2**40}
 # addi a0,zero,5; addi a7,zero,93; ecall: an exit
@@ -164,8 +163,7 @@ def made(folder, make, size):
     if child == 0:
         *files, last = make(size)
         for name, data in zip(("LOG", "ELF", "LAST"), (*files, str(last).encode())):
-            with open(f"{folder}/{name}", "wb") as file:
-                file.write(data)
+            write(f"{folder}/{name}", data)
         os._exit(0)
     os.waitpid(child, 0)
 
@@ -195,8 +193,7 @@ def read_both(folder, make, size):
 
 def audit(folder, size):
     """A BOOK of a byte for each interval of one instruction."""
-    with open(f"{folder}/ELF", "wb") as file:
-        file.write(forge.program(*LOOP))
+    write(f"{folder}/ELF", forge.program(*LOOP))
     settings = ("--interval", "1", "--limit", str(size), "--log-size", "16384")
     Call(folder, "record", "--seed", "1", *settings, "ELF", "LOG", "BOOK").row("audit")
     Call(folder, "audit", "LOG", "ELF", "BOOK").row("audit")
