@@ -1,6 +1,3 @@
 mod Common
-mod Steps
-mod Chain
-mod Numbers
+mod Values
 mod Whole
-mod Cases

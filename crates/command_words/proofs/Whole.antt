@@ -1,5 +1,5 @@
 -- What a parse of the whole command says of the line.
-use Rattle.command_words.proofs.Common.{◌≡◌, ◌⊎◌, ◌∙◌, true, List, [], ◌∷◌, Option, None, Result, Ok, Err, IfErr, inl, inr, refl, sym, ap, ap₂, subst, map, App, Row, Text, fault_of, is_simple, is_simple_and_free, subcommand_of, bugnet_app, Line, command_in, line_in, line_of, without_fault}
+use Rattle.command_words.proofs.Common.{◌≡◌, ◌⊎◌, ◌∙◌, true, List, [], ◌∷◌, Option, None, Result, Err, IfErr, inl, inr, refl, sym, ap₂, subst, map, App, Row, Text, fault_of, is_simple, is_simple_and_free, subcommand_of, bugnet_app, Line, command_in, line_in, line_of, without_fault}
 use Rattle.clap.specs.Kinds.{IsAmong, Kinds}
 use Rattle.clap.specs.declared.error.kind.ErrorKind.{ErrorKind}
 use Rattle.clap.specs.declared.error.kind.ErrorKind.TheVariants as kind
@@ -54,13 +54,9 @@ pub command-takes : (a : App) (words : List (String Global)) (sub : Option (Text
     → (is_simple a ≡ true → sub ≡ subcommand_of a (map string_bytes words)) → command_in words ≡ line_in sub
 command-takes a words sub is h rows = command_in-line words ∙ takes_line a (map string_bytes words) sub is h rows
 
-abbrev err_or : {X E : Type 0} → E → Result X E → E
-err_or d (Ok x) = d
-err_or d (Err e) = e
-
 -- the same answer has the same error
 pub same_err : {X E : Type 0} (e f : E) → ◌≡◌ {A = Result X E} (Err e) (Err f) → e ≡ f
-same_err e f is = ap (err_or e) is
+same_err e f is = cc
 
 -- what is said of each error holds of the one there is
 pub err_says : {X E : Type 0} (P : E → Type 0) (r : Result X E) (e : E) → r ≡ Err e → IfErr r P → P e

@@ -45,7 +45,7 @@ fn number_word<'a>(alloc: Global, id: &'a str) -> Arg<'a>
 }
 
 // the most races that are listed, from 1 to 1,000,000, which has to be there
-#[tactic(auto, using(crate::proofs::Chain::parsed))]
+#[tactic(auto, using(crate::proofs::Values::parsed))]
 fn most_word<'a>(alloc: Global, id: &'a str) -> Arg<'a>
     ensures { IsRule (most_word id.entry.now) result }
 {

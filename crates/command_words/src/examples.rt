@@ -6,7 +6,7 @@ ghost use Rattle.command_words.specs.Examples.{said, plain, two_level_words, two
 
 /// Options stand before, between and after names, with `=` or in two words. Settings that aren't
 /// given have their defaults.
-#[tactic(auto, using(crate::proofs::Cases::before, crate::proofs::Cases::between, crate::proofs::Cases::after, crate::proofs::Cases::no_seed, crate::proofs::Cases::lean, crate::proofs::Cases::setting, crate::proofs::Cases::format))]
+#[tactic(auto, unfolding(crate::specs::Words::line_of, clap::proofs::OnLiterals::clap_on_literals))]
 pub fn options_stand_anywhere()
     ensures before { said (codes "record" ∷ codes "--seed" ∷ codes "5" ∷ codes "E" ∷ codes "L" ∷ codes "B" ∷ []) ≡ Some (RecordLine plain) }
     ensures between { said (codes "record" ∷ codes "E" ∷ codes "--seed=5" ∷ codes "L" ∷ codes "B" ∷ []) ≡ Some (RecordLine plain) }
@@ -18,7 +18,7 @@ pub fn options_stand_anywhere()
 {}
 
 /// The other commands, each with its names and numbers in order.
-#[tactic(auto, using(crate::proofs::Cases::replay, crate::proofs::Cases::joint, crate::proofs::Cases::debug, crate::proofs::Cases::list, crate::proofs::Cases::check, crate::proofs::Cases::audit, crate::proofs::Cases::audit_input, crate::proofs::Cases::races, crate::proofs::Cases::slice, crate::proofs::Cases::convert, crate::proofs::Cases::salvage, crate::proofs::Cases::demo))]
+#[tactic(auto, unfolding(crate::specs::Words::line_of, clap::proofs::OnLiterals::clap_on_literals))]
 pub fn each_command_is_taken()
     ensures replay { said (codes "replay" ∷ codes "L" ∷ codes "E" ∷ codes "3" ∷ codes "70" ∷ []) ≡ Some (ReplayLine (codes "L") (codes "E") 3 70) }
     ensures joint { said (codes "joint" ∷ codes "L" ∷ codes "E" ∷ []) ≡ Some (JointLine (codes "L") (codes "E")) }
@@ -36,7 +36,7 @@ pub fn each_command_is_taken()
 
 /// Numbers are decimal, may have a plus sign and leading zeros, and end below 2^64. The most races that are listed are from 1
 /// to 1,000,000.
-#[tactic(auto, using(crate::proofs::Cases::signed, crate::proofs::Cases::zeros, crate::proofs::Cases::greatest, crate::proofs::Cases::too_great, crate::proofs::Cases::no_number, crate::proofs::Cases::too_many_races, crate::proofs::Cases::no_races))]
+#[tactic(auto, unfolding(crate::specs::Words::line_of, clap::proofs::OnLiterals::clap_on_literals))]
 pub fn numbers_are_decimal()
     ensures signed { said (codes "replay" ∷ codes "L" ∷ codes "E" ∷ codes "0" ∷ codes "+5" ∷ []) ≡ Some (ReplayLine (codes "L") (codes "E") 0 5) }
     ensures zeros { said (codes "replay" ∷ codes "L" ∷ codes "E" ∷ codes "0" ∷ codes "007" ∷ []) ≡ Some (ReplayLine (codes "L") (codes "E") 0 7) }
@@ -48,7 +48,7 @@ pub fn numbers_are_decimal()
 {}
 
 /// After `--` all words are names. `-` alone is a name, and so is a command's.
-#[tactic(auto, using(crate::proofs::Cases::dashes, crate::proofs::Cases::dash, crate::proofs::Cases::command))]
+#[tactic(auto, unfolding(crate::specs::Words::line_of, clap::proofs::OnLiterals::clap_on_literals))]
 pub fn names_may_look_like_other_words()
     ensures dashes { said (codes "check" ∷ codes "--" ∷ codes "--help" ∷ []) ≡ Some (CheckLine (codes "--help")) }
     ensures dash { said (codes "check" ∷ codes "-" ∷ []) ≡ Some (CheckLine (codes "-")) }
@@ -57,7 +57,7 @@ pub fn names_may_look_like_other_words()
 
 /// A word too few or too many, an option that is repeated, shortened or unknown, and what asks for
 /// help or the version are refused.
-#[tactic(auto, using(crate::proofs::Cases::no_words, crate::proofs::Cases::no_command, crate::proofs::Cases::no_seed_number, crate::proofs::Cases::no_name, crate::proofs::Cases::no_book, crate::proofs::Cases::no_demo_seed, crate::proofs::Cases::one_more, crate::proofs::Cases::valued, crate::proofs::Cases::repeated, crate::proofs::Cases::shortened, crate::proofs::Cases::unknown, crate::proofs::Cases::help, crate::proofs::Cases::help_of_a_command, crate::proofs::Cases::version))]
+#[tactic(auto, unfolding(crate::specs::Words::line_of, clap::proofs::OnLiterals::clap_on_literals))]
 pub fn other_lines_are_refused()
     ensures no_words { line_of [] ≡ None }
     ensures no_command { said [] ≡ None }

@@ -14,7 +14,7 @@ fn text_at<'a>(matches: &ArgMatches<'a>, id: &str) -> Option<&'a str>
     matches.get_str(id)
 }
 
-#[tactic(auto, using(crate::proofs::Numbers::number_read))]
+#[tactic(auto, using(crate::proofs::Values::number_read))]
 fn number_of(text: &str) -> Option<u64>
     ensures { result ≡ number_of text.now }
 {
