@@ -1,17 +1,14 @@
 -- The lists that numbers draw.
 use Rattle.whole_runs.proofs.Common.{◌≡◌, ℕ, zero, suc, ◌-◌, ◌<◌, Bool, true, false, ◌&&◌, nat_lt, List, [], ◌∷◌, ◌++◌, length, length-append, refl, sym, ◌∙◌, ap, arith, Program, RawSettings, Run, turn, is_live, any_live, live_harts, most_turns, Began, first_run, list_run, drawn, current, taker, after, drawn_from, drawn_of, drawn_after, Drawing}
 use Rattle.bn_outside.specs.declared.schedule.Manner.{Manner}
+use Rattle.bus_core.proofs.Rows.{second_of}
 use Rattle.whole_runs.proofs.Live.{any_one, live_of}
 use Rattle.whole_runs.proofs.Rows.{run_snoc}
 
 -- ---- whose burst it is, or who sleeps
 
-both_is : (a b : Bool) → (a && b) ≡ true → b ≡ true
-both_is true b e = e
-both_is false b e = cc
-
 pub goes_on_any : (c : RawSettings) (run : Run) (left k : ℕ) → k < c.harts → (nat_lt 0 left && is_live c run k) ≡ true → any_live c.harts run.harts ≡ true
-goes_on_any c run left k within e = any_one c.harts run.harts k within (live_of c run k (both_is (nat_lt 0 left) (is_live c run k) e))
+goes_on_any c run left k within e = any_one c.harts run.harts k within (live_of c run k (second_of (nat_lt 0 left) (is_live c run k) e))
 
 pub current_same : (m : Manner) (c : RawSettings) (run : Run) (d : Drawing) → (nat_lt 0 d.left && is_live c run d.hart) ≡ true → d ≡ current m c run d
 current_same m c run d e = sym (ap (λ (b : Bool). elim b as (λ z. Drawing) [ true ↦ d | false ↦ drawn m (live_harts 0 c.harts run.harts) d ]) e)

@@ -1,5 +1,5 @@
 -- One hart's turns.
-use Rattle.whole_runs.proofs.Common.{◌≡◌, ℕ, List, [], ◌∷◌, ◌++◌, Bool, true, false, refl, sym, ap, subst, ◌∙◌, Some, None, AllByRecursion, Program, RawSettings, Ask, Reply, TurnRow, IsOwn, Place, ask_from, place_after, OwnRowsGrow, IsDriven, IsLed, row_of, taken_after}
+use Rattle.whole_runs.proofs.Common.{◌≡◌, ℕ, List, [], ◌∷◌, ◌++◌, Bool, true, false, refl, sym, ap, subst, ◌∙◌, Some, AllByRecursion, Program, RawSettings, Ask, Reply, TurnRow, IsOwn, Place, ask_from, place_after, OwnRowsGrow, IsDriven, IsLed, row_of, taken_after}
 
 pub driven_first : (tells : Bool) (c : RawSettings) (i : Program) (h : ℕ) (first : Place) (rows : List TurnRow) → rows ≡ [] → IsDriven tells c i h first rows first
 driven_first tells c i h first rows none = subst (λ (rs : List TurnRow). IsDriven tells c i h first rs first) (sym none) (record { own = tt; place_is = λ t. refl; lean = λ t. refl })
@@ -43,14 +43,6 @@ led_more grow answers c i h first now ask reply guarded now' d asks may is =
     }
 
 -- ---- turns that are told
-
--- a turn that was not taken
-same_rows : (tells : Bool) (rows : List TurnRow) (h : ℕ) (ask : Ask) → taken_after tells rows h ask None ≡ rows
-same_rows true rows h ask = refl
-same_rows false rows h ask = refl
-
-pub driven_over : (tells : Bool) (c : RawSettings) (i : Program) (h : ℕ) (first : Place) (rows : List TurnRow) (now : Place) (ask : Ask) (rows' : List TurnRow) → IsDriven tells c i h first rows now → rows' ≡ taken_after tells rows h ask None → IsDriven tells c i h first rows' now
-driven_over tells c i h first rows now ask rows' d same = subst (λ (rs : List TurnRow). IsDriven tells c i h first rs now) (sym (same ∙ same_rows tells rows h ask)) d
 
 -- a turn that was taken
 pub taken_as : (tells : Bool) (old new : List TurnRow) (h : ℕ) (ask : Ask) (answered : Reply × Bool) → (tells ≡ true → new ≡ old ++ row_of h ask answered ∷ []) → (tells ≡ false → new ≡ old) → new ≡ taken_after tells old h ask (Some answered)

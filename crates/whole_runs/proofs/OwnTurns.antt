@@ -1,19 +1,9 @@
 -- A bus that serves what its harts ask next takes the turns of a list.
-use Rattle.whole_runs.proofs.Common.{◌≡◌, ℕ, ◌<◌, Bool, true, false, not, ◌||◌, List, [], ◌∷◌, ◌++◌, refl, sym, ◌∙◌, ap, subst, Result, Ok, Err, IfOk, OnOk, IsSetting, TurnRow, Ask, Reply, Run, ask_at, is_orderly, OwnAsksAreOrderly, Began, Seen, IsState, row, turn_row, served_reply, served_guarded, served_run, HasTaken, list_run, seeded_after, kept_after, kept_with, StaysTaken}
+use Rattle.whole_runs.proofs.Common.{◌≡◌, ℕ, ◌<◌, Bool, true, false, not, ◌||◌, List, [], ◌∷◌, ◌++◌, refl, sym, ◌∙◌, ap, subst, Result, Ok, Err, IfOk, OnOk, IsSetting, TurnRow, Ask, Reply, Run, ask_at, is_orderly, OwnAsksAreOrderly, Began, Seen, IsState, row, served_reply, served_guarded, served_run, HasTaken, list_run, seeded_after, kept_after, kept_with, StaysTaken}
 use Rattle.bus_core.specs.Bus.{is_live}
-use Rattle.whole_runs.proofs.Taken.{live_is, taken_more}
-
--- the row of a turn in which a hart asks what it asks next
-pub row_is : (b : Began) (run : Run) (k : ℕ) (ask : Ask) (reply : Reply) (guarded : Bool) → ask ≡ ask_at b.settings b.image (run.harts k) → reply ≡ served_reply b run k ask → guarded ≡ served_guarded b run k ask → row k ask reply guarded ≡ turn_row b run k
-row_is b run k ask reply guarded ea er eg =
-    ap (λ (r : Reply). row k ask r guarded) er
-    ∙ ap (λ (g : Bool). row k ask (served_reply b run k ask) g) eg
-    ∙ ap (λ (a : Ask). row k a (served_reply b run k a) (served_guarded b run k a)) ea
-
--- an orderly ask leaves the flag
-flag_stays : (d : Bool) → (d || not true) ≡ d
-flag_stays true = refl
-flag_stays false = refl
+use Rattle.bus_core.proofs.OwnTurn.{or_not_true, row_is}
+use Rattle.whole_runs.proofs.Live.{live_in}
+use Rattle.whole_runs.proofs.Taken.{taken_more}
 
 -- what a bus says of an ask that it served
 abbrev pub Replies : Seen → ℕ → Ask → Reply × Bool → Type 0
@@ -31,29 +21,25 @@ Disorders old k ask new = (run : Run) → IsState old run → new.disordered ≡
 abbrev pub Asks : Seen → ℕ → Ask → Type 0
 Asks old k ask = (run : Run) → IsState old run → ask ≡ ask_at old.began.settings old.began.image (run.harts k)
 
-own_taken : OwnAsksAreOrderly → (tells : Bool) (old new : Seen) (k : ℕ) (ask : Ask) (r : Reply × Bool) → IsSetting old.began.settings → k < old.began.settings.harts → is_live old k ≡ true → Asks old k ask
-    → Replies old k ask r → Flags old k ask r → Leads old k ask new → (tells ≡ true → new.rows ≡ old.rows ++ row k ask r.0 r.1 ∷ []) → Disorders old k ask new → new.began ≡ old.began → new.halted ≡ old.halted
-    → (list : List ℕ) → HasTaken tells old list → HasTaken tells new (list ++ k ∷ [])
-own_taken law tells old new k ask r setting within live own replies flags leads told disorders began halted list h =
+-- if it was answered, it took one turn more
+pub served_taken : {E : Type 0} → OwnAsksAreOrderly → (tells : Bool) (old new : Seen) (k : ℕ) (ask : Ask) (result : Result (Reply × Bool) E) → IsSetting old.began.settings → k < old.began.settings.harts → is_live old k ≡ true → Asks old k ask
+    → IfOk result (Replies old k ask) → IfOk result (Flags old k ask) → OnOk result (Leads old k ask new) → IfOk result (λ r. tells ≡ true → new.rows ≡ old.rows ++ row k ask r.0 r.1 ∷ []) → OnOk result (Disorders old k ask new)
+    → new.began ≡ old.began → new.halted ≡ old.halted → OnOk result ((list : List ℕ) → HasTaken tells old list → HasTaken tells new (list ++ k ∷ []))
+served_taken law tells old new k ask (Ok r) setting within live own replies flags leads told disorders began halted = λ list h.
     let b = old.began in
     let run = list_run b list in
     let asks = own run h.state in
     let orderly : is_orderly b.settings b.image (run.harts k) (ask_at b.settings b.image (run.harts k)) ≡ true = law b.settings b.image b.input list k setting h.legal in
-    taken_more tells old new list k h (live_is old run k h.state within live) (record {
+    taken_more tells old new list k h (live_in b.settings run old.harts k h.state.harts within live) (record {
       began = began;
       state = subst (λ (a : Ask). IsState new (served_run b run k a)) asks (leads run h.state);
       told = λ t. told t ∙ ap (λ (x : TurnRow). old.rows ++ x ∷ []) (row_is b run k ask r.0 r.1 asks (replies run h.state) (flags run h.state));
       disordered = disorders run h.state
           ∙ ap (λ (a : Ask). old.disordered || not (is_orderly b.settings b.image (run.harts k) a)) asks
           ∙ ap (λ (o : Bool). old.disordered || not o) orderly
-          ∙ flag_stays old.disordered;
+          ∙ sym (or_not_true old.disordered);
       halted = halted;
     })
-
-pub served_taken : {E : Type 0} → OwnAsksAreOrderly → (tells : Bool) (old new : Seen) (k : ℕ) (ask : Ask) (result : Result (Reply × Bool) E) → IsSetting old.began.settings → k < old.began.settings.harts → is_live old k ≡ true → Asks old k ask
-    → IfOk result (Replies old k ask) → IfOk result (Flags old k ask) → OnOk result (Leads old k ask new) → IfOk result (λ r. tells ≡ true → new.rows ≡ old.rows ++ row k ask r.0 r.1 ∷ []) → OnOk result (Disorders old k ask new)
-    → new.began ≡ old.began → new.halted ≡ old.halted → OnOk result ((list : List ℕ) → HasTaken tells old list → HasTaken tells new (list ++ k ∷ []))
-served_taken law tells old new k ask (Ok r) setting within live own replies flags leads told disorders began halted = own_taken law tells old new k ask r setting within live own replies flags leads told disorders began halted
 served_taken law tells old new k ask (Err e) setting within live own replies flags leads told disorders began halted = tt
 
 -- ---- the list that is kept

@@ -1,6 +1,7 @@
 -- The runs and rows of lists of turns.
-use Rattle.whole_runs.proofs.Common.{◌≡◌, ℕ, ◌+◌, Bool, true, false, List, [], ◌∷◌, ◌++◌, length, refl, ap, arith, Program, RawSettings, Ask, Run, serve, served_if, turn, is_orderly, ask_at, run_from, legal_from, is_live, row_at, rows_from, RowsNameTheirHarts}
+use Rattle.whole_runs.proofs.Common.{◌≡◌, ℕ, ◌+◌, Bool, true, false, List, [], ◌∷◌, ◌++◌, length, refl, ap, arith, Program, RawSettings, Run, turn, ask_at, run_from, legal_from, is_live, row_at, rows_from, RowsNameTheirHarts}
 use Rattle.run_laws.proofs.Converse.{lists_go_on}
+use Rattle.bus_core.proofs.Serves.{served_turns}
 
 pub rows_name : RowsNameTheirHarts
 rows_name c i run [] = refl
@@ -22,14 +23,6 @@ legal_snoc c i run b k e live = lists_go_on.legal c i run b (k ∷ []) e (legal_
 
 -- ---- how many turns were taken
 
-turns_if : (b : Bool) (c : RawSettings) (i : Program) (run : Run) (k : ℕ) (ask : Ask) → (served_if b c i run k ask).run.turns ≡ run.turns + 1
-turns_if true c i run k ask = refl
-turns_if false c i run k ask = refl
-
-pub turn_counts : (c : RawSettings) (i : Program) (run : Run) (k : ℕ) → (turn c i run k).turns ≡ run.turns + 1
-unfolding serve
-turn_counts c i run k = turns_if (is_orderly c i (run.harts k) (ask_at c i (run.harts k))) c i run k (ask_at c i (run.harts k))
-
 pub turns_count : (c : RawSettings) (i : Program) (run : Run) (b : List ℕ) → (run_from c i run b).turns ≡ run.turns + length b
 turns_count c i run [] = omega arith
-turns_count c i run (k ∷ ks) = omega (arith, turns_count c i (turn c i run k) ks, turn_counts c i run k)
+turns_count c i run (k ∷ ks) = omega (arith, turns_count c i (turn c i run k) ks, served_turns c i run k (ask_at c i (run.harts k)))

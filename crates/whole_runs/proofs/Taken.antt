@@ -1,33 +1,10 @@
 -- A bus that takes the turns of a list.
-use Rattle.whole_runs.proofs.Common.{◌≡◌, ℕ, suc, ◌-◌, ◌<◌, Bool, true, false, ◌&&◌, nat_lt, List, [], ◌∷◌, ◌++◌, length, length-append, refl, sym, ◌∙◌, ap, subst, arith, Option, Some, None, slice_get, slice_get_within, TurnRow, Hart, Run, turn, any_live, draw, chosen, seeded_from, most_turns, Began, Seen, IsState, first_run, turned_run, turn_row, HasTaken, list_run, list_rows, is_legal, live_harts_of, seeded_after}
-use Rattle.run_model.specs.Represents.Harts.{is_live_hart}
+use Rattle.whole_runs.proofs.Common.{◌≡◌, ℕ, suc, ◌-◌, ◌<◌, Bool, true, List, [], ◌∷◌, ◌++◌, length, length-append, sym, ◌∙◌, ap, subst, arith, TurnRow, Run, turn, any_live, draw, chosen, seeded_from, most_turns, Began, Seen, IsState, first_run, turned_run, turn_row, HasTaken, list_run, list_rows, is_legal, live_harts_of, seeded_after}
 use Rattle.run_model.specs.Runs as runs
 use Rattle.bus_core.specs.Bus.{is_live}
+use Rattle.whole_runs.proofs.Live.{live_in}
 use Rattle.whole_runs.proofs.Rows.{run_snoc, rows_snoc, legal_snoc, turns_count}
 use Rattle.whole_runs.proofs.Seeds.{seeded_first}
-
--- ---- a hart that is live in the bus
-
-live_some : (hs : List Hart) (k : ℕ) (o : Option Hart) → slice_get hs k ≡ o → is_live_hart o ≡ true → (h : Hart) × (slice_get hs k ≡ Some h) × (h.live ≡ true)
-live_some hs k None e live = cc
-live_some hs k (Some h) e live = (h, e, live)
-
-some_same : (h j : Hart) → Some h ≡ Some j → h ≡ j
-some_same h j e = cc
-
-both : (a b : Bool) → a ≡ true → b ≡ true → (a && b) ≡ true
-both true b e h = h
-both false b e h = e
-
-below : (a b : ℕ) → a < b → nat_lt a b ≡ true
-below a b h = grind arith
-
-pub live_is : (s : Seen) (run : Run) (k : ℕ) → IsState s run → k < s.began.settings.harts → is_live s k ≡ true → runs.is_live s.began.settings run k ≡ true
-live_is s run k is within live =
-    let some = live_some s.harts k (slice_get s.harts k) refl live in
-    let there = is.harts k (slice_get_within s.harts k some.0 some.1) in
-    let same = some_same some.0 (run.harts k) (sym some.1 ∙ there) in
-    both (nat_lt k s.began.settings.harts) (run.harts k).live (below k s.began.settings.harts within) (ap (λ (h : Hart). h.live) (sym same) ∙ some.2)
 
 -- ---- one turn more
 
@@ -60,7 +37,7 @@ pub taken_turn : (tells : Bool) (old new : Seen) (k : ℕ) → is_live old k ≡
     → new.began ≡ old.began → new.disordered ≡ old.disordered → new.halted ≡ old.halted → (list : List ℕ) → HasTaken tells old list → HasTaken tells new (list ++ k ∷ [])
 taken_turn tells old new k live within state told began disordered halted list h =
     let run = list_run old.began list in
-    taken_more tells old new list k h (live_is old run k h.state within live) (record {
+    taken_more tells old new list k h (live_in old.began.settings run old.harts k h.state.harts within live) (record {
       began = began;
       state = state run h.state;
       told = λ t. told t run h.state;

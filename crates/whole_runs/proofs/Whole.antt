@@ -1,6 +1,5 @@
 -- From a bus that took the turns of a list to what is handed over, or to what is wrong with the list.
 use Rattle.whole_runs.proofs.Common.{◌≡◌, ℕ, suc, ◌+◌, ◌-◌, ◌<◌, Bool, true, false, not, ◌&&◌, List, [], ◌∷◌, ◌++◌, length, get_or, take, drop, length-take, drop-cons, refl, sym, ◌∙◌, ap, subst, arith, Some, slice_get, AllByRecursion, take-append-drop, is_live, has_finished, seeded, seeded_from, most_turns, TurnRow, Run, are_orderly, Began, Seen, IsState, IsLogged, first_run, run_after, marks, IsOfRows, HasTaken, list_run, is_legal, live_harts_of, seeded_after, error_of, IllegalTurn, NotFinished}
-use Rattle.std.proofs.Math.Seq.{take-suc}
 use Rattle.log_record.specs.Spelling.{Fits}
 use Rattle.log_ring.specs.Kept.{HoldsLog}
 use Rattle.run_laws.specs.Ends.{AreLastMarks}
@@ -25,11 +24,6 @@ seeded_is b seed =
 
 -- ---- a list, up to a turn
 
-pub take_more : (xs : List ℕ) (at : ℕ) → at < length xs → take (at + 1) xs ≡ take at xs ++ get_or xs at 0 ∷ []
-take_more xs at h =
-    let next : at + 1 ≡ suc at = omega arith in
-    ap (λ (n : ℕ). take n xs) next ∙ take-suc xs at 0 h
-
 pub split_at : (xs : List ℕ) (at : ℕ) → at < length xs → xs ≡ take at xs ++ get_or xs at 0 ∷ drop (suc at) xs
 split_at xs at h = sym (take-append-drop at xs) ∙ ap (λ (ys : List ℕ). take at xs ++ ys) (drop-cons xs at 0 h)
 
@@ -48,27 +42,20 @@ unfinished_is tells b s list k e h is =
 
 -- ---- what is handed over
 
-ended_so : (halted disordered over : Bool) → halted ≡ false → disordered ≡ false → over ≡ true → (not halted && not disordered && over) ≡ true
-ended_so false false over h d o = o
-ended_so false true over h d o = cc
-ended_so true disordered over h d o = cc
-
 pub finished_is : (finished halted disordered over : Bool) → finished ≡ (not halted && not disordered && over) → halted ≡ false → disordered ≡ false → over ≡ true → finished ≡ true
-finished_is finished halted disordered over e h d o = e ∙ ended_so halted disordered over h d o
-
-ended_not : (halted disordered over : Bool) → (not halted && not disordered && over) ≡ true → halted ≡ false
-ended_not false disordered over e = refl
-ended_not true disordered over e = cc
-
-pub running_of : (finished halted disordered over : Bool) → finished ≡ (not halted && not disordered && over) → finished ≡ true → halted ≡ false
-running_of finished halted disordered over e whole = ended_not halted disordered over (sym e ∙ whole)
-
--- ---- rows that led to what is handed over, with any book
+finished_is finished false false over e h d o = e ∙ o
+finished_is finished false true over e h d o = cc
+finished_is finished true disordered over e h d o = cc
 
 ended_of : (halted disordered over : Bool) → (not halted && not disordered && over) ≡ true → (halted ≡ false) × (disordered ≡ false) × (over ≡ true)
 ended_of false false over e = (refl, refl, e)
 ended_of false true over e = cc
 ended_of true disordered over e = cc
+
+pub running_of : (finished halted disordered over : Bool) → finished ≡ (not halted && not disordered && over) → finished ≡ true → halted ≡ false
+running_of finished halted disordered over e whole = (ended_of halted disordered over (sym e ∙ whole)).0
+
+-- ---- rows that led to what is handed over, with any book
 
 orderly_if : (disordered orderly : Bool) → disordered ≡ not orderly → disordered ≡ false → orderly ≡ true
 orderly_if disordered true e d = refl
