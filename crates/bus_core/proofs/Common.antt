@@ -1,5 +1,5 @@
 -- What several files of proofs/ cite of other crates and of specs/. They import it from here, by one line.
-pub use Rattle.std.proofs.Common.{Bool, Err, Global, IsErrAnd, IsTrue, List, None, Ok, OnErr, Option, Result, Some, Vec, [], ap, arith, false, get_or, length, map, nat_lt, not, refl, replicate, slice_get, subst, suc, sym, take, take_all, true, vec_capacity, vec_len, zero, ℕ, ◌&&◌, ◌++◌, ◌+◌, ◌-◌, ◌<◌, ◌||◌, ◌∙◌, ◌∷◌, ◌≡◌, ◌≤◌}
+pub use Rattle.std.proofs.Common.{Bool, Err, Global, IsErrAnd, IsTrue, List, None, Ok, OnErr, Option, Result, Some, Vec, [], ap, arith, false, get_or, length, map, nat_lt, not, refl, replicate, slice_get, subst, suc, sym, take, true, vec_capacity, vec_len, zero, ℕ, ◌&&◌, ◌++◌, ◌+◌, ◌-◌, ◌<◌, ◌||◌, ◌∙◌, ◌∷◌, ◌≡◌, ◌≤◌}
 pub use Rattle.std.proofs.lemmas.Option.{get_or_from_slice_get}
 pub use Rattle.bn_base.specs.Programs.{Program}
 pub use Rattle.bn_base.specs.Ranges.{IsSetting}
@@ -21,7 +21,7 @@ pub use Rattle.run_model.specs.Turn.{Run, Served, ask_at, budget, dead, halted, 
 unfoldable pub use Rattle.run_model.specs.Turn.{serve}
 pub use Rattle.run_model.specs.declared.hart.Hart.{Hart}
 pub use Rattle.run_model.specs.declared.start.Start.{Start}
-pub use Rattle.rv_meaning.specs.Orderly.{is_reply_to, passes}
+pub use Rattle.rv_meaning.specs.Orderly.{passes}
 pub use Rattle.rv_meaning.specs.declared.asks.Ask.{Ask}
 pub use Rattle.rv_meaning.specs.declared.asks.Reply.{Reply}
-pub use Rattle.bus_core.specs.Bus.{AnswersAsk, AreTold, Began, HasTurnedAlone, IsHistory, IsLogged, IsServed, IsState, IsTold, Seen, began_of, first_run, halted_if, is_live, marks, row, run_after, seen, served_guarded, served_reply, turn_row, turned_run}
+pub use Rattle.bus_core.specs.Bus.{AnswersAsk, AreTold, Began, HasTurnedAlone, IsHistory, IsKept, IsLogged, IsServed, IsState, IsTold, Seen, began_of, first_run, halted_if, is_live, marks, row, run_after, seen, served_guarded, served_reply, turn_row, turned_run}

@@ -13,20 +13,11 @@ marks_count k (suc n) f = ap suc (marks_count (k + 1) n f)
 
 mark_at : (k n j : ℕ) (f : ℕ → Hart) → j < n → slice_get (marks k n f) j ≡ Some (f (k + j)).mark
 mark_at k zero j f within = absurd (omega (arith, within))
-mark_at k (suc n) zero f within = ap (λ (x : ℕ). Some (f x).mark) (here k)
-  where
-    here : (k : ℕ) → k ≡ k + 0
-    here k = omega arith
-mark_at k (suc n) (suc j) f within = mark_at (k + 1) n j f (omega (arith, within)) ∙ ap (λ (x : ℕ). Some (f x).mark) (later k j)
-  where
-    later : (k j : ℕ) → k + 1 + j ≡ k + suc j
-    later k j = omega arith
+mark_at k (suc n) zero f within = ap (λ (x : ℕ). Some (f x).mark) (omega arith)
+mark_at k (suc n) (suc j) f within = mark_at (k + 1) n j f (omega (arith, within)) ∙ ap (λ (x : ℕ). Some (f x).mark) (omega arith)
 
 first_mark : (n h : ℕ) (f : ℕ → Hart) → h < n → slice_get (marks 0 n f) h ≡ Some (f h).mark
-first_mark n h f within = mark_at 0 n h f within ∙ ap (λ (x : ℕ). Some (f x).mark) (same h)
-  where
-    same : (h : ℕ) → 0 + h ≡ h
-    same h = omega arith
+first_mark n h f within = mark_at 0 n h f within ∙ ap (λ (x : ℕ). Some (f x).mark) (omega arith)
 
 -- a halt leaves the records and the marks
 pub halted_stream : (b : Bool) (run : Run) → (halted_if b run).stream ≡ run.stream

@@ -1,11 +1,11 @@
 -- Turns of a hart that is alone, as a bus has them.
-use Rattle.bus_core.proofs.Common.{◌≡◌, ℕ, zero, suc, ◌<◌, ◌≤◌, ◌+◌, Bool, true, false, not, ◌&&◌, nat_lt, List, [], ◌∷◌, ◌++◌, refl, sym, ◌∙◌, ap, subst, arith, replicate, Program, RawSettings, TurnRow, NotesDecide, is_live_hart, PlainParts, IsRun, run_from, legal_from, Run, serve, turn, is_orderly, Start, after_rows, are_orderly, rows_from, IsLawful, Seen, seen, began_of, first_run, run_after, turned_run, turn_row, AreTold, IsHistory, IsState, HasTurnedAlone}
+use Rattle.bus_core.proofs.Common.{◌≡◌, ℕ, zero, suc, ◌<◌, ◌+◌, Bool, true, false, not, List, [], ◌∷◌, ◌++◌, refl, sym, ◌∙◌, ap, subst, arith, replicate, Program, RawSettings, TurnRow, NotesDecide, PlainParts, IsRun, run_from, legal_from, Run, serve, turn, is_orderly, Start, after_rows, are_orderly, rows_from, IsLawful, Seen, seen, began_of, first_run, run_after, turned_run, turn_row, AreTold, IsHistory, IsState, HasTurnedAlone}
 use Rattle.run_model.specs.Represents.Alone.{CanTurn, HasTurned, HaveTurned, run_alone}
 use Rattle.run_model.specs.Represents.Turning.{is_live}
 use Rattle.run_model.specs.Runs as runs
 use Rattle.bus_core.specs.Bus as bus
 use Rattle.bus_core.proofs.History.{run_is, state_is, live_runs}
-use Rattle.bus_core.proofs.Rows.{live_within}
+use Rattle.bus_core.proofs.Rows.{live_in}
 
 -- ---- rows, and rows after them
 
@@ -114,15 +114,6 @@ lone_seen decide tells most p q h d told rows none same turned is =
     }
 
 -- one turn
-nat_one : (n : ℕ) → n ≡ 1 → nat_lt 0 n ≡ true
-nat_one n e = grind (arith, e)
-
-and_both : (a b : Bool) → a ≡ true → b ≡ true → (a && b) ≡ true
-and_both a b ea eb = ap (λ (x : Bool). x && b) ea ∙ eb
-
-live_run : (s : Seen) (run : Run) → IsState s run → s.began.settings.harts ≡ 1 → bus.is_live s 0 ≡ true → runs.is_live s.began.settings run 0 ≡ true
-live_run s run is alone live = and_both (nat_lt 0 s.began.settings.harts) (run.harts 0).live (nat_one s.began.settings.harts alone) (sym (ap is_live_hart (is.harts 0 (live_within s.harts 0 live))) ∙ live)
-
 pub one_seen : (tells : Bool) (most : ℕ) (old new : Seen) → 0 < most → old.began.settings.harts ≡ 1 → bus.is_live old 0 ≡ true → new.began ≡ old.began → new.halted ≡ old.halted → new.disordered ≡ old.disordered → new.turns ≡ old.turns + 1
     → ((run : Run) → IsState old run → IsState new (turned_run old.began run 0)) → (tells ≡ true → (run : Run) → IsState old run → new.rows ≡ old.rows ++ turn_row old.began run 0 ∷ []) → HasTurnedAlone tells most old new
 one_seen tells most old new least alone live began halted disordered turns state told = record {
@@ -134,6 +125,6 @@ one_seen tells most old new least alone live began halted disordered turns state
   disordered = disordered;
   turns = turns;
   state = state;
-  legal = λ run is. both_hold (runs.is_live old.began.settings run 0) true (live_run old run is alone live) refl;
+  legal = λ run is. both_hold (runs.is_live old.began.settings run 0) true (live_in old.began.settings run old.harts 0 is.harts (omega (arith, alone)) live) refl;
   told = told;
 }

@@ -25,17 +25,11 @@ marks_from [] k f at = refl
 marks_from (x ∷ hs) k f at =
     let here : k + 0 ≡ k = omega arith in
     let first : x ≡ f k = ap (λ (o : Option Hart). hart_or o x) (at 0 (omega arith)) ∙ ap f here in
-    let rest = marks_from hs (k + 1) f (λ j below. at (suc j) (omega (arith, below)) ∙ ap (λ (n : ℕ). Some (f n)) (later k j)) in
+    let rest = marks_from hs (k + 1) f (λ j below. at (suc j) (omega (arith, below)) ∙ ap (λ (n : ℕ). Some (f n)) (omega arith)) in
     ap (λ (h : Hart). h.mark ∷ map (λ (y : Hart). y.mark) hs) first ∙ ap (λ (ms : List (Option EndMark)). (f k).mark ∷ ms) rest
-  where
-    later : (k j : ℕ) → k + suc j ≡ k + 1 + j
-    later k j = omega arith
 
 pub marks_are : (hs : List Hart) (f : ℕ → Hart) (n : ℕ) → AreHarts hs f → length hs ≡ n → map (λ (h : Hart). h.mark) hs ≡ marks 0 n f
-marks_are hs f n are len = marks_from hs 0 f (λ j below. are j below ∙ ap (λ (m : ℕ). Some (f m)) (same j)) ∙ ap (λ (m : ℕ). marks 0 m f) len
-  where
-    same : (j : ℕ) → j ≡ 0 + j
-    same j = omega arith
+marks_are hs f n are len = marks_from hs 0 f (λ j below. are j below ∙ ap (λ (m : ℕ). Some (f m)) (omega arith)) ∙ ap (λ (m : ℕ). marks 0 m f) len
 
 any_same : (n : ℕ) (f g : ℕ → Hart) → ((k : ℕ) → k < n → f k ≡ g k) → any_live n f ≡ any_live n g
 any_same zero f g same = refl

@@ -1,11 +1,17 @@
 -- A hart that asks what it asks next.
-use Rattle.bus_core.proofs.Common.{◌≡◌, ℕ, ◌<◌, List, length, Bool, true, false, not, ◌||◌, refl, sym, ◌∙◌, ap, get_or_from_slice_get, Ask, Reply, Hart, AreHarts, hart_in, no_hart, PlainParts, IsRun, Run, ask_at, is_orderly, Began, row, turn_row, served_reply, served_guarded}
+use Rattle.bus_core.proofs.Common.{◌≡◌, ℕ, ◌<◌, List, length, subst, Bool, true, false, not, ◌||◌, refl, sym, ◌∙◌, ap, get_or_from_slice_get, Ask, Reply, Hart, AreHarts, hart_in, no_hart, PlainParts, IsRun, Run, ask_at, is_orderly, Began, IsState, Seen, TurnRow, row, seen, turn_row, served_reply, served_guarded}
 use Rattle.run_model.specs.Represents.Turning.{is_live}
 use Rattle.bus_core.proofs.Rows.{live_within}
 
 -- a hart of the list is that of each run
-pub hart_at : (hs : List Hart) (f : ℕ → Hart) (k : ℕ) → AreHarts hs f → k < length hs → hart_in hs k ≡ f k
+hart_at : (hs : List Hart) (f : ℕ → Hart) (k : ℕ) → AreHarts hs f → k < length hs → hart_in hs k ≡ f k
 hart_at hs f k are within = get_or_from_slice_get hs k (f k) no_hart (are k within)
+
+pub hart_seen : (p : PlainParts) (s : Seen) (run : Run) (h d : Bool) (told : List TurnRow) (k : ℕ) → length p.trace.harts.items ≡ p.start.settings.harts → seen p h d told ≡ s → IsState s run → k < s.began.settings.harts
+    → hart_in p.trace.harts.items k ≡ run.harts k
+hart_seen p s run h d told k len e is within =
+    let at : IsState (seen p h d told) run = subst (λ (x : Seen). IsState x run) (sym e) is in
+    hart_at p.trace.harts.items run.harts k at.harts (subst (λ n. k < n) (sym len) (subst (λ (x : Seen). k < x.began.settings.harts) (sym e) within))
 
 -- so is a live one
 hart_is : (p : PlainParts) (run : Run) (k : ℕ) → IsRun p run → is_live p k ≡ true → hart_in p.trace.harts.items k ≡ run.harts k

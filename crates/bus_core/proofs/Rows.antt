@@ -58,10 +58,11 @@ below k n h = grind (arith, h)
 and_both : (a b : Bool) → a ≡ true → b ≡ true → (a && b) ≡ true
 and_both a b ea eb = ap (λ (x : Bool). x && b) ea ∙ eb
 
+pub live_in : (c : RawSettings) (run : Run) (hs : List Hart) (k : ℕ) → AreHarts hs run.harts → k < c.harts → is_live_hart (slice_get hs k) ≡ true → is_live c run k ≡ true
+live_in c run hs k are within live = and_both (nat_lt k c.harts) (run.harts k).live (below k c.harts within) (sym (ap is_live_hart (are k (live_within hs k live))) ∙ live)
+
 pub live_as : (c : RawSettings) (run : Run) (hs : List Hart) (k : ℕ) → AreHarts hs run.harts → length hs ≡ c.harts → is_live_hart (slice_get hs k) ≡ true → is_live c run k ≡ true
-live_as c run hs k are len live =
-    let within = live_within hs k live in
-    and_both (nat_lt k c.harts) (run.harts k).live (below k c.harts (omega (arith, within, len))) (sym (ap is_live_hart (are k within)) ∙ live)
+live_as c run hs k are len live = live_in c run hs k are (omega (arith, live_within hs k live, len)) live
 
 -- where all harts were ended, none is live
 pub none_is_live : (hs : List Hart) (f : ℕ → Hart) (k : ℕ) → AreHarts hs (λ j. dead (f j)) → is_live_hart (slice_get hs k) ≡ true → true ≡ false

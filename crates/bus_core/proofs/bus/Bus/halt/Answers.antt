@@ -1,5 +1,5 @@
-use Rattle.bus_core.proofs.Common.{true, subst, sym, halted, parts, Seen, seen, IsState}
-use Rattle.bus_core.proofs.History.{history_halted, run_is, state_is}
+use Rattle.bus_core.proofs.Common.{true, halted, parts}
+use Rattle.bus_core.proofs.History.{history_halted, run_seen, state_is}
 use Rattle.bus_core.proofs.bus.Bus.halt.Goals as goal
 
 pub invariant_of-self : goal.invariant_of-self
@@ -16,5 +16,4 @@ pub returns-clause-state : goal.returns-clause-state
 returns-clause-state g c run is =
     let b = c.self.inside in
     let p = parts b.plain in let q = parts c.halt.new.self in let told = g.B.Book.told b.book in
-    let at : IsState (seen p b.halted b.disordered told) run = subst (λ (s : Seen). IsState s run) (sym c.self.view_is) is in
-    state_is q true b.disordered told (halted run) (c.halt.ensures.run run (run_is c.notes_decide.ensures p b.halted b.disordered told run at))
+    state_is q true b.disordered told (halted run) (c.halt.ensures.run run (run_seen c.notes_decide.ensures p b.halted b.disordered told _ run c.self.view_is is))

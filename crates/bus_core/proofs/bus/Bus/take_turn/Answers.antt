@@ -1,5 +1,5 @@
-use Rattle.bus_core.proofs.Common.{◌≡◌, ◌<◌, ℕ, ◌+◌, true, List, ◌∷◌, ◌++◌, [], subst, sym, ◌∙◌, ap, Ask, TurnRow, IsRun, parts, serve, Seen, seen, IsState, IsHistory, began_of, run_after, row, turned_run, turn_row, is_live}
-use Rattle.bus_core.proofs.History.{Serves, history_more, history_same, run_is, state_is}
+use Rattle.bus_core.proofs.Common.{◌≡◌, ◌<◌, ◌+◌, true, List, ◌∷◌, ◌++◌, [], subst, sym, ◌∙◌, ap, Ask, TurnRow, IsRun, parts, serve, Seen, seen, IsState, began_of, row, turned_run, turn_row, is_live}
+use Rattle.bus_core.proofs.History.{kept_more, kept_same, run_seen, state_is, turns_more}
 use Rattle.bus_core.proofs.Rows.{live_within}
 use Rattle.bus_core.proofs.OwnTurn.{ask_is, own_orderly, row_is, or_not_true}
 use Rattle.bus_core.proofs.Serves.{served_turns, on_err}
@@ -25,14 +25,8 @@ answer_orderly-requires-clause-meant g c = λ run is.
 pub invariant_of-self : goal.invariant_of-self
 invariant_of-self g c =
     let b = c.self.inside in
-    let p = parts b.plain in let q = parts c.answer_orderly.new.plain in
-    let same = c.in_err-reply.ensures.answers.start in
-    let stays = c.in_err-reply.ensures.answers.served in
-    let s = c.self.invariant.some in
-    record {
-      told = λ t. subst (λ (rs : List TurnRow). IsHistory q b.halted b.disordered rs) (sym c.answer_orderly.ensures.rows) (history_same p q b.halted b.disordered (g.B.Book.told b.book) same stays (c.self.invariant.told t));
-      some = (s.0, history_same p q b.halted b.disordered s.0 same stays s.1);
-    }
+    let e = c.in_err-reply.ensures.answers in
+    kept_same g.B.Book.tells (g.B.Book.told b.book) _ (parts b.plain) (parts c.answer_orderly.new.plain) b.halted b.disordered c.answer_orderly.ensures.rows e.start e.served c.self.invariant
 
 pub returns-in_err-reply-clause-kept : goal.returns-in_err-reply-clause-kept
 returns-in_err-reply-clause-kept g c = on_err c.from_residual.result _ (c.answer_orderly.ensures.rows ∙ ap (λ (x : Seen). x.rows) c.self.view_is)
@@ -42,23 +36,17 @@ returns-in_err-reply-clause-refused g c =
     let b = c.self.inside in
     let p = parts b.plain in let q = parts c.answer_orderly.new.plain in let told = g.B.Book.told b.book in
     on_err c.from_residual.result _ (λ run is.
-    let at : IsState (seen p b.halted b.disordered told) run = subst (λ (x : Seen). IsState x run) (sym c.self.view_is) is in
-    state_is q b.halted b.disordered (g.B.Book.told c.answer_orderly.new.book) run (c.in_err-reply.ensures.answers.served run (run_is c.notes_decide.ensures p b.halted b.disordered told run at)))
+    state_is q b.halted b.disordered (g.B.Book.told c.answer_orderly.new.book) run (c.in_err-reply.ensures.answers.served run (run_seen c.notes_decide.ensures p b.halted b.disordered told _ run c.self.view_is is)))
 
 pub invariant_of-self-2 : goal.invariant_of-self-2
 invariant_of-self-2 g c =
     let b = c.self.inside in
-    let p = parts b.plain in let q = parts c.answer_orderly.new.plain in
+    let p = parts b.plain in
     let k = c.args.hart in let ask = c.ask_next.new.ask in let r = c.in_ok-reply in
-    let e = c.in_ok-reply.ensures in
-    let s = c.self.invariant.some in
     let live = subst (λ (x : Seen). is_live x k ≡ true) (sym c.self.view_is) c.requires.live in
-    let told_is = λ (t : g.B.Book.tells ≡ true). c.note.ensures.row t ∙ ap (λ (rs : List TurnRow). rs ++ row k ask r.reply r.guarded ∷ []) c.answer_orderly.ensures.rows in
-    let serves : Serves p q k ask true r.reply r.guarded = record { same = c.answer_orderly.ensures.answers.start; replies = λ r is. (e.answers.served r is).0; flags = λ r is. (e.answers.served r is).1; runs = λ r is. (e.answers.served r is).2; asks = λ run is. own_orderly p run k ask is live c.ask_next.ensures.orderly } in
-    record {
-      told = λ t. subst (λ (rs : List TurnRow). IsHistory q b.halted b.disordered rs) (sym (told_is t)) (history_more p q b.halted b.disordered b.disordered true (g.B.Book.told b.book) k ask r.reply r.guarded b.plain.fits.harts live serves (or_not_true b.disordered) (c.self.invariant.told t));
-      some = (s.0 ++ row k ask r.reply r.guarded ∷ [], history_more p q b.halted b.disordered b.disordered true s.0 k ask r.reply r.guarded b.plain.fits.harts live serves (or_not_true b.disordered) s.1);
-    }
+    kept_more g.B.Book.tells (g.B.Book.told b.book) _ p (parts c.answer_orderly.new.plain) b.halted b.disordered b.disordered true k ask r.reply r.guarded
+    (λ t. c.note.ensures.row t ∙ ap (λ (rs : List TurnRow). rs ++ row k ask r.reply r.guarded ∷ []) c.answer_orderly.ensures.rows)
+    b.plain.fits.harts live c.answer_orderly.ensures.answers.start r.ensures.answers.served (λ run is. own_orderly p run k ask is live c.ask_next.ensures.orderly) (or_not_true b.disordered) c.self.invariant
 
 pub returns-clause-state : goal.returns-clause-state
 returns-clause-state g c = λ run is.
@@ -66,8 +54,7 @@ returns-clause-state g c = λ run is.
     let p = parts b.plain in let q = parts c.answer_orderly.new.plain in let told = g.B.Book.told b.book in
     let k = c.args.hart in let ask = c.ask_next.new.ask in
     let live = subst (λ (x : Seen). is_live x k ≡ true) (sym c.self.view_is) c.requires.live in
-    let at : IsState (seen p b.halted b.disordered told) run = subst (λ (x : Seen). IsState x run) (sym c.self.view_is) is in
-    let from = run_is c.notes_decide.ensures p b.halted b.disordered told run at in
+    let from = run_seen c.notes_decide.ensures p b.halted b.disordered told _ run c.self.view_is is in
     let now : Seen = seen q b.halted b.disordered (g.B.Book.told c.note.new.self) in
     let asks = ask_is p run k ask from live c.ask_next.ensures.asks in
     let served : IsRun q (turned_run (began_of p.start) run k) = subst (λ (a : Ask). IsRun q (serve p.start.settings p.start.image run k a).run) asks (c.in_ok-reply.ensures.answers.served run from).2 in
@@ -81,8 +68,7 @@ returns-clause-told g c = λ t run is.
     let k = c.args.hart in let ask = c.ask_next.new.ask in let r = c.in_ok-reply in
     let e = c.in_ok-reply.ensures in
     let live = subst (λ (x : Seen). is_live x k ≡ true) (sym c.self.view_is) c.requires.live in
-    let at : IsState (seen p b.halted b.disordered told) run = subst (λ (x : Seen). IsState x run) (sym c.self.view_is) is in
-    let from = run_is c.notes_decide.ensures p b.halted b.disordered told run at in
+    let from = run_seen c.notes_decide.ensures p b.halted b.disordered told _ run c.self.view_is is in
     let asks = ask_is p run k ask from live c.ask_next.ensures.asks in
     c.note.ensures.row t ∙ ap (λ (rs : List TurnRow). rs ++ row k ask r.reply r.guarded ∷ []) c.answer_orderly.ensures.rows
     ∙ ap (λ (x : TurnRow). told ++ x ∷ []) (row_is (began_of p.start) run k ask r.reply r.guarded asks (e.answers.served run from).0 (e.answers.served run from).1)
@@ -90,9 +76,6 @@ returns-clause-told g c = λ t run is.
 
 pub returns-clause-turns : goal.returns-clause-turns
 returns-clause-turns g c =
-    let b = c.self.inside in
-    let p = parts b.plain in
-    let s = c.self.invariant.some in
-    let run = run_after (began_of p.start) b.halted s.0 in
-    (c.in_ok-reply.ensures.answers.served run s.1.run).2.turns ∙ served_turns p.start.settings p.start.image run c.args.hart c.ask_next.new.ask
-    ∙ ap (λ (n : ℕ). n + 1) (sym s.1.run.turns ∙ ap (λ (x : Seen). x.turns) c.self.view_is)
+    let p = parts c.self.inside.plain in
+    let some = c.self.invariant.some in
+    turns_more p _ _ _ _ some.0 _ c.self.view_is some.1 (λ run is. (c.in_ok-reply.ensures.answers.served run is).2.turns ∙ served_turns p.start.settings p.start.image run c.args.hart c.ask_next.new.ask)

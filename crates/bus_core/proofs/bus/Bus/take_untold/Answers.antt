@@ -1,6 +1,6 @@
-use Rattle.bus_core.proofs.Common.{◌≡◌, ◌<◌, ◌≤◌, ◌-◌, ℕ, ◌+◌, true, false, subst, sym, ◌∙◌, ap, arith, refl, Bool, IsTrue, Ask, RawSettings, Hart, hart_in, parts, ask_at, budget, is_orderly, Seen, seen, IsState, began_of, run_after, turned_run, is_live}
+use Rattle.bus_core.proofs.Common.{◌≡◌, ◌<◌, ◌≤◌, ◌-◌, true, false, subst, sym, ◌∙◌, arith, refl, Bool, IsTrue, Ask, RawSettings, Hart, hart_in, parts, ask_at, budget, is_orderly, Seen, seen, IsState, began_of, turned_run, is_live}
 use Rattle.std.proofs.lemmas.Grind.{common_steps}
-use Rattle.bus_core.proofs.History.{history_turned, history_same, run_is, state_is}
+use Rattle.bus_core.proofs.History.{history_turned, kept_same, run_seen, state_is, turns_more}
 use Rattle.bus_core.proofs.Rows.{live_within}
 use Rattle.bus_core.proofs.Serves.{served_turns, on_err}
 use Rattle.bus_core.proofs.bus.Bus.take_untold.Goals as goal
@@ -11,12 +11,7 @@ within_limit c h = grind (arith, common_steps)
 pub invariant_of-self : goal.invariant_of-self
 invariant_of-self g c =
     let b = c.self.inside in
-    let p = parts b.plain in let q = parts c.turn_ahead.new.self in
-    let s = c.self.invariant.some in
-    record {
-      told = λ t. history_same p q b.halted b.disordered (g.B.Book.told b.book) c.turn_ahead.ensures.start c.in_err-turn_ahead.ensures.refused (c.self.invariant.told t);
-      some = (s.0, history_same p q b.halted b.disordered s.0 c.turn_ahead.ensures.start c.in_err-turn_ahead.ensures.refused s.1);
-    }
+    kept_same g.B.Book.tells (g.B.Book.told b.book) _ (parts b.plain) (parts c.turn_ahead.new.self) b.halted b.disordered refl c.turn_ahead.ensures.start c.in_err-turn_ahead.ensures.refused c.self.invariant
 
 pub invariant_of-self-2 : goal.invariant_of-self-2
 invariant_of-self-2 g c =
@@ -42,24 +37,19 @@ returns-in_err-turn_ahead-clause-refused g c =
     let b = c.self.inside in
     let p = parts b.plain in let q = parts c.turn_ahead.new.self in let told = g.B.Book.told b.book in
     on_err c.from_residual.result _ (λ run is.
-    let at : IsState (seen p b.halted b.disordered told) run = subst (λ (x : Seen). IsState x run) (sym c.self.view_is) is in
-    state_is q b.halted b.disordered told run (c.in_err-turn_ahead.ensures.refused run (run_is c.notes_decide.ensures p b.halted b.disordered told run at)))
+    state_is q b.halted b.disordered told run (c.in_err-turn_ahead.ensures.refused run (run_seen c.notes_decide.ensures p b.halted b.disordered told _ run c.self.view_is is)))
 
 pub returns-clause-state : goal.returns-clause-state
 returns-clause-state g c = λ run is.
     let b = c.self.inside in
     let p = parts b.plain in let q = parts c.turn_ahead.new.self in let told = g.B.Book.told b.book in
     let k = c.args.hart in
-    let at : IsState (seen p b.halted b.disordered told) run = subst (λ (x : Seen). IsState x run) (sym c.self.view_is) is in
-    let from = run_is c.notes_decide.ensures p b.halted b.disordered told run at in
+    let from = run_seen c.notes_decide.ensures p b.halted b.disordered told _ run c.self.view_is is in
     subst (λ (x : Seen). IsState (seen q b.halted b.disordered told) (turned_run x.began run k)) c.self.view_is
     (state_is q b.halted b.disordered told (turned_run (began_of p.start) run k) (c.in_ok-turn_ahead.ensures.run run from))
 
 pub returns-clause-turns : goal.returns-clause-turns
 returns-clause-turns g c =
-    let b = c.self.inside in
-    let p = parts b.plain in
-    let s = c.self.invariant.some in
-    let run = run_after (began_of p.start) b.halted s.0 in
-    (c.in_ok-turn_ahead.ensures.run run s.1.run).turns ∙ served_turns p.start.settings p.start.image run c.args.hart (ask_at p.start.settings p.start.image (run.harts c.args.hart))
-    ∙ ap (λ (n : ℕ). n + 1) (sym s.1.run.turns ∙ ap (λ (x : Seen). x.turns) c.self.view_is)
+    let p = parts c.self.inside.plain in
+    let some = c.self.invariant.some in
+    turns_more p _ _ _ _ some.0 _ c.self.view_is some.1 (λ run is. (c.in_ok-turn_ahead.ensures.run run is).turns ∙ served_turns p.start.settings p.start.image run c.args.hart (ask_at p.start.settings p.start.image (run.harts c.args.hart)))
