@@ -94,8 +94,8 @@ agrees laws log elf book input files what h is =
           (l.1 ∙ ap (λ (bytes : List ℕ). Some bytes) (same-file laws.verdicts file l.0 t.1 ∙ ap (λ (x : List ℕ). audited_file second c program x i.0 b.0) (sym digest)));
     }
 
-pub audits-agree : AuditLaws → AuditsAgree
-audits-agree laws log elf book input files what h done = agrees laws log elf book input files what h (inl done)
+pub audits_agree : VerdictsAreUnique → WholeRunsHaveNoError → AuditsAgree
+audits_agree verdicts errors log elf book input files what h done = agrees (record { verdicts = verdicts; errors = errors }) log elf book input files what h (inl done)
 
 -- ---- a call
 

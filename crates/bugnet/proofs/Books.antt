@@ -46,8 +46,8 @@ pub one_run : SchedulesGiveOneRun
 one_run r q old new before after first second schedule one mine its =
     same-turns first second one (its ∙ ap (λ (b : Began). scheduled schedule b) (same-began first second one) ∙ sym mine)
 
-pub books-followed : WholeListsAreFollowed → BooksAreFollowed
-books-followed whole r q old new before after first second book full under one keeps =
+pub books_followed : WholeListsAreFollowed → BooksAreFollowed
+books_followed whole r q old new before after first second book full under one keeps =
     let list : book.now ≡ first.turns = some-same (new r.book) book.now first.turns under (listed r.lean (new r.book) first.turns full first.book) in
     let began = began_by r.settings first.program (sha256 first.elf) first.input in
     same-turns first second one

@@ -1,5 +1,5 @@
 -- What several files of proofs/ cite of other crates and of specs/. They import it from here, by one line.
-pub use Rattle.std.proofs.Common.{Bool, Err, Global, IfOk, IfSome, IsErrAnd, IsSome, List, None, Ok, Option, Result, Some, Vec, [], ap, append-nil, append_assoc, arith, bytes_eq, codes, drop, false, filter, if◌then◌else◌, inl, inr, is_some, length, map, nat_le, nat_lt, not, option_map, refl, replicate, rules, slice_get, slice_index, slice_set, subst, suc, sym, take, take-append-drop, true, unwrap_or, zero, ℕ, ◌%◌, ◌&&◌, ◌*◌, ◌++◌, ◌+◌, ◌-◌, ◌<◌, ◌==◌, ◌^◌, ◌||◌, ◌∙◌, ◌∷◌, ◌≡◌, ◌≢◌, ◌≤◌, ◌⊎◌}
+pub use Rattle.std.proofs.Common.{Bool, Err, Global, IfOk, IfSome, IsErrAnd, IsSome, List, None, Ok, Option, Result, Some, Vec, [], ap, append-nil, append_assoc, arith, bytes_eq, codes, drop, false, filter, if◌then◌else◌, inl, inr, is_some, length, map, nat_le, nat_lt, not, option_map, refl, replicate, slice_get, slice_index, slice_set, subst, suc, sym, take, take-append-drop, true, unwrap_or, zero, ℕ, ◌%◌, ◌&&◌, ◌*◌, ◌++◌, ◌+◌, ◌-◌, ◌<◌, ◌==◌, ◌^◌, ◌||◌, ◌∙◌, ◌∷◌, ◌≡◌, ◌≢◌, ◌≤◌, ◌⊎◌}
 pub use Rattle.std.proofs.lemmas.Bool.Decides.{nat_tests}
 pub use Rattle.std.proofs.lemmas.Slice.Eq.{bytes_eq-Decides}
 pub use Rattle.std.specs.Io.KnownBytes.{Appends, Consumes}
@@ -60,7 +60,7 @@ pub use Rattle.log_commands.specs.Answering.{Answers, IsByFiles}
 pub use Rattle.log_commands.specs.Audits.{Agrees, IsAuditOf, audited, by_turns, by_verdict, roles_of, shown}
 pub use Rattle.log_commands.specs.Commands.{Either, IsByFile, IsByInput, IsByLog, by_log, check_of, interval_told, list_of, replay_found, replay_with}
 unfoldable pub use Rattle.log_commands.specs.Commands.{WithFile, ended}
-pub use Rattle.log_commands.specs.Effects.{Acts, AreKept, Call, GivesStatus, IsByWords, IsFree, IsUnsaved, NoWriteFell, SomeTold, StoppedBy, Tells, World, between, call, printing_on, world}
+pub use Rattle.log_commands.specs.Effects.{Acts, AreKept, Call, GivesStatus, IsByWords, IsFree, IsUnsaved, NoWriteFell, SomeTold, StoppedBy, Tells, World, between, printing_on, world}
 pub use Rattle.log_commands.specs.Evaluated.{told_by}
 pub use Rattle.log_commands.specs.FileCalls.{CallsBy, CallsTo, FileCall, IsOfContent, IsOfSave, LoadsTo, LoadsUpTo, Note, SaveRefused, Saves, SavesTold, StopsAt, elf_roles, has_save, input_roles, loads_of, noted_after, record_roles, saved_in, saves_in, saves_of}
 pub use Rattle.log_commands.specs.Inputs.{Bytes, IsLoaded, input_by, limit_of, no_bytes, put}
@@ -120,7 +120,7 @@ pub use Rattle.slice_back.specs.Texts.{text_of}
 pub use Rattle.step_debugger.specs.Answers.{Moves, Session, address_text, answer, back_by, back_to, back_to_stop, begin_at, break_limit, go_by, go_for, go_on, go_past, hart_text, is_set, moved, places_from, registers_text, says, step_by, step_up_to, stop_below, stop_unless, unknown, word_text}
 pub use Rattle.step_debugger.specs.Commands.{command_of}
 pub use Rattle.step_debugger.specs.Lines.{Input, RefusalsStay, ends_in, input_from, input_limit, input_of, is_line_feed, is_too_long, with_line}
-pub use Rattle.step_debugger.specs.Transcript.{Debugged, Debugs, EndsAll, EndsThere, EndsWithLine, IsReadOnce, ReadsUpTo, StopsAtEnd, StopsAtLine, StopsInLine, answers, goes_on_by, lines_in, result_by, transcript, transcript_from}
+pub use Rattle.step_debugger.specs.Transcript.{Debugged, Debugs, EndsAll, EndsThere, IsReadOnce, StopsAtEnd, StopsAtLine, StopsInLine, answers, goes_on_by, lines_in, result_by, transcript, transcript_from, EndsWithLine, ReadsUpTo}
 pub use Rattle.step_debugger.specs.declared.command.DebugCommand.{DebugCommand}
 pub use Rattle.step_debugger.specs.declared.error.DebugError.{DebugError}
 pub use Rattle.step_debugger.specs.declared.session.Ending.{Ending}
@@ -140,9 +140,9 @@ pub use Rattle.bugnet.specs.LineAnswers.{AnswersLine}
 pub use Rattle.bugnet.specs.LineCalls.{AnswersDemo, CallsOnly, CallsSo, HasShape, IsSaved, MaySave, RefusedAfter, TellsDemo, TellsRefusal, calls_of, is_printed, is_recorded, is_replayed, line_past, needed_of, needed_roles, past_of}
 pub use Rattle.bugnet.specs.Recordings.{AreScheduled, AreTaken, IsRun, Scheduling, began_by, book_if, end_by, instructions_of, is_fault, is_limit, marks_of, recorded}
 unfoldable pub use Rattle.bugnet.specs.Recordings.{told_run}
-pub use Rattle.bugnet.specs.Replies.{Does, RepliesTo, with_end}
+pub use Rattle.bugnet.specs.Replies.{Does, RepliesTo}
 pub use Rattle.bugnet.specs.Run.{ByWords, ChangesFew, IsCounted, Keeps, Obeys, StoppedEarly, TellsAnswer}
-pub use Rattle.bugnet.specs.Saves.{HasElf, HasList, HoldsBytes, IsWithin, KeepsSchedule, Leaves, LeavesRun, LeavesScheduled, SameButSaved, TellsEnd}
+pub use Rattle.bugnet.specs.Saves.{HasElf, HasList, HoldsBytes, KeepsSchedule, Leaves, LeavesRun, LeavesScheduled, SameButSaved, TellsEnd}
 pub use Rattle.bugnet.specs.Sessions.{AreRead, CanDebug, Commands, EndsBy, EndsWithQuit, IsDebug, IsSession, IsUnread, NoQuit, NoneEnds, Reading, ReadsAll, ReadsOnce, SessionOver, SessionReads, debug_with, input_in, is_begun, reading, session_line, session_status, stop_status, whole_input}
 unfoldable pub use Rattle.bugnet.specs.Sessions.{session_told}
 pub use Rattle.bugnet.specs.Starts.{BeginsBy, LoadsStart}

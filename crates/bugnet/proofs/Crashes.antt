@@ -1,5 +1,5 @@
 -- A crash with format 2 is shown by `list` and `replay`.
-use Rattle.bugnet.proofs.Common.{◌≡◌, ℕ, ◌+◌, ◌<◌, ◌≤◌, ◌==◌, ◌&&◌, Bool, true, false, List, [], ◌∷◌, ◌++◌, nat_lt, Some, ◌∙◌, ap, subst, sym, refl, arith, inl, inr, ◌⊎◌, append_assoc, if◌then◌else◌, nat_tests, sha256, fault_number, Program, IsSetting, EndMark, RawSettings, Files, RecordingLine, ListLine, Content, IsContent, saved_bytes, Record, Header, kept_of, dropped_of, content_of, start, run_of, run_from, is_live, legal_from, Run, turn, mark, OwnAsksAreOrderly, IsGuarding, HasEnded, FaultsAreKept, names_in, IsAnswer, WithFile, IsByLog, list_of, IsCrash, mark_of_crash, HasLine, ShowsCrash, CrashesAreShown, RecordingsAreReplayed, marks_of, end_by, end_status, Leaves, RunEnd, mark_in, interval_text, record_text, list_text, Told}
+use Rattle.bugnet.proofs.Common.{◌≡◌, ℕ, ◌+◌, ◌<◌, ◌≤◌, ◌==◌, ◌&&◌, Bool, true, false, List, [], ◌∷◌, ◌++◌, nat_lt, Some, ◌∙◌, ap, subst, sym, refl, arith, inl, inr, ◌⊎◌, append_assoc, if◌then◌else◌, nat_tests, sha256, fault_number, Program, IsSetting, EndMark, RawSettings, Files, RecordingLine, ListLine, Content, IsContent, saved_bytes, Record, Header, kept_of, dropped_of, content_of, start, run_of, run_from, is_live, legal_from, Run, turn, mark, OwnAsksAreOrderly, IsGuarding, HasEnded, FaultsAreKept, names_in, IsAnswer, WithFile, IsByLog, list_of, IsCrash, mark_of_crash, HasLine, ShowsCrash, CrashesAreShown, RecordingsAreReplayed, marks_of, end_by, end_status, Leaves, RunEnd, mark_in, interval_text, record_text, list_text, Told, ReadingsAreUnique, LogsAreContents, SavedHaveTheirLimit, FilesAreRead}
 use Rattle.log_commands.specs.declared.answer.RunEnd.TheVariants as ends
 use Rattle.log_commands.specs.declared.names.Role.TheVariants as role
 use Rattle.bugnet.proofs.LastEnds.{Closes, closes}
@@ -116,9 +116,9 @@ ended-so ends.Fault e = refl
 ended-so ends.Limit e = another 11 (inr refl) e
 ended-so ends.Done e = another 0 (inl refl) e
 
-pub crashes-shown : Grammar → FileLaws → OwnAsksAreOrderly → FaultsAreKept → RecordingsAreReplayed → CrashesAreShown
-crashes-shown g laws asks faults replays r old new l format is =
+pub crashes_shown : ReadingsAreUnique → LogsAreContents → SavedHaveTheirLimit → FilesAreRead → OwnAsksAreOrderly → FaultsAreKept → RecordingsAreReplayed → CrashesAreShown
+crashes_shown readings contents limit read asks faults replays r old new l format is =
     let c = r.settings in
     let end : end_by (marks_of c (run_of c l.program l.input l.turns)) ≡ ends.Fault = ended-so (end_by (marks_of c (run_of c l.program l.input l.turns))) is in
     let k = is-crash asks c l.program l.input l.turns l.recording.setting l.recording.legal end in
-    (k, shown g laws faults replays r old new l format k)
+    (k, shown (record { one_reading = readings }) (record { contents = contents; limit = limit; read = read }) faults replays r old new l format k)

@@ -15,7 +15,7 @@ use Rattle.bugnet.proofs.Complete.{session-done}
 use Rattle.bugnet.proofs.Jointly.{Limits, is-log, pair-so, are-pair}
 use Rattle.bugnet.proofs.SessionReads.{quits-or-all, session-reads, session-over}
 use Rattle.bugnet.proofs.Sessions.{no-quit}
-use Rattle.bugnet.proofs.Single.{Grammar, one-session}
+use Rattle.bugnet.proofs.Single.{Grammar, one_session}
 use Rattle.bugnet.proofs.Suffices.{FileLaws, then-so}
 use Rattle.bugnet.proofs.Whole.{whole-done}
 use Rattle.bugnet.proofs.LineTells.{early-free}
@@ -402,8 +402,8 @@ shows-session g limits show stay c log elf files status k (inl a) r h =
     shown stay (nat_lt 67108864 (length r.elf)) names r d.records c a.0 status k (never-refused show r d.records c here) (show r d.records here)
     (then-so (nat_lt 67108864 (length r.elf)) _ _ _ (λ (by : a.0 ≡ debug_with names c d r.program). by ∙ session-so names r c d h.says.head) (pair-so g limits (debug_with names c) names files r h a.0 a.1)) a.2
 
-pub can-be-debugged : SessionsShowTheRun → RecordingsCanBeDebugged
-can-be-debugged show c log elf files r h small whole none =
+pub can_be_debugged : SessionsShowTheRun → RecordingsCanBeDebugged
+can_be_debugged show c log elf files r h small whole none =
     let d = h.says.log in
     let i = input_in c in
     let same : i.refused ≡ None = ap (λ (b : Bool). (cut b (input_of c.bytes)).refused) whole ∙ none in
@@ -415,8 +415,8 @@ can-be-debugged show c log elf files r h small whole none =
           ∙ whole-ends (answers (lines_in i) (session_begin (begin r d.records))).ends i.refused (show r d.records (is-log log elf files r h) (lines_in i)).goes_on same;
     }
 
-pub prefixes-can-be-debugged : RecordingsCanBeDebugged → RefusalsStay → PrefixesCanBeDebugged
-prefixes-can-be-debugged can stay c more log elf files r h small whole none = can c log elf files r h small whole (stay c.bytes more none)
+pub prefixes_can_be_debugged : RecordingsCanBeDebugged → RefusalsStay → PrefixesCanBeDebugged
+prefixes_can_be_debugged can stay c more log elf files r h small whole none = can c log elf files r h small whole (stay c.bytes more none)
 
 -- ---- the call
 
@@ -428,7 +428,7 @@ unread-done g laws limits c log elf files status k x none whole all can =
     let j : Joining = joined can.content can.program in
     let goes_on : (transcript j (input_in c)).result ≡ Ok (tt {0}) =
     ap (λ (b : Bool). (transcript j (cut b (input_of c.bytes))).result) whole ∙ ap (λ (bytes : List ℕ). (transcript j (input_of bytes)).result) none in
-    session-done (one-session g) laws limits.converted c log elf files status k x (record { content = can.content; program = can.program; pair = can.pair; goes_on = goes_on })
+    session-done (one_session g.one_reading) laws limits.converted c log elf files status k x (record { content = can.content; program = can.program; pair = can.pair; goes_on = goes_on })
 
 -- where all that the source had left isn't stopped it is done, unless a read failed
 all-done : Grammar → FileLaws → Limits → (c : Commands) (log elf : List ℕ) (files : Files) (status : ℕ) (input now_input : Supply) (notes : ReadNote) (k : Call)
@@ -451,7 +451,7 @@ debugs-so g laws limits show stay names log elf status i k e h =
           (λ files. SessionIs c log elf files status i.before i.after i.notes k) (λ files. DebugsFiles c log elf files status i.before i.after i.notes k)
           (λ files x y. record {
             tells = x;
-            done = session-done (one-session g) laws limits.converted c log elf files status k x;
+            done = session-done (one_session g.one_reading) laws limits.converted c log elf files status k x;
             shows = shows-session g limits show stay c log elf files status k x;
             session = y;
             whole = all-done g laws limits c log elf files status i.before i.after i.notes k x y;

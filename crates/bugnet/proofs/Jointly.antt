@@ -1,10 +1,11 @@
 -- The answer to the joint replay of a recording's log is the text of one that says the run.
-use Rattle.bugnet.proofs.Common.{◌≡◌, ◌≤◌, ℕ, Bool, true, false, List, length, nat_lt, Option, Some, None, ◌∙◌, ap, subst, sym, refl, inl, inr, ◌⊎◌, arith, Result, Ok, option_map, Appends, sha256, Program, Files, Line, JointLine, ElfError, bytes_eq, image_of, Head, Record, Content, IsContent, saved_bytes, file_bytes, file_bytes2, is_second, SavedHaveTheirLimit, AreFew, Reads, JointError, Ran, fresh, run_all, joint_text, file_of, Recording, IsLogOf, begin, SaysTheRun, JointReplaysSayTheRun, FileNames, Told, refused, printed, printed_until, Either, WithFile, IsByLog, ran_told, joint_with, joint_refusal, ByPair, pair_loaded, pair_same, pair_of, IsPairOf, IsPair, HoldsLog, ArePair, names_in, names_by, IsAnswer, HasRun, JoinsRun, TellsRun, IsJoined, JointHeadline, RecordingsCanBeJoined, recording_of, RecordingsAreJoined, DoneJointly, PrintsJointly, ConvertedHaveTheirLimit, WithFiles, Call, IsFree, SomeTold, Tells, StoppedEarly, TellsAnswer, TooLong, fits, of_false, KeptIsAnEnd, with-files, stopped-free, ◌==◌}
+use Rattle.bugnet.proofs.Common.{◌≡◌, ◌≤◌, ℕ, Bool, true, false, List, length, nat_lt, Option, Some, None, ◌∙◌, ap, subst, sym, refl, inl, inr, ◌⊎◌, arith, Result, Ok, option_map, Appends, sha256, Program, Files, Line, JointLine, ElfError, bytes_eq, image_of, Head, Record, Content, IsContent, saved_bytes, file_bytes, file_bytes2, is_second, SavedHaveTheirLimit, AreFew, Reads, JointError, Ran, fresh, run_all, joint_text, file_of, Recording, IsLogOf, begin, SaysTheRun, JointReplaysSayTheRun, FileNames, Told, refused, printed, printed_until, Either, WithFile, IsByLog, ran_told, joint_with, joint_refusal, ByPair, pair_loaded, pair_same, pair_of, IsPairOf, IsPair, HoldsLog, ArePair, names_in, names_by, IsAnswer, HasRun, JoinsRun, TellsRun, IsJoined, JointHeadline, RecordingsCanBeJoined, recording_of, RecordingsAreJoined, DoneJointly, PrintsJointly, ConvertedHaveTheirLimit, WithFiles, Call, IsFree, SomeTold, Tells, StoppedEarly, TellsAnswer, TooLong, fits, of_false, KeptIsAnEnd, with-files, stopped-free, ◌==◌, ReadingsAreUnique, LogsAreContents, FilesAreRead}
+use Rattle.log_file.specs.Laws as of_first
 use Rattle.log_blocks.specs.Laws as of_second
 use Rattle.joint_laws.specs.Recordings.{IsRecorded}
 use Rattle.log_commands.specs.declared.names.Role.TheVariants as role
 use Rattle.bugnet.proofs.Single.{Grammar}
-use Rattle.bugnet.proofs.Suffices.{FileLaws, Sizes, read-size, by-file, by-size, then-so, same, by-content, saved-end}
+use Rattle.bugnet.proofs.Suffices.{Sizes, read-size, by-file, by-size, then-so, same, by-content, saved-end}
 use Rattle.bugnet.proofs.LineTells.{early-free}
 
 -- ---- the log
@@ -27,8 +28,8 @@ holds-log : (there : Option (List ℕ)) (bytes : List ℕ) (d : Content) → the
 holds-log there bytes d e reads = holds-so there bytes d e (in-version (is_second bytes) bytes d reads.1)
 
 -- each block but the last is full, so that a file of version 2 is one that a command loads
-pub converted-size : of_second.HaveTheirSize → AreFew → ConvertedHaveTheirLimit
-converted-size sizes few d is = omega (arith, sizes d is, few d is, is.bound, is.settings.log_size_high)
+pub converted_size : of_second.HaveTheirSize → AreFew → ConvertedHaveTheirLimit
+converted_size sizes few d is = omega (arith, sizes d is, few d is, is.bound, is.settings.log_size_high)
 
 pub record Limits : Type 0 where
   pub saved : SavedHaveTheirLimit
@@ -102,13 +103,14 @@ joins g law sizes files r line j what is =
     record { text = by ∙ as-begun r d j.says.head names ∙ told-joint names (run_all (begin r d.records)) says.stopped; says = says })
     (answer-so g (joint_with names) names files r j.bytes d what j.recording j.says.reads (read-size sizes j.bytes d j.says.reads) j.says.head j.log j.program is)
 
-pub joint-headline : Grammar → JointReplaysSayTheRun → Sizes → JointHeadline
-joint-headline g law sizes line files r j what is =
-    subst (λ (l : Option Line). IsJoined l r j.says.log.records what) (sym j.command) (joins g law sizes files r line j what (subst (λ (l : Option Line). IsAnswer l files what) j.command is))
+pub joint_headline : ReadingsAreUnique → JointReplaysSayTheRun → of_first.HaveTheirSize → of_second.HaveTheirSize → AreFew → JointHeadline
+joint_headline readings law first second few line files r j what is =
+    subst (λ (l : Option Line). IsJoined l r j.says.log.records what) (sym j.command)
+    (joins (record { one_reading = readings }) law (record { first = first; second = second; few = few }) files r line j what (subst (λ (l : Option Line). IsAnswer l files what) j.command is))
 
 -- what a recording left
-pub joined-so : FileLaws → KeptIsAnEnd → JointHeadline → RecordingsAreJoined
-joined-so laws ends law r old new l files log elf log_is elf_is what is =
+pub joined_so : LogsAreContents → SavedHaveTheirLimit → FilesAreRead → KeptIsAnEnd → JointHeadline → RecordingsAreJoined
+joined_so contents limit read ends law r old new l files log elf log_is elf_is what is =
     of_false (nat_lt 67108864 (length l.elf)) _ _ (fits 67108864 (length l.elf) l.small)
     (law (Some (JointLine log elf)) files (recording_of l) (record {
       log_name = log;
@@ -118,12 +120,12 @@ joined-so laws ends law r old new l files log elf log_is elf_is what is =
       recording = l.recording;
       bytes = file_of r.settings l.program (sha256 l.elf) l.input l.turns;
       log = log_is ∙ l.log;
-      says = saved-end laws ends r.settings l.program l.elf l.input l.turns l.recording;
+      says = saved-end (record { contents = contents; limit = limit; read = read }) ends r.settings l.program l.elf l.input l.turns l.recording;
     }) what is)
 
 -- a log file that says an end of a recording has all that the command needs
-pub can-be-joined : JointReplaysSayTheRun → RecordingsCanBeJoined
-can-be-joined law log elf files r h small =
+pub can_be_joined : JointReplaysSayTheRun → RecordingsCanBeJoined
+can_be_joined law log elf files r h small =
     let d = h.says.log in
     record {
       content = d;

@@ -9,7 +9,7 @@ use Rattle.log_order.specs.declared.walk.OrderBreak.{OrderBreak}
 use Rattle.log_order.specs.Rules.{takes_header, takes_other, is_awaited, goes_on, next_number, phase_after, has_edge, has_end, after_header, after_edge, after_end, after_other, after_one, fresh}
 use Rattle.log_order.specs.Order.{◌>>=◌, has_source, step_at, step, at_place, after_all, broken_in, broken, broken_by, order_limits_of}
 use Rattle.run_laws.specs.Ends.{last_end}
-use Rattle.log_commands.proofs.Marks.{mark_of_load, mark_of_ok, mark_of_failed}
+use Rattle.hart_replay.proofs.Puts.{mark_of_load, mark_of_ok, mark_of_failed}
 
 abbrev Harts : Type 0
 Harts = List HartView

@@ -27,12 +27,12 @@ salvaged-end laws p bytes d s = record {
   end = is-end laws p bytes d s;
 }
 
-pub say-ends : SalvageLaws → SalvagedSayEnds
-say-ends laws = salvaged-end laws
+pub say_ends : SalvagedFilesSuffice → FilesAreRead → SalvagedSayEnds
+say_ends suffice read = salvaged-end (record { suffice = suffice; read = read })
 
 -- so its replay is the recorded run's
-pub salvaged-replayed : SalvageLaws → Headline → SalvagedAreReplayed
-salvaged-replayed laws law p bytes d s v kept small files log elf log_is elf_is what is =
+pub salvaged_replayed : SalvagedFilesSuffice → FilesAreRead → Headline → SalvagedAreReplayed
+salvaged_replayed suffice read law p bytes d s v kept small files log elf log_is elf_is what is =
     of_false (nat_lt 67108864 (length p.elf)) _ _ (fits 67108864 (length p.elf) small)
     (law (Some (ReplayLine log elf p.hart p.number)) files p v (record {
       log_name = log;
@@ -42,6 +42,6 @@ salvaged-replayed laws law p bytes d s v kept small files log elf log_is elf_is 
       recording = s.recording;
       bytes = file_bytes2 d;
       log = log_is;
-      says = salvaged-end laws p bytes d s;
+      says = salvaged-end (record { suffice = suffice; read = read }) p bytes d s;
       kept = kept;
     }) what is)

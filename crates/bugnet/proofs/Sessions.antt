@@ -267,8 +267,8 @@ led-reached r records t p =
       whole = λ none. p.now;
     }
 
-pub sessions-show : OfBeginnings GoesOn → OfBeginnings IsNotRefused → ReachedSayTheRun → SessionsShowTheRun
-sessions-show goes steps reached r records log lines =
+pub sessions_show : OfBeginnings GoesOn → OfBeginnings IsNotRefused → ReachedSayTheRun → SessionsShowTheRun
+sessions_show goes steps reached r records log lines =
     let s = answers-on (Led r records) (led-lasts goes steps r records log) lines (session_begin (begin r records)) (led-first r records) in
     let t = (session_after r records lines).session.trace in
     let here = led-reached r records t s.0 in

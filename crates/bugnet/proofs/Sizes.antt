@@ -1,5 +1,5 @@
 -- The file of what a recording keeps has its size, in the version of its settings' format.
-use Rattle.bugnet.proofs.Common.{◌≡◌, ◌+◌, ◌*◌, ◌==◌, ℕ, Bool, true, false, List, length, arith, file_bytes, file_bytes2, Content, IsContent, total, IsWithin}
+use Rattle.bugnet.proofs.Common.{◌≡◌, ◌+◌, ◌*◌, ◌==◌, ℕ, Bool, true, false, List, length, arith, file_bytes, file_bytes2, Content, total, sha256, content_of, run_of, LogsAreContents, FilesKeepToTheirSize}
 use Rattle.log_file.specs.Blocks.{blocks_of}
 use Rattle.log_file.specs.Laws as of_first
 use Rattle.log_blocks.specs.Laws as of_second
@@ -13,10 +13,8 @@ by-version : (second : Bool) (d : Content) → length (file_bytes d) ≡ total d
 by-version true d first second = in-all (length (file_bytes2 d)) (total d.records) (length (blocks_of d.dropped d.records)) second
 by-version false d first second = first
 
--- the laws of sizes
-pub record SizeLaws : Type 0 where
-  pub first : of_first.HaveTheirSize
-  pub second : of_second.HaveTheirSize
-
-pub is-within : SizeLaws → (d : Content) → IsContent d → IsWithin d
-is-within laws d is = record { kept = is.bound; file = by-version (d.head.settings.format == 2) d (laws.first d is) (laws.second d is) }
+pub files_keep : LogsAreContents → of_first.HaveTheirSize → of_second.HaveTheirSize → FilesKeepToTheirSize
+files_keep contents first second s i elf input b is =
+    let d = content_of s (sha256 elf) (run_of s i input b) in
+    let whole = contents s i elf input b is in
+    record { kept = whole.bound; file = by-version (d.head.settings.format == 2) d (first d whole) (second d whole) }

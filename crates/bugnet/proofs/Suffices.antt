@@ -1,5 +1,5 @@
 -- The answer to the replay of a recorded interval is the text of the run's own rows.
-use Rattle.bugnet.proofs.Common.{◌≡◌, ℕ, ◌<◌, ◌≤◌, ◌^◌, Bool, true, false, List, length, nat_lt, Option, Some, ◌∙◌, ap, subst, sym, refl, arith, inl, inr, ◌⊎◌, Result, Ok, Appends, bytes_eq, bytes_eq-Decides, sha256, Program, Row, RawSettings, Files, Line, ReplayLine, image_of, ElfError, Head, Content, IsContent, file_bytes, file_bytes2, is_second, SavedHaveTheirLimit, Reads, FilesAreRead, Damage, Done, Replayed, Interval, replayed, file_of, content_of, start, run_of, KeptIsAnEnd, EndsSuffice, RowsStandTogether, IsRecording, LogsAreContents, FileNames, Told, refused, printed, Either, IsByFile, WithFile, by_log, IsByLog, replay_with, replay_found, interval_told, ended, pair_loaded, pair_same, pair_of, IsPairOf, IsPair, names_in, names_by, IsAnswer, Part, interval_rows, run_text, SaysEnd, ReplaysRun, IsReplayed, Headline, part_of, RecordingsAreReplayed, RecordingsSayEnds, PrintsRun, WithFiles, Call, IsFree, SomeTold, Tells, StoppedEarly, TellsAnswer, Role, TooLong, fits, of_false, with-files, stopped-free}
+use Rattle.bugnet.proofs.Common.{◌≡◌, ℕ, ◌<◌, ◌≤◌, ◌^◌, Bool, true, false, List, length, nat_lt, Option, Some, ◌∙◌, ap, subst, sym, refl, arith, inl, inr, ◌⊎◌, Result, Ok, Appends, bytes_eq, bytes_eq-Decides, sha256, Program, Row, RawSettings, Files, Line, ReplayLine, image_of, ElfError, Head, Content, IsContent, file_bytes, file_bytes2, is_second, SavedHaveTheirLimit, Reads, FilesAreRead, Damage, Done, Replayed, Interval, replayed, file_of, content_of, start, run_of, KeptIsAnEnd, EndsSuffice, RowsStandTogether, IsRecording, LogsAreContents, FileNames, Told, refused, printed, Either, IsByFile, WithFile, by_log, IsByLog, replay_with, replay_found, interval_told, ended, pair_loaded, pair_same, pair_of, IsPairOf, IsPair, names_in, names_by, IsAnswer, Part, interval_rows, run_text, SaysEnd, ReplaysRun, IsReplayed, Headline, part_of, RecordingsAreReplayed, RecordingsSayEnds, PrintsRun, WithFiles, Call, IsFree, SomeTold, Tells, StoppedEarly, TellsAnswer, Role, TooLong, fits, of_false, with-files, stopped-free, ReadingsAreUnique}
 use Rattle.log_file.specs.Laws as of_first
 use Rattle.log_blocks.specs.Laws as of_second
 use Rattle.run_model.specs.Rows.{rows_in}
@@ -89,10 +89,10 @@ replays g laws sizes files p v line r what is =
     then-so (nat_lt 67108864 (length p.elf)) _ _ _ (λ (by : IsByLog names log (pair_of (replay_with names p.hart p.number) names p.elf) what).
     by-content g names log d (pair_of (replay_with names p.hart p.number) names p.elf) what r.says.reads by ∙ answer laws names p v line files r) second
 
-pub headline : Grammar → Together → Sizes → Headline
-headline g laws sizes line files p v r what is =
+pub headline : ReadingsAreUnique → EndsSuffice → RowsStandTogether → of_first.HaveTheirSize → of_second.HaveTheirSize → of_second.AreFew → Headline
+headline readings ends rows first second few line files p v r what is =
     subst (λ (l : Option Line). IsReplayed l p v what) (sym r.command)
-    (replays g laws sizes files p v line r what (subst (λ (l : Option Line). IsAnswer l files what) r.command is))
+    (replays (record { one_reading = readings }) (ends, rows) (record { first = first; second = second; few = few }) files p v line r what (subst (λ (l : Option Line). IsAnswer l files what) r.command is))
 
 -- ---- which files say an end
 
@@ -105,20 +105,20 @@ saved-end laws kept c i elf input b is = record {
   end = kept c (run_of c i input b);
 }
 
-pub say-ends : FileLaws → KeptIsAnEnd → RecordingsSayEnds
-say-ends laws kept = record {
-  saved = saved-end laws kept;
+pub say_ends : LogsAreContents → SavedHaveTheirLimit → FilesAreRead → KeptIsAnEnd → RecordingsSayEnds
+say_ends contents limit read kept = record {
+  saved = saved-end (record { contents = contents; limit = limit; read = read }) kept;
   converted = λ c i elf input b is. record {
     log = content_of c (sha256 elf) (run_of c i input b);
-    reads = laws.read.second (content_of c (sha256 elf) (run_of c i input b)) (laws.contents c i elf input b is);
+    reads = read.second (content_of c (sha256 elf) (run_of c i input b)) (contents c i elf input b is);
     head = refl;
     end = kept c (run_of c i input b);
   };
 }
 
 -- what a recording left
-pub replayed-so : FileLaws → KeptIsAnEnd → Headline → RecordingsAreReplayed
-replayed-so laws ends law r old new l hart number v kept files log elf log_is elf_is what is =
+pub replayed_so : LogsAreContents → SavedHaveTheirLimit → FilesAreRead → KeptIsAnEnd → Headline → RecordingsAreReplayed
+replayed_so contents limit read ends law r old new l hart number v kept files log elf log_is elf_is what is =
     of_false (nat_lt 67108864 (length l.elf)) _ _ (fits 67108864 (length l.elf) l.small)
     (law (Some (ReplayLine log elf hart number)) files (part_of l hart number) v (record {
       log_name = log;
@@ -128,7 +128,7 @@ replayed-so laws ends law r old new l hart number v kept files log elf log_is el
       recording = l.recording;
       bytes = file_of r.settings l.program (sha256 l.elf) l.input l.turns;
       log = log_is ∙ l.log;
-      says = saved-end laws ends r.settings l.program l.elf l.input l.turns l.recording;
+      says = saved-end (record { contents = contents; limit = limit; read = read }) ends r.settings l.program l.elf l.input l.turns l.recording;
       kept = kept;
     }) what is)
 

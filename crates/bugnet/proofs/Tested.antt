@@ -73,7 +73,7 @@ in-range s e =
       second_ways = ways2.0;
     }
 
-pub seeds-whole : SeededListsEnd → SeedsAreWhole
-seeds-whole law c i input seed e =
+pub seeds_whole : SeededListsEnd → SeedsAreWhole
+seeds_whole law c i input seed e =
     let ends = law c i input seed (in-range c e) in
     record { legal = ends.0; over = ends.1 }

@@ -30,6 +30,7 @@ use whole_runs::{seeded_lists_end, whole_lists_are_followed, whole_runs_have_no_
 
 /// No words have two answers, whatever the files are. But a recording without a seed has one for each list
 /// of turns. Of a lean one without a seed, which saves no list, nothing is said.
+#[tactic(auto, using(crate::proofs::Single::one_answer))]
 pub fn one_answer()
     ensures { OneAnswer }
 {
@@ -38,6 +39,7 @@ pub fn one_answer()
 }
 
 /// A session of the debugger has one answer for the commands that are read.
+#[tactic(auto, using(crate::proofs::Single::one_session))]
 pub fn one_session()
     ensures { OneSession }
 {
@@ -46,6 +48,7 @@ pub fn one_session()
 
 /// What `convert` and `salvage` save has at most the bytes that a command loads, whatever the format of the
 /// log's settings.
+#[tactic(auto, using(crate::proofs::Jointly::converted_size))]
 pub fn converted_files_keep_to_the_limit()
     ensures { ConvertedHaveTheirLimit }
 {
@@ -102,6 +105,7 @@ pub fn headline()
 /// intervals from the run's own states, and ends with recorded words. It is so whatever the program, its
 /// input, the list of turns, the settings, and how much of the records is left. A program file that is
 /// longer than a command may load is refused, when it is recorded too.
+#[tactic(auto, using(crate::proofs::Jointly::joint_headline))]
 pub fn joint_headline()
     ensures { JointHeadline }
 {
@@ -114,6 +118,7 @@ pub fn joint_headline()
 
 /// What a recording saves says an end of its records, and so does the same log in version 2, as `convert`
 /// saves it.
+#[tactic(auto, using(crate::proofs::Suffices::say_ends))]
 pub fn recordings_say_ends()
     ensures { RecordingsSayEnds }
 {
@@ -133,6 +138,7 @@ pub fn salvaged_logs_say_ends()
 }
 
 /// Words and files have an answer, if what a log file holds is bytes.
+#[tactic(auto, using(crate::proofs::Complete::some_answer))]
 pub fn each_has_an_answer()
     ensures { EachHasAnAnswer }
 {
@@ -188,6 +194,7 @@ pub fn recordings_are_replayed()
 /// With format 2 a crash is shown. If a recording's run ended in a fault, its last turn is that
 /// fault. The log that it leaves has an interval of the fault's hart that ends with it: `list` prints that
 /// interval's line, and its replay the recorded run's rows up to the fault's.
+#[tactic(auto, using(crate::proofs::Crashes::crashes_shown))]
 pub fn crashes_are_shown()
     ensures { CrashesAreShown }
 {
@@ -233,6 +240,7 @@ pub fn recordings_are_joined()
 /// Take a log file that says an end of a recording's records, with the recording's program file. Of it
 /// `races` tells the races of the joint replay that says the run, or that there are more than asked for:
 /// never that a replay stopped.
+#[tactic(auto, using(crate::proofs::Traces::races_told))]
 pub fn races_are_told()
     ensures { RacesAreTold }
 {
@@ -254,6 +262,7 @@ pub fn printed_races_say_the_run()
 /// Take a log file that says an end of a recording's records, with the recording's program file. Of it
 /// `slice` tells the slice of a row of the run's own, that the interval has no row of that count, or that
 /// the log doesn't keep the interval: never that a replay stopped.
+#[tactic(auto, using(crate::proofs::Traces::slices_told))]
 pub fn slices_are_told()
     ensures { SlicesAreTold }
 {

@@ -1,5 +1,5 @@
-use Rattle.bugnet.proofs.Books.{books-followed}
+use Rattle.bugnet.proofs.Books.{books_followed}
 use Rattle.bugnet.proofs.laws.books_are_followed.Goals as goal
 
 pub returns : goal.returns
-returns c = books-followed c.whole_lists_are_followed.ensures
+returns c = books_followed c.whole_lists_are_followed.ensures

@@ -1,5 +1,5 @@
-use Rattle.bugnet.proofs.SalvagedLogs.{say-ends}
+use Rattle.bugnet.proofs.SalvagedLogs.{say_ends}
 use Rattle.bugnet.proofs.laws.salvaged_logs_say_ends.Goals as goal
 
 pub returns : goal.returns
-returns c = say-ends (record { suffice = c.salvaged_files_suffice.ensures; read = c.files_are_read.ensures })
+returns c = say_ends c.salvaged_files_suffice.ensures c.files_are_read.ensures

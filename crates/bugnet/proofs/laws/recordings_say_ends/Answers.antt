@@ -1,7 +1,0 @@
-use Rattle.bugnet.proofs.Suffices.{FileLaws, say-ends}
-use Rattle.bugnet.proofs.laws.recordings_say_ends.Goals as goal
-
-pub returns : goal.returns
-returns c =
-    let laws : FileLaws = record { contents = c.logs_are_contents.ensures; limit = c.saved_files_keep_to_the_limit.ensures; read = c.files_are_read.ensures } in
-    say-ends laws c.kept_records_are_an_end.ensures
