@@ -89,10 +89,7 @@ stop-begun names e status old new before now told = by e (status-of names e stat
 
 -- one that was begun isn't refused for its words or its files
 pub begun-not : (status n : ℕ) → is_begun status ≡ true → is_begun n ≡ false → status ≢ n
-begun-not status n b f e = let t : is_begun n ≡ true = subst (λ (m : ℕ). is_begun m ≡ true) e b in different (is_begun n) t f
-  where
-    different : (b : Bool) → b ≡ true → b ≡ false → ⊥
-    different b x y = grind arith
+begun-not status n b f e = let t : is_begun n ≡ true = subst (λ (m : ℕ). is_begun m ≡ true) e b in cc
 
 -- ---- what was read
 

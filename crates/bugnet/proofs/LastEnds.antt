@@ -58,12 +58,6 @@ halves : (place : ℕ) (s : Result Harts ℕ) (f : Harts → Result Harts OrderB
 halves place (Err x) f us e = absurd cc
 halves place (Ok mid) f us e = (mid, refl, e)
 
-same_view : (v w : HartView) → ◌≡◌ {A = Option HartView} (Some v) (Some w) → v ≡ w
-same_view v w e = cc
-
-same_harts : (x y : Harts) → good x ≡ good y → x ≡ y
-same_harts x y e = cc
-
 taken : (b : Bool) (e : ℕ) (x : Result Harts ℕ) (y : Harts) → (if b then x else Err e) ≡ good y → x ≡ Ok y
 taken true e x y h = h
 taken false e x y h = absurd cc
@@ -79,7 +73,7 @@ record Stepped (t : OrderLimits) (vs next : Harts) (r : Record) : Type 0 where
 by_one : (t : OrderLimits) (vs next : Harts) (r : Record) (v : HartView) (s : Result HartView ℕ) → slice_get vs (hart_of r) ≡ Some v → after_one t v r ≡ s
     → (s >>= λ w. good (slice_set vs (hart_of r) w)) ≡ good next → Stepped t vs next r
 by_one t vs next r v (Err x) there q e = absurd cc
-by_one t vs next r v (Ok w) there q e = record { old = v; new = w; there = there; goes = q; next_is = sym (same_harts (slice_set vs (hart_of r) w) next e) }
+by_one t vs next r v (Ok w) there q e = record { old = v; new = w; there = there; goes = q; next_is = cc }
 
 by_get : (t : OrderLimits) (vs next : Harts) (r : Record) (o : Option HartView) → slice_get vs (hart_of r) ≡ o → step_at t vs r o ≡ good next → Stepped t vs next r
 by_get t vs next r None there e = absurd cc
@@ -117,7 +111,7 @@ follows t p k vs us v (r ∷ rs) e g =
     by next true e s later =
         let own : hart_of r ≡ k = same_number (hart_of r) k e in
         let there : slice_get vs k ≡ Some s.old = subst (λ (h : ℕ). slice_get vs h ≡ Some s.old) own s.there in
-        let old : s.old ≡ v = same_view s.old v (sym there ∙ g) in
+        let old : s.old ≡ v = cc in
         let next_is : next ≡ slice_set vs k s.new = subst (λ (h : ℕ). next ≡ slice_set vs h s.new) own s.next_is in
         (s.new, subst (λ (x : HartView). after_one t x r ≡ Ok s.new) old s.goes, later s.new (subst (λ (x : Harts). slice_get x k ≡ Some s.new) (sym next_is) (get_set vs k s.old s.new there)))
     by next false e s later = later v (subst (λ (x : Harts). slice_get x k ≡ Some v) (sym s.next_is) (get_other vs (hart_of r) k s.new e ∙ g))
@@ -271,11 +265,8 @@ or_none : (o : Option EndMark) (m : EndMark) → option_or o None ≡ Some m →
 or_none None m e = absurd cc
 or_none (Some x) m e = e
 
-same_mark : (a b : EndMark) → ◌≡◌ {A = Option EndMark} (Some a) (Some b) → a ≡ b
-same_mark a b e = cc
-
 own_end : (b : Bool) (e m : EndMark) → elim b as (λ x. Option EndMark) [ true ↦ Some e | false ↦ None ] ≡ Some m → (b ≡ true) × (e ≡ m)
-own_end true e m q = (refl, same_mark e m q)
+own_end true e m q = (refl, cc)
 own_end false e m q = absurd cc
 
 at_header : (k h n ic pc : ℕ) (x : List ℕ) (m : EndMark) (rs : List Record) (b : Bool) → (h == k) ≡ b → Ended k m rs → Ended k m (Header h n ic pc x ∷ rs)

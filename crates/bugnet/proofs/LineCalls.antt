@@ -253,9 +253,6 @@ tells-past line names answer status k fits prints none (inr s) other = inl (free
 same_refusal : (A : Type 0) (r x : Refusal) → ◌≡◌ {A = Result A Refusal} (Err r) (Err x) → Some x ≡ Some r
 same_refusal A r x e = grind arith
 
-no-answer : (A : Type 0) (a : A) (x : Refusal) → ◌≡◌ {A = Result A Refusal} (Ok a) (Err x) → ⊥
-no-answer A a x e = grind arith
-
 -- such calls without a save
 abbrev SavesNone : FileNames → (calls needed : List FileCall) → Option Refusal → (ℕ → Bool) → (status : ℕ) → Note → Call → Type 0
 SavesNone names calls needed words past status note k = (so : CallsSo names calls needed words past status note k) × (has_save so.made ≡ false)
@@ -303,7 +300,7 @@ refusal-calls A note line names r status k e h c out told =
 answer-so : (A : Type 0) (a : A) (note : Note) (names : FileNames) (o : Option Refusal) (roles needed : List Role) (saves : List FileCall) (past : ℕ → Bool) (status : ℕ) (old : Stored) (k : Call)
     → CallsBy o names roles needed note old.noted k.old.store.noted (Ok a) → CauseBy o old.counts k.old.store.counts (Ok a) → SavesTold names saves status note k.old.store.noted k.new.store.noted k
     → (status ≢ 3 → Ends past (loads_of roles ++ saves) (loads_of needed) names status k) → CallsSo names (loads_of roles ++ saves) (loads_of needed) o past status note (from old k)
-answer-so A a note names (Some x) roles needed saves past status old k h c s goes = absurd (no-answer A a x c.0)
+answer-so A a note names (Some x) roles needed saves past status old k h c s goes = cc c.0
 answer-so A a note names None roles needed saves past status old k h c s goes = record {
   made = loads_of roles ++ s.made;
   left = s.left;
@@ -391,16 +388,13 @@ unread-calls note line status k same out told =
 pub call-shape : (note : Note) (line : Option Line) (status : ℕ) (k : Call) → CallsOnly line status note k → HasShape line status k
 call-shape note line status k calls other = by calls.so.ends
   where
-    apart : (b : Bool) → b ≡ true → b ≡ false → ⊥
-    apart b x y = grind arith
-
     told : (r : RefusedAfter (names_by line) (needed_of line) (refusal_by line) calls.so.made status k)
         → ToldRefusal (names_by line) r.refusal status k.old.err.text k.new.err.text k.old.err.faults k.new.err.faults → TellsRefusal (names_by line) status k
     told r (inl h) = record { refusal = r.refusal; status_is = h.0; out = r.out; err = h.1 }
     told r (inr h) = record { refusal = OutOfMemory; status_is = h.0; out = r.out; err = h.1 }
 
     by : ((calls.so.left ≡ []) × (past_of line status ≡ true)) ⊎ RefusedAfter (names_by line) (needed_of line) (refusal_by line) calls.so.made status k → TellsRefusal (names_by line) status k
-    by (inl (all, past)) = absurd (apart (past_of line status) past other)
+    by (inl (all, past)) = cc
     by (inr r) = told r r.told
 
 -- ---- `demo`

@@ -1,5 +1,5 @@
 -- A session whose whole input isn't refused is refused at no prefix of it.
-use Rattle.bugnet.proofs.Common.{◌≡◌, ◌⊎◌, ℕ, ◌+◌, Bool, true, false, nat_lt, List, [], ◌∷◌, ◌++◌, length, Option, Some, None, ◌∙◌, ap, subst, sym, refl, inl, inr, append_assoc, Result, Ok, Err, Consumes, Program, Files, ConsumesAll, ReadNote, Stream, Supply, image_of, ElfError, Reads, Damage, Content, IsContent, saved_bytes, file_bytes2, JointError, Joining, Trace, at_start, Session, begin_at, answer, command_of, Input, input_limit, is_line_feed, is_too_long, ends_in, with_line, input_from, input_of, goes_on_by, answers, lines_in, result_by, transcript_from, EndsThere, EndsAll, Debugs, DebugError, Ending, joined, HoldsLog, ArePair, LoadedPair, IsFree, EndsBy, SessionOver, CanDebug, whole_input, append-nil}
+use Rattle.bugnet.proofs.Common.{◌≡◌, ◌⊎◌, ℕ, ◌+◌, Bool, true, false, nat_lt, List, [], ◌∷◌, ◌++◌, length, Option, Some, None, ◌∙◌, ap, subst, sym, refl, inl, inr, append_assoc, Result, Ok, Err, Consumes, Program, Files, ConsumesAll, ReadNote, Stream, Supply, image_of, Reads, Content, IsContent, saved_bytes, file_bytes2, JointError, Joining, Trace, at_start, Session, begin_at, answer, command_of, Input, input_limit, is_line_feed, is_too_long, ends_in, with_line, input_from, input_of, goes_on_by, answers, lines_in, result_by, transcript_from, EndsThere, EndsAll, Debugs, DebugError, Ending, joined, HoldsLog, ArePair, LoadedPair, IsFree, EndsBy, SessionOver, CanDebug, whole_input, append-nil}
 use Rattle.step_debugger.specs.Answers.{Answer}
 use Rattle.step_debugger.specs.declared.error.DebugError.TheVariants as stop
 use Rattle.step_debugger.specs.declared.session.Ending.TheVariants as ending
@@ -152,26 +152,17 @@ says-log laws there d is (inl e) = (saved_bytes d, e, laws.read.saved d is)
 says-log laws there d is (inr e) = (file_bytes2 d, e, laws.read.second d is)
 
 same-there : (there : Option (List ℕ)) (a b : List ℕ) → there ≡ Some a → there ≡ Some b → a ≡ b
-same-there there a b e f = some a b (sym e ∙ f)
-  where
-    some : (a b : List ℕ) → ◌≡◌ {A = Option (List ℕ)} (Some a) (Some b) → a ≡ b
-    some a b e = cc
-
-same-content : (a b : Content) → ◌≡◌ {A = Result Content Damage} (Ok a) (Ok b) → a ≡ b
-same-content a b e = cc
-
-same-program : (a b : Program) → ◌≡◌ {A = Result Program ElfError} (Ok a) (Ok b) → a ≡ b
-same-program a b e = cc
+same-there there a b e f = cc
 
 -- what was loaded is the log and the program that are there
 pub one-pair-there : Grammar → FileLaws → (log elf : List ℕ) (files : Files) (d e : Content) (i k : Program) → LoadedPair log elf files d i → ArePair log elf files e k → joined d i ≡ joined e k
 one-pair-there g laws log elf files d e i k p q =
     let s = says-log laws (files log) e q.is q.log_there in
     let bytes : p.log_bytes ≡ s.0 = same-there (files log) p.log_bytes s.0 p.log_there s.1 in
-    let content : d ≡ e = same-content d e (g.one_reading s.0 (Ok d) (Ok e) (subst (λ (x : List ℕ). Reads x (Ok d)) bytes p.reads) s.2) in
+    let content : d ≡ e = cc (g.one_reading s.0 (Ok d) (Ok e) (subst (λ (x : List ℕ). Reads x (Ok d)) bytes p.reads) s.2) in
     let file : p.elf_bytes ≡ q.bytes = same-there (files elf) p.elf_bytes q.bytes p.elf_there q.elf_there in
     let program : i ≡ k =
-    same-program i k (sym p.loaded ∙ ap (λ (x : List ℕ). image_of x d.head.settings) file ∙ ap (λ (c : Content). image_of q.bytes c.head.settings) content ∙ q.loaded) in
+    cc (sym p.loaded ∙ ap (λ (x : List ℕ). image_of x d.head.settings) file ∙ ap (λ (c : Content). image_of q.bytes c.head.settings) content ∙ q.loaded) in
     ap (λ (c : Content). joined c i) content ∙ ap (λ (x : Program). joined e x) program
 
 -- a session that was begun
