@@ -1,5 +1,5 @@
 -- What several files of proofs/ cite of other crates and of specs/. They import it from here, by one line.
-pub use Rattle.std.proofs.Common.{Bool, Err, IfOk, List, Ok, Result, add-one, ap, drop, false, inl, inr, length, not, slice_index_or, subst, suc, sym, true, ℕ, ◌++◌, ◌+◌, ◌<◌, ◌==◌, ◌∙◌, ◌∷◌, ◌≡◌}
+pub use Rattle.std.proofs.Common.{Bool, Err, IfOk, List, Ok, Result, add-one, ap, drop, false, inr, length, not, slice_index_or, subst, suc, sym, true, ℕ, ◌++◌, ◌+◌, ◌<◌, ◌==◌, ◌∙◌, ◌∷◌, ◌≡◌}
 pub use Rattle.bn_base.specs.Ranges.{IsSetting}
 pub use Rattle.bn_outside.specs.declared.turn_row.TurnRow.{TurnRow}
 pub use Rattle.bus_core.specs.Bus.{Began, IsState, IsTold, Seen, began_of, first_run, run_after}

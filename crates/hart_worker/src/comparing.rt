@@ -67,6 +67,7 @@ fn agrees_at(rows: &[TurnRow], hart: HartId, from: &Start, one: &Result<Worked, 
 }
 
 // Whether the hart's rows are these.
+#[tactic(auto, using(crate::proofs::OwnRuns::agrees_more, crate::proofs::OwnRuns::agrees_less))]
 fn agrees(rows: &[TurnRow], hart: HartId, mine: &[TurnRow]) -> bool
     ensures same { result ≡ true → rows_by hart rows.now ≡ mine.now }
     ensures all { rows_by hart rows.now ≡ mine.now → result ≡ true }
@@ -82,6 +83,7 @@ fn agrees(rows: &[TurnRow], hart: HartId, mine: &[TurnRow]) -> bool
 }
 
 // What is left of a hart's rows after one row of the book.
+#[tactic(auto, using(crate::proofs::OwnRuns::left_found))]
 fn left_after<'a>(row: &TurnRow, hart: HartId, rest: &'a [TurnRow]) -> Option<&'a [TurnRow]>
     ensures some { IfSome result (λ left. rest.entry.now ≡ rows_with hart row.entry.now left.now) }
     ensures none { IfNone result ((left : List TurnRow) → rest.entry.now ≡ rows_with hart row.entry.now left → ⊥) }
