@@ -1,5 +1,5 @@
 -- What several files of proofs/ cite of other crates and of specs/. They import it from here, by one line.
-pub use Rattle.std.proofs.Common.{Bool, Err, Global, IfErr, IfOk, IfSome, IsErrAnd, IsSomeAnd, List, None, Ok, OnErr, OnOk, Option, Result, Some, Vec, [], add-one, ap, append-nil, append_assoc, arith, codes, drop, drop-cons, false, get_or, inl, inr, is_some, length, length-append, nat_lt, not, option_map, refl, rules, subst, suc, sym, take, take_all, true, vec_len, ℕ, ◌++◌, ◌+◌, ◌<◌, ◌==◌, ◌∙◌, ◌∷◌, ◌≡◌, ◌≢◌, ◌≤◌, ◌⊎◌}
+pub use Rattle.std.proofs.Common.{Bool, Err, Global, IfErr, IfOk, IsErrAnd, IsSomeAnd, List, None, Ok, OnErr, OnOk, Option, Result, Some, Vec, [], add-one, ap, append-nil, append_assoc, arith, codes, drop, drop-cons, false, get_or, inl, inr, is_some, length, length-append, nat_lt, not, option_map, refl, rules, subst, suc, sym, take, take_all, true, ℕ, ◌++◌, ◌+◌, ◌<◌, ◌∙◌, ◌∷◌, ◌≡◌, ◌≢◌, ◌≤◌, ◌⊎◌}
 pub use Rattle.std.proofs.lemmas.Bool.{cases_lt}
 pub use Rattle.std.proofs.lemmas.Bool.Decides.{nat_tests}
 pub use Rattle.std.proofs.lemmas.List.{drop_all, take-append-le}
@@ -8,12 +8,12 @@ pub use Rattle.std.specs.Io.KnownBytes.{Appends}
 pub use Rattle.std.specs.Str.{bytes_eq}
 pub use Rattle.bn_base.specs.Programs.{Program}
 pub use Rattle.bn_base.specs.declared.end_mark.EndMark.{EndMark}
-pub use Rattle.bn_outside.specs.Counts.{Counts, LoadCause, NoneFell, Rose, counted}
-pub use Rattle.bn_outside.specs.Files.{Files, LoadTells, SameElsewhere, Stored, WhereTold}
+pub use Rattle.bn_outside.specs.Counts.{Counts, NoneFell, Rose, counted}
+pub use Rattle.bn_outside.specs.Files.{Files, SameElsewhere, Stored, WhereTold}
 pub use Rattle.bn_outside.specs.StoreCalls.{LoadCall, SaveCall, StoreCall}
 pub use Rattle.bn_outside.specs.Streams.{AppendsPart, AppendsShort, Stream}
-pub use Rattle.hart_replay.specs.Coming.{Replaying, Stepped, given, outcome_only, with_rows}
-pub use Rattle.hart_replay.specs.Replay.{Done, Logged, Outcome, Refused, Replayed, interval_of}
+pub use Rattle.hart_replay.specs.Coming.{Replaying, Stepped, outcome_only, with_rows}
+pub use Rattle.hart_replay.specs.Replay.{Done, Outcome, Refused, Replayed, interval_of}
 pub use Rattle.hart_replay.specs.declared.error.ReplayError.{ReplayError}
 pub use Rattle.joint_replay.specs.Joining.{Joining, Ran, begun, ran, run_all, steps_left}
 pub use Rattle.joint_replay.specs.Memory.{known_from}
@@ -28,8 +28,8 @@ pub use Rattle.log_order.specs.Content.{Content}
 pub use Rattle.log_record.specs.declared.record.Record.{Record}
 pub use Rattle.sha2.specs.Sha256.{sha256}
 pub use Rattle.log_commands.specs.Acting.{ActsOn, ActsTo, SavesAll, SavesFile, StopsSaving, with_err}
-pub use Rattle.log_commands.specs.Answering.{Answers, Fetches, IsByFiles, LoadsAll}
-pub use Rattle.log_commands.specs.Audits.{audit_by, audited, roles_of, shown}
+pub use Rattle.log_commands.specs.Answering.{Answers, IsByFiles, LoadsAll}
+pub use Rattle.log_commands.specs.Audits.{audit_by, audited, shown}
 pub use Rattle.log_commands.specs.Commands.{Either, IsByFile, IsByLog, by_log, check_of, list_of, replay_found, replay_with}
 unfoldable pub use Rattle.log_commands.specs.Commands.{WithFile, ended}
 pub use Rattle.log_commands.specs.Effects.{Acts, AreKept, Call, ErrStopped, ErrWaits, IsByWords, IsFree, IsUnsaved, NoWriteFell, OutStopped, Prints, PrintsTo, SavingStopped, Stopped, Tells, World, between, done_of, printing_on, world}
@@ -52,7 +52,7 @@ pub use Rattle.log_commands.specs.RunEnds.{IsRecorded, end_status}
 pub use Rattle.log_commands.specs.SaveCounts.{AnswerSaves, AtMostSaves, IsMade, IsRenewed, SavedAll, SavesEach, is_lean, saves_after}
 pub use Rattle.log_commands.specs.SliceAnswers.{slice_told, slice_with}
 pub use Rattle.log_commands.specs.Texts.{check_line, record_text}
-unfoldable pub use Rattle.log_commands.specs.Texts.{begin_text, list_text, rows_text, summary_text}
+unfoldable pub use Rattle.log_commands.specs.Texts.{begin_text, list_text, rows_text}
 pub use Rattle.log_commands.specs.Told.{Saved, Told, printed, printed_until}
 unfoldable pub use Rattle.log_commands.specs.Told.{refused}
 pub use Rattle.log_commands.specs.declared.answer.Answer.{Answer}
@@ -64,5 +64,5 @@ pub use Rattle.log_commands.specs.declared.names.Role.{Role}
 pub use Rattle.log_commands.specs.declared.names.Role.TheVariants.{Book, Elf, Log}
 pub use Rattle.log_commands.specs.declared.pairs.JointReading.{JointReading}
 pub use Rattle.log_commands.specs.declared.refusal.Refusal.{Refusal}
-pub use Rattle.log_commands.specs.declared.refusal.Refusal.TheVariants.{CommandsTooLong, LineTooLong, LogRefused, Missing, NoRow, OutOfMemory, OutOfRange, ReadFailed, ReplayStopped, SameName, StoreFailed, TooLong, TooManyRaces, WordsRefused, WriteFailed}
+pub use Rattle.log_commands.specs.declared.refusal.Refusal.TheVariants.{CommandsTooLong, LineTooLong, LogRefused, Missing, OutOfMemory, OutOfRange, ReadFailed, ReplayStopped, SameName, StoreFailed, TooLong, TooManyRaces, WordsRefused, WriteFailed}
 pub use Rattle.log_commands.specs.declared.replay_lines.ReplayEnd.{ReplayEnd}

@@ -1,5 +1,4 @@
 mod Common
-pub mod Marks
 pub mod Counts
 pub mod Prints
 pub mod Rows

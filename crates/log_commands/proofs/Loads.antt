@@ -122,8 +122,8 @@ own-refusal before now (File (file.Short length)) = tt
 own-refusal before now e = tt
 
 -- it comes of no store
-pub own-log : (e : Damage) (r : Refusal) (before now : Counts) → r ≡ log_refusal e → RefusalCause before now r
-own-log e r before now is = subst (λ (x : Refusal). RefusalCause before now x) (sym is) (own-refusal before now e)
+pub own_log : (e : Damage) (r : Refusal) (before now : Counts) → r ≡ log_refusal e → RefusalCause before now r
+own_log e r before now is = subst (λ (x : Refusal). RefusalCause before now x) (sym is) (own-refusal before now e)
 
 -- what a log says leads to the answer
 pub made-read : (A : Type 0) (tells : A → Told) (names : FileNames) (bytes : List ℕ) (d : Content) (go : Content → Told) (result : Result A Refusal)

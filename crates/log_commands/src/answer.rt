@@ -109,6 +109,7 @@ pub fn digest_of(bytes: &[u8]) -> [u8; 32]
 }
 
 /// What a log file of either version says.
+#[tactic(auto, using(crate::proofs::Loads::own_log))]
 pub fn read_log(alloc: Global, bytes: &[u8]) -> Result<KeptLog, Refusal>
     ensures says { LogTells bytes.now result }
     ensures own { IsOwn result }

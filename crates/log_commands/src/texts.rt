@@ -156,7 +156,7 @@ fn push_done(text: &mut Text, run: &RunCounts) -> Result<(), AllocError>
 }
 
 /// Appends the line of a recording.
-#[tactic(auto, unfolding(crate::specs::Texts::summary_text))]
+#[tactic(auto, using(crate::proofs::Prints::joined), unfolding(crate::specs::Texts::summary_text))]
 pub fn push_summary(text: &mut Text, run: &RunCounts, ending: &str) -> Result<(), AllocError>
     ensures { OnOk result (text.new ≡ text.old ++ summary_text run.now.turns run.now.instructions run.now.dropped run.now.kept ending.now) }
 {

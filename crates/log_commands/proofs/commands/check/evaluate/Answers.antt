@@ -1,6 +1,6 @@
 use Rattle.log_commands.proofs.Common.{ap, Ok, LogCounts, check_of, IsMade, check_line, printed}
 use Rattle.log_commands.proofs.Answering.{unread}
-use Rattle.log_commands.proofs.Loads.{own-log}
+use Rattle.log_commands.proofs.Loads.{own_log}
 use Rattle.log_commands.proofs.commands.check.evaluate.Goals as goal
 
 pub returns-in-Ok : goal.returns-in-Ok
@@ -15,4 +15,4 @@ returns-in-Ok c =
 pub returns-in-Err : goal.returns-in-Err
 returns-in-Err c =
     unread IsMade c.args.log.now (λ names. check_of) c.of_damage.result (c.in-Err.damage, c.of_damage.ensures, c.in-Err.ensures.refused)
-    (λ before now. own-log c.in-Err.damage c.of_damage.result before now c.of_damage.ensures)
+    (λ before now. own_log c.in-Err.damage c.of_damage.result before now c.of_damage.ensures)

@@ -1,49 +1,29 @@
-use Rattle.log_commands.proofs.Common.{◌+◌, List, ℕ, drop, subst, ◌++◌, ◌∙◌, ap, sym, append_assoc, ◌<◌, arith, Record, AppendsPart, record_text, list_text, SendStops, Sent, Sends, Always}
+use Rattle.log_commands.proofs.Common.{◌+◌, List, drop, subst, ◌++◌, arith, Record, AppendsPart, record_text, list_text, SendStops, Sent, Sends, Always}
 use Rattle.log_commands.proofs.Answering.{passed-on}
-use Rattle.log_commands.proofs.Prints.{SoFar, so_far-gathered, so_far-stopped, so_far-last}
-use Rattle.log_commands.proofs.Counts.{list-more, list-done}
+use Rattle.log_commands.proofs.Prints.{so_far-gathered, so_far-stopped, so_far-last}
+use Rattle.log_commands.proofs.Counts.{list-so_far, list-done}
 use Rattle.log_commands.proofs.commands.list.send_list.Goals as goal
 
 pub returns-in_err-gather_record : goal.returns-in_err-gather_record
 returns-in_err-gather_record g c =
     let rs = c.records-records.result.now in
-    let k = c.loop-place.place in
-    let x = c.get.result in
-    let old = (g.O.Sink.stream c.args.out.now).text in
-    let now = (g.O.Sink.stream c.loop-place.out).text in
-    let next = (g.O.Sink.stream c.gather_record.new.out).text in
-    let before = (g.O.Sink.stream c.args.out.now).faults in
-    let after = (g.O.Sink.stream c.loop-place.out).faults in
-    let last = (g.O.Sink.stream c.gather_record.new.out).faults in
-    let text = c.loop-place.text in
-    let piece = record_text x (drop (k + 1) rs) in
-    let rest = list_text (drop (k + 1) rs) in
-    let so_far : SoFar (list_text rs) ((text ++ piece) ++ rest) old now before after =
-    subst (λ (t : List ℕ). SoFar (list_text rs) t old now before after)
-    (ap (λ (t : List ℕ). text ++ t) (list-more rs k x (subst (λ (n : ℕ). c.loop-place.place < n) c.len-place-end.ensures.value c.loop-place-test.true) c.get.ensures) ∙ sym (append_assoc text piece rest)) c.loop-place.invariant in
-    passed-on (Sends (list_text c.args.log.now.records) Always (g.O.Sink.stream c.args.out.now) (g.O.Sink.stream c.gather_record.new.out)) _ c.from_residual.result c.from_residual.ensures.1
+    let old = g.O.Sink.stream c.args.out.now in
+    let next = g.O.Sink.stream c.gather_record.new.out in
+    let so_far = list-so_far rs c.loop-place.place c.get.result c.loop-place.text old.text _ old.faults _ (rw c.len-place-end.ensures.value at c.loop-place-test.true) c.get.ensures c.loop-place.invariant in
+    passed-on (Sends (list_text c.args.log.now.records) Always old next) _ c.from_residual.result c.from_residual.ensures.1
     (record {
-      sent = subst (λ (rs : List Record). AppendsPart old next (list_text rs) × SendStops before last c.in_err-gather_record.field-0.0) c.records-records.ensures.value
-          (so_far-stopped (list_text rs) (text ++ piece) rest old now next before after last c.in_err-gather_record.field-0.0 so_far c.in_err-gather_record.ensures.sent);
+      sent = subst (λ (rs : List Record). AppendsPart old.text next.text (list_text rs) × SendStops old.faults next.faults c.in_err-gather_record.field-0.0) c.records-records.ensures.value
+          (so_far-stopped (list_text rs) (c.loop-place.text ++ record_text c.get.result (drop (c.loop-place.place + 1) rs)) (list_text (drop (c.loop-place.place + 1) rs)) old.text _ next.text old.faults _ next.faults c.in_err-gather_record.field-0.0 so_far c.in_err-gather_record.ensures.sent);
       later = omega (arith, c.loop-place.invariant.later, c.gather_record.ensures.later);
     })
 
 pub loop-place-preserved : goal.loop-place-preserved
 loop-place-preserved g c =
     let rs = c.records-records.result.now in
-    let k = c.loop-place.place in
-    let x = c.get.result in
-    let old = (g.O.Sink.stream c.args.out.now).text in
-    let now = (g.O.Sink.stream c.loop-place.out).text in
-    let before = (g.O.Sink.stream c.args.out.now).faults in
-    let after = (g.O.Sink.stream c.loop-place.out).faults in
-    let text = c.loop-place.text in
-    let piece = record_text x (drop (k + 1) rs) in
-    let rest = list_text (drop (k + 1) rs) in
-    let so_far : SoFar (list_text rs) ((text ++ piece) ++ rest) old now before after =
-    subst (λ (t : List ℕ). SoFar (list_text rs) t old now before after)
-    (ap (λ (t : List ℕ). text ++ t) (list-more rs k x (subst (λ (n : ℕ). c.loop-place.place < n) c.len-place-end.ensures.value c.loop-place-test.true) c.get.ensures) ∙ sym (append_assoc text piece rest)) c.loop-place.invariant in
-    so_far-gathered (list_text rs) (text ++ piece) c.gather_record.new.text rest old now (g.O.Sink.stream c.gather_record.new.out).text before after (g.O.Sink.stream c.gather_record.new.out).faults
+    let old = g.O.Sink.stream c.args.out.now in
+    let next = g.O.Sink.stream c.gather_record.new.out in
+    let so_far = list-so_far rs c.loop-place.place c.get.result c.loop-place.text old.text _ old.faults _ (rw c.len-place-end.ensures.value at c.loop-place-test.true) c.get.ensures c.loop-place.invariant in
+    so_far-gathered (list_text rs) (c.loop-place.text ++ record_text c.get.result (drop (c.loop-place.place + 1) rs)) c.gather_record.new.text (list_text (drop (c.loop-place.place + 1) rs)) old.text _ next.text old.faults _ next.faults
     so_far c.in_ok-gather_record.ensures.sent c.gather_record.ensures.later
 
 pub returns : goal.returns
