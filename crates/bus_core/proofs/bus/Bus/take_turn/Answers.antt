@@ -1,4 +1,4 @@
-use Rattle.bus_core.proofs.Common.{◌≡◌, ◌<◌, ◌+◌, true, List, ◌∷◌, ◌++◌, [], subst, sym, ◌∙◌, ap, Ask, TurnRow, IsRun, parts, serve, Seen, seen, IsState, began_of, row, turned_run, turn_row, is_live}
+use Rattle.bus_core.proofs.Common.{◌≡◌, ◌<◌, true, List, ◌∷◌, ◌++◌, [], subst, sym, ◌∙◌, ap, Ask, TurnRow, IsRun, parts, serve, Seen, seen, IsState, began_of, row, turned_run, turn_row, is_live}
 use Rattle.bus_core.proofs.History.{kept_more, kept_same, run_seen, state_is, turns_more}
 use Rattle.bus_core.proofs.Rows.{live_within}
 use Rattle.bus_core.proofs.OwnTurn.{ask_is, own_orderly, row_is, or_not_true}
