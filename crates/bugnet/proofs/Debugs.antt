@@ -339,15 +339,9 @@ cut-refusal false i e h f = h f
 -- so no session over a recording's log ends as one
 pub by-end : (x : Ending) (o : Option DebugError) (e : JointError) → x ≢ ending.Refused e → o ≢ Some (stop.Joint e) → result_by x o ≢ Err (stop.Joint e)
 by-end ending.GoesOn None e a b f = absurd cc
-by-end ending.GoesOn (Some y) e a b f = b (ap (λ (z : DebugError). Some z) (same y f))
-  where
-    same : (y : DebugError) → ◌≡◌ {A = Result (Unit {0}) DebugError} (Err y) (Err (stop.Joint e)) → y ≡ stop.Joint e
-    same y g = cc
+by-end ending.GoesOn (Some y) e a b f = b (cc)
 by-end ending.Quits o e a b f = absurd cc
-by-end (ending.Refused y) o e a b f = a (ap (λ (z : JointError). ending.Refused z) (same y f))
-  where
-    same : (y : JointError) → ◌≡◌ {A = Result (Unit {0}) DebugError} (Err (stop.Joint y)) (Err (stop.Joint e)) → y ≡ e
-    same y g = cc
+by-end (ending.Refused y) o e a b f = a (cc)
 
 never-refused : SessionsShowTheRun → (r : Recording) (records : List Record) (c : Commands) → IsLogOf r records → (e : JointError) → (session_of r records c).result ≢ Err (stop.Joint e)
 never-refused show r records c log e =

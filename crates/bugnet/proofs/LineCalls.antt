@@ -250,9 +250,6 @@ tells-past line names answer status k fits prints none (inr s) other = inl (free
 
 -- ---- a command
 
-same_refusal : (A : Type 0) (r x : Refusal) → ◌≡◌ {A = Result A Refusal} (Err r) (Err x) → Some x ≡ Some r
-same_refusal A r x e = grind arith
-
 -- such calls without a save
 abbrev SavesNone : FileNames → (calls needed : List FileCall) → Option Refusal → (ℕ → Bool) → (status : ℕ) → Note → Call → Type 0
 SavesNone names calls needed words past status note k = (so : CallsSo names calls needed words past status note k) × (has_save so.made ≡ false)
@@ -272,7 +269,7 @@ refused-so A note names (Some x) roles needed saves past r status k h c out told
     left = loads_of roles ++ saves;
     parts = refl;
     noted = h;
-    ends = inr (record { refusal = r; at = inl (same_refusal A r x c.0, refl); out = out; told = told });
+    ends = inr (record { refusal = r; at = inl (cc c.0, refl); out = out; told = told });
   },
   refl,
 )

@@ -10,15 +10,9 @@ use Rattle.bugnet.proofs.Sessions.{no-quit, last-quit}
 -- an end that the input alone brought: no line ended the session
 by-input : (x : Ending) (o : Option DebugError) (e : DebugError) → ((f : JointError) → e ≢ stop.Joint f) → result_by x o ≡ Err e → (x ≡ ending.GoesOn) × (o ≡ Some e)
 by-input ending.GoesOn None e own is = absurd cc
-by-input ending.GoesOn (Some f) e own is = (refl, ap (λ (z : DebugError). Some z) (same f e is))
-  where
-    same : (f e : DebugError) → ◌≡◌ {A = Result (Unit {0}) DebugError} (Err f) (Err e) → f ≡ e
-    same f e g = cc
+by-input ending.GoesOn (Some f) e own is = (refl, cc)
 by-input ending.Quits o e own is = absurd cc
-by-input (ending.Refused f) o e own is = absurd (own f (sym (same (stop.Joint f) e is)))
-  where
-    same : (g e : DebugError) → ◌≡◌ {A = Result (Unit {0}) DebugError} (Err g) (Err e) → g ≡ e
-    same g e h = cc
+by-input (ending.Refused f) o e own is = absurd (own f (cc))
 
 -- of commands that are refused the whole lines alone are answered
 refused-lines : (i : Input) (e : DebugError) → i.refused ≡ Some e → lines_in i ≡ i.lines

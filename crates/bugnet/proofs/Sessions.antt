@@ -114,10 +114,8 @@ answers-on P g (line ∷ lines) s p =
 
 walk-added : (w v : Walk) (order : List ℕ) (h : ℕ) (x : Item × Joining) → walk_on w order ≡ Some v → ready_step v.now h ≡ Some x → walk_on w (order ++ h ∷ []) ≡ Some (longer v h x)
 walk-added w v [] h x e f =
-    ap (λ (a : Walk). walk_on a (h ∷ [])) (same w v e) ∙ ap (λ (o : Option (Item × Joining)). elim o as (λ y. Option Walk) [ None ↦ None | Some y ↦ Some (longer v h y) ]) f
-  where
-    same : (a b : Walk) → ◌≡◌ {A = Option Walk} (Some a) (Some b) → a ≡ b
-    same a b g = cc
+    let same : w ≡ v = cc in
+    ap (λ (a : Walk). walk_on a (h ∷ [])) same ∙ ap (λ (o : Option (Item × Joining)). elim o as (λ y. Option Walk) [ None ↦ None | Some y ↦ Some (longer v h y) ]) f
 walk-added w v (k ∷ order) h x e f = by (ready_step w.now k) (λ y g. walk-added (longer w k y) v order h x g f) e
   where
     by : (o : Option (Item × Joining)) → ((y : Item × Joining) → walk_on (longer w k y) order ≡ Some v → walk_on (longer w k y) (order ++ h ∷ []) ≡ Some (longer v h x))
@@ -170,10 +168,7 @@ next-there j h x e = by (readiness j h) (next_step j h) e
     ] ≡ Some x → o ≡ Some (Ok x)
     by is.Ready None e = absurd cc
     by is.Ready (Some (Err g)) e = absurd cc
-    by is.Ready (Some (Ok y)) e = let same : y ≡ x = one y e in ap (λ (z : Item × Joining). Some (Ok z)) same
-      where
-        one : (y : Item × Joining) → ◌≡◌ {A = Option (Item × Joining)} (Some y) (Some x) → y ≡ x
-        one y g = cc
+    by is.Ready (Some (Ok y)) e = let same : y ≡ x = cc in ap (λ (z : Item × Joining). Some (Ok z)) same
     by (is.Waits s ic) o e = absurd cc
     by is.Done o e = absurd cc
 
@@ -190,10 +185,7 @@ walk-parts w v (h ∷ one) two e = by (ready_step w.now h) (λ x f. walk-parts (
 
 -- a walk keeps the program and the records
 walk-same : (w v : Walk) (order : List ℕ) → walk_on w order ≡ Some v → (v.now.program ≡ w.now.program) × (v.now.records ≡ w.now.records)
-walk-same w v [] e = let same : w ≡ v = one-walk w v e in (sym (ap (λ (u : Walk). u.now.program) same), sym (ap (λ (u : Walk). u.now.records) same))
-  where
-    one-walk : (a b : Walk) → ◌≡◌ {A = Option Walk} (Some a) (Some b) → a ≡ b
-    one-walk a b g = cc
+walk-same w v [] e = let same : w ≡ v = cc in (sym (ap (λ (u : Walk). u.now.program) same), sym (ap (λ (u : Walk). u.now.records) same))
 walk-same w v (h ∷ order) e = by (ready_step w.now h) refl (λ x f. walk-same (longer w h x) v order f) e
   where
     by : (o : Option (Item × Joining)) → ready_step w.now h ≡ o → ((x : Item × Joining) → walk_on (longer w h x) order ≡ Some v → (v.now.program ≡ x.1.program) × (v.now.records ≡ x.1.records))
