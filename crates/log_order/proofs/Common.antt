@@ -1,6 +1,7 @@
 -- What several files of proofs/ cite of other crates and of specs/. They import it from here, by one line.
-pub use Rattle.std.proofs.Common.{Bool, Err, List, None, Ok, Option, Result, Some, [], ap, append_assoc, arith, false, if◌then◌else◌, length, length-append, length-set, max, nat_le, nat_lt, not, refl, replicate, slice_get, slice_set, subst, suc, sym, true, zero, ℕ, ◌&&◌, ◌++◌, ◌+◌, ◌<◌, ◌==◌, ◌^◌, ◌||◌, ◌∙◌, ◌∷◌, ◌≡◌, ◌≢◌, ◌≤◌}
+pub use Rattle.std.proofs.Common.{Bool, Err, List, None, Ok, Option, Result, Some, [], ap, append_assoc, arith, eq-eqb, false, if◌then◌else◌, le-leb, length, length-append, length-set, lt-ltb, max, nat_le, nat_lt, ne_eqb, not, refl, replicate, slice_get, slice_set, subst, suc, sym, true, zero, ℕ, ◌&&◌, ◌++◌, ◌+◌, ◌<◌, ◌==◌, ◌^◌, ◌||◌, ◌∙◌, ◌∷◌, ◌≡◌, ◌≢◌, ◌≤◌}
 pub use Rattle.std.specs.List.{AllByRecursion, list_any}
+pub use Rattle.std.proofs.lemmas.Bool.{and_from, and_parts, le-ltb, lt-leb, not-false, or_from, or_parts}
 pub use Rattle.bn_base.specs.declared.end_mark.EndMark.{EndMark}
 pub use Rattle.log_record.specs.Spelling.{bytes_of, hart_of, total}
 pub use Rattle.log_record.specs.declared.record.Record.{Record}

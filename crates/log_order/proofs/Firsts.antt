@@ -1,5 +1,5 @@
 -- A break is the first.
-use Rattle.log_order.proofs.Common.{if◌then◌else◌, ◌≡◌, ℕ, ◌+◌, List, [], ◌∷◌, length, Bool, true, false, Option, Some, None, Result, Ok, Err, refl, ap, ◌∙◌, arith, length-append, Record, bytes_of, OrderLimits, HartView, total, ◌>>=◌, step, at_place, after_all, is_late, late_edge, OrderBreak, order_break}
+use Rattle.log_order.proofs.Common.{if◌then◌else◌, ◌≡◌, ℕ, ◌+◌, List, [], ◌∷◌, length, Bool, true, false, Option, Some, Result, Ok, Err, refl, ap, ◌∙◌, arith, length-append, Record, bytes_of, OrderLimits, HartView, total, ◌>>=◌, step, at_place, after_all, is_late, late_edge, OrderBreak, order_break}
 use Rattle.std.proofs.lemmas.List.Concat.{flat_map-cons}
 use Rattle.log_order.specs.First.{BreaksFirst, IsLateFirst}
 
@@ -65,9 +65,6 @@ breaks_first t start harts (r ∷ rs) place rule e =
 
 abbrev found : ℕ → Option ℕ
 found place = Some place
-
-abbrev nowhere : Option ℕ
-nowhere = None
 
 same_found : (a b : ℕ) → found a ≡ found b → a ≡ b
 same_found a b e = cc

@@ -1,5 +1,5 @@
 -- Records without the first ones keep the order.
-use Rattle.log_order.proofs.Common.{◌≡◌, ℕ, zero, suc, ◌+◌, Bool, true, false, not, ◌&&◌, ◌||◌, Option, Some, None, List, [], ◌∷◌, ◌++◌, length, replicate, Result, Ok, Err, refl, sym, ap, subst, ◌∙◌, arith, if◌then◌else◌, slice_get, slice_set, list_any, length-set, Record, Header, FirstLoad, ScOk, ScFailed, Edge, End, bytes_of, OrderLimits, Phase, Unknown, Awaiting, Open, Done, HartView, hart_of, total, after_one, fresh, is_done, is_unfinished, ◌>>=◌, has_source, step_at, step, at_place, after_all, is_from, is_past, is_late, late_edge, end_break, broken_in, broken, IsWeakPhase, IsWeakNumber, IsWeak, AreWeak, OrderBreak, order_break}
+use Rattle.log_order.proofs.Common.{◌≡◌, ℕ, zero, suc, ◌+◌, Bool, true, false, not, ◌&&◌, ◌||◌, Option, Some, None, List, [], ◌∷◌, ◌++◌, length, replicate, Result, Ok, Err, refl, sym, ap, subst, ◌∙◌, arith, if◌then◌else◌, slice_get, slice_set, list_any, length-set, Record, Header, FirstLoad, ScOk, ScFailed, Edge, End, bytes_of, OrderLimits, Phase, Unknown, Awaiting, Open, Done, HartView, hart_of, total, after_one, fresh, is_done, is_unfinished, ◌>>=◌, has_source, step_at, step, at_place, after_all, is_from, is_past, is_late, late_edge, end_break, broken_in, broken, IsWeakPhase, IsWeakNumber, IsWeak, AreWeak, OrderBreak, order_break, or_parts, or_from}
 use Rattle.std.specs.Option.{option_map}
 use Rattle.log_order.proofs.Weaker.{weak_one}
 
@@ -28,9 +28,6 @@ weak_length (x ∷ ws) (y ∷ vs) k = ap suc (weak_length ws vs k.1)
 
 abbrev good : Harts → Result Harts ℕ
 good x = Ok x
-
-abbrev bad : ℕ → Result Harts ℕ
-bad e = Err e
 
 same_harts : (x y : Harts) → good x ≡ good y → x ≡ y
 same_harts x y e = cc
@@ -188,21 +185,13 @@ unfinished false true false false false m o h = absurd (no_true (m refl))
 weak_unfinished : (all : Bool) (w v : HartView) → IsWeak w v → is_unfinished all v ≡ false → is_unfinished false w ≡ false
 weak_unfinished all w v k h = unfinished all w.met v.met (is_done w.phase) (is_done v.phase) k.met k.over h
 
-or_both : (a b : Bool) → (a || b) ≡ false → (a ≡ false) × (b ≡ false)
-or_both true b h = absurd cc
-or_both false b h = (refl, h)
-
-or_make : (a b : Bool) → a ≡ false → b ≡ false → (a || b) ≡ false
-or_make true b h k = absurd cc
-or_make false b h k = k
-
 pub weak_any : (all : Bool) (ws vs : Harts) → AreWeak ws vs → list_any (is_unfinished all) vs ≡ false → list_any (is_unfinished false) ws ≡ false
 weak_any all [] [] k h = refl
 weak_any all [] (v ∷ vs) k h = absurd k
 weak_any all (w ∷ ws) [] k h = absurd k
 weak_any all (w ∷ ws) (v ∷ vs) k h =
-    let o = or_both (is_unfinished all v) (list_any (is_unfinished all) vs) h in
-    or_make (is_unfinished false w) (list_any (is_unfinished false) ws) (weak_unfinished all w v k.0 o.0) (weak_any all ws vs k.1 o.1)
+    let o = or_parts (is_unfinished all v) (list_any (is_unfinished all) vs) h in
+    or_from (is_unfinished false w) (list_any (is_unfinished false) ws) (weak_unfinished all w v k.0 o.0) (weak_any all ws vs k.1 o.1)
 
 weak_from : (n m : Option ℕ) (j : ℕ) → IsWeakNumber n m → is_from m j ≡ false → is_from n j ≡ false
 weak_from None m j k h = refl

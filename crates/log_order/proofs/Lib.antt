@@ -4,4 +4,3 @@ pub mod Weaker
 pub mod Fronts
 pub mod Suffixes
 pub mod Takes
-pub mod Worked

@@ -18,13 +18,6 @@ keeps_more t n d kept vs us r k e = record {
   ran = subst (λ (xs : List Record). after_all t 0 (replicate n (fresh true)) xs ≡ Ok us) (append_assoc k.gone kept (r ∷ [])) (appended t 0 (replicate n (fresh true)) vs us (k.gone ++ kept) r k.ran e);
 }
 
-pub keeps_less : (t : OrderLimits) (n d : ℕ) (kept : List Record) (vs : Harts) (r : Record) → Keeps t n d (r ∷ kept) vs → Keeps t n (d + 1) kept vs
-keeps_less t n d kept vs r k = record {
-  gone = k.gone ++ r ∷ [];
-  dropped_is = omega (arith, k.dropped_is, length-append k.gone (r ∷ []));
-  ran = subst (λ (xs : List Record). after_all t 0 (replicate n (fresh true)) xs ≡ Ok vs) (sym (append_assoc k.gone (r ∷ []) kept)) k.ran;
-}
-
 not_zero : (a : ℕ) → 0 < a → (a == 0) ≡ false
 not_zero a h = grind arith
 
@@ -40,11 +33,6 @@ by_gone t n (g ∷ gone) kept vs e h l =
 -- in the end the kept records keep all rules
 pub keeps_order : (t : OrderLimits) (n d : ℕ) (kept : List Record) (vs : Harts) → Keeps t n d kept vs → list_any (is_unfinished true) vs ≡ false → late_edge vs 0 kept ≡ None → broken t n (d == 0) kept ≡ None
 keeps_order t n d kept vs k h l = subst (λ (i : ℕ). broken t n (i == 0) kept ≡ None) (sym k.dropped_is) (by_gone t n k.gone kept vs k.ran h l)
-
-pub none_late : (vs : Harts) (p : ℕ) (rs : List Record) → AllByRecursion (λ r. is_late vs r ≡ false) rs → late_edge vs p rs ≡ None
-unfolding late_edge
-none_late vs p [] a = refl
-none_late vs p (r ∷ rs) a = rw a.0 (none_late vs (p + length (bytes_of r)) rs a.1)
 
 -- a log that loses its first records keeps its order, if it counts them
 pub order_kept : (s : RawSettings) (d : ℕ) (front back : List Record) → broken_by s d (front ++ back) ≡ None → broken_by s (d + length front) back ≡ None

@@ -1,13 +1,9 @@
 -- What may follow if more is known may follow if less is.
-use Rattle.log_order.proofs.Common.{◌≡◌, ℕ, ◌+◌, ◌≤◌, ◌^◌, max, Bool, true, false, not, ◌&&◌, Option, Some, None, Result, Ok, Err, refl, subst, arith, nat_lt, nat_le, ◌==◌, if◌then◌else◌, EndMark, Record, Header, FirstLoad, ScOk, ScFailed, Edge, End, OrderLimits, Phase, Unknown, Awaiting, Open, Done, HartView, takes_header, takes_other, is_number, is_awaited, has_edge, has_end, next_number, goes_on, phase_after, after_header, after_edge, after_end, after_other, after_one, is_done, IsWeakNumber, IsWeakPhase, IsWeak}
+use Rattle.log_order.proofs.Common.{◌≡◌, ℕ, ◌+◌, ◌≤◌, ◌^◌, max, Bool, true, false, not, ◌&&◌, Option, Some, None, Result, Ok, Err, refl, subst, arith, nat_lt, nat_le, ◌==◌, if◌then◌else◌, EndMark, Record, Header, FirstLoad, ScOk, ScFailed, Edge, End, OrderLimits, Phase, Unknown, Awaiting, Open, Done, HartView, takes_header, takes_other, is_number, is_awaited, has_edge, has_end, next_number, goes_on, phase_after, after_header, after_edge, after_end, after_other, after_one, is_done, IsWeakNumber, IsWeakPhase, IsWeak, not-false, and_parts, and_from}
 
 passes : {X : Type 0} (b : Bool) (e : ℕ) (x : Result X ℕ) (y : X) → (if b then Err e else x) ≡ Ok y → (b ≡ false) × (x ≡ Ok y)
 passes true e x y h = absurd cc
 passes false e x y h = (refl, h)
-
-not_true : (b : Bool) → not b ≡ false → b ≡ true
-not_true true h = refl
-not_true false h = absurd cc
 
 weak_takes_header : (p q : Phase) → IsWeakPhase p q → takes_header q ≡ true → takes_header p ≡ true
 weak_takes_header Unknown q k h = refl
@@ -38,22 +34,14 @@ weak_is_number None m k w h = refl
 weak_is_number (Some a) None k w h = absurd w
 weak_is_number (Some a) (Some b) k w h = rw w h
 
-and_both : (a b : Bool) → (a && b) ≡ true → (a ≡ true) × (b ≡ true)
-and_both true b h = (refl, h)
-and_both false b h = absurd cc
-
-and_make : (a b : Bool) → a ≡ true → b ≡ true → (a && b) ≡ true
-and_make true b h k = k
-and_make false b h k = absurd cc
-
 weak_is_awaited : (p q : Phase) (n ic : ℕ) → IsWeakPhase p q → is_awaited q n ic ≡ true → is_awaited p n ic ≡ true
 weak_is_awaited Unknown q n ic k h = refl
 weak_is_awaited (Open a c) q n ic k h = refl
 weak_is_awaited Done q n ic k h = refl
 weak_is_awaited (Awaiting a c) Unknown n ic k h = absurd k
 weak_is_awaited (Awaiting a c) (Awaiting b d) n ic k h =
-    let s = and_both (d == ic) (is_number b n) h in
-    and_make (c == ic) (is_number a n) (rw k.1 s.0) (weak_is_number a b n k.0 s.1)
+    let s = and_parts (d == ic) (is_number b n) h in
+    and_from (c == ic) (is_number a n) (rw k.1 s.0) (weak_is_number a b n k.0 s.1)
 weak_is_awaited (Awaiting a c) (Open m d) n ic k h = absurd k
 weak_is_awaited (Awaiting a c) Done n ic k h = absurd k
 
@@ -124,8 +112,8 @@ weak_header t w v u n ic k h =
     let d = passes (nat_lt ic v.seen) 5 _ u c.1 in
     let e = passes (nat_lt t.limit ic) 5 _ u d.1 in
     let is = same_view _ u e.1 in
-    let takes = weak_takes_header w.phase v.phase k.phase (not_true _ a.0) in
-    let awaited = weak_is_awaited w.phase v.phase n ic k.phase (not_true _ b.0) in
+    let takes = weak_takes_header w.phase v.phase k.phase (not-false _ a.0) in
+    let awaited = weak_is_awaited w.phase v.phase n ic k.phase (not-false _ b.0) in
     let low = lt_down ic w.seen v.seen k.seen d.0 in
     let new : HartView = record { phase = Open (n + 1) ic; seen = w.seen; met = true; last = w.last } in
     (new, rw (takes, awaited, c.0, low, e.0) refl, subst (λ (x : HartView). IsWeak new x) is (record { phase = (refl, refl); seen = k.seen; met = λ y. refl; last = k.last; over = λ y z. y }))
@@ -139,12 +127,12 @@ weak_edge t w v u ic from_ic k h =
     let d = passes (nat_lt (ic + 1) v.seen) 5 _ u c.1 in
     let e = passes (not (has_edge t.interval v.phase ic)) 5 _ u d.1 in
     let is = same_view _ u e.1 in
-    let takes = weak_takes_other w.phase v.phase k.phase (not_true _ a.0) in
-    let within = weak_has_edge w.phase v.phase t.interval ic k.phase (not_true _ e.0) in
+    let takes = weak_takes_other w.phase v.phase k.phase (not-false _ a.0) in
+    let within = weak_has_edge w.phase v.phase t.interval ic k.phase (not-false _ e.0) in
     let low = lt_down (ic + 1) w.seen v.seen k.seen d.0 in
     let new : HartView = record { phase = w.phase; seen = max w.seen (ic + 1); met = true; last = w.last } in
     let more : max w.seen (ic + 1) ≤ max v.seen (ic + 1) = omega (arith, k.seen) in
-    (new, rw (takes, b.0, c.0, low, within) refl, subst (λ (x : HartView). IsWeak new x) is (record { phase = k.phase; seen = more; met = λ y. refl; last = k.last; over = λ y z. open_not_over v.phase (not_true _ a.0) y }))
+    (new, rw (takes, b.0, c.0, low, within) refl, subst (λ (x : HartView). IsWeak new x) is (record { phase = k.phase; seen = more; met = λ y. refl; last = k.last; over = λ y z. open_not_over v.phase (not-false _ a.0) y }))
 
 weak_end : (t : OrderLimits) (w v u : HartView) (mark : EndMark) → IsWeak w v → after_end t v mark ≡ Ok u → Follows (after_end t w mark) u
 unfolding after_end
@@ -155,8 +143,8 @@ weak_end t w v u mark k h =
     let d = passes (mark.reason == 7 && not (mark.ic == t.limit)) 5 _ u c.1 in
     let e = passes (not (has_end t.interval v.phase mark.reason mark.ic)) 5 _ u d.1 in
     let is = same_view _ u e.1 in
-    let takes = weak_takes_other w.phase v.phase k.phase (not_true _ a.0) in
-    let within = weak_has_end w.phase v.phase t.interval mark.reason mark.ic k.phase (not_true _ e.0) in
+    let takes = weak_takes_other w.phase v.phase k.phase (not-false _ a.0) in
+    let within = weak_has_end w.phase v.phase t.interval mark.reason mark.ic k.phase (not-false _ e.0) in
     let low = lt_down mark.ic w.seen v.seen k.seen b.0 in
     let new : HartView = record { phase = phase_after w.phase mark; seen = w.seen; met = true; last = Some mark.ic } in (
       new,
@@ -175,9 +163,9 @@ unfolding after_other
 weak_other w v u k h =
     let a = passes (not (takes_other v.phase)) 3 _ u h in
     let is = same_view _ u a.1 in
-    let takes = weak_takes_other w.phase v.phase k.phase (not_true _ a.0) in
+    let takes = weak_takes_other w.phase v.phase k.phase (not-false _ a.0) in
     let new : HartView = record { phase = w.phase; seen = w.seen; met = true; last = w.last } in
-    (new, rw takes refl, subst (λ (x : HartView). IsWeak new x) is (record { phase = k.phase; seen = k.seen; met = λ y. refl; last = k.last; over = λ y z. open_not_over v.phase (not_true _ a.0) y }))
+    (new, rw takes refl, subst (λ (x : HartView). IsWeak new x) is (record { phase = k.phase; seen = k.seen; met = λ y. refl; last = k.last; over = λ y z. open_not_over v.phase (not-false _ a.0) y }))
 
 -- a record that may follow the one view may follow the weaker one
 pub weak_one : (t : OrderLimits) (w v u : HartView) (r : Record) → IsWeak w v → after_one t v r ≡ Ok u → Follows (after_one t w r) u
