@@ -1,5 +1,5 @@
 -- A hart begins its next interval by the guard.
-use Rattle.run_model.proofs.Common.{◌≡◌, ℕ, ◌+◌, ◌<◌, ◌==◌, ◌++◌, Bool, true, false, List, ◌∷◌, length, refl, sym, ◌∙◌, ap, subst, arith, slice_set, RawSettings, HartState, Event, Clear, Contents, RepresentsEvents, total, Shadow, RepresentsAccesses, Hart, Trace, anew, Run, by_guard, next_records, guard_records, begun_anew, guarded_run, AreCaches, cache_of, events_cleared, AreHarts, IsLog, IsTrace, everyone}
+use Rattle.run_model.proofs.Common.{◌≡◌, ℕ, ◌+◌, ◌<◌, ◌==◌, ◌++◌, Bool, true, false, List, ◌∷◌, length, refl, sym, ◌∙◌, ap, subst, slice_set, RawSettings, HartState, Event, Clear, Contents, RepresentsEvents, total, Shadow, RepresentsAccesses, Hart, Trace, anew, Run, by_guard, next_records, guard_records, begun_anew, guarded_run, AreCaches, cache_of, events_cleared, AreHarts, IsLog, IsTrace, everyone, eqb-true}
 use Rattle.run_model.proofs.Bytes.{total_append}
 use Rattle.run_model.proofs.Stopping.{are_set}
 
@@ -9,14 +9,11 @@ cleared_by : (b : Bool) (j k : ℕ) (events : ℕ → List Event) → (j == k) �
 cleared_by true j k events e same = ap (λ (n : ℕ). Clear ∷ events n) (sym (same refl))
 cleared_by false j k events e same = refl
 
-same_hart : (j k : ℕ) → (j == k) ≡ true → j ≡ k
-same_hart j k e = grind arith
-
 caches_begun : (c : RawSettings) (cs : List Contents) (run : Run) (k : ℕ) (s : HartState) → AreCaches c cs (events_cleared k run.events) → AreCaches c cs (begun_anew run k s).events
 caches_begun c cs run k s are = record {
   count = are.count;
   geometry = are.geometry;
-  stands = λ j below. subst (λ (es : List Event). RepresentsEvents (cache_of cs j) es) (cleared_by (j == k) j k run.events refl (same_hart j k)) (are.stands j below);
+  stands = λ j below. subst (λ (es : List Event). RepresentsEvents (cache_of cs j) es) (cleared_by (j == k) j k run.events refl (eqb-true j k)) (are.stands j below);
 }
 
 more_bytes : (now before old more : ℕ) → now ≡ old + more → old ≡ before → now ≡ before + more

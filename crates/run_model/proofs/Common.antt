@@ -1,6 +1,6 @@
 -- What several files of proofs/ cite of other crates and of specs/. They import it from here, by one line.
-pub use Rattle.std.proofs.Common.{Bool, Global, IsTrue, List, None, Option, Some, Vec, [], add-one, ap, append-nil, append_assoc, ap₂, arith, bit_or, cond, drop, eq-eqb, false, filter, get_or, get_or-drop, get_or-set_other, get_or-set_same, if◌then◌else◌, inl, inr, is_some, length, length-append, length-drop, length-set, length-take-le, map, min, nat_le, nat_lt, ne_eqb, not, pow-suc, refl, set, set-set, shl_exact, slice_get, slice_index, slice_set, subst, suc, sym, take, take_all, true, true≢false, vec_capacity, vec_len, zero, ℕ, ◌%◌, ◌&&◌, ◌*◌, ◌++◌, ◌+◌, ◌-◌, ◌/◌, ◌<◌, ◌==◌, ◌^◌, ◌||◌, ◌∙◌, ◌∷◌, ◌≡◌, ◌≢◌, ◌≤◌, ◌⊎◌}
-pub use Rattle.std.proofs.lemmas.Bool.{cases_eq, false≢true}
+pub use Rattle.std.proofs.Common.{Bool, Global, IsTrue, List, None, Option, Some, Vec, [], add-one, ap, append-nil, append_assoc, ap₂, arith, bit_or, cond, drop, eq-eqb, eqb-true, false, filter, get_or, get_or-drop, get_or-set_other, get_or-set_same, if◌then◌else◌, inl, inr, is_some, le-leb, leb-false, leb-true, length, length-append, length-drop, length-set, length-take-le, lt-ltb, ltb-true, map, min, nat_le, nat_lt, ne_eqb, not, pow-suc, refl, set, set-set, shl_exact, slice_get, slice_index, slice_set, subst, suc, sym, take, take_all, true, true≢false, vec_capacity, vec_len, zero, ℕ, ◌%◌, ◌&&◌, ◌*◌, ◌++◌, ◌+◌, ◌-◌, ◌/◌, ◌<◌, ◌==◌, ◌^◌, ◌||◌, ◌∙◌, ◌∷◌, ◌≡◌, ◌≢◌, ◌≤◌, ◌⊎◌}
+pub use Rattle.std.proofs.lemmas.Bool.{and_from, and_parts, cases_eq, false≢true, le-ltb, lt-leb}
 pub use Rattle.std.proofs.lemmas.Bool.Decides.{eqb_tells, leb_tells}
 pub use Rattle.std.proofs.lemmas.Grind.{common_steps}
 pub use Rattle.std.proofs.lemmas.List.{get_or_default, set-get_or, take-append-le, take_more}

@@ -1,8 +1,8 @@
 -- The counts of a hart stay within the settings, and fewer turns are left after each.
-use Rattle.run_model.proofs.Common.{◌≡◌, ℕ, ◌+◌, ◌-◌, ◌<◌, ◌≤◌, Bool, true, false, List, Option, Some, None, refl, ap, arith, nat_le, nat_lt, ◌&&◌, if◌then◌else◌, RawSettings, HartState, Event, geometry_of, Hart, TurnEnd, GoesOn, NewInterval, HartOver, RunOver, Span, budget, is_orderly, warmth, skipped_after, hart_after, stopped, other_after, mark, start_hart, IsFit, IsRested, MovesOn, turns_left, anew, GuardedAsksFit, common_steps, Program, is_cut, passes, Want, Load, Store, LoadReserved, StoreConditional, Amo, System, Cut, Faulted}
+use Rattle.run_model.proofs.Common.{◌≡◌, ℕ, ◌+◌, ◌-◌, ◌<◌, ◌≤◌, Bool, true, false, List, Option, Some, None, refl, ap, arith, if◌then◌else◌, RawSettings, HartState, Event, geometry_of, Hart, TurnEnd, GoesOn, NewInterval, HartOver, RunOver, Span, budget, is_orderly, warmth, skipped_after, hart_after, stopped, other_after, mark, start_hart, IsFit, IsRested, MovesOn, turns_left, anew, GuardedAsksFit, common_steps, Program, is_cut, passes, Want, Load, Store, LoadReserved, StoreConditional, Amo, System, Cut, Faulted, lt-ltb, le-leb, and_parts}
 use Rattle.first_load_bits.specs.Warm.{warm}
 use Rattle.first_load_bits.specs.declared.warm.Warm.TheVariants as answers
-use Rattle.run_model.proofs.MoveOn.{budget_interval, budget_limit, InBudget, in_budget, both}
+use Rattle.run_model.proofs.MoveOn.{budget_interval, budget_limit, InBudget, in_budget}
 
 skip_by : (b : Bool) (skipped begun low after : ℕ) → begun + skipped ≤ low → after ≡ low + 1 → begun + skipped_after (Some (if b then answers.Warm else answers.Cold)) skipped ≤ after
 skip_by true skipped begun low after e a = omega (arith, e, a)
@@ -108,34 +108,25 @@ fit_start c k s e some = record {
 some_more : (c : RawSettings) (h : Hart) (s : HartState) (bytes : ℕ) → 1 ≤ c.interval → s.ic < c.limit → 0 < budget c (anew s bytes h)
 some_more c h s bytes some below = grind (arith, common_steps)
 
-pub lt_is : (a b : ℕ) → a < b → nat_lt a b ≡ true
-lt_is a b e = grind arith
-
-pub le_is : (a b : ℕ) → a ≤ b → nat_le a b ≡ true
-le_is a b e = grind arith
-
 -- its count is below the limit
 pub guarded_below : (c : RawSettings) (h : Hart) (asked : ℕ) → IsFit c h → InBudget c h asked → asked < c.limit
 guarded_below c h asked fit b = omega (arith, b.from, b.below, budget_limit c h, fit.limit)
 
 pub counted_by : (c : RawSettings) (i : Program) (h : Hart) (s : HartState) (want : Want) → is_cut want ≡ false → is_orderly c i h (record { state = s; want = want }) ≡ true
     → InBudget c h s.ic × (passes i want ≡ true)
-counted_by c i h s (Load a w g rd) cut e = (in_budget c h s.ic (both _ _ e).0, (both _ _ e).1)
-counted_by c i h s (LoadReserved a rd) cut e = (in_budget c h s.ic (both _ _ e).0, (both _ _ e).1)
-counted_by c i h s (Store a w v) cut e = (in_budget c h s.ic (both _ _ e).0, (both _ _ e).1)
-counted_by c i h s (Amo a o rd v) cut e = (in_budget c h s.ic (both _ _ e).0, (both _ _ e).1)
-counted_by c i h s (StoreConditional a rd v) cut e = (in_budget c h s.ic (both _ _ e).0, (both _ _ e).1)
-counted_by c i h s (System number args) cut e = (in_budget c h s.ic (both _ _ e).0, (both _ _ e).1)
+counted_by c i h s (Load a w g rd) cut e = (in_budget c h s.ic (and_parts _ _ e).0, (and_parts _ _ e).1)
+counted_by c i h s (LoadReserved a rd) cut e = (in_budget c h s.ic (and_parts _ _ e).0, (and_parts _ _ e).1)
+counted_by c i h s (Store a w v) cut e = (in_budget c h s.ic (and_parts _ _ e).0, (and_parts _ _ e).1)
+counted_by c i h s (Amo a o rd v) cut e = (in_budget c h s.ic (and_parts _ _ e).0, (and_parts _ _ e).1)
+counted_by c i h s (StoreConditional a rd v) cut e = (in_budget c h s.ic (and_parts _ _ e).0, (and_parts _ _ e).1)
+counted_by c i h s (System number args) cut e = (in_budget c h s.ic (and_parts _ _ e).0, (and_parts _ _ e).1)
 counted_by c i h s Cut cut e = cc
-counted_by c i h s (Faulted kind value) cut e = (in_budget c h s.ic (both _ _ e).0, (both _ _ e).1)
-
-pub both_is : (a b : Bool) → a ≡ true → b ≡ true → (a && b) ≡ true
-both_is a b e f = rw (e, f) refl
+counted_by c i h s (Faulted kind value) cut e = (in_budget c h s.ic (and_parts _ _ e).0, (and_parts _ _ e).1)
 
 orderly_anew : (c : RawSettings) (i : Program) (h : Hart) (s : HartState) (want : Want) (bytes : ℕ) → is_cut want ≡ false → 0 < budget c (anew s bytes h) → passes i want ≡ true
     → is_orderly c i (anew s bytes h) (record { state = s; want = want }) ≡ true
 orderly_anew c i h s want bytes cut some pass =
-    rw (cut, pass, le_is s.ic s.ic (omega arith), lt_is s.ic (s.ic + budget c (anew s bytes h)) (omega (arith, some))) refl
+    rw (cut, pass, le-leb s.ic s.ic (omega arith), lt-ltb s.ic (s.ic + budget c (anew s bytes h)) (omega (arith, some))) refl
 
 pub guarded_fits : GuardedAsksFit
 guarded_fits c i h bytes ask some rested live orderly cut =

@@ -1,7 +1,7 @@
 -- A turn whose quiet instructions are done in the hart's own place.
-use Rattle.run_model.proofs.Common.{◌≡◌, ◌≢◌, ℕ, ◌+◌, ◌-◌, ◌*◌, ◌<◌, ◌≤◌, ◌^◌, ◌==◌, ◌++◌, Bool, true, false, List, [], length, sym, ◌∙◌, ap, subst, arith, refl, inl, inr, IsTrue, Vec, slice_set, Some, None, nat_le, nat_lt, ◌&&◌, Global, get_or-set_same, get_or-set_other, length-set, set-set, set-get_or, eqb_tells, Program, RawSettings, HartState, Contents, is_cut, passes, orderly, absorbed, ask_of, Ask, Want, Reply, Shadow, RepresentsAccesses, lasts, next_turn, next_count, harts_of, Record, total, Hart, Log, TurnEnd, GoesOn, NewInterval, HartOver, RunOver, Trace, answer, Run, turn, ask_at, budget, is_orderly, serve_call, span_of, counted, point_of, edge_records, load_record, sc_record, next_records, run_over_records, warmth, loading, word_before, hart_after, harts_after, other_after, skipped_after, events_after, is_guarded, IsRested, turns_left, steps_in, AreCaches, AreHarts, hart_in, no_hart, AsksHere, IsTaken, IsOnlySwept, is_live, ask_here, in_state, moved_harts, moved_run, IsMoved, taken, IsLog, IsTraceFit, IsHartFit, IsTrace, IsSwept, everyone, IsRun, PlainParts, MachineParts, IsMachine, Start, Option, Plan, not, next_of, header_size, IsNoCall}
+use Rattle.run_model.proofs.Common.{◌≡◌, ◌≢◌, ℕ, ◌+◌, ◌-◌, ◌*◌, ◌<◌, ◌≤◌, ◌^◌, ◌==◌, ◌++◌, Bool, true, false, List, [], length, sym, ◌∙◌, ap, subst, arith, refl, inl, inr, IsTrue, Vec, slice_set, Some, None, nat_le, nat_lt, ◌&&◌, Global, get_or-set_same, get_or-set_other, length-set, set-set, set-get_or, eqb_tells, Program, RawSettings, HartState, Contents, is_cut, passes, orderly, absorbed, ask_of, Ask, Want, Reply, Shadow, RepresentsAccesses, lasts, next_turn, next_count, harts_of, Record, total, Hart, Log, TurnEnd, GoesOn, NewInterval, HartOver, RunOver, Trace, answer, Run, turn, ask_at, budget, is_orderly, serve_call, span_of, counted, point_of, edge_records, load_record, sc_record, next_records, run_over_records, warmth, loading, word_before, hart_after, harts_after, other_after, skipped_after, events_after, is_guarded, IsRested, turns_left, steps_in, AreCaches, AreHarts, hart_in, no_hart, AsksHere, IsTaken, IsOnlySwept, is_live, ask_here, in_state, moved_harts, moved_run, IsMoved, taken, IsLog, IsTraceFit, IsHartFit, IsTrace, IsSwept, everyone, IsRun, PlainParts, MachineParts, IsMachine, Start, Option, Plan, not, next_of, header_size, IsNoCall, lt-ltb, le-leb}
 use Rattle.run_model.specs.Represents.Accessed.{IsTurnedHere}
-use Rattle.run_model.proofs.Fits.{counted_by, guarded_below, left_live, le_is, lt_is}
+use Rattle.run_model.proofs.Fits.{counted_by, guarded_below, left_live}
 use Rattle.run_model.proofs.MoveOn.{InBudget, budget_interval, some_budget}
 use Rattle.run_model.proofs.OneTurn.{live_within, asked_orderly, turn_is}
 use Rattle.run_model.proofs.Asked.{all_less, eqb_same, other_stays}
@@ -51,7 +51,7 @@ onward c h s rested live by =
 orderly_on : (c : RawSettings) (i : Program) (h : Hart) (s : HartState) (want : Want) → is_cut want ≡ false → 0 < budget c (in_state s h) → passes i want ≡ true
     → is_orderly c i (in_state s h) (record { state = s; want = want }) ≡ true
 orderly_on c i h s want cut some pass =
-    rw (cut, pass, le_is s.ic s.ic (omega arith), lt_is s.ic (s.ic + budget c (in_state s h)) (omega (arith, some))) refl
+    rw (cut, pass, le-leb s.ic s.ic (omega arith), lt-ltb s.ic (s.ic + budget c (in_state s h)) (omega (arith, some))) refl
 
 -- an ask that is orderly for a hart is orderly once the hart is moved on to it
 pub orderly_there : (c : RawSettings) (i : Program) (h : Hart) (s : HartState) (want : Want) → IsRested c h → h.live ≡ true → is_cut want ≡ false → IsTrue (is_orderly c i h (record { state = s; want = want }))

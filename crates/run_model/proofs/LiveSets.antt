@@ -25,10 +25,6 @@ set_below set n low = or_lt (n + 1) set (2 ^ n) (omega (arith, low, one_more n))
 pub bit_of : (n : ℕ) → n < 16 → 1 * 2 ^ n % 65536 ≡ 2 ^ n
 bit_of n low = let e = shl_exact {a = 1} 1 n 16 (omega arith) (omega (arith, low)) in omega (arith, e)
 
-pub and_true : (a b : Bool) → a ≡ true → b ≡ true → (a && b) ≡ true
-and_true true b h k = k
-and_true false b h k = h
-
 -- tests that agree below n pass there alike
 pub same_below : (f g : ℕ → Bool) (n : ℕ) → ((k : ℕ) → k < n → f k ≡ g k) → all_below f n ≡ all_below g n
 unfolding all_below

@@ -1,5 +1,5 @@
 -- Turns of a hart that is alone, in its own place.
-use Rattle.run_model.proofs.Common.{◌≡◌, ◌≢◌, ℕ, zero, suc, ◌+◌, ◌-◌, ◌*◌, ◌/◌, ◌<◌, ◌≤◌, ◌^◌, ◌==◌, ◌++◌, Bool, true, false, List, [], ◌∷◌, length, sym, ◌∙◌, ap, subst, arith, refl, inl, inr, min, IsTrue, slice_set, Option, Some, None, slice_get, nat_le, nat_lt, ◌&&◌, if◌then◌else◌, append-nil, Program, RawSettings, HartState, Contents, Warm, Record, Shadow, Hart, Log, TurnEnd, GoesOn, NewInterval, HartOver, RunOver, Walking, LeadsTo, AsksThere, absorbed, ask_of, count_up, orderly, add, Ask, Plan, total, eqb_tells, Want, Reply, Trace, Run, turn, serve, served_if, ask_at, budget, counted, is_orderly, is_guarded, serve_call, guarded_run, by_guard, span_of, point_of, edge_records, load_record, sc_record, next_records, run_over_records, warmth, loading, word_before, bytes_since, header_size, hart_after, harts_after, other_after, skipped_after, next_of, EndsTurn, steps_in, hart_in, is_live_hart, no_hart, get_or-set_same, IsOneOn, IsOnWay, IsMovedAlone, CanTakeAlone, IsTakenAlone, IsTurnedAlone, IsUnguarded, CanTurn, HasTurned, HaveTurned, HaveStopped, run_alone, is_live, in_state, ask_here, moved_harts, moved_run, IsMoved, IsLog, taken, IsMachine, IsSwept, is_walk_due, IsTraceFit, IsTrace, IsRun, PlainParts, Start, IsRested, answer, call_of}
+use Rattle.run_model.proofs.Common.{◌≡◌, ◌≢◌, ℕ, zero, suc, ◌+◌, ◌-◌, ◌*◌, ◌/◌, ◌<◌, ◌≤◌, ◌^◌, ◌==◌, ◌++◌, Bool, true, false, List, [], ◌∷◌, length, sym, ◌∙◌, ap, subst, arith, refl, inl, inr, min, IsTrue, slice_set, Option, Some, None, slice_get, nat_le, nat_lt, ◌&&◌, if◌then◌else◌, append-nil, Program, RawSettings, HartState, Contents, Warm, Record, Shadow, Hart, Log, TurnEnd, GoesOn, NewInterval, HartOver, RunOver, Walking, LeadsTo, AsksThere, absorbed, ask_of, count_up, orderly, add, Ask, Plan, total, eqb_tells, Want, Reply, Trace, Run, turn, serve, served_if, ask_at, budget, counted, is_orderly, is_guarded, serve_call, guarded_run, by_guard, span_of, point_of, edge_records, load_record, sc_record, next_records, run_over_records, warmth, loading, word_before, bytes_since, header_size, hart_after, harts_after, other_after, skipped_after, next_of, EndsTurn, steps_in, hart_in, is_live_hart, no_hart, get_or-set_same, IsOneOn, IsOnWay, IsMovedAlone, CanTakeAlone, IsTakenAlone, IsTurnedAlone, IsUnguarded, CanTurn, HasTurned, run_alone, is_live, in_state, ask_here, moved_harts, moved_run, IsMoved, IsLog, taken, IsMachine, IsSwept, is_walk_due, IsTraceFit, IsTrace, IsRun, PlainParts, Start, IsRested, answer, call_of, lt-leb, le-ltb}
 use Rattle.first_load_bits.specs.declared.warm.Warm.TheVariants as answers
 use Rattle.run_model.proofs.InPlace.{moved_is, onward_fit, orderly_there, own_moved, served_moved, stands_on, taken_there}
 use Rattle.run_model.proofs.MoveOn.{InBudget, one_up, budget_limit, budget_interval}
@@ -57,14 +57,11 @@ finished_on old new next e ec es el len =
 pub budget_by : (c : RawSettings) (h g : Hart) (more end : ℕ) → g.begun ≡ h.begun → h.begun ≤ h.state.ic → h.state.ic ≤ g.state.ic → end ≡ g.state.ic + more → budget c h + h.state.ic ≡ end + 1 → budget c g ≡ more + 1
 budget_by c h g more end same begun from e whole = omega (arith, same, begun, from, e, whole)
 
-less_not : (a b : ℕ) → b < a → nat_le a b ≡ false
-less_not a b below = grind arith
-
 -- while one instruction more is left, its interval continues
 pub goes_on : (c : RawSettings) (h : Hart) (ic : ℕ) → ic < c.limit → ic - h.begun < c.interval → counted c h ic ≡ GoesOn
 goes_on c h ic below inside =
-    ap (λ (b : Bool). elim b as (λ x. TurnEnd) [ true ↦ HartOver 7 0 | false ↦ elim (nat_le c.interval (ic - h.begun)) as (λ x. TurnEnd) [ true ↦ NewInterval 1 0 | false ↦ GoesOn ] ]) (less_not c.limit ic below)
-    ∙ ap (λ (b : Bool). elim b as (λ x. TurnEnd) [ true ↦ NewInterval 1 0 | false ↦ GoesOn ]) (less_not c.interval (ic - h.begun) inside)
+    ap (λ (b : Bool). elim b as (λ x. TurnEnd) [ true ↦ HartOver 7 0 | false ↦ elim (nat_le c.interval (ic - h.begun)) as (λ x. TurnEnd) [ true ↦ NewInterval 1 0 | false ↦ GoesOn ] ]) (lt-leb c.limit ic below)
+    ∙ ap (λ (b : Bool). elim b as (λ x. TurnEnd) [ true ↦ NewInterval 1 0 | false ↦ GoesOn ]) (lt-leb c.interval (ic - h.begun) inside)
 
 -- ---- the hart that was moved on
 
@@ -346,14 +343,11 @@ below_none c headed bytes below = absurd (none bytes below)
     none : (n : ℕ) → n < 0 → ⊥
     none n e = omega (arith, e)
 
-not_past : (a b : ℕ) → b ≤ a → nat_lt a b ≡ false
-not_past a b below = grind arith
-
 -- as long as the bytes are so many fewer than half of the log's, no more than half are there
 pub fewer_than_half : (c : RawSettings) (half headed limit : ℕ) → half ≡ c.log_size / 2 → 146 ≤ half → limit ≤ headed + (half - 145) → IsUnguarded c headed limit
 fewer_than_half c half headed limit is most low bytes below =
     let few : 2 * (header_size + (bytes - headed)) ≤ c.log_size = omega (arith, is, most, low, below) in
-    none_and (c.format == 2) (nat_lt c.log_size (2 * (header_size + (bytes - headed)))) (not_past c.log_size (2 * (header_size + (bytes - headed))) few)
+    none_and (c.format == 2) (nat_lt c.log_size (2 * (header_size + (bytes - headed)))) (le-ltb c.log_size (2 * (header_size + (bytes - headed))) few)
   where
     none_and : (b e : Bool) → e ≡ false → b && e ≡ false
     none_and true e none = none
@@ -437,21 +431,6 @@ could_more p q r run n most had es can turns few =
   where
     lower : (m n : ℕ) → m ≤ n → m ≢ n → m < n
     lower m n within e = omega (arith, within, e)
-
--- more may be taken than one
-pub one_within : (p q : PlainParts) (most : ℕ) → 0 < most → HaveTurned 1 p q → HaveTurned most p q
-one_within p q most some turned = λ run is. more run (turned run is)
-  where
-    more : (run : Run) → (count : ℕ) × (0 < count) × (count ≤ 1) × HasTurned p q run count → (count : ℕ) × (0 < count) × (count ≤ most) × HasTurned p q run count
-    more run (count, least, few, has) = (count, least, omega (arith, some, few), has)
-
-pub none_within : (p q : PlainParts) (most : ℕ) → 0 < most → HaveStopped 1 p q → HaveStopped most p q
-none_within p q most some stopped = λ run is. more run (stopped run is)
-  where
-    more : (run : Run)
-        → (count : ℕ) × (count < 1) × (q.turns ≡ p.turns + count) × ((n : ℕ) → n ≤ count → CanTurn p.start.settings p.start.image (run_alone p.start.settings p.start.image run n))
-        → (count : ℕ) × (count < most) × (q.turns ≡ p.turns + count) × ((n : ℕ) → n ≤ count → CanTurn p.start.settings p.start.image (run_alone p.start.settings p.start.image run n))
-    more run (count, few, same, each) = (count, omega (arith, some, few), same, each)
 
 -- the run of a machine whose hart was moved on
 pub run_moved : (p q : PlainParts) → is_live p 0 ≡ true → IsMovedAlone p q → (run : Run) → IsRun p run → IsRun q (moved_run run 0 (hart_in q.trace.harts.items 0).state)

@@ -1,8 +1,7 @@
 -- A turn of a plain machine is a turn of its run.
-use Rattle.run_model.proofs.Common.{◌≡◌, ℕ, zero, suc, ◌+◌, ◌<◌, ◌≤◌, ◌^◌, Bool, true, false, List, [], ◌∷◌, length, get_or, sym, ◌∙◌, ap, subst, arith, refl, inl, inr, Option, IsTrue, slice_get, ◌&&◌, nat_lt, slice_get-get_or, leb_tells, Program, RawSettings, HartState, Ask, ask_of, orderly, is_counted, passes, Plan, Hart, call_of, Run, serve, serve_call, serve_orderly, served_if, turn, ask_at, is_orderly, is_guarded, budget, IsFit, AreHarts, is_live_hart, hart_in}
+use Rattle.run_model.proofs.Common.{◌≡◌, ℕ, zero, suc, ◌+◌, ◌<◌, ◌≤◌, ◌^◌, Bool, true, false, List, [], ◌∷◌, length, get_or, sym, ◌∙◌, ap, subst, arith, refl, inl, inr, Option, IsTrue, slice_get, ◌&&◌, slice_get-get_or, leb_tells, Program, RawSettings, HartState, Ask, ask_of, orderly, is_counted, passes, Plan, Hart, call_of, Run, serve, serve_call, serve_orderly, served_if, turn, ask_at, is_orderly, is_guarded, budget, IsFit, AreHarts, is_live_hart, hart_in, lt-ltb, and_parts, le-ltb}
 use Rattle.run_model.specs.Runs.{is_live}
-use Rattle.run_model.proofs.Fits.{lt_is}
-use Rattle.run_model.proofs.MoveOn.{budget_limit, both}
+use Rattle.run_model.proofs.MoveOn.{budget_limit}
 
 pub live_within : (hs : List Hart) (k : ℕ) → is_live_hart (slice_get hs k) ≡ true → (k < length hs) × ((hart_in hs k).live ≡ true)
 live_within [] zero e = cc
@@ -24,14 +23,11 @@ none_live [] k past = refl
 none_live (h ∷ hs) zero past = absurd (omega (arith, past))
 none_live (h ∷ hs) (suc k) past = none_live hs k (omega (arith, past))
 
-past_all : (k n : ℕ) → n ≤ k → nat_lt k n ≡ false
-past_all k n e = grind arith
-
 -- and so it is in the run that the list represents
 pub live_in_run : (c : RawSettings) (run : Run) (hs : List Hart) (k : ℕ) → AreHarts hs run.harts → length hs ≡ c.harts → is_live_hart (slice_get hs k) ≡ is_live c run k
 live_in_run c run hs k are len = elim (leb_tells c.harts k) [
-  | inl p ↦ sym (none_live hs k (omega (arith, p.1, len))) ∙ sym (ap (λ (b : Bool). b && (run.harts k).live) (past_all k c.harts p.1))
-  | inr p ↦ ap is_live_hart (are k (omega (arith, p.1, len))) ∙ sym (ap (λ (b : Bool). b && (run.harts k).live) (lt_is k c.harts p.1))
+  | inl p ↦ sym (none_live hs k (omega (arith, p.1, len))) ∙ sym (ap (λ (b : Bool). b && (run.harts k).live) (le-ltb k c.harts p.1))
+  | inr p ↦ ap is_live_hart (are k (omega (arith, p.1, len))) ∙ sym (ap (λ (b : Bool). b && (run.harts k).live) (lt-ltb k c.harts p.1))
 ]
 
 -- what a hart asks next is orderly
@@ -39,7 +35,7 @@ pub asked_orderly : ((i : Program) (n : ℕ) (s : HartState) → s.ic + n < 2 ^ 
 asked_orderly each c i h ask high fit e = subst (λ (a : Ask). IsTrue (is_orderly c i h a)) (sym e) (each i (budget c h) h.state (omega (arith, high, fit.limit, budget_limit c h)))
 
 pub passes_of : (c : RawSettings) (i : Program) (h : Hart) (ask : Ask) → IsTrue (is_orderly c i h ask) → IsTrue (passes i ask.want)
-passes_of c i h ask e = (both (is_counted h.state.ic (budget c h) ask.want ask.state.ic) (passes i ask.want) e).1
+passes_of c i h ask e = (and_parts (is_counted h.state.ic (budget c h) ask.want ask.state.ic) (passes i ask.want) e).1
 
 pub turn_is : (c : RawSettings) (i : Program) (run : Run) (k : ℕ) (ask : Ask) (call : Option Plan) → ask ≡ ask_at c i (run.harts k) → call ≡ call_of i run.machine ask.want → IsTrue (is_orderly c i (run.harts k) ask) → (serve_call c run k ask (is_guarded c run k ask.want) call).run ≡ turn c i run k
 unfolding serve

@@ -39,10 +39,6 @@ own_here load x a own s n k bytes ea ek eo =
     ∙ ap (λ (y : Hart). hart_after n y.state (skipped_after load x.skipped) bytes y) ea
     ∙ after_same n s (skipped_after load x.skipped) bytes x
 
--- what comes next, by the hart of the list
-pub next_at : (c : RawSettings) (call : Option Plan) (want : Want) (reply : Reply) (x h : Hart) (ic : ℕ) (n : TurnEnd) → x ≡ h → n ≡ next_of c call x want reply ic → n ≡ next_of c call h want reply ic
-next_at c call want reply x h ic n ex en = en ∙ ap (λ (y : Hart). next_of c call y want reply ic) ex
-
 -- the hart after its turn, whatever the records took in since
 pub own_after : (load : Option Warm) (x h own : Hart) (s : HartState) (n m : TurnEnd) (old new : ℕ) → x ≡ h → n ≡ m → own ≡ hart_after n s (skipped_after load x.skipped) old x
     → hart_after n s (skipped_after load x.skipped) old x ≡ hart_after n s (skipped_after load x.skipped) new x → own ≡ hart_after m s (skipped_after load h.skipped) new h

@@ -2,7 +2,7 @@
 use Rattle.run_model.proofs.Common.{◌≡◌, ℕ, ◌+◌, ◌*◌, ◌-◌, ◌^◌, ◌<◌, ◌≤◌, ◌==◌, ◌++◌, Bool, true, false, List, [], length, get_or, refl, sym, ◌∙◌, ap, subst, arith, IsTrue, is_some, if◌then◌else◌, Option, Some, None, Vec, Global, append-nil, slice_get-get_or, Program, RawSettings, absorbed, aligned, add, count_up, is_reply_to, Ask, Want, Load, Store, Reply, Plan, Warm, Event, Record, Read, Write, RepresentsAccesses, Hart, Trace, Span, GoesOn, MachineParts, PlainParts, parts, Machine, IsMachine, answer, call_of, Run, IsRun, IsRaceReady, IsTraceFit, EachTurnMovesOn, IsOneOn, AsksHere, EndsTurn, IsNoted, ask_here, span, span_of, serve_call, next_of, skipped_after, point_of, edge_records, load_record, sc_record, warmth, loading, is_loading, word_before, events_after, hart_after, AreCaches, AreHarts, hart_in, steps_in, touched_word, touches, taken, IsLog, is_marked_next, clears, everyone, inl, inr, eqb_tells, harts_after, turns_left, IsHartFit, Point, harts_by, with_ends}
 use Rattle.rv_meaning.specs.declared.asks.Reply.TheVariants as replies
 use Rattle.run_model.specs.declared.plain.Plain.{Plain}
-use Rattle.run_model.specs.Represents.Accessed.{CanAccess, CanFinish, CanNote, IsAccessed}
+use Rattle.run_model.specs.Represents.Accessed.{CanFinish, CanNote, IsAccessed}
 use Rattle.run_model.specs.Represents.Alone.{CanAccessAlone}
 use Rattle.run_model.specs.Represents.Tracing.{CachesGoOn, next_by, with_access}
 use Rattle.run_model.proofs.Asked.{IsAsked, as_it_is, asked_counts, eqb_same, few_skipped, few_steps, few_steps_more, if_false, if_true, low_number, some_room}
@@ -158,19 +158,6 @@ asked_here p k want asks = as_it_is p.start.settings p.start.image p.trace p.tur
 -- the count at which a hart of the list is
 ic_at : (hs : List Hart) (k : ℕ) (x : Hart) → k < length hs → x ≡ get_or hs k x → x.state.ic ≡ (hart_in hs k).state.ic
 ic_at hs k x within e = ap (λ (y : Hart). y.state.ic) (hart_at hs k x within e)
-
--- the words can be accessed
-pub may_access : EachTurnMovesOn → (p : Plain) (k : ℕ) (want : Want) (x : Hart) (words : Span) → AsksHere (parts p) k want → x ≡ get_or p.trace.harts.items k x → IsRaceReady p.trace.shadow (Some words) → CanAccess p.trace p.turns k x.state.ic words
-may_access each p k want x words asks at ready =
-    let q = asked_here p k want asks in
-    let within : k < length p.trace.harts.items = omega (arith, q.within, q.harts) in
-    record {
-      hart = within;
-      caches = omega (arith, q.within, q.caches);
-      steps = few_steps p.start.settings (hart_in p.trace.harts.items k) (steps_in p.trace.caches k) q.own.fit q.settings.limit_high q.own.steps;
-      note = subst (λ (n : ℕ). CanNote p.trace.shadow p.turns k n (Some words)) (sym (ic_at p.trace.harts.items k x within at)) (may_note each (Some words) q ready);
-      room = some_room p.start.settings p.turns _ (taken p.trace.log.ring) 17 q.few q.settings.limit_high q.left (omega (arith, q.log)) (omega arith);
-    }
 
 -- the words can be accessed by a lone hart
 pub may_access_alone : EachTurnMovesOn → (p : Plain) (want : Want) (x : Hart) (words : Span) → AsksHere (parts p) 0 want → p.start.settings.harts ≡ 1 → x ≡ get_or p.trace.harts.items 0 x → words.first + 4 * words.count ≤ 2 ^ 32 → CanAccessAlone p.trace p.turns x.state.ic words

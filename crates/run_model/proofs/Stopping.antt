@@ -90,14 +90,6 @@ stops_more own n f rs h e =
     ∙ ap (λ (x : Hart). rs ++ (stop_records own n f ++ stop_record own n x)) (sym e)
     ∙ ap (λ (m : ℕ). rs ++ stop_records own m f) up
 
-no_change : (b : Bool) (h : Hart) → h ≡ elim b as (λ x. Hart) [ true ↦ h | false ↦ h ]
-no_change true h = refl
-no_change false h = refl
-
--- if the run continues, the other harts stay
-pub others_stay : (next : TurnEnd) (hs : List Hart) (own : ℕ) (f : ℕ → Hart) → other_after next ≡ (λ h. h) → AreHarts hs f → AreHarts hs (others_after next own f)
-others_stay next hs own f e are k below = are k below ∙ ap Some (no_change (k == own) (f k) ∙ ap (λ (g : Hart → Hart). elim (k == own) as (λ x. Hart) [ true ↦ f k | false ↦ g (f k) ]) (sym e))
-
 pub all_stopped : (hs : List Hart) (own n : ℕ) (f : ℕ → Hart) → AreHarts hs (stopped_below own n f) → n ≡ length hs → AreHarts hs (stopped_at own f)
 all_stopped hs own n f are whole k below = are k below ∙ ap Some (below_stopped own n k f (omega (arith, below, whole)))
 

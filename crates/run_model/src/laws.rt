@@ -32,14 +32,14 @@ pub fn guarded_asks_fit()
 {}
 
 /// With format 1 no ask is guarded, and all rows of a turn are of one interval.
-#[tactic(auto, using(crate::proofs::FormatOne::format_one))]
+#[tactic(auto, using(crate::proofs::Served::format_one))]
 pub fn format_1_is_unguarded()
     ensures { FormatOneIsUnguarded }
 {}
 
 /// The records themselves decide nothing: the machine, harts, caches, points, turns and number of bytes
 /// do.
-#[tactic(auto, using(crate::proofs::Alike::alike))]
+#[tactic(auto, using(crate::proofs::Served::alike))]
 pub fn records_decide_nothing()
     ensures { RecordsDecideNothing }
 {}

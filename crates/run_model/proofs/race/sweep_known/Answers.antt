@@ -1,5 +1,5 @@
-use Rattle.run_model.proofs.Common.{◌≡◌, ◌∙◌, ◌||◌, ℕ, Bool, not, nat_lt, filter, arith, sym, ap, refl, false≢true, kept_of, times_of, harts_of, is_known, everyone, is_known_to_live}
-use Rattle.run_model.proofs.LiveSets.{and_true, same_below}
+use Rattle.run_model.proofs.Common.{◌≡◌, ◌∙◌, ◌||◌, ℕ, Bool, not, nat_lt, filter, arith, sym, ap, refl, false≢true, kept_of, times_of, harts_of, is_known, everyone, is_known_to_live, and_from}
+use Rattle.run_model.proofs.LiveSets.{same_below}
 use Rattle.run_model.proofs.race.sweep_known.Goals as goal
 
 pub returns-then-is_sweep_due-clause-swept : goal.returns-then-is_sweep_due-clause-swept
@@ -10,7 +10,7 @@ returns-then-is_sweep_due-clause-swept c =
       harts = e.harts;
       turn = e.turn;
       counts = λ k. e.times k k;
-      lasting = λ k low live was. e.lasting k ∙ and_true _ _ was (c.live_set.ensures.own k low ∙ live);
+      lasting = λ k low live was. e.lasting k ∙ and_from _ _ was (c.live_set.ensures.own k low ∙ live);
     }
 
 pub returns-then-is_sweep_due-clause-due : goal.returns-then-is_sweep_due-clause-due

@@ -1,7 +1,20 @@
-use Rattle.run_model.proofs.Common.{◌≡◌, ◌+◌, ◌∷◌, ◌++◌, [], List, take, subst, sym, ◌∙◌, length-append, arith, number_bytes, Record, Edge, bytes_of, total, Log, edges_from, IsLog}
+use Rattle.run_model.proofs.Common.{◌≡◌, ◌+◌, ◌∷◌, ◌++◌, [], List, take, subst, sym, ◌∙◌, length-append, arith, number_bytes, Record, Edge, bytes_of, total, Log, edges_from, IsLog, ℕ, zero, suc, ap, append_assoc, Some, slice_get}
 use Rattle.run_model.proofs.Bytes.{total_append}
-use Rattle.run_model.proofs.Edges.{edges_more}
 use Rattle.run_model.proofs.records.append_edge.Goals as goal
+
+-- The Edges of a beginning of the sources.
+
+edges_next : (h ic : ℕ) (es : List (ℕ × ℕ)) (i : ℕ) (x : ℕ × ℕ) → slice_get es i ≡ Some x → edges_from h ic (take (suc i) es) ≡ edges_from h ic (take i es) ++ Edge h ic x.0 x.1 ∷ []
+edges_next h ic [] i x e = cc
+edges_next h ic (y ∷ es) zero x e = grind arith
+edges_next h ic (y ∷ es) (suc i) x e = ap (λ (rs : List Record). Edge h ic y.0 y.1 ∷ rs) (edges_next h ic es i x e)
+
+-- one Edge more
+edges_more : (h ic : ℕ) (es : List (ℕ × ℕ)) (i : ℕ) (x : ℕ × ℕ) (rs : List Record) → slice_get es i ≡ Some x → rs ++ edges_from h ic (take (i + 1) es) ≡ (rs ++ edges_from h ic (take i es)) ++ Edge h ic x.0 x.1 ∷ []
+edges_more h ic es i x rs e =
+    let up : suc i ≡ i + 1 = omega arith in
+    subst (λ (n : ℕ). rs ++ edges_from h ic (take n es) ≡ (rs ++ edges_from h ic (take i es)) ++ Edge h ic x.0 x.1 ∷ []) up
+    (ap (λ (xs : List Record). rs ++ xs) (edges_next h ic es i x e) ∙ sym (append_assoc rs (edges_from h ic (take i es)) (Edge h ic x.0 x.1 ∷ [])))
 
 -- a log holds the same records by another name
 same_records : (log : Log) (xs ys : List Record) → xs ≡ ys → IsLog log ys → IsLog log xs

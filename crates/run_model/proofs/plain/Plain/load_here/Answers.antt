@@ -1,13 +1,12 @@
-use Rattle.run_model.proofs.Common.{Load, ask_here, hart_in, is_aligned, parts, refl, ◌∙◌}
+use Rattle.run_model.proofs.Common.{Load, ask_here, hart_in, is_aligned, parts, refl, ◌∙◌, and_parts}
 use Rattle.run_model.proofs.InPlace.{asks_swept, turned_swept}
-use Rattle.run_model.proofs.MoveOn.{both}
 use Rattle.run_model.proofs.OneTurn.{passes_of}
 use Rattle.run_model.proofs.plain.Plain.load_here.Goals as goal
 
 pub ready_load-requires-clause-loads : goal.ready_load-requires-clause-loads
 ready_load-requires-clause-loads c =
     let p = c.args.self.now in let h = hart_in p.trace.harts.items c.args.hart in
-    (both (is_aligned c.args.addr c.args.width) _ (passes_of p.start.settings p.start.image h (ask_here h (Load c.args.addr c.args.width c.args.signed c.args.rd)) c.requires.orderly)).1
+    (and_parts (is_aligned c.args.addr c.args.width) _ (passes_of p.start.settings p.start.image h (ask_here h (Load c.args.addr c.args.width c.args.signed c.args.rd)) c.requires.orderly)).1
 
 pub apply_load-requires : goal.apply_load-requires
 apply_load-requires c =

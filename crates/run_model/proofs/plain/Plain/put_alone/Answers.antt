@@ -1,5 +1,4 @@
-use Rattle.run_model.proofs.Common.{refl, is_aligned, Want, Store, Hart, hart_in, ask_here}
-use Rattle.run_model.proofs.MoveOn.{both}
+use Rattle.run_model.proofs.Common.{refl, is_aligned, Want, Store, Hart, hart_in, ask_here, and_parts}
 use Rattle.run_model.proofs.OneTurn.{passes_of}
 use Rattle.run_model.proofs.plain.Plain.put_alone.Goals as goal
 
@@ -8,7 +7,7 @@ store_alone-requires c =
     let p = c.args.self.now in let h : Hart = hart_in p.trace.harts.items 0 in let can = c.requires.can in
     let want : Want = Store c.args.addr c.args.width c.args.value in
     let asks = can.asks want c.requires.there refl in
-    let width = both (is_aligned c.args.addr c.args.width) _ (passes_of p.start.settings p.start.image h (ask_here h want) asks.orderly) in
+    let width = and_parts (is_aligned c.args.addr c.args.width) _ (passes_of p.start.settings p.start.image h (ask_here h want) asks.orderly) in
     record { asks = asks; width = width.0; alone = can.alone; on = can.on; page = c.if-not-is_made.ensures refl }
 
 pub returns : goal.returns

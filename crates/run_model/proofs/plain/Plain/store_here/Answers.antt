@@ -1,13 +1,12 @@
-use Rattle.run_model.proofs.Common.{Store, ask_here, hart_in, is_aligned, parts, refl, ◌∙◌}
+use Rattle.run_model.proofs.Common.{Store, ask_here, hart_in, is_aligned, parts, refl, ◌∙◌, and_parts}
 use Rattle.run_model.proofs.InPlace.{asks_swept, turned_swept}
-use Rattle.run_model.proofs.MoveOn.{both}
 use Rattle.run_model.proofs.OneTurn.{passes_of}
 use Rattle.run_model.proofs.plain.Plain.store_here.Goals as goal
 
 pub ready_store-requires-clause-stores : goal.ready_store-requires-clause-stores
 ready_store-requires-clause-stores c =
     let p = c.args.self.now in let h = hart_in p.trace.harts.items c.args.hart in
-    (both _ _ (both (is_aligned c.args.addr c.args.width) _ (passes_of p.start.settings p.start.image h (ask_here h (Store c.args.addr c.args.width c.args.value)) c.requires.orderly)).1).0
+    (and_parts _ _ (and_parts (is_aligned c.args.addr c.args.width) _ (passes_of p.start.settings p.start.image h (ask_here h (Store c.args.addr c.args.width c.args.value)) c.requires.orderly)).1).0
 
 pub apply_store-requires : goal.apply_store-requires
 apply_store-requires c =
@@ -17,7 +16,7 @@ apply_store-requires c =
       hart = asks.hart;
       live = asks.live;
       orderly = asks.orderly;
-      width = (both (is_aligned c.args.addr c.args.width) _ (passes_of p.start.settings p.start.image h (ask_here h (Store c.args.addr c.args.width c.args.value)) c.requires.orderly)).0;
+      width = (and_parts (is_aligned c.args.addr c.args.width) _ (passes_of p.start.settings p.start.image h (ask_here h (Store c.args.addr c.args.width c.args.value)) c.requires.orderly)).0;
       race = c.if-not-ready_store.ensures.ready refl;
       page = c.if-not-ready_store.ensures.page refl;
     }
