@@ -1,6 +1,6 @@
 -- What several files of proofs/ cite of other crates and of specs/. They import it from here, by one line.
 pub use Rattle.std.proofs.Common.{All, Bool, Contains, Err, IsPermutation, List, None, Ok, Option, Some, [], ap, ap₂, arith, cond, count_by, drop, false, filter, find, get_or, get_or-drop, if◌then◌else◌, inl, inr, is_none, is_some, leb, leb-false, leb-true, length, ltb, ltb-false, map, max, nat_le, nat_lt, not, option_map, refl, rules, slice_index, subst, suc, sym, take, true, vec_len, zero, ℕ, ◌%◌, ◌&&◌, ◌*◌, ◌++◌, ◌+◌, ◌-◌, ◌/◌, ◌<◌, ◌==◌, ◌^◌, ◌||◌, ◌↔◌, ◌∙◌, ◌∷◌, ◌≡◌, ◌≤◌, ◌⊎◌}
-pub use Rattle.std.proofs.lemmas.Bool.{cases_lt}
+pub use Rattle.std.proofs.lemmas.Bool.{and_parts, cases_lt, or_parts}
 pub use Rattle.std.proofs.lemmas.List.{get_or-map, get_or_past, length-map}
 pub use Rattle.std.proofs.lemmas.List.Elements.{All-cons, All-contains, All-head, All-map, All-nil, All-tail, All-weaker, filter_passes}
 pub use Rattle.std.proofs.lemmas.List.FromFn.{get_or-map-range_with_len, length-map-range_with_len, map-range_with_len_more}

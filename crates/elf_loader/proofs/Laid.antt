@@ -1,5 +1,5 @@
 -- Segments that are taken, in memory.
-use Rattle.elf_loader.proofs.Common.{◌≡◌, ◌≤◌, ◌<◌, ℕ, ◌+◌, ◌*◌, ◌%◌, ◌^◌, ◌||◌, Bool, true, false, List, [], ◌∷◌, map, refl, ltb-false, arith, All, nat_lt, All-head, All-tail, All-weaker, filter_passes, All-permutation, AreApart, end_of, ProgramHeader, table, is_segment, IsLoadable, segments, file_end, memory_end, words_touched, first_word, word_after, part_of, by_address, is_cut_off, is_outside}
+use Rattle.elf_loader.proofs.Common.{◌≡◌, ◌≤◌, ◌<◌, ℕ, ◌+◌, ◌*◌, ◌%◌, ◌^◌, ◌||◌, true, false, List, [], ◌∷◌, map, ltb-false, arith, All, nat_lt, All-head, All-tail, All-weaker, filter_passes, All-permutation, AreApart, end_of, ProgramHeader, table, is_segment, IsLoadable, segments, file_end, memory_end, words_touched, first_word, word_after, part_of, by_address, is_cut_off, is_outside, or_parts}
 use Rattle.elf_loader.proofs.Words.{words_touched-some}
 use Rattle.elf_loader.proofs.Order.{AreSegments, AreInOrder, IsPermutation-by_address, by_address-in_order}
 use Rattle.elf_loader.proofs.Refused.{AreTaken}
@@ -16,14 +16,10 @@ pub record IsTaken (size memory : ℕ) (h : ProgramHeader) : Type 0 where
   pub high : memory_end h ≤ memory
   pub sizes : h.filesz ≤ h.memsz
 
-or_false : (a b : Bool) → (a || b) ≡ false → (a ≡ false) × (b ≡ false)
-or_false true b e = absurd cc
-or_false false b e = (refl, e)
-
 is_taken : (size memory : ℕ) (h : ProgramHeader) → is_cut_off size h ≡ false → is_outside memory h ≡ false → IsTaken size memory h
 is_taken size memory h cut out =
-    let parts = or_false (nat_lt h.vaddr 4096 || nat_lt memory (memory_end h)) (nat_lt h.memsz h.filesz) out in
-    let ends = or_false (nat_lt h.vaddr 4096) (nat_lt memory (memory_end h)) parts.0 in
+    let parts = or_parts (nat_lt h.vaddr 4096 || nat_lt memory (memory_end h)) (nat_lt h.memsz h.filesz) out in
+    let ends = or_parts (nat_lt h.vaddr 4096) (nat_lt memory (memory_end h)) parts.0 in
     record { inside = ltb-false _ _ cut; low = ltb-false _ _ ends.0; high = ltb-false _ _ ends.1; sizes = ltb-false _ _ parts.1 }
 
 -- each segment by address is taken

@@ -1,5 +1,5 @@
 -- What memory holds of a program that was loaded.
-use Rattle.elf_loader.proofs.Common.{◌≡◌, ◌≤◌, ◌<◌, ℕ, ◌+◌, ◌-◌, ◌*◌, ◌/◌, ◌%◌, ◌==◌, Bool, true, false, cond, ◌&&◌, List, [], ◌∷◌, length, map, Option, Some, None, Ok, refl, sym, ap, ap₂, subst, ◌∙◌, ◌↔◌, leb, ltb, arith, All, Contains, find, is_none, is_some, not, if◌then◌else◌, max, RawSettings, IsSetting, Part, Program, AreApart, code_at, is_in, part_at, word_in, code_in, first_in, may_load, is_writable, highest_end, heap_start, ProgramHeader, is_segment, segments, memory_end, touches, share, has_code, is_code, words_touched, first_word, word_after, word_of, part_of, before_higher, by_address, has_flag, file_header, program_of, image_of, segment_refusal, starts_outside, All-head, All-tail, All-map, All-contains, All-permutation, Contains-permutation}
+use Rattle.elf_loader.proofs.Common.{◌≡◌, ◌≤◌, ◌<◌, ℕ, ◌+◌, ◌-◌, ◌*◌, ◌/◌, ◌%◌, ◌==◌, Bool, true, false, cond, ◌&&◌, List, [], ◌∷◌, length, map, Option, Some, None, Ok, refl, sym, ap, ap₂, subst, ◌∙◌, ◌↔◌, leb, ltb, arith, All, Contains, find, is_none, is_some, not, if◌then◌else◌, max, RawSettings, IsSetting, Part, Program, AreApart, code_at, is_in, part_at, word_in, code_in, first_in, may_load, is_writable, highest_end, heap_start, ProgramHeader, is_segment, segments, memory_end, touches, share, has_code, is_code, words_touched, first_word, word_after, word_of, part_of, before_higher, by_address, has_flag, file_header, program_of, image_of, segment_refusal, starts_outside, All-head, All-tail, All-map, All-contains, All-permutation, Contains-permutation, and_parts}
 use Rattle.elf_loader.specs.Held.{HoldsSegment, HoldsNothing, highest}
 use Rattle.elf_loader.proofs.Found.{low_first, high_end, found, missing, Contains-map}
 use Rattle.elf_loader.proofs.Laid.{AreSegments-segments, parts_apart}
@@ -156,10 +156,6 @@ find_has q (g ∷ gs) h e = choice (find_has q gs h) (q g) refl e
     choice later true t f = let same : g ≡ h = cc in ((0, omega arith, same), subst (λ (x : ProgramHeader). q x ≡ true) same t)
     choice later false t f = let there = later f in (Contains-later g gs h there.0, there.1)
 
-both_hold : (a b : Bool) → (a && b) ≡ true → (a ≡ true) × (b ≡ true)
-both_hold true b e = (refl, e)
-both_hold false b e = absurd cc
-
 first_fails : (a b : Bool) → (a && b) ≡ false → b ≡ true → a ≡ false
 first_fails false b e t = refl
 first_fails true b e t = absurd cc
@@ -190,7 +186,7 @@ code_there bytes p addr l = by_code (find (has_code addr) (segments bytes)) refl
     by_code : (o : Option ProgramHeader) → find (has_code addr) (segments bytes) ≡ o → is_none (code_at p addr) ≡ not ((addr % 4 == 0) && is_some (find (has_code addr) (segments bytes)))
     by_code (Some h) e =
         let there = find_has (has_code addr) (segments bytes) h e in
-        let tests = both_hold (has_flag h.flags 1) (touches h addr) there.1 in
+        let tests = and_parts (has_flag h.flags 1) (touches h addr) there.1 in
         let held = in_segment bytes p h addr l there.0 tests.1 in
         ap is_none held.code ∙ some_code (addr % 4 == 0) (has_flag h.flags 1) (word_of bytes h addr) tests.0
         ∙ sym (ap (λ (o : Option ProgramHeader). not ((addr % 4 == 0) && is_some o)) e)

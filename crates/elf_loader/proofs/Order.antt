@@ -56,9 +56,6 @@ covers w h = nat_le (first_word h) w && nat_lt w (word_after h)
 in_one : (a b c d w : ℕ) → (leb a w && ltb w b) ≡ true → (ltb a d && ltb c b) ≡ false → (leb c w && ltb w d) ≡ false
 in_one a b c d w e f = grind arith
 
-in_both : (a b c d w : ℕ) → (leb a w && ltb w b) ≡ true → (leb c w && ltb w d) ≡ true → (ltb a d && ltb c b) ≡ true
-in_both a b c d w e f = grind arith
-
 -- if a segment touches a word and shares none with those of a list, none of these touches it
 count_none : (h : ProgramHeader) (w : ℕ) (hs : List ProgramHeader) → covers w h ≡ true → find (share h) hs ≡ None → count_by (covers w) hs ≡ 0
 count_none h w [] t e = refl

@@ -1,5 +1,5 @@
 -- Words out of a file's bytes.
-use Rattle.elf_loader.proofs.Common.{◌≡◌, ℕ, ◌+◌, ◌-◌, ◌*◌, ◌/◌, ◌%◌, ◌<◌, ◌≤◌, zero, suc, List, [], ◌∷◌, drop, map, get_or, slice_index, refl, ap, sym, ◌∙◌, ◌⊎◌, inl, inr, arith, cases_lt, get_or-drop, get_or_past, length-map-range_with_len, get_or-map-range_with_len, range_with_len, number_at, ProgramHeader, byte_in, word_of, words_touched, first_word, file_words}
+use Rattle.elf_loader.proofs.Common.{◌≡◌, ℕ, ◌+◌, ◌-◌, ◌*◌, ◌/◌, ◌%◌, ◌<◌, ◌≤◌, zero, suc, List, [], ◌∷◌, drop, map, get_or, slice_index, refl, ap, sym, ◌∙◌, ◌⊎◌, inl, inr, arith, cases_lt, get_or-drop, get_or_past, length-map-range_with_len, get_or-map-range_with_len, range_with_len, number_at, ProgramHeader, byte_in, word_of, words_touched, first_word, file_words, ◌++◌, ap₂, map-range_with_len_more}
 
 -- a byte that the file has
 pub byte_in-inside : (bytes : List ℕ) (h : ProgramHeader) (addr at : ℕ) → h.vaddr ≤ addr → addr < h.vaddr + h.filesz → h.offset + (addr - h.vaddr) ≡ at → byte_in bytes h addr ≡ slice_index bytes at
@@ -66,3 +66,9 @@ get_or-file_words bytes h k = choice (cases_lt k (words_touched h.vaddr h.filesz
     choice : (k < words_touched h.vaddr h.filesz) ⊎ (words_touched h.vaddr h.filesz ≤ k) → get_or (map (λ i. word_of bytes h (4 * (first_word h + i))) (range_with_len 0 (words_touched h.vaddr h.filesz))) k 0 ≡ word_of bytes h (4 * (first_word h + k))
     choice (inl lt) = get_or-map-range_with_len (λ i. word_of bytes h (4 * (first_word h + i))) 0 (words_touched h.vaddr h.filesz) k k 0 lt (omega arith)
     choice (inr past) = get_or_past _ k 0 (omega (arith, past, length-map-range_with_len (λ i. word_of bytes h (4 * (first_word h + i))) 0 (words_touched h.vaddr h.filesz))) ∙ sym (word_of-past bytes h k past)
+
+-- ---- loops that push what a function gives at each place
+
+pub grown : {X : Type 0} (f : ℕ → X) (n : ℕ) (xs ys : List X) (x : X) → ys ≡ xs ++ x ∷ [] → xs ≡ map f (range_with_len 0 n) → x ≡ f n → ys ≡ map f (range_with_len 0 (n + 1))
+grown {X} f n xs ys x pushed before value =
+    pushed ∙ ap₂ (λ (zs : List X) (z : X). zs ++ z ∷ []) before value ∙ sym (map-range_with_len_more f 0 n n (omega arith))

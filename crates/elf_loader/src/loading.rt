@@ -18,7 +18,7 @@ use std::alloc::{AllocError, Global};
 // refusal of a file waits for memory.
 type Headers = ArrayVec<ProgramHeader, 64>;
 
-#[tactic(auto, unfolding(crate::specs::Headers::table), using(crate::proofs::Grown::grown))]
+#[tactic(auto, unfolding(crate::specs::Headers::table), using(crate::proofs::Words::grown))]
 fn read_table(bytes: &[u8], header: FileHeader) -> Headers
     requires own { header ≡ file_header bytes.now }
     requires inside { table_end header ≤ length bytes.now }

@@ -1,5 +1,5 @@
 use Rattle.elf_loader.proofs.Common.{ap, ◌+◌, ◌*◌, ◌∙◌, ◌≡◌, map, arith, range_with_len, first_word, word_of, file_words, words_touched}
-use Rattle.elf_loader.proofs.Grown.{grown}
+use Rattle.elf_loader.proofs.Words.{grown}
 use Rattle.elf_loader.proofs.program_header.ProgramHeader.file_words.Goals as goal
 
 pub loop-k-preserved : goal.loop-k-preserved
