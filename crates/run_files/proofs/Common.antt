@@ -1,5 +1,5 @@
 -- What several files of proofs/ cite of other crates and of specs/. They import it from here, by one line.
-pub use Rattle.std.proofs.Common.{Bool, Err, IfErr, IsErrAnd, List, None, Ok, Option, Result, Some, [], ap, append-nil, append_assoc, arith, drop, drop-cons, false, get_or, get_or-take, inl, inr, length, nat_lt, refl, replicate, slice_get, subst, suc, sym, take, take-append-drop, take-take, take_all, true, zero, ℕ, ◌&&◌, ◌++◌, ◌+◌, ◌-◌, ◌<◌, ◌==◌, ◌∙◌, ◌∷◌, ◌≡◌, ◌≢◌, ◌≤◌, ◌⊎◌}
+pub use Rattle.std.proofs.Common.{Bool, Err, IfErr, IsErrAnd, List, None, Ok, Option, Result, Some, [], ap, append-nil, append_assoc, arith, drop, drop-cons, eqb-true, false, get_or, get_or-take, inl, inr, length, lt-ltb, nat_lt, refl, replicate, slice_get, subst, suc, sym, take, take-append-drop, take-take, take_all, true, zero, ℕ, ◌&&◌, ◌++◌, ◌+◌, ◌-◌, ◌<◌, ◌==◌, ◌∙◌, ◌∷◌, ◌≡◌, ◌≢◌, ◌≤◌, ◌⊎◌}
 pub use Rattle.std.proofs.lemmas.List.{drop_all, get_or-replicate, take-replicate}
 pub use Rattle.bn_base.specs.Programs.{Program}
 pub use Rattle.bn_base.specs.declared.settings.RawSettings.{RawSettings}

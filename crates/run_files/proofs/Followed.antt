@@ -1,5 +1,5 @@
 -- Lists that are followed turn by turn, and what is wrong with them.
-use Rattle.run_files.proofs.Common.{◌≡◌, ℕ, suc, ◌+◌, ◌-◌, ◌<◌, ◌≤◌, Bool, true, false, ◌&&◌, nat_lt, List, [], ◌∷◌, ◌++◌, length, get_or, take, drop, drop-cons, refl, sym, ◌∙◌, ap, subst, arith, Option, Some, None, Result, Ok, Err, IfErr, IsErrAnd, take_all, drop_all, Program, RawSettings, IllegalTurn, NotFinished, OutOfMemory, Run, turn, run_from, is_live, live_harts, unfinished, error_from, PlainParts, StandsBefore}
+use Rattle.run_files.proofs.Common.{◌≡◌, ℕ, suc, ◌+◌, ◌-◌, ◌<◌, ◌≤◌, Bool, true, false, ◌&&◌, nat_lt, List, [], ◌∷◌, ◌++◌, length, get_or, take, drop, drop-cons, refl, sym, ◌∙◌, ap, subst, arith, Option, Some, None, Result, Ok, Err, IfErr, IsErrAnd, take_all, drop_all, Program, RawSettings, IllegalTurn, NotFinished, OutOfMemory, Run, turn, run_from, is_live, live_harts, unfinished, error_from, PlainParts, StandsBefore, lt-ltb}
 use Rattle.std.proofs.Math.Seq.{take-suc}
 use Rattle.run_model.specs.declared.error.TurnError.{TurnError}
 use Rattle.run_model.specs.declared.hart.Hart.{Hart}
@@ -50,9 +50,6 @@ not_and : (a b : Bool) → a ≡ true → (a && b) ≡ false → b ≡ false
 not_and true b t e = e
 not_and false b t e = cc
 
-below : (a b : ℕ) → a < b → nat_lt a b ≡ true
-below a b h = grind arith
-
 harts_if : (b : Bool) (k n : ℕ) (f : ℕ → Hart) → List ℕ
 harts_if b k n f = elim b [ true ↦ k ∷ live_harts (k + 1) n f | false ↦ live_harts (k + 1) n f ]
 
@@ -68,7 +65,7 @@ lowest_here c run k h e = ap unfinished (harts_from k c.harts run.harts true h (
 
 pub lowest_later : (c : RawSettings) (run : Run) (k : ℕ) → k < c.harts → is_live c run k ≡ false → unfinished (live_harts k (c.harts - k) run.harts) ≡ unfinished (live_harts (k + 1) (c.harts - (k + 1)) run.harts)
 unfolding harts_if
-lowest_later c run k h e = ap unfinished (harts_from k c.harts run.harts false h (not_and (nat_lt k c.harts) (run.harts k).live (below k c.harts h) e))
+lowest_later c run k h e = ap unfinished (harts_from k c.harts run.harts false h (not_and (nat_lt k c.harts) (run.harts k).live (lt-ltb k c.harts h) e))
 
 pub lowest_none : (c : RawSettings) (run : Run) (k : ℕ) → c.harts ≤ k → unfinished (live_harts k (c.harts - k) run.harts) ≡ None
 lowest_none c run k h =

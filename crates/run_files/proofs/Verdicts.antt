@@ -1,5 +1,5 @@
 -- An audit finds one thing.
-use Rattle.run_files.proofs.Common.{◌≡◌, ℕ, zero, suc, ◌+◌, ◌<◌, ◌==◌, ◌⊎◌, Bool, true, false, List, [], ◌∷◌, take, refl, sym, ◌∙◌, ap, subst, arith, inl, inr, slice_get, DifferFirst, IsVerdict, verdict_from, VerdictsAreUnique}
+use Rattle.run_files.proofs.Common.{◌≡◌, ℕ, zero, suc, ◌+◌, ◌<◌, ◌==◌, ◌⊎◌, Bool, true, false, List, [], ◌∷◌, take, refl, sym, ◌∙◌, ap, subst, arith, inl, inr, slice_get, DifferFirst, IsVerdict, verdict_from, VerdictsAreUnique, eqb-true}
 use Rattle.run_files.specs.declared.verdict.Verdict.{Verdict}
 use Rattle.run_files.specs.declared.verdict.Verdict.TheVariants.{Agree, Differ}
 
@@ -39,9 +39,6 @@ IsLater : ℕ → (file log : List ℕ) → Verdict → Type 0
 IsLater place file log Agree = log ≡ file
 IsLater place file log (Differ n) = (m : ℕ) × (n ≡ place + m) × DifferFirst log file m
 
-same_number : (x y : ℕ) → (x == y) ≡ true → x ≡ y
-same_number x y e = grind arith
-
 not_number : (x y : ℕ) → (x == y) ≡ false → x ≡ y → ⊥
 not_number x y f e = grind arith
 
@@ -67,7 +64,7 @@ later place x y xs ys (Differ n) e h = (suc h.0, omega (arith, h.1), behind x y 
 
 by_test : (b : Bool) (place x y : ℕ) (xs ys : List ℕ) → (x == y) ≡ b → IsLater (place + 1) xs ys (verdict_from (place + 1) xs ys) → IsLater place (x ∷ xs) (y ∷ ys) (elim b [ true ↦ verdict_from (place + 1) xs ys | false ↦ Differ place ])
 unfolding IsLater
-by_test true place x y xs ys e rest = later place x y xs ys (verdict_from (place + 1) xs ys) (same_number x y e) rest
+by_test true place x y xs ys e rest = later place x y xs ys (verdict_from (place + 1) xs ys) (eqb-true x y e) rest
 by_test false place x y xs ys e rest = (0, omega arith, here x y xs ys e)
 
 told : (place : ℕ) (file log : List ℕ) → IsLater place file log (verdict_from place file log)

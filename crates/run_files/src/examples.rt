@@ -19,14 +19,13 @@ pub fn a_hart_that_is_not_there_has_no_turn()
 {}
 
 /// Of several harts that are live after the last turn the lowest is named.
-#[tactic(auto, unfolding(run_model::specs::Turn::serve), using(crate::proofs::AuditsWorked::the_lowest_live_hart_is_named_both, crate::proofs::AuditsWorked::the_lowest_live_hart_is_named_second))]
+#[tactic(auto, unfolding(run_model::specs::Turn::serve, race_log::specs::Tests::at_places, race_log::specs::Tests::leads, race_log::specs::Tests::any_below, race_log::specs::Tests::before, race_log::specs::Tests::edge, race_log::specs::Tests::greatest_first, race_log::specs::Tests::edges_into))]
 pub fn the_lowest_live_hart_is_named()
     ensures both { error_in a_line_lost (0 ∷ 1 ∷ []) ≡ Some (NotFinished 0) }
     ensures second { error_in a_line_lost (0 ∷ 1 ∷ 0 ∷ 0 ∷ []) ≡ Some (NotFinished 1) }
 {}
 
 /// Files differ first at the first byte that differs, or at the end of the shorter one.
-#[tactic(auto, using(crate::proofs::AuditsWorked::at_a_byte, crate::proofs::AuditsWorked::at_an_end))]
 pub fn files_differ_at_a_byte_or_an_end()
     ensures byte { DifferFirst (7 ∷ 8 ∷ 9 ∷ []) (7 ∷ 6 ∷ 9 ∷ []) 1 }
     ensures end { DifferFirst (7 ∷ 8 ∷ []) (7 ∷ 8 ∷ 9 ∷ []) 2 }

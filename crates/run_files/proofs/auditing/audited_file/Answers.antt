@@ -1,6 +1,18 @@
-use Rattle.run_files.proofs.Common.{◌∙◌, sym, ap, subst, RawSettings, Content, Held, HoldsLog, run_of, bytes_in}
-use Rattle.run_files.proofs.LogFile.{content_is}
+use Rattle.run_files.proofs.Common.{◌∙◌, sym, ap, subst, RawSettings, Content, Held, HoldsLog, run_of, bytes_in, ◌≡◌, ℕ, List, length, arith, kept, content, Run, content_of, kept_of, dropped_of}
+use Rattle.log_record.specs.declared.head.Head.{Head}
 use Rattle.run_files.proofs.auditing.audited_file.Goals as goal
+
+-- The log file of a run.
+
+-- what a ring says that holds the log of a run
+content_is : (c : RawSettings) (digest : List ℕ) (ring : Held) (run : Run) → HoldsLog ring run.stream → ring.size ≡ c.log_size
+    → content (record { settings = c; digest = digest }) ring.dropped ring.records ≡ content_of c digest run
+content_is c digest ring run holds size =
+    let head : Head = record { settings = c; digest = digest } in
+    let records : ring.records ≡ kept_of c run = holds.latest ∙ ap (λ (n : ℕ). kept n run.stream) size in
+    let many : length ring.records ≡ length (kept_of c run) = ap length records in
+    let dropped : ring.dropped ≡ dropped_of c run = omega (arith, holds.counted, many) in
+    ap (λ (n : ℕ). content head n ring.records) dropped ∙ ap (content head (dropped_of c run)) records
 
 pub returns-clause-file : goal.returns-clause-file
 returns-clause-file c =
