@@ -1,12 +1,51 @@
--- What the times say after one more point.
-use Rattle.race_log.proofs.Common.{◌≡◌, ◌≢◌, ℕ, ◌+◌, ◌<◌, true, false, ◌==◌, refl, inl, inr, arith, sym, ap, ◌∙◌, List, length, slice_get, Option, Some, None, subst, add-one, if◌then◌else◌, Point, Before, one, is_of_hart, IsInOrder, UpTo, OwnUpTo, CountsOf, TimesOf, after}
+-- Counts that represent a set of points, and what the times say after one more point.
+use Rattle.race_log.proofs.Common.{◌≡◌, ◌≢◌, ℕ, ◌+◌, ◌<◌, true, false, ◌==◌, refl, inl, inr, arith, sym, ap, ◌∙◌, List, length, slice_get, Option, Some, None, subst, add-one, if◌then◌else◌, Point, Before, one, is_of_hart, IsInOrder, UpTo, OwnUpTo, CountsOf, TimesOf, after, ◌⊎◌, max, merged}
 use Rattle.race_log.proofs.BoolFacts.{known, same_number}
 use Rattle.race_log.proofs.Chains.{chain_rises}
 use Rattle.race_log.proofs.EdgeLaws.{all_rise}
 use Rattle.race_log.proofs.MergeLaws.{is_in, of_hart_at}
 use Rattle.race_log.proofs.CountLaws.{pair_at}
 use Rattle.race_log.proofs.Next.{get_old, old_at, get_new, in_after, up_old, up_new, step_last, order_own}
-use Rattle.race_log.proofs.HoldsLemmas.{holds_map}
+
+pub holds_map : (run : List Point) (S R : ℕ → Type 0) (counts : ℕ → ℕ) → ((m : ℕ) → S m → R m) → ((m : ℕ) → R m → S m) → CountsOf run S counts → CountsOf run R counts
+holds_map run S R counts f g h = record {
+  covers = λ m p e low. f m (h.covers m p e low);
+  covered = λ m p e r. h.covered m p e (g m r);
+  exact = λ hart. elim (h.exact hart) [
+    | inl z ↦ inl z
+    | inr w ↦ inr (w.0, w.1, w.2, f w.0 w.3, w.4, w.5)
+  ];
+}
+
+below_max : (c a b : ℕ) → c < max a b → (c < a) ⊎ (c < b)
+below_max c a b h = grind arith
+
+one_of_max : (a b : ℕ) → (max a b ≡ a) ⊎ (max a b ≡ b)
+one_of_max a b = grind arith
+
+-- the greater counts represent the union
+pub holds_merge : (run : List Point) (S R : ℕ → Type 0) (f g : ℕ → ℕ)
+    → CountsOf run S f → CountsOf run R g → CountsOf run (λ m. S m ⊎ R m) (merged f g)
+holds_merge run S R f g h k = record {
+  covers = λ m p e low. elim (below_max p.count (f p.hart) (g p.hart) low) [
+    | inl a ↦ inl (h.covers m p e a)
+    | inr b ↦ inr (k.covers m p e b)
+  ];
+  covered = λ m p e r. elim r [
+    | inl s ↦ (let low = h.covered m p e s in omega (arith, low))
+    | inr s ↦ (let low = k.covered m p e s in omega (arith, low))
+  ];
+  exact = λ hart. elim (one_of_max (f hart) (g hart)) [
+    | inl e ↦ elim (h.exact hart) [
+      | inl z ↦ inl (e ∙ z)
+      | inr w ↦ inr (w.0, w.1, w.2, inl w.3, w.4, e ∙ w.5)
+    ]
+    | inr e ↦ elim (k.exact hart) [
+      | inl z ↦ inl (e ∙ z)
+      | inr w ↦ inr (w.0, w.1, w.2, inr w.3, w.4, e ∙ w.5)
+    ]
+  ];
+}
 
 pub own_in : (run : List Point) (hart q : ℕ) → is_of_hart hart (slice_get run q) ≡ true → q < length run
 own_in run hart q h = go (slice_get run q) refl h

@@ -84,9 +84,6 @@ pub settled_full : (table news : List Epoch) (next i : ℕ) → next ≡ length 
 settled_full table news next i full t =
     or_first (nat_lt i next) (is_marked (slice_get news i)) (let low = settled_low table next i (omega (arith, full)) t in lt-ltb i next (omega (arith, low, full)))
 
-pub settled_marked : (table : List Epoch) (next i : ℕ) → IsTrue (is_marked (slice_get table i)) → IsTrue (is_settled table next i)
-settled_marked table next i t = or_second (nat_lt i next) (is_marked (slice_get table i)) t
-
 -- a mark changes no counts
 pub mark_counts : (table : List Epoch) (place : ℕ) (s : Epoch) (used : Bool) → place < length table → s ≡ slice_index_or table place s
     → (i h : ℕ) → counts_of (slice_get (slice_set table place (record { times = s.times; used = used })) i) h ≡ counts_of (slice_get table i) h

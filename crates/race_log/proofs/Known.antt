@@ -6,7 +6,7 @@ use Rattle.race_log.proofs.MergeLaws.{is_in, of_hart_at}
 use Rattle.race_log.proofs.CountLaws.{less_or, ordered, before_up, edge_between, between_edge, times_of as times_are}
 use Rattle.race_log.proofs.Listed.{in_contains, contains_in, listed_passes, passes_listed}
 use Rattle.race_log.proofs.Next.{get_old, old_at, get_new}
-use Rattle.race_log.proofs.HoldsLemmas.{holds_map}
+use Rattle.race_log.proofs.AfterLemmas.{holds_map}
 use Rattle.race_log.proofs.Steps.{all_at}
 
 in_map : (f : ℕ → ℕ × ℕ) (js : List ℕ) (x : ℕ × ℕ) → In (map f js) x → (j : ℕ) × In js j × (f j ≡ x)

@@ -7,11 +7,9 @@ pub mod MergeLaws
 pub mod GoesOn
 pub mod CountLaws
 pub mod Listed
-pub mod WordLemmas
 pub mod Rounds
 pub mod RangeLemmas
 pub mod Next
-pub mod HoldsLemmas
 pub mod AfterLemmas
 pub mod Latest
 pub mod Sources
@@ -27,8 +25,6 @@ pub mod Steps
 pub mod NewLemmas
 pub mod AccessLemmas
 pub mod Known
-pub mod NotedAlike
 pub mod SweepLemmas
 pub mod Swept
 pub mod HeldLemmas
-mod Worked

@@ -34,9 +34,6 @@ word_same counts harts old new at same =
 
 -- ---- slots that keep nothing
 
-here_none : (counts : ℕ → ℕ → ℕ) (s : Slot) → s.after ≡ 0 → kept_here counts Read s.hart s ≡ []
-here_none counts s e = let t : (s.after == 0) ≡ true = grind arith in rw t refl
-
 read_none : (counts : ℕ → ℕ → ℕ) (hart : ℕ) (o : Option Slot) → ((s : Slot) → o ≡ Some s → s.after ≡ 0) → read_in counts hart o ≡ []
 read_none counts hart None none = refl
 read_none counts hart (Some s) none = let e = none s refl in let t : (s.after == 0) ≡ true = grind arith in rw t refl

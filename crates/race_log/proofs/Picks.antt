@@ -6,7 +6,7 @@ use Rattle.race_log.proofs.EdgeLaws.{one_point}
 use Rattle.race_log.proofs.Listed.{Falling}
 use Rattle.race_log.proofs.CountLaws.{pair_at, less_or}
 use Rattle.race_log.proofs.RangeLemmas.{IsOfOneKind}
-use Rattle.race_log.proofs.HoldsLemmas.{holds_map, holds_merge}
+use Rattle.race_log.proofs.AfterLemmas.{holds_map, holds_merge}
 use Rattle.race_log.proofs.Latest.{IsLatest, latest_is, none_is, passing, passing_less, passing_but, has_source, source_found, found_source}
 use Rattle.race_log.proofs.Rounds.{sources_more, counts_more, sources_done, counts_done}
 use Rattle.race_log.proofs.Sources.{up_join, Candidate, Ready, self_covered, same_source, Clashes, NewEdge, NewBefore, Told, edge_from, not_edge, set_before, before_set, taken, source_or, turn_order, edge_kept}

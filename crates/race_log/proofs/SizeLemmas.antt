@@ -1,8 +1,6 @@
 -- How many pages and slots there are.
-use Rattle.race_log.proofs.Common.{◌≡◌, ◌≢◌, ℕ, zero, suc, ◌+◌, ◌-◌, ◌*◌, ◌/◌, ◌<◌, ◌≤◌, ◌==◌, Bool, true, false, cond, refl, inl, inr, arith, sym, ap, ◌∙◌, length, slice_get, slice_set, IsTrue, Vec, List, Global, cases_eq, cases_lt, false≢true, Slot, KeptWords, slots_of, slots_in, sum_below, has_epoch, AreAllUsed, IsAsLarge, MakesPages}
+use Rattle.race_log.proofs.Common.{◌≡◌, ◌≢◌, ℕ, zero, suc, ◌+◌, ◌-◌, ◌*◌, ◌<◌, ◌≤◌, Bool, true, false, cond, refl, inl, inr, arith, sym, ap, ◌∙◌, length, slice_get, slice_set, IsTrue, Vec, List, Global, cases_eq, cases_lt, false≢true, Slot, KeptWords, slots_of, slots_in, sum_below, has_epoch, AreAllUsed, IsAsLarge, MakesPages}
 use Rattle.race_log.specs.declared.epochs.Epochs.{Epochs}
-use Rattle.race_log.specs.Bound.{pages_to}
-use Rattle.race_log.proofs.BoolFacts.{known, same_number}
 use Rattle.race_log.proofs.EpochLemmas.{is_free, begin_low}
 use Rattle.race_log.proofs.PagesLemmas.{page_here, page_there}
 use Rattle.race_log.proofs.SweepLemmas.{sum_same, sum_parts}
@@ -65,15 +63,6 @@ not_all_used s room all =
     false≢true (sym (is_free s.table.items s.next room) ∙ all s.next (omega arith) (begin_low s.table.items s.next room))
 
 -- ---- pages of a range
-
-pub pages_none : (first n : ℕ) → n ≡ 0 → pages_to first n ≡ 0
-pages_none first n e = let t : (n == 0) ≡ true = grind arith in rw t refl
-
-pub pages_some : (first n : ℕ) → n ≢ 0 → pages_to first n ≡ (first + 4 * (n - 1)) / 256 + 1
-pages_some first n some = elim (known (n == 0)) [
-  | inl t ↦ absurd (some (same_number n 0 t))
-  | inr f ↦ rw f refl
-]
 
 pub makes_none : (first n : ℕ) (s : KeptWords) → MakesPages first n s s
 makes_none first n s = record { pages = omega arith; others = λ page out. refl }

@@ -1,6 +1,5 @@
 -- The slots of a word.
-use Rattle.race_log.proofs.Common.{◌≡◌, ◌≢◌, ℕ, zero, suc, ◌+◌, ◌-◌, ◌%◌, ◌<◌, Bool, true, false, not, ◌&&◌, ◌||◌, ◌==◌, cond, refl, inl, inr, arith, ap, ◌∙◌, List, [], ◌∷◌, ◌++◌, Option, Some, None, slice_get, Read, Slot, Kept, latest, newer, KeptWords, kept_in, page_of, place_of, epoch_counts, kept_by, read_in, reads_in, word_in}
-use Rattle.race_log.proofs.BoolFacts.{known, same_number}
+use Rattle.race_log.proofs.Common.{◌≡◌, ℕ, zero, suc, ◌+◌, ◌-◌, ◌%◌, ◌<◌, Bool, true, false, not, ◌&&◌, ◌||◌, ◌==◌, cond, refl, arith, ap, ◌∙◌, List, [], ◌∷◌, ◌++◌, Option, Some, None, slice_get, Read, Slot, Kept, latest, newer, KeptWords, kept_in, page_of, place_of, epoch_counts, kept_by, read_in, reads_in, word_in}
 use Rattle.race_log.proofs.Rounds.{latest-append}
 
 -- the reads from one hart on are that hart's and those after it
@@ -39,9 +38,3 @@ reads_not_sources hart ks counts best page at other (suc n) =
 pub kept_aligned : (words : KeptWords) (word : ℕ) → word % 4 ≡ 0
     → kept_in words word ≡ word_in (epoch_counts words.epochs) words.harts (page_of words word) (place_of words.harts word)
 kept_aligned words word e = let t : (word % 4 == 0) ≡ true = grind arith in rw t refl
-
-pub kept_unaligned : (words : KeptWords) (word : ℕ) → word % 4 ≢ 0 → kept_in words word ≡ []
-kept_unaligned words word e = elim (known (word % 4 == 0)) [
-  | inl t ↦ absurd (e (same_number (word % 4) 0 t))
-  | inr f ↦ rw f refl
-]

@@ -4,9 +4,6 @@ use Rattle.race_log.proofs.PageLemmas.{reads_same, word_none}
 
 -- ---- lists
 
-pub gives_none : (times : Option Times) → GivesUp times 0 [] []
-gives_none times = record { left = refl; gone = refl }
-
 pub gives_append : (times : Option Times) (a b : ℕ) (xs ys us vs : List Kept) → GivesUp times a xs us → GivesUp times b ys vs → GivesUp times (a + b) (xs ++ ys) (us ++ vs)
 gives_append times a b xs ys us vs g h = record {
   left = ap₂ (λ ks ls. ks ++ ls) g.left h.left ∙ sym (filter-append (λ (k : Kept). not (is_covered times k.hart k.ic)) xs ys);
