@@ -2,4 +2,3 @@ mod Common
 pub mod Sizes
 pub mod Words
 pub mod Records
-pub mod Entries
