@@ -7,6 +7,7 @@ pub use Rattle.std.proofs.lemmas.List.Concat.{flat_map-cons}
 pub use Rattle.std.proofs.lemmas.Slice.Eq.{bytes_eq-Decides}
 pub use Rattle.std.specs.List.{AllByRecursion, flat_map}
 pub use Rattle.std.specs.Str.{bytes_eq}
+pub use Rattle.std.proofs.lemmas.Bool.{and_parts, eqb-false, not-false, not-true}
 pub use Rattle.bn_base.specs.Ranges.{IsSetting, checked, checked_by, first_bad, is_between, is_small_power, most_harts}
 pub use Rattle.bn_base.specs.declared.settings.RawSettings.{RawSettings}
 pub use Rattle.le_numbers.specs.Laws.{AreRead, AreWritten, Fit, HaveTheirWidth}

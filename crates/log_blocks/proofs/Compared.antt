@@ -1,5 +1,5 @@
 -- Comparing the blocks of a file with those into which its records are cut.
-use Rattle.log_blocks.proofs.Common.{◌≡◌, ℕ, ◌+◌, ◌%◌, ◌^◌, ◌<◌, Bool, true, false, not, List, [], ◌∷◌, ◌++◌, length, take, drop, get_or, length-append, Option, Some, None, refl, sym, ap, ap₂, subst, ◌∙◌, arith, ◌==◌, ◌&&◌, if◌then◌else◌, flat_map, AllByRecursion, bytes_eq, flat_map-append, drop_at, bytes_eq-Decides, number_at, Record, bytes_of, Fits, Block, cut_from, numbered, blocks_of, total_of, Piece, gathered, IsNext, is_block, piece_end, first_wrong, AreLaid}
+use Rattle.log_blocks.proofs.Common.{◌≡◌, ℕ, ◌+◌, ◌%◌, ◌^◌, ◌<◌, Bool, true, false, not, List, [], ◌∷◌, ◌++◌, length, take, drop, get_or, length-append, Option, Some, None, refl, sym, ap, ap₂, subst, ◌∙◌, arith, ◌==◌, ◌&&◌, if◌then◌else◌, flat_map, AllByRecursion, bytes_eq, flat_map-append, drop_at, bytes_eq-Decides, number_at, Record, bytes_of, Fits, Block, cut_from, numbered, blocks_of, total_of, Piece, gathered, IsNext, is_block, piece_end, first_wrong, AreLaid, not-true, not-false}
 use Rattle.log_blocks.proofs.Bytes.{told_by_length, same_rest}
 use Rattle.log_blocks.proofs.Left.{AreLeft, step, all_left, none_left}
 
@@ -93,14 +93,6 @@ test_is format bytes sizes rs pieces dropped start at left before rest size coun
 wrong_if : (b : Bool) (start : ℕ) (bs : List Block) (p : Piece) (ps : List Piece) → Option ℕ
 wrong_if b start bs p ps = if b then first_wrong (piece_end start p) bs ps else Some (piece_end start p)
 
-flipped : (b : Bool) → not b ≡ true → b ≡ false
-flipped true e = cc
-flipped false e = refl
-
-unflipped : (b : Bool) → not b ≡ false → b ≡ true
-unflipped true e = refl
-unflipped false e = cc
-
 pub differs : (format : ℕ) (bytes sizes : List ℕ) (rs : List Record) (pieces : List Piece) (dropped start at left more before : ℕ) (rest : List ℕ) (size count cut place : ℕ) → left + 1 ≡ more → left < length sizes → size ≡ get_or sizes left size
     → ((f : ℕ) (x : List Record) → AllByRecursion (Fits f) x → rest ≡ flat_map bytes_of x → IsNext f x count cut)
     → not ((cut == size) && (number_at 8 (at + size) (take (at + size + 48) bytes) == before)) ≡ true → place ≡ 136 + at + size + 48 → ComparedTo format bytes sizes rs pieces dropped start at more before rest
@@ -108,7 +100,7 @@ pub differs : (format : ℕ) (bytes sizes : List ℕ) (rs : List Record) (pieces
 unfolding wrong_if
 differs format bytes sizes rs pieces dropped start at left more before rest size count cut place one lt is next other onward c =
     let m = met format bytes sizes rs pieces dropped start at left more before rest size count cut one lt is next c in
-    let bad = test_is format bytes sizes rs pieces dropped start at left before rest size count cut m ∙ flipped _ other in
+    let bad = test_is format bytes sizes rs pieces dropped start at left before rest size count cut m ∙ not-true _ other in
     let end : place ≡ piece_end (136 + at) m.p = omega (arith, onward, m.size_is) in
     ap Some end ∙ sym (m.goes ∙ ap (λ (b : Bool). wrong_if b (136 + at) (numbered (m.number + length m.block) (cut_from [] 0 m.behind)) m.p m.ps) bad)
 
@@ -119,7 +111,7 @@ pub compared_more : (format : ℕ) (bytes sizes : List ℕ) (rs : List Record) (
 unfolding wrong_if
 compared_more format bytes sizes rs pieces dropped start at left more before rest size count cut onward after behind one lt is next equal place tail sum c =
     let m = met format bytes sizes rs pieces dropped start at left more before rest size count cut one lt is next c in
-    let good = test_is format bytes sizes rs pieces dropped start at left before rest size count cut m ∙ unflipped _ equal in
+    let good = test_is format bytes sizes rs pieces dropped start at left before rest size count cut m ∙ not-false _ equal in
     let here : at + length m.p.bytes + 48 ≡ onward = omega (arith, place, m.size_is) in
     let end : piece_end (136 + at) m.p ≡ 136 + onward = omega (arith, place, m.size_is) in
     let left_is : behind ≡ flat_map bytes_of m.behind = tail ∙ ap (drop cut) m.parts ∙ drop_at (flat_map bytes_of m.block) (flat_map bytes_of m.behind) cut (sym m.cut_is) in

@@ -1,5 +1,5 @@
 -- Bytes are a log's in the version that they name, or there is a cause to refuse them; and a log is salvaged of them, or there is a cause why none is.
-use Rattle.log_blocks.proofs.Common.{◌≡◌, ◌≢◌, ◌≤◌, ◌<◌, ◌-◌, ◌+◌, ◌^◌, ℕ, zero, suc, Bool, true, false, List, [], ◌∷◌, ◌++◌, length, take, drop, Option, Some, None, ap, subst, refl, arith, inl, inr, ◌⊎◌, length-append, length-drop, ◌==◌, Result, Ok, Err, eqb-true, eq-eqb, get_or-drop, length-take-le, IsSetting, AreBytes, AreWritten as NumbersAreWritten, Fit, HaveTheirWidth, Head, TellTheirSize, OrderBreak, broken_by, Content, content, IsContent, FileError, LengthDiffers, BadRecord, BadOrder, OutOfMemory, blocks_of, file_bytes, file_bytes2, IsVersion1, Damage, File, BadBlock, SalvageError, settings_in, head_in, dropped_in, size_in, head_digest, blocks_in, is_second, head_fault, Piece, gathered, start_in, len_in, piece_in, is_good, Walked, IsWalk, first_wrong, HasBlocks, IsRecordsFault, IsSecondRefusal, IsFirstRefusal, dropped_before, Reads, Salvages, AreReadOrRefused, AreSalvagedOrRefused}
+use Rattle.log_blocks.proofs.Common.{◌≡◌, ◌≢◌, ◌≤◌, ◌<◌, ◌-◌, ◌+◌, ◌^◌, ℕ, zero, suc, Bool, true, false, List, [], ◌∷◌, ◌++◌, length, take, drop, Option, Some, None, ap, subst, refl, arith, inl, inr, ◌⊎◌, length-append, length-drop, ◌==◌, Result, Ok, Err, eqb-true, get_or-drop, length-take-le, IsSetting, AreBytes, AreWritten as NumbersAreWritten, Fit, HaveTheirWidth, Head, TellTheirSize, OrderBreak, broken_by, Content, content, IsContent, FileError, LengthDiffers, BadRecord, BadOrder, OutOfMemory, blocks_of, file_bytes, file_bytes2, IsVersion1, Damage, File, BadBlock, SalvageError, settings_in, head_in, dropped_in, size_in, head_digest, blocks_in, is_second, head_fault, Piece, gathered, start_in, len_in, piece_in, is_good, Walked, IsWalk, first_wrong, HasBlocks, IsRecordsFault, IsSecondRefusal, IsFirstRefusal, dropped_before, Reads, Salvages, AreReadOrRefused, AreSalvagedOrRefused, eqb-false}
 use Rattle.log_record.specs.Laws.{AreRead, AreWritten}
 use Rattle.log_file.specs.File as first
 use Rattle.log_file.specs.Readings.{TestsTell}
@@ -98,9 +98,6 @@ pub record Laws : Type 0 where
   pub width : HaveTheirWidth
   pub fit : Fit
 
-other_number : (m n : ℕ) → (m == n) ≡ false → m ≢ n
-other_number m n e = λ is. grind (arith, e, eq-eqb m n is)
-
 module _ (laws : Laws) (tests : TestsTell) (bytes : List ℕ) (are : AreBytes bytes) where
   behind : Goes (head_digest bytes) (size_in bytes) (blocks_in bytes) []
   behind = walk laws.fit (head_digest bytes) (size_in bytes) (length (blocks_in bytes)) (blocks_in bytes) [] (omega arith) (λ i. rw get_or-drop (are (136 + i))) no-bytes (omega arith) (λ dropped lt. lt)
@@ -132,7 +129,7 @@ module _ (laws : Laws) (tests : TestsTell) (bytes : List ℕ) (are : AreBytes by
   sized true none all e = whole none all (eqb-true _ _ e) (said (dropped_in bytes) 136 none (laws.fit 8 92 bytes are))
   sized false none all e = inr (
     File (LengthDiffers (size_in bytes) (length (gathered behind.pieces))),
-    inr (record { rest = behind.rest; pieces = behind.pieces; fault = none; walk = back; wrong = inr (inl (all, other_number _ _ e, refl)) }),
+    inr (record { rest = behind.rest; pieces = behind.pieces; fault = none; walk = back; wrong = inr (inl (all, eqb-false _ _ e, refl)) }),
     λ is. absurd cc,
   )
 
@@ -169,7 +166,7 @@ module _ (laws : Laws) (tests : TestsTell) (bytes : List ℕ) (are : AreBytes by
         rest = behind.rest;
         fault = none;
         walk = subst (λ (t : List Piece). IsWalk (head_digest bytes) (size_in bytes) (blocks_in bytes) behind.rest t) e back;
-        more = omega (arith, other_number _ _ more);
+        more = omega (arith, eqb-false _ _ more);
       },
       λ is. absurd cc,
     ),

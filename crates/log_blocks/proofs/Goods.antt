@@ -1,5 +1,5 @@
 -- A good block, by its test and by its bytes.
-use Rattle.log_blocks.proofs.Common.{◌≡◌, ℕ, zero, suc, ◌+◌, ◌-◌, ◌<◌, ◌≤◌, Bool, true, false, nat_le, ltb, cond, List, [], ◌∷◌, ◌++◌, length, take, drop, length-drop, append_assoc, refl, sym, ap, ap₂, subst, ◌∙◌, arith, inl, inr, ◌==◌, ◌&&◌, slice_index, bytes_eq, eqb-true, drop-drop, take-append-drop, take_at, length-take-le, get_or_append_left, get_or_past, bytes_eq-Decides, sha256, number_bytes, AreBytes, HaveTheirWidth, AreWritten, block_size, Piece, piece_body, piece_bytes, pieces_bytes, gathered, len_in, left_in, before_in, start_in, piece_in, is_sized, is_good, Walked}
+use Rattle.log_blocks.proofs.Common.{◌≡◌, ℕ, zero, suc, ◌+◌, ◌-◌, ◌<◌, ◌≤◌, Bool, true, false, nat_le, ltb, cond, List, [], ◌∷◌, ◌++◌, length, take, drop, length-drop, append_assoc, refl, sym, ap, ap₂, subst, ◌∙◌, arith, inl, inr, ◌==◌, slice_index, bytes_eq, eqb-true, drop-drop, take-append-drop, take_at, length-take-le, get_or_append_left, get_or_past, bytes_eq-Decides, sha256, number_bytes, AreBytes, HaveTheirWidth, AreWritten, block_size, Piece, piece_body, piece_bytes, pieces_bytes, gathered, len_in, left_in, before_in, start_in, piece_in, is_sized, is_good, Walked, and_parts}
 use Rattle.std.proofs.lemmas.Bool.{leb-true}
 use Rattle.std.proofs.lemmas.Bool.{cases_lt}
 use Rattle.log_blocks.proofs.Written.{body_size}
@@ -13,10 +13,6 @@ pub record Good (digest : List ℕ) (n left : ℕ) (bytes : List ℕ) : Type 0 w
   pub few : left + len_in bytes ≤ n
   pub seal : drop (length bytes - 32) bytes ≡ sha256 (digest ++ take (len_in bytes + 16) (drop (start_in bytes) bytes))
 
-both : (a b : Bool) → (a && b) ≡ true → (a ≡ true) × (b ≡ true)
-both true b e = (refl, e)
-both false b e = absurd cc
-
 third : (b c e : Bool) → cond b false (cond c e false) ≡ true → (b ≡ false) × (c ≡ true) × (e ≡ true)
 third false true e h = (refl, refl, h)
 third false false e h = absurd cc
@@ -26,10 +22,10 @@ pub good : (digest : List ℕ) (n left : ℕ) (bytes : List ℕ) → is_good dig
 unfolding is_good
 good digest n left bytes h =
     let t = third (ltb (length bytes) 48) (is_sized (len_in bytes) (left_in bytes) left n (length bytes)) (bytes_eq (drop (length bytes - 32) bytes) (sha256 (digest ++ take (len_in bytes + 16) (drop (start_in bytes) bytes)))) h in
-    let a = both _ (nat_le (left + len_in bytes) n) t.1 in
-    let b = both _ (left_in bytes == left) a.0 in
-    let c = both _ (nat_le (len_in bytes + 48) (length bytes)) b.0 in
-    let d = both (nat_le 1 (len_in bytes)) (nat_le (len_in bytes) block_size) c.0 in
+    let a = and_parts _ (nat_le (left + len_in bytes) n) t.1 in
+    let b = and_parts _ (left_in bytes == left) a.0 in
+    let c = and_parts _ (nat_le (len_in bytes + 48) (length bytes)) b.0 in
+    let d = and_parts (nat_le 1 (len_in bytes)) (nat_le (len_in bytes) block_size) c.0 in
     record {
       low = leb-true _ _ d.0;
       high = leb-true _ _ d.1;

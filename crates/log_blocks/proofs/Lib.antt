@@ -15,11 +15,9 @@ pub mod Heads
 pub mod Recovered
 pub mod Versions
 pub mod Uniques
-pub mod Kept
 pub mod Ends
 pub mod Decided
 pub mod Tallied
-pub mod Counted
 pub mod Says
 pub mod Few
 pub mod Worked

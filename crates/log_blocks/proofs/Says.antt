@@ -1,9 +1,12 @@
 -- Bytes say one thing, by either version, and files say their logs.
-use Rattle.log_blocks.proofs.Common.{◌≡◌, ℕ, ◌≤◌, Bool, true, false, List, refl, sym, ap, subst, ◌∙◌, ◌==◌, Result, Ok, Err, Content, IsContent, file_bytes, file_bytes2, OutOfMemory, Damage, File, SalvageError, is_second, IsSecondRefusal, IsFirstRefusal, NameTheirVersion, SayOneThing, AreNotRefused, RefusalsAreUnique, SalvagedAreUnique, SalvagedAreNotRefused, SalvageRefusalsAreUnique, Reads, ReadingsAreUnique, SalvagesAreUnique, FilesAreRead}
+use Rattle.log_blocks.proofs.Common.{◌≡◌, ℕ, ◌≤◌, arith, Bool, true, false, List, refl, sym, ap, subst, ◌∙◌, ◌==◌, Result, Ok, Err, Content, IsContent, file_bytes, file_bytes2, OutOfMemory, Damage, File, SalvageError, is_second, IsSecondRefusal, IsFirstRefusal, NameTheirVersion, SayOneThing, AreNotRefused, RefusalsAreUnique, SalvagedAreUnique, SalvagedAreNotRefused, SalvageRefusalsAreUnique, Reads, ReadingsAreUnique, SalvagesAreUnique, FilesAreRead}
 use Rattle.log_file.specs.Laws as of_first
-use Rattle.log_blocks.proofs.Counted.{is_first}
 use Rattle.log_blocks.proofs.Decided.{to_second, to_first}
 use Rattle.log_blocks.proofs.Versions.{first_refused}
+
+-- a format in range that isn't 2 is 1
+is_first : (format : ℕ) → 1 ≤ format → format ≤ 2 → (format == 2) ≡ false → format ≡ 1
+is_first format low high other = grind arith
 
 abbrev Spelled : Bool → List ℕ → Content → Type 0
 Spelled b bytes c = elim b as (λ z. Type 0) [ true ↦ bytes ≡ file_bytes2 c | false ↦ (c.head.settings.format ≡ 1) × (bytes ≡ file_bytes c) ]

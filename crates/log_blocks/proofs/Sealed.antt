@@ -1,5 +1,5 @@
 -- The pieces of a file that is read are the sealed blocks of its log.
-use Rattle.log_blocks.proofs.Common.{◌≡◌, ℕ, ◌+◌, ◌%◌, ◌^◌, ◌<◌, ◌≤◌, Bool, true, false, nat_le, List, [], ◌∷◌, ◌++◌, length, length-append, append_assoc, append-nil, Option, Some, None, refl, sym, ap, ap₂, subst, ◌∙◌, arith, ◌==◌, ◌&&◌, if◌then◌else◌, flat_map, AllByRecursion, bytes_eq, eqb-true, flat_map-append, get_or-drop, bytes_eq-Decides, sha256, AreBytes, HaveTheirWidth, AreWritten, Head, Record, Header, FirstLoad, ScOk, ScFailed, Edge, End, bytes_of, total, tag_of, size_of, FitsFields, Fits, Content, head_bytes2, file_bytes2, Block, block_size, cut_from, last_block, total_of, numbered, blocks_of, all_sealed, head_in, dropped_in, size_in, head_digest, blocks_in, Piece, piece, piece_bytes, pieces_bytes, gathered, is_block, piece_end, first_wrong, IsRead}
+use Rattle.log_blocks.proofs.Common.{◌≡◌, ℕ, ◌+◌, ◌%◌, ◌^◌, ◌<◌, ◌≤◌, Bool, true, false, nat_le, List, [], ◌∷◌, ◌++◌, length, length-append, append_assoc, append-nil, Option, Some, None, refl, sym, ap, ap₂, subst, ◌∙◌, arith, ◌==◌, if◌then◌else◌, flat_map, AllByRecursion, bytes_eq, eqb-true, flat_map-append, get_or-drop, bytes_eq-Decides, sha256, AreBytes, HaveTheirWidth, AreWritten, Head, Record, Header, FirstLoad, ScOk, ScFailed, Edge, End, bytes_of, total, tag_of, size_of, FitsFields, Fits, Content, head_bytes2, file_bytes2, Block, block_size, cut_from, last_block, total_of, numbered, blocks_of, all_sealed, head_in, dropped_in, size_in, head_digest, blocks_in, Piece, piece, piece_bytes, pieces_bytes, gathered, is_block, piece_end, first_wrong, IsRead, and_parts}
 use Rattle.log_blocks.proofs.Bytes.{same_rest}
 use Rattle.log_blocks.proofs.Tested.{no_fault}
 use Rattle.log_blocks.proofs.Layouts.{head_written, file_parts}
@@ -37,10 +37,6 @@ parts_cut [] block used = parts_last block ∙ ap (flat_map bytes_of) (sym (appe
 parts_cut (r ∷ rs) block used =
     let size = length (bytes_of r) in
     parts_by (nat_le (used + size) block_size) block rs r _ _ (parts_cut rs (block ++ r ∷ []) (used + size)) (parts_cut rs (r ∷ []) size)
-
-both : (a b : Bool) → (a && b) ≡ true → (a ≡ true) × (b ≡ true)
-both true b e = (refl, e)
-both false b e = absurd cc
 
 abbrev no_place : Option ℕ
 no_place = None
@@ -110,7 +106,7 @@ sealed_is digest start number [] (rs ∷ rest) lefts same full right = absurd (o
 sealed_is digest start number (p ∷ ps) [] lefts same full right = absurd (none_there _ right)
 sealed_is digest start number (p ∷ ps) (rs ∷ rest) lefts same full right =
     let t = rest_right (is_block (block_at rs number (total_of rest)) p) (first_wrong (piece_end start p) (numbered (number + length rs) rest) ps) (piece_end start p) right in
-    let u = both (bytes_eq p.bytes (flat_map bytes_of rs)) (p.before == number % 2 ^ 64) t.0 in
+    let u = and_parts (bytes_eq p.bytes (flat_map bytes_of rs)) (p.before == number % 2 ^ 64) t.0 in
     let bytes_are : p.bytes ≡ flat_map bytes_of rs = (bytes_eq-Decides p.bytes (flat_map bytes_of rs)).0 u.0 in
     let later : gathered ps ≡ parts_bytes rest = same_rest p.bytes (flat_map bytes_of rs) (gathered ps) (parts_bytes rest) same (ap length (sym bytes_are)) in
     let left : p.left ≡ total_of rest = lefts.1.0 ∙ ap length later ∙ parts_total rest in
