@@ -2,10 +2,10 @@
 use Rattle.first_load_bits.proofs.Common.{◌≡◌, ◌≢◌, ℕ, ◌%◌, ◌+◌, ◌*◌, ◌^◌, ◌<◌, ◌≤◌, Bool, true, false, List, [], ◌∷◌, length, length-take, All, ◌-◌, get_or, set, take, drop, map, bit_or, is_some, ◌==◌, ◌↔◌, if◌then◌else◌, refl, sym, ◌∙◌, ap, ap₂, arith, subst, inl, inr, eq-eqb, eqb_tells, mod_below, one_shl, bit_at, Way, Geometry, Event, line_of, set_of, second_of, Touch, Drop, Clear, warm, Line, put, lost, put_in, put_lost, taken_out, all_but, cleared, bits_of, bits_known, touched_line, levels, lines_below, in_front, place_of, line_in, known_bits, given_up, has_line, latest_first, HasLine, IsPlaceFor, Level, Contents, RepresentsEvents, lines_of, first_level, second_level, AreKept, IsListed, IsTouch, IsBitsBelow, IsTakenBelow, IsTakenListed, IsFallen, with_ways, with_ways_below}
 use Rattle.first_load_bits.specs.declared.warm.Warm.{Warm}
 use Rattle.first_load_bits.proofs.Warmth.{warm_is}
-use Rattle.first_load_bits.proofs.Order.{length-lines_below}
+use Rattle.first_load_bits.proofs.Order.{length-lines_below, but_here, but_there}
 use Rattle.first_load_bits.proofs.Latest.{latest_nil}
 use Rattle.first_load_bits.proofs.Bits.{bits_law, nothing}
-use Rattle.first_load_bits.proofs.Standing.{IsRead, changed, lines_later, put_keeps, bits_absent, put_goes, put_loses, put_knows, known_read, clear_goes, new_lines}
+use Rattle.first_load_bits.proofs.Standing.{IsRead, changed, lines_later, put_keeps, bits_absent, put_goes, put_loses, put_knows, known_read, clear_goes}
 
 -- ---- a set's list after a step depends on its list before
 
@@ -308,5 +308,32 @@ clear_stands c es w v h = record {
   sets_below = λ k m. clear_goes (second_level c) k v ∙ ap (map cleared) (h.sets_below k m);
 }
 
-pub new_stands : (c : Contents) → c.steps ≡ 0 → RepresentsEvents c []
-new_stands c e = record { steps = e; sets = λ k m. new_lines (first_level c) k e; sets_below = λ k m. new_lines (second_level c) k e }
+-- ---- a second drop of a line right after the first changes nothing
+
+all_but_twice : (l : ℕ) (xs : List Line) → all_but l (all_but l xs) ≡ all_but l xs
+all_but_twice l [] = refl
+all_but_twice l (x ∷ xs) = elim (eqb_tells x.number l) [
+  | inl p ↦ ap (all_but l) (but_here l x xs p.0) ∙ (all_but_twice l xs ∙ sym (but_here l x xs p.0))
+  | inr p ↦ ap (all_but l) (but_there l x xs p.0) ∙ (but_there l x (all_but l xs) p.0 ∙ (ap (λ (ys : List Line). x ∷ ys) (all_but_twice l xs) ∙ sym (but_there l x xs p.0)))
+]
+
+where_taken : (here : Bool) (l : ℕ) (xs : List Line)
+    → elim here as (λ b. List Line) [ true ↦ all_but l (elim here as (λ b. List Line) [ true ↦ all_but l xs | false ↦ xs ]) | false ↦ elim here as (λ b. List Line) [ true ↦ all_but l xs | false ↦ xs ] ]
+    ≡ elim here as (λ b. List Line) [ true ↦ all_but l xs | false ↦ xs ]
+where_taken true l xs = all_but_twice l xs
+where_taken false l xs = refl
+
+taken_twice : (g : Geometry) (l : ℕ) (ls : ℕ → List Line) (k : ℕ) → taken_out g l (taken_out g l ls) k ≡ taken_out g l ls k
+taken_twice g l ls k = where_taken (set_of g l == k) l (ls k)
+
+pub second_drop : (c : Contents) (a b : ℕ) (es : List Event) → line_of c.geometry a ≡ line_of c.geometry b → RepresentsEvents c (Drop b ∷ es) → RepresentsEvents c (Drop a ∷ Drop b ∷ es)
+second_drop c a b es same s =
+    let g = c.geometry in
+    let h = second_of c.geometry in
+    let xs = (levels g es).first in
+    let ys = (levels g es).second in
+    record {
+      steps = s.steps;
+      sets = λ k lt. s.sets k lt ∙ sym (ap (λ (l : ℕ). taken_out g l (taken_out g (line_of g b) xs) k) same ∙ taken_twice g (line_of g b) xs k);
+      sets_below = λ k lt. s.sets_below k lt ∙ sym (ap (λ (l : ℕ). taken_out h l (taken_out h (line_of g b) ys) k) same ∙ taken_twice h (line_of g b) ys k);
+    }

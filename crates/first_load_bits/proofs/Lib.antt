@@ -1,7 +1,6 @@
 mod Common
 pub mod Apart
 pub mod Below
-pub mod Dropped
 pub mod Bits
 pub mod Both
 pub mod Inside

@@ -129,9 +129,6 @@ way_made c l first i ws w r h e k =
     let inside : first + i < length c.ways = let m = r.within in omega (arith, m, h) in
     subst (λ (v : Way). v.generation ≤ c.generation) (sym e) (All-get_or (λ v. v.generation ≤ c.generation) c.ways (first + i) w inside k.generations)
 
-pub place_inside : (c : Level) (l first i : ℕ) (ws : List Way) → IsRead c l first ws → IsPlaceFor l i ws → i < c.geometry.ways
-place_inside c l first i ws r at = place_in c l first i ws r at
-
 pub line_inside : (c : Level) (l first i : ℕ) (ws : List Way) → IsRead c l first ws → HasLine l i ws → i < c.geometry.ways
 line_inside c l first i ws r at = let n = (has_there c l first i ws r at).0 in omega (arith, n, set_whole c l first ws r)
 
@@ -261,9 +258,6 @@ clear_goes c k w =
     ∙ cleared_latest c.generation (c.steps + 1) c.steps (ways_of c k) (All-of_set (λ w. w.generation ≤ c.generation) c k w.generations) (omega (arith, w.cleared))
 
 -- ---- a new level
-
-pub new_lines : (c : Level) (k : ℕ) → c.steps ≡ 0 → lines_of c k ≡ []
-new_lines c k e = ap (λ n. latest_first c.generation n (ways_of c k)) e
 
 pub new_kept : (c : Level) → c.generation ≡ 0 → All (λ w. (w.age ≡ 0) × (w.generation ≡ 0)) c.ways → AreKept c
 new_kept c gen h = record {

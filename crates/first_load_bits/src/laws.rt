@@ -38,7 +38,7 @@ pub fn only_a_touch_warms()
 
 /// A second drop of a line right after the first changes nothing. So a recorder that drops several words one after another
 /// has to drop each line only once.
-#[tactic(auto, using(crate::proofs::Dropped::second_drop))]
+#[tactic(auto, using(crate::proofs::Both::second_drop))]
 pub fn a_second_drop_changes_nothing()
     ensures { (c : Contents) (a b : ℕ) (es : List Event) → line_of c.geometry a ≡ line_of c.geometry b →
         RepresentsEvents c (Drop b ∷ es) → RepresentsEvents c (Drop a ∷ Drop b ∷ es) }

@@ -18,30 +18,26 @@ power_of-set_bits_below-requires c =
     let is : IsSetting raw = subst IsSetting (sym c.raw-raw.ensures.value) c.raw-raw.ensures.in_range in
     few_sets raw.sets2 (raw.sets2 == 0) (raw.format == 2) refl is.second_sets
 
+-- the number of a power of two within the settings' ranges
+few_bits : (raw said : RawSettings) (k : ℕ) → raw ≡ said → IsSetting said → 2 ^ k ≤ raw.sets → k ≤ 10
+few_bits raw said k e is low = let high = is.sets_high in power_low 10 k (omega (arith, low, high, ap (λ (r : RawSettings). r.sets) e))
+
+short_bits : (raw said : RawSettings) (k : ℕ) → raw ≡ said → IsSetting said → 2 ^ k ≤ raw.line → k ≤ 4
+short_bits raw said k e is low = let high = is.line_high in power_low 4 k (omega (arith, low, high, ap (λ (r : RawSettings). r.line) e))
+
 pub empty_ways-requires-clause-sets : goal.empty_ways-requires-clause-sets
-empty_ways-requires-clause-sets c =
-    let is : IsSetting c.raw-raw.result = subst IsSetting (sym c.raw-raw.ensures.value) c.raw-raw.ensures.in_range in
-    let few : c.ilog2-set_bits.result ≤ 10 = power_low 10 c.ilog2-set_bits.result (let p = c.ilog2-set_bits.ensures.power_le in let h = is.sets_high in omega (arith, p, h)) in
-    omega (arith, few)
+empty_ways-requires-clause-sets c = omega (arith, few_bits c.raw-raw.result c.args.settings.now c.ilog2-set_bits.result c.raw-raw.ensures.value c.raw-raw.ensures.in_range c.ilog2-set_bits.ensures.power_le)
 
 pub of-requires : goal.of-requires
-of-requires c =
-    let is : IsSetting c.raw-raw.result = subst IsSetting (sym c.raw-raw.ensures.value) c.raw-raw.ensures.in_range in
-    let few : c.ilog2-set_bits.result ≤ 10 = power_low 10 c.ilog2-set_bits.result (let p = c.ilog2-set_bits.ensures.power_le in let h = is.sets_high in omega (arith, p, h)) in
-    omega (arith, few)
+of-requires c = omega (arith, few_bits c.raw-raw.result c.args.settings.now c.ilog2-set_bits.result c.raw-raw.ensures.value c.raw-raw.ensures.in_range c.ilog2-set_bits.ensures.power_le)
 
 pub of-requires-3 : goal.of-requires-3
-of-requires-3 c =
-    let is : IsSetting c.raw-raw.result = subst IsSetting (sym c.raw-raw.ensures.value) c.raw-raw.ensures.in_range in
-    let few : c.ilog2-word_bits.result ≤ 4 = power_low 4 c.ilog2-word_bits.result (let p = c.ilog2-word_bits.ensures.power_le in let h = is.line_high in omega (arith, p, h)) in
-    omega (arith, few)
+of-requires-3 c = omega (arith, short_bits c.raw-raw.result c.args.settings.now c.ilog2-word_bits.result c.raw-raw.ensures.value c.raw-raw.ensures.in_range c.ilog2-word_bits.ensures.power_le)
 
 pub invariant_of-result : goal.invariant_of-result
 invariant_of-result c =
-    let raw = c.raw-raw.result in
-    let is : IsSetting raw = subst IsSetting (sym c.raw-raw.ensures.value) c.raw-raw.ensures.in_range in
-    let few : c.ilog2-set_bits.result ≤ 10 = power_low 10 c.ilog2-set_bits.result (let p = c.ilog2-set_bits.ensures.power_le in let h = is.sets_high in omega (arith, p, h)) in
-    let short : c.ilog2-word_bits.result ≤ 4 = power_low 4 c.ilog2-word_bits.result (let p = c.ilog2-word_bits.ensures.power_le in let h = is.line_high in omega (arith, p, h)) in
+    let few : c.ilog2-set_bits.result ≤ 10 = few_bits c.raw-raw.result c.args.settings.now c.ilog2-set_bits.result c.raw-raw.ensures.value c.raw-raw.ensures.in_range c.ilog2-set_bits.ensures.power_le in
+    let short : c.ilog2-word_bits.result ≤ 4 = short_bits c.raw-raw.result c.args.settings.now c.ilog2-word_bits.result c.raw-raw.ensures.value c.raw-raw.ensures.in_range c.ilog2-word_bits.ensures.power_le in
     record {
       some = omega (arith, c.ways-width.ensures.low);
       sets = omega (arith, few, c.of.ensures);
