@@ -1,10 +1,11 @@
 -- What several files of proofs/ cite of other crates and of specs/. They import it from here, by one line.
-pub use Rattle.std.proofs.Common.{Bool, Err, IfSome, List, None, Ok, OnErr, Option, Result, Some, [], ap, arith, bit_and, bit_or, cond, div-le_self, false, if◌then◌else◌, inl, inr, int_div, int_rem, is_some, length, length-append, min, mod-lt, mul-le-mul, nat_le, nat_lt, neg_ℤ, negsuc, not, pos, pow-add, pow_pos, refl, rules, set, slice_index, slice_index_or, subst, suc, sym, true, unsigned_abs, w64, zero, ℕ, ℤ, ◌%◌, ◌&&◌, ◌*ℤ◌, ◌*◌, ◌++◌, ◌+◌, ◌-◌, ◌/◌, ◌<◌, ◌==◌, ◌^◌, ◌||◌, ◌∙◌, ◌∷◌, ◌≡◌, ◌≤◌, ◌⊎◌}
+pub use Rattle.std.proofs.Common.{Bool, Err, IfSome, List, None, Ok, OnErr, Option, Result, Some, [], ap, arith, bit_and, bit_or, cond, div-le_self, eq-eqb, eqb-true, false, if◌then◌else◌, inl, inr, int_div, int_rem, is_some, length, length-append, min, mod-lt, mul-le-mul, nat_le, nat_lt, neg_ℤ, negsuc, not, pos, pow-add, pow_pos, refl, rules, set, slice_index, slice_index_or, subst, suc, sym, true, unsigned_abs, w64, zero, ℕ, ℤ, ◌%◌, ◌&&◌, ◌*ℤ◌, ◌*◌, ◌++◌, ◌+◌, ◌-◌, ◌/◌, ◌<◌, ◌==◌, ◌^◌, ◌||◌, ◌∙◌, ◌∷◌, ◌≡◌, ◌≤◌, ◌⊎◌}
 pub use Rattle.std.proofs.Math.Nat.{mod-le, mul-sub, mul_comm, pow-le-pow_right}
 pub use Rattle.std.proofs.lemmas.Int.{of_z-to_z, to_z-of_z, unsigned_abs-mul}
 pub use Rattle.std.proofs.lemmas.Nat.{and-not, and_comm, and_mask, mod-pow-add, or_block, or_comm, or_of_32, or_shifted, shl_below, shl_whole, shr_below, shr_split, xor_of_32}
 pub use Rattle.std.specs.Int.{cast_unsigned, int_shr, rotate_right, w32}
 pub use Rattle.std.specs.Int.Bits.{and_lt, or_zero_r}
+pub use Rattle.std.proofs.lemmas.Bool.{and_from}
 pub use Rattle.bn_base.specs.Programs.{AreApart, Part, Program, code_at, code_in, end_of, is_in, may_load, may_store, part_at, part_or}
 pub use Rattle.bn_base.specs.Registers.{put_reg}
 pub use Rattle.bn_base.specs.declared.fault.Fault.TheVariants.{LoadMisaligned, LoadOutside, StoreMisaligned, StoreOutside, StoreReadOnly, TargetMisaligned}

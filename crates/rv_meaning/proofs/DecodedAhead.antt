@@ -78,12 +78,6 @@ ahead_step i s d e = by_word (code_at i s.pc) e
     by_word None e = cc
     by_word (Some w) e = by_instruction (decoded w) w e
 
--- no instruction leads nowhere
-pub leads_nowhere : (i : Program) (b pc : ℕ) (x : List ℕ) → LeadsTo i b pc x b pc x
-leads_nowhere i b pc x ic fits =
-    let same : min (ic + (b - b)) (2 ^ 64 - 1) ≡ ic = omega (arith, fits) in
-    ap (λ (n : ℕ). ask_of i b (record { pc = pc; x = x; ic = n })) same
-
 quiet_next : (i : Program) (b : ℕ) (s t : HartState) → 0 < b → Quiet t ≡ step i s → ask_of i (b - 1) t ≡ ask_of i b s
 quiet_next i b s t some e = let all : b - 0 ≡ b = omega arith in quiet_more i b 0 s t some e ∙ ap (λ (n : ℕ). ask_of i n s) all
 

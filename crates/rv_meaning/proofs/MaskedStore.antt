@@ -1,5 +1,5 @@
 -- A word with some of its bits replaced, by masks and shifts.
-use Rattle.rv_meaning.proofs.Common.{◌≡◌, ℕ, ◌+◌, ◌-◌, ◌*◌, ◌/◌, ◌%◌, ◌<◌, ◌≤◌, ◌^◌, Bool, true, false, refl, ap, ◌∙◌, subst, arith, mod-lt, ◌==◌, ◌&&◌, ◌||◌, if◌then◌else◌, bit_and, bit_or, or_zero_r, mul_comm, mul-sub, pow-le-pow_right, and_comm, and_mask, and-not, mod-pow-add, or_block, or_comm, or_shifted, pow-add, pow_pos, shl_below, shl_whole, shr_split, is_aligned, with_bytes}
+use Rattle.rv_meaning.proofs.Common.{◌≡◌, ℕ, ◌+◌, ◌-◌, ◌*◌, ◌/◌, ◌%◌, ◌<◌, ◌≤◌, ◌^◌, Bool, true, false, refl, ap, ◌∙◌, subst, arith, mod-lt, ◌==◌, ◌&&◌, ◌||◌, if◌then◌else◌, bit_and, bit_or, or_zero_r, mul_comm, mul-sub, pow-le-pow_right, and_comm, and_mask, and-not, mod-pow-add, or_block, or_comm, or_shifted, pow-add, pow_pos, shl_below, shl_whole, shr_split, is_aligned, with_bytes, eqb-true}
 use Rattle.std.proofs.lemmas.Nat.Bits.{and_high, ones_shr}
 use Rattle.rv_meaning.specs.Access.{stored_word}
 
@@ -66,9 +66,6 @@ masked_bytes n at o w v e h below =
 masked_word : (w v : ℕ) → w < 2 ^ 32 → v < 2 ^ 32 → masked 0 0 w v ≡ v
 masked_word w v below fits = masked_is 32 0 0 w v refl (omega arith) below ∙ omega (arith, below, fits)
 
-same_number : (m n : ℕ) → (m == n) ≡ true → m ≡ n
-same_number m n e = grind arith
-
 -- by the tests of the width
 by_width : (one two four : Bool) (addr width o w v : ℕ) → (two ≡ true → width ≡ 2) → (four ≡ true → width ≡ 4) → w < 2 ^ 32 → v < 2 ^ 32
     → o ≡ (if one then 24 else (if two then 16 else 0)) → ((one || (two || four)) && (addr % width == 0)) ≡ true
@@ -76,10 +73,10 @@ by_width : (one two four : Bool) (addr width o w v : ℕ) → (two ≡ true → 
 by_width true two four addr width o w v is2 is4 below fits e aligned =
     masked_bytes 1 (addr % 4) o w v (omega (arith, e)) (omega arith) below
 by_width false true four addr width o w v is2 is4 below fits e aligned =
-    let even : addr % 2 ≡ 0 = subst (λ (n : ℕ). addr % n ≡ 0) (is2 refl) (same_number (addr % width) 0 aligned) in
+    let even : addr % 2 ≡ 0 = subst (λ (n : ℕ). addr % n ≡ 0) (is2 refl) (eqb-true (addr % width) 0 aligned) in
     masked_bytes 2 (addr % 4) o w v (omega (arith, e)) (omega (arith, even)) below
 by_width false false true addr width o w v is2 is4 below fits e aligned =
-    let here : addr % 4 ≡ 0 = subst (λ (n : ℕ). addr % n ≡ 0) (is4 refl) (same_number (addr % width) 0 aligned) in
+    let here : addr % 4 ≡ 0 = subst (λ (n : ℕ). addr % n ≡ 0) (is4 refl) (eqb-true (addr % width) 0 aligned) in
     ap (λ (n : ℕ). masked n (addr % 4 * 8) w v) e ∙ (ap (λ (n : ℕ). masked 0 (n * 8) w v) here ∙ masked_word w v below fits)
 by_width false false false addr width o w v is2 is4 below fits e aligned = cc
 
@@ -87,4 +84,4 @@ by_width false false false addr width o w v is2 is4 below fits e aligned = cc
 pub masked_store : (addr width o w v : ℕ) → w < 2 ^ 32 → v < 2 ^ 32 → o ≡ (if width == 1 then 24 else (if width == 2 then 16 else 0))
     → is_aligned addr width ≡ true → masked o (addr % 4 * 8) w v ≡ stored_word addr width v w
 masked_store addr width o w v below fits e aligned =
-    by_width (width == 1) (width == 2) (width == 4) addr width o w v (same_number width 2) (same_number width 4) below fits e aligned
+    by_width (width == 1) (width == 2) (width == 4) addr width o w v (eqb-true width 2) (eqb-true width 4) below fits e aligned

@@ -1,5 +1,5 @@
 -- One instruction of a hart, and what is left of its budget.
-use Rattle.rv_meaning.proofs.Common.{◌≡◌, ℕ, false, suc, ◌+◌, ◌-◌, ◌<◌, ◌^◌, min, arith, ap, ◌∙◌, sym, Option, Some, Program, code_at, HartState, Instruction, decoded, Ask, Want, Step, Quiet, Asks, ask_of, step, count_up, fetched, executed, Told, ℤ, w32, to_z-of_z, bits_of}
+use Rattle.rv_meaning.proofs.Common.{◌≡◌, ℕ, false, suc, ◌+◌, ◌-◌, ◌<◌, arith, ap, ◌∙◌, sym, Option, Some, Program, code_at, HartState, Instruction, decoded, Ask, Want, Step, Quiet, Asks, ask_of, step, fetched, executed, Told, ℤ, w32, to_z-of_z, bits_of}
 use mir.Val.{SFits, of_z, to_z}
 
 -- the word of an immediate that fits
@@ -11,10 +11,6 @@ pub quiet_more : (i : Program) (b k : ℕ) (s t : HartState) → k < b → Quiet
 quiet_more i b k s t h e =
     let left : b - k ≡ suc (b - (k + 1)) = omega arith in
     ap (λ (x : Step). elim x as (λ y. Ask) [ Quiet u ↦ ask_of i (b - (k + 1)) u | Asks w ↦ record { state = s; want = w } ]) e ∙ ap (λ n. ask_of i n s) (sym left)
-
--- the count of a run that began at n, after one instruction more
-pub one_more : (n k : ℕ) → min (n + (k + 1)) (2 ^ 64 - 1) ≡ count_up (min (n + k) (2 ^ 64 - 1))
-one_more n k = omega arith
 
 -- an ask is the end
 pub ask_at : (i : Program) (b k : ℕ) (s : HartState) (w : Want) → k < b → Asks w ≡ step i s → record { state = s; want = w } ≡ ask_of i (b - k) s

@@ -1,5 +1,5 @@
 -- What a hart asks passes the program's tests, and comes within the budget.
-use Rattle.rv_meaning.proofs.Common.{◌≡◌, ℕ, zero, suc, ◌+◌, ◌*◌, ◌/◌, ◌%◌, ◌<◌, ◌≤◌, ◌^◌, ◌⊎◌, inl, inr, Bool, true, false, refl, sym, subst, arith, ◌==◌, ◌&&◌, not, nat_lt, nat_le, if◌then◌else◌, Option, Some, None, Program, code_at, may_load, may_store, HartState, LoadOutside, LoadMisaligned, StoreOutside, StoreMisaligned, StoreReadOnly, TargetMisaligned, Instruction, decoded, Name, Jal, Jalr, Beq, Bne, Blt, Bge, Bltu, Bgeu, Lb, Lh, Lw, Lbu, Lhu, Sb, Sh, Sw, Ecall, Ebreak, LrW, ScW, AmoswapW, AmoaddW, AmoxorW, AmoandW, AmoorW, AmominW, AmomaxW, AmominuW, AmomaxuW, less, Step, Quiet, Asks, ask_of, step, fetched, executed, meaning, branch, load_or, store_or, amo, count_up, src1, src2, near, there, passes, is_counted, orderly, is_cut, Ask, Want, Load, Store, LoadReserved, StoreConditional, Amo, Cut, Faulted}
+use Rattle.rv_meaning.proofs.Common.{◌≡◌, ℕ, zero, suc, ◌+◌, ◌*◌, ◌/◌, ◌%◌, ◌<◌, ◌≤◌, ◌^◌, ◌⊎◌, inl, inr, Bool, true, false, refl, sym, subst, arith, ◌==◌, ◌&&◌, not, nat_lt, nat_le, if◌then◌else◌, Option, Some, None, Program, code_at, may_load, may_store, HartState, LoadOutside, LoadMisaligned, StoreOutside, StoreMisaligned, StoreReadOnly, TargetMisaligned, Instruction, decoded, Name, Jal, Jalr, Beq, Bne, Blt, Bge, Bltu, Bgeu, Lb, Lh, Lw, Lbu, Lhu, Sb, Sh, Sw, Ecall, Ebreak, LrW, ScW, AmoswapW, AmoaddW, AmoxorW, AmoandW, AmoorW, AmominW, AmomaxW, AmominuW, AmomaxuW, less, Step, Quiet, Asks, ask_of, step, fetched, executed, meaning, branch, load_or, store_or, amo, count_up, src1, src2, near, there, passes, is_counted, orderly, is_cut, Ask, Want, Load, Store, LoadReserved, StoreConditional, Amo, Cut, Faulted, eq-eqb, and_from}
 use Rattle.rv_meaning.specs.declared.amo.AmoOp.{AmoOp}
 use Rattle.rv_meaning.specs.declared.amo.AmoOp.TheVariants as ops
 
@@ -124,23 +124,16 @@ ask_found : (i : Program) (n : ℕ) (s : HartState) → s.ic + n < 2 ^ 64 → Fo
 ask_found i zero s h = inl (refl, omega arith)
 ask_found i (suc n) s h = found_next i n s (step i s) h (step_sound i s) (λ t. ask_found i n t)
 
-eq_test : (m n : ℕ) → m ≡ n → (m == n) ≡ true
-eq_test m n e = grind arith
-
 range_test : (low m high : ℕ) → low ≤ m → m < high → (nat_le low m && nat_lt m high) ≡ true
 range_test low m high p q = grind arith
 
-both : (a b : Bool) → a ≡ true → b ≡ true → (a && b) ≡ true
-both true b p q = q
-both false b p q = p
-
 found_orderly : (i : Program) (from n : ℕ) (a : Ask) → Found i from n a → orderly i from n a ≡ true
 found_orderly i from n a (inl f) =
-    both (is_counted from n a.want a.state.ic) (passes i a.want)
-    (subst (λ (w : Want). is_counted from n w a.state.ic ≡ true) (sym f.0) (eq_test a.state.ic (from + n) f.1))
+    and_from (is_counted from n a.want a.state.ic) (passes i a.want)
+    (subst (λ (w : Want). is_counted from n w a.state.ic ≡ true) (sym f.0) (eq-eqb a.state.ic (from + n) f.1))
     (subst (λ (w : Want). passes i w ≡ true) (sym f.0) refl)
 found_orderly i from n a (inr f) =
-    both (is_counted from n a.want a.state.ic) (passes i a.want)
+    and_from (is_counted from n a.want a.state.ic) (passes i a.want)
     (subst (λ (c : Bool). (if c then a.state.ic == from + n else nat_le from a.state.ic && nat_lt a.state.ic (from + n)) ≡ true) (sym f.0.0) (range_test from a.state.ic (from + n) f.1 f.2))
     f.0.1
 

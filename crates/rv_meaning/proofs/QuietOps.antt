@@ -1,14 +1,5 @@
 -- What an arm of the match of quiet instructions says, by what its call does.
-use Rattle.rv_meaning.proofs.Common.{◌≡◌, ◌∙◌, ◌<◌, ◌+◌, ◌-◌, ◌/◌, ◌%◌, ◌^◌, ℕ, Bool, true, false, List, refl, sym, ap, subst, arith, Option, Some, None, Program, HartState, Instruction, Name, Step, Asks, meaning, IsOp, is_known, Says, Done, Quietly, Asking, pc_of, add, Want, Op}
-
--- ---- places and addresses
-
-pub next_pc : (first place : ℕ) → pc_of first (add place 1) ≡ add (pc_of first place) 4
-next_pc first place = omega arith
-
--- a target has the place of its distance from the first address
-pub target_pc : (first target : ℕ) → first % 4 ≡ 0 → target % 4 ≡ 0 → first < 2 ^ 32 → target < 2 ^ 32 → pc_of first ((target + (2 ^ 32 - first)) % 2 ^ 32 / 4) ≡ target
-target_pc first target a b f t = omega (arith, a, b, f, t)
+use Rattle.rv_meaning.proofs.Common.{◌≡◌, ◌∙◌, ℕ, Bool, true, false, List, refl, sym, ap, subst, Option, Some, None, Program, HartState, Instruction, Name, Step, Asks, meaning, IsOp, is_known, Says, Done, Quietly, Asking, Want, Op}
 
 -- ---- what was done
 
