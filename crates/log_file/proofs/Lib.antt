@@ -4,7 +4,6 @@ pub mod Causes
 pub mod Shared
 pub mod Heads
 pub mod Again
-pub mod Refusals
 pub mod Parted
 pub mod Decided
 pub mod Walks

@@ -1,6 +1,6 @@
 -- What is wrong with a few bytes, worked out.
-use Rattle.log_file.proofs.Common.{◌≡◌, ℕ, Bool, false, not, ◌∷◌, ◌++◌, [], List, replicate, Some, None, refl, arith, ap, if◌then◌else◌, bytes_eq, sha256, number_at, number_bytes, Record, Header, FirstLoad, ScOk, ScFailed, Edge, End, bytes_of, Short, BadMagic, BadVersion, BadHead, LengthDiffers, DigestDiffers, magic, settings_bytes, signed_bytes, head_fault, file_fault, NoRecord}
-use Rattle.log_file.specs.Examples.{no_digest, signed, signed_as}
+use Rattle.log_file.proofs.Common.{◌≡◌, ℕ, Bool, false, not, ◌∷◌, ◌++◌, [], List, replicate, Some, None, refl, arith, ap, if◌then◌else◌, bytes_eq, sha256, number_at, number_bytes, Record, Header, FirstLoad, ScOk, ScFailed, Edge, End, bytes_of, Short, BadMagic, LengthDiffers, DigestDiffers, magic, settings_bytes, signed_bytes, head_fault, file_fault, NoRecord}
+use Rattle.log_file.specs.Examples.{no_digest, signed}
 
 pub short_is : file_fault (replicate 123 0) ≡ Some (Short 123)
 short_is = refl
@@ -8,14 +8,6 @@ short_is = refl
 pub magic_is : file_fault (replicate 124 0) ≡ Some BadMagic
 unfolding magic head_fault
 magic_is = refl
-
-pub version_is : head_fault (signed_as 3) no_digest ≡ Some (BadVersion 3)
-unfolding magic settings_bytes signed_bytes number_bytes number_at head_fault
-version_is = refl
-
-pub setting_is : head_fault (signed 9 ++ 7 ∷ []) no_digest ≡ Some (BadHead 1 9)
-unfolding magic settings_bytes signed_bytes number_bytes number_at head_fault
-setting_is = refl
 
 pub length_is : head_fault (signed 1 ++ 7 ∷ []) no_digest ≡ Some (LengthDiffers 0 1)
 unfolding magic settings_bytes signed_bytes number_bytes number_at head_fault lib.Count.ones

@@ -14,7 +14,7 @@ pub fn other_bytes_are_no_file()
 {}
 
 /// Its head names version 1 and settings in their ranges; a setting out of its range comes before a wrong length.
-#[tactic(auto, using(crate::proofs::Worked::version_is, crate::proofs::Worked::setting_is))]
+#[tactic(auto, unfolding(crate::specs::Layout::magic, crate::specs::Layout::settings_bytes, crate::specs::Layout::signed_bytes, le_numbers::specs::Numbers::number_bytes, le_numbers::specs::Numbers::number_at, crate::specs::Faults::head_fault))]
 pub fn a_head_is_refused()
     ensures version { head_fault (signed_as 3) no_digest ≡ Some (BadVersion 3) }
     ensures setting { head_fault (signed 9 ++ 7 ∷ []) no_digest ≡ Some (BadHead 1 9) }
