@@ -1,5 +1,5 @@
 -- How many pages and slots there are.
-use Rattle.race_log.proofs.Common.{◌≡◌, ◌≢◌, ℕ, zero, suc, ◌+◌, ◌-◌, ◌*◌, ◌<◌, ◌≤◌, Bool, true, false, cond, refl, inl, inr, arith, sym, ap, ◌∙◌, length, slice_get, slice_set, IsTrue, Vec, List, Global, cases_eq, cases_lt, false≢true, Slot, KeptWords, slots_of, slots_in, sum_below, has_epoch, AreAllUsed, IsAsLarge, MakesPages}
+use Rattle.race_log.proofs.Common.{◌≡◌, ℕ, zero, suc, ◌+◌, ◌-◌, ◌*◌, ◌<◌, ◌≤◌, Bool, true, false, cond, refl, inl, inr, arith, sym, ap, ◌∙◌, length, slice_get, slice_set, IsTrue, Vec, List, Global, cases_eq, cases_lt, false≢true, Slot, KeptWords, slots_of, slots_in, sum_below, has_epoch, AreAllUsed, IsAsLarge, MakesPages}
 use Rattle.race_log.specs.declared.epochs.Epochs.{Epochs}
 use Rattle.race_log.proofs.EpochLemmas.{is_free, begin_low}
 use Rattle.race_log.proofs.PagesLemmas.{page_here, page_there}
