@@ -1,10 +1,8 @@
 -- Lists of the same points, in which conflicting points stand alike, have the same races.
-use Rattle.race_report.proofs.Common.{◌≡◌, ◌⊎◌, inl, inr, ℕ, zero, suc, ◌+◌, ◌<◌, Bool, true, false, refl, sym, ap, ◌∙◌, subst, arith, List, [], ◌∷◌, slice_get, Option, Some, Any, Row, In, Point, Access, MeetAt, IsConflict, ProgramOrder, Conflict, Either, Race, Touch, Accessing, accesses_of, whole_point, sync_point, syncs_from, IsOrdered, races_of, AreCounted, IsRaceOf, IsRowBefore, IsRaceBefore, Ascend, AreAlike, RacesAreListed, RacesAscend, RacesGoByConflicts}
+use Rattle.race_report.proofs.Common.{◌≡◌, ◌⊎◌, inl, inr, ℕ, zero, suc, ◌+◌, ◌<◌, Bool, true, false, refl, sym, ap, ◌∙◌, subst, arith, List, [], ◌∷◌, slice_get, Some, Any, Row, In, Point, Access, MeetAt, IsConflict, ProgramOrder, Conflict, Either, Race, Touch, Accessing, accesses_of, whole_point, sync_point, syncs_from, IsOrdered, races_of, AreCounted, IsRaceOf, IsRowBefore, IsRaceBefore, Ascend, AreAlike, RacesAreListed, RacesAscend, RacesGoByConflicts}
 use Rattle.race_log.specs.Netzer.Chain.{one, more}
 use Rattle.race_report.proofs.Prefixes.{syncs_at}
-
-some_is : {X : Type 0} (x y : X) (o : Option X) → o ≡ Some x → o ≡ Some y → x ≡ y
-some_is {X = X} x y o e f = let g : ◌≡◌ {A = Option X} (Some x) (Some y) = sym e ∙ f in cc
+use Rattle.joint_replay.proofs.Soundness.{some_is}
 
 order_of : (m n : ℕ) → (m < n) ⊎ ((m ≡ n) ⊎ (n < m))
 order_of m n = grind arith

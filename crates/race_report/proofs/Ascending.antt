@@ -1,9 +1,7 @@
 -- The list of races ascends.
-use Rattle.race_report.proofs.Common.{◌≡◌, ◌⊎◌, inl, inr, ℕ, zero, suc, ◌<◌, ◌==◌, Bool, true, false, cond, refl, sym, ap, ◌∙◌, subst, arith, List, [], ◌∷◌, ◌++◌, append_assoc, length, slice_get, Option, Some, None, append-nil, Row, In, Meeting, Race, Accessing, race_at, meeting_at, meetings_below, meetings_of, row_if, row_of, race_by, race_if, races_with, races_by_second, is_at, races_by_place, races_by_first, AreCounted, HaveOwnRows, IsRowBefore, IsRaceBefore, Ascend, RacesAscend}
-use Rattle.race_report.proofs.Listed.{same_number, in_cases, in_meetings, in_with}
-
-some_is : {X : Type 0} (x y : X) (o : Option X) → o ≡ Some x → o ≡ Some y → x ≡ y
-some_is {X = X} x y o e f = let g : ◌≡◌ {A = Option X} (Some x) (Some y) = sym e ∙ f in cc
+use Rattle.race_report.proofs.Common.{◌≡◌, ◌⊎◌, inl, inr, ℕ, zero, suc, ◌<◌, ◌==◌, Bool, true, false, cond, refl, sym, ap, ◌∙◌, subst, arith, List, [], ◌∷◌, ◌++◌, append_assoc, length, slice_get, Option, Some, None, append-nil, Row, In, Meeting, Race, Accessing, race_at, meeting_at, meetings_below, meetings_of, row_if, row_of, race_by, race_if, races_with, races_by_second, is_at, races_by_place, races_by_first, AreCounted, HaveOwnRows, IsRowBefore, IsRaceBefore, Ascend, RacesAscend, eqb-true}
+use Rattle.race_report.proofs.Listed.{in_cases, in_meetings, in_with}
+use Rattle.joint_replay.proofs.Soundness.{some_is}
 
 ascend_append : (xs ys : List Race) → Ascend xs → Ascend ys → ((x y : Race) → In xs x → In ys y → IsRaceBefore x y) → Ascend (xs ++ ys)
 ascend_append [] ys a b cross = b
@@ -37,7 +35,7 @@ module _ (harts : ℕ) (run : List Accessing) (counted : AreCounted harts run) (
           → (f : IsFound m r) × (f.second.hart ≡ g) × (f.place ≡ x.second)
       one p q true h e f (inl same) = (
         record { first = p; second = q; place = x.second; first_at = e; second_at = f; first_is = ap (λ (z : Race). z.first) (sym same); second_is = ap (λ (z : Race). z.second) (sym same) },
-        same_number q.hart g h,
+        eqb-true q.hart g h,
         refl,
       )
       one p q true h e f (inr j) = absurd j
@@ -65,7 +63,7 @@ module _ (harts : ℕ) (run : List Accessing) (counted : AreCounted harts run) (
       by (inr j) rest = let f = found_with m g (length run) r j in let same = f.1 in (f.0, omega (arith, same))
 
   hart_at : (m h : ℕ) (p : Accessing) → slice_get run m ≡ Some p → is_at run m h ≡ true → p.hart ≡ h
-  hart_at m h p at e = same_number p.hart h (sym (ap (λ (o : Option Accessing). elim o as (λ y. Bool) [ None ↦ false | Some q ↦ q.hart == h ]) at) ∙ e)
+  hart_at m h p at e = eqb-true p.hart h (sym (ap (λ (o : Option Accessing). elim o as (λ y. Bool) [ None ↦ false | Some q ↦ q.hart == h ]) at) ∙ e)
 
   found_at : (h m : ℕ) (r : Race) (b : Bool) → is_at run m h ≡ b → In (cond b (races_by_second run m harts) []) r → (f : IsFound m r) × (f.first.hart ≡ h)
   found_at h m r true e j = let f = found_second m harts r j in (f.0, hart_at m h f.0.first f.0.first_at e)

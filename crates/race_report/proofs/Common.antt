@@ -1,6 +1,9 @@
 -- What several files of proofs/ cite of other crates and of specs/. They import it from here, by one line.
 pub use Rattle.std.proofs.Common.{All, Any, Bool, Err, Global, IfSome, IsOk, IsTrue, List, None, Ok, OnOk, Option, Result, Some, Vec, [], ap, append-nil, append_assoc, arith, cond, drop, false, filter, if◌then◌else◌, inl, inr, is_some, length, length-append, map, min, nat_lt, not, refl, rules, slice_get, slice_index, slice_index_or, slice_set, subst, suc, sym, true, zero, ℕ, ◌%◌, ◌&&◌, ◌++◌, ◌+◌, ◌-◌, ◌/◌, ◌<◌, ◌==◌, ◌^◌, ◌||◌, ◌↔◌, ◌∙◌, ◌∷◌, ◌≡◌, ◌≢◌, ◌≤◌, ◌⊎◌}
-pub use Rattle.std.proofs.lemmas.Option.{slice_get-get_or}
+pub use Rattle.std.proofs.lemmas.Bool.{and_parts, eq-eqb, eqb-false, eqb-true, false≢true, le-ltb, lt-ltb, ltb-false, ltb-true, ne_eqb, not-true, or_cases, true≢false}
+pub use Rattle.std.specs.Cmp.{both_ways}
+pub use Rattle.std.proofs.Math.Bool.{and-false, and-true, or-false, or-true}
+pub use Rattle.std.proofs.lemmas.Option.{same_Some, slice_get-get_or, slice_get_past, slice_get_within}
 pub use Rattle.std.specs.List.{flat_map, list_any}
 pub use Rattle.std.specs.Option.{option_map}
 pub use Rattle.bn_base.specs.Programs.{Program}

@@ -1,5 +1,5 @@
 -- Each hart's points come by their counts.
-use Rattle.race_report.proofs.Common.{◌≡◌, ◌⊎◌, inl, inr, ℕ, zero, suc, ◌+◌, ◌<◌, ◌≤◌, ◌==◌, nat_lt, Bool, true, false, not, is_some, ◌&&◌, ◌||◌, refl, sym, ap, ◌∙◌, subst, arith, List, [], ◌∷◌, ◌++◌, length, slice_get, slice_set, Option, Some, None, Result, Ok, Err, append-nil, Program, EndMark, Row, HartState, ReplayError, Outcome, Done, Refused, Record, Stuck, Next, Hart, AllDone, NoneReady, Cursor, Lane, Item, Passing, Doing, Ending, row_given, lane_step, cursor_step, has_row, memory_after, Joining, Taken, Walk, Ran, ran, fresh, lanes_from, choice, is_passed, move, next_step, error_of, positions_from, steps_left, run_for, RunsByStep, Touch, Accessing, accessing, touch_of, point_in, points_of, or_else, word_with, is_atomic, loaded_touch, AreCounted, PointsAreCounted}
+use Rattle.race_report.proofs.Common.{◌≡◌, ◌⊎◌, inl, inr, ℕ, zero, suc, ◌+◌, ◌<◌, ◌≤◌, ◌==◌, nat_lt, Bool, true, false, not, is_some, ◌&&◌, ◌||◌, refl, sym, ap, ◌∙◌, subst, arith, List, [], ◌∷◌, ◌++◌, length, slice_get, slice_set, Option, Some, None, Result, Ok, Err, append-nil, Program, EndMark, Row, HartState, ReplayError, Outcome, Done, Refused, Record, Stuck, Next, Hart, AllDone, NoneReady, Cursor, Lane, Item, Passing, Doing, Ending, row_given, lane_step, cursor_step, has_row, memory_after, Joining, Taken, Walk, Ran, ran, fresh, lanes_from, choice, is_passed, move, next_step, error_of, positions_from, steps_left, run_for, RunsByStep, Touch, Accessing, accessing, touch_of, point_in, points_of, or_else, word_with, is_atomic, loaded_touch, AreCounted, PointsAreCounted, eqb-true, lt-ltb, ltb-false, ltb-true, same_Some, slice_get_within, eqb-false}
 use Rattle.bn_base.specs.declared.fault.Fault.{Fault}
 use Rattle.hart_replay.specs.Coming.{after_row}
 use Rattle.joint_replay.specs.declared.kinds.Coming.{Coming}
@@ -12,21 +12,8 @@ use Rattle.joint_replay.specs.Counts.{RowsFrom}
 use Rattle.joint_replay.specs.Ways.{GoesOn, AreFrom, IsLane, Passes, PassesIf}
 use Rattle.joint_replay.specs.Sound.{IsSound, SoundIf}
 use Rattle.joint_replay.specs.Laws.{StepsPass, StartsAreSound, SoundnessStays}
-
-true_lt : (m n : ℕ) → nat_lt m n ≡ true → m < n
-true_lt m n h = grind arith
-
-false_le : (m n : ℕ) → nat_lt m n ≡ false → n ≤ m
-false_le m n h = grind arith
-
-is_lt : (m n : ℕ) → m < n → nat_lt m n ≡ true
-is_lt m n h = grind arith
-
-pub same_number : (a b : ℕ) → (a == b) ≡ true → a ≡ b
-same_number a b h = grind arith
-
-pub some_same : {X : Type 0} (a b : X) → ◌≡◌ {A = Option X} (Some a) (Some b) → a ≡ b
-some_same a b e = cc
+use Rattle.joint_replay.proofs.Soundness.{get_same, get_other}
+use Rattle.joint_replay.proofs.Merging.{get_last}
 
 -- ---- the row of a point has no fault
 
@@ -53,13 +40,13 @@ after_count : (i : Program) (c : Cursor) (row : Row) (rs : List Row) (cs : List 
 after_count i c row rs cs e low = by (has_row (row_given i c row rs))
   where
     by : (b : Bool) → elim (elim b as (λ y. Option Coming) [ true ↦ Some (RowAt (after_row i c.state row).ic) | false ↦ Some (EndAt c.mark.ic) ]) as (λ y. Bool) [ None ↦ true | Some d ↦ nat_lt row.ic (count_of d) ] ≡ true
-    by true = is_lt row.ic (after_row i c.state row).ic (omega (arith, e))
-    by false = is_lt row.ic c.mark.ic low
+    by true = lt-ltb row.ic (after_row i c.state row).ic (omega (arith, e))
+    by false = lt-ltb row.ic c.mark.ic low
 
 -- what comes of the cursor before it
 before_count : (c : Cursor) (cs : List Cursor) (k : ℕ) → c.state.ic < c.mark.ic → is_passed (Some (record { points = []; cursors = c ∷ cs })) k ≡ true → k < c.state.ic
 before_count c cs k low e =
-    true_lt k c.state.ic (sym (ap (λ (b : Bool). elim (elim (b || (nat_lt 16 c.mark.reason && not c.faulted)) as (λ y. Option Coming) [ true ↦ Some (RowAt c.state.ic) | false ↦ Some (EndAt c.mark.ic) ]) as (λ y. Bool) [ None ↦ true | Some d ↦ nat_lt k (count_of d) ]) (is_lt c.state.ic c.mark.ic low)) ∙ e)
+    ltb-true k c.state.ic (sym (ap (λ (b : Bool). elim (elim (b || (nat_lt 16 c.mark.reason && not c.faulted)) as (λ y. Option Coming) [ true ↦ Some (RowAt c.state.ic) | false ↦ Some (EndAt c.mark.ic) ]) as (λ y. Bool) [ None ↦ true | Some d ↦ nat_lt k (count_of d) ]) (lt-ltb c.state.ic c.mark.ic low)) ∙ e)
 
 first_goes : (i : Program) (c : Cursor) (cs : List Cursor) → AreFrom i c cs → GoesOn i c
 first_goes i c [] a = a
@@ -89,13 +76,13 @@ cursor_done i c cs before row next none goes e = by c.left.rows goes.1 e
     low : (r : Row) (rs : List Row) (b : Bool) → nat_lt c.state.ic c.mark.ic ≡ b → r.fault ≡ None → r.ic ≡ c.state.ic → (c.state.ic < c.mark.ic → (r.fault ≡ None) × ((after_row i c.state r).ic ≡ c.state.ic + 1))
         → (c.mark.ic ≤ c.state.ic → (is_some r.fault ≡ true) × (after_row i c.state r ≡ c.state)) → IsDone (record { points = []; cursors = c ∷ cs }) (record { points = []; cursors = row_given i c r rs ∷ cs }) r
     low r rs true f plain count within past =
-        let less = true_lt c.state.ic c.mark.ic f in
+        let less = ltb-true c.state.ic c.mark.ic f in
         let up = (within less).1 in
         record {
           was = λ k g. (let under = before_count c cs k less g in omega (arith, under, count));
           over = after_count i c r rs cs (omega (arith, up, count)) (omega (arith, less, count));
         }
-    low r rs false f plain count within past = absurd (no_some r.fault plain (past (false_le c.state.ic c.mark.ic f)).0)
+    low r rs false f plain count within past = absurd (no_some r.fault plain (past (ltb-false c.state.ic c.mark.ic f)).0)
 
     done : (r : Row) (rs : List Row) → r ≡ row → ◌≡◌ {A = Lane} (record { points = []; cursors = row_given i c r rs ∷ cs }) next → r.ic ≡ c.state.ic → (c.state.ic < c.mark.ic → (r.fault ≡ None) × ((after_row i c.state r).ic ≡ c.state.ic + 1))
         → (c.mark.ic ≤ c.state.ic → (is_some r.fault ≡ true) × (after_row i c.state r ≡ c.state)) → IsDone (record { points = []; cursors = c ∷ cs }) next row
@@ -121,7 +108,7 @@ lane_done : (i : Program) (points : List ℕ) (cursors : List Cursor) (before : 
     → lane_step i (record { points = points; cursors = cursors }) ≡ Some (Ok (Doing before row, next)) → IsDone (record { points = points; cursors = cursors }) next row
 lane_done i (p ∷ ps) cursors before row next none lane e = absurd (no_passing p before row (ap (λ (x : Item × Lane). x.0) (some_item (Passing p, record { points = ps; cursors = cursors }) (Doing before row, next) e)))
 lane_done i [] [] before row next none lane e = absurd cc
-lane_done i [] (c ∷ cs) before row next none lane e = cursor_done i c cs before row next none (first_goes i c cs lane.cursors) (some_same (cursor_step i c cs) (Ok (Doing before row, next)) e)
+lane_done i [] (c ∷ cs) before row next none lane e = cursor_done i c cs before row next none (first_goes i c cs lane.cursors) (same_Some (cursor_step i c cs) (Ok (Doing before row, next)) e)
 
 -- ---- the step of all
 
@@ -151,20 +138,59 @@ step_lane j h x e = by j.refused (slice_get j.lanes h) refl e
     by None None at f = absurd cc
     by None (Some lane) at f = move_lane j h lane (lane_step j.program lane) x at refl f
 
-pub set_here : (ls : List Lane) (h : ℕ) (new : Lane) (lane : Lane) → slice_get ls h ≡ Some lane → slice_get (slice_set ls h new) h ≡ Some new
-set_here [] h new lane e = absurd cc
-set_here (l ∷ ls) zero new lane e = refl
-set_here (l ∷ ls) (suc h) new lane e = set_here ls h new lane e
+-- ---- what each step keeps, a run keeps
 
-pub set_there : (ls : List Lane) (h k : ℕ) (new : Lane) → (h == k) ≡ false → slice_get (slice_set ls h new) k ≡ slice_get ls k
-set_there [] h k new e = refl
-set_there (l ∷ ls) zero zero new e = absurd cc
-set_there (l ∷ ls) zero (suc k) new e = refl
-set_there (l ∷ ls) (suc h) zero new e = refl
-set_there (l ∷ ls) (suc h) (suc k) new e = set_there ls h k new (less h k e)
-  where
-    less : (a b : ℕ) → (suc a == suc b) ≡ false → (a == b) ≡ false
-    less a b f = grind arith
+abbrev walk_of : List Taken → Joining → Walk
+walk_of ts j = record { taken = ts; now = j }
+
+module _ (Kept : List Taken → Joining → Type 0)
+    (keeps : (ts : List Taken) (j : Joining) (h : ℕ) (x : Item × Joining) → j.refused ≡ None → choice j ≡ Hart h → next_step j h ≡ Some (Ok x) → Kept ts j → Kept (record { hart = h; item = x.0 } ∷ ts) x.1) where
+  abbrev Ends : Walk → Type 0
+  Ends w = (j : Joining) × Kept w.taken j
+
+  abbrev More : ℕ → List Taken → Type 0
+  More n ts = (h : ℕ) (x : Item × Joining) → Kept (record { hart = h; item = x.0 } ∷ ts) x.1 → Ends (run_for n (walk_of (record { hart = h; item = x.0 } ∷ ts) x.1)).walk
+
+  pub run_keeps : (n : ℕ) (ts : List Taken) (j : Joining) → Kept ts j → Ends (run_for n (walk_of ts j)).walk
+  run_keeps zero ts j kept = (j, kept)
+  run_keeps (suc n) ts j kept = refusal j.refused refl (λ h x more. run_keeps n (record { hart = h; item = x.0 } ∷ ts) x.1 more)
+    where
+      stepped : (h : ℕ) (o : Option (Result (Item × Joining) ReplayError)) → j.refused ≡ None → choice j ≡ Hart h → next_step j h ≡ o → More n ts
+          → Ends (elim o as (λ y. Ran) [
+            | None ↦ ran (walk_of ts j) None
+            | Some r ↦ elim r as (λ y. Ran) [ Err e ↦ ran (walk_of ts (record j { refused = Some e })) (Some (error_of e)) | Ok x ↦ run_for n (walk_of (record { hart = h; item = x.0 } ∷ ts) x.1) ]
+          ]).walk
+      stepped h None none lowest e more = (j, kept)
+      stepped h (Some (Err g)) none lowest e more = (j, kept)
+      stepped h (Some (Ok x)) none lowest e more = more h x (keeps ts j h x none lowest e kept)
+
+      chosen : (k : Next) → j.refused ≡ None → choice j ≡ k → More n ts
+          → Ends (elim k as (λ y. Ran) [
+            | AllDone ↦ ran (walk_of ts j) None
+            | NoneReady ↦ ran (walk_of ts j) (Some (Stuck (positions_from 0 j.lanes)))
+            | Hart h ↦ elim (next_step j h) as (λ y. Ran) [
+              | None ↦ ran (walk_of ts j) None
+              | Some r ↦ elim r as (λ y. Ran) [ Err e ↦ ran (walk_of ts (record j { refused = Some e })) (Some (error_of e)) | Ok x ↦ run_for n (walk_of (record { hart = h; item = x.0 } ∷ ts) x.1) ]
+            ]
+          ]).walk
+      chosen AllDone none lowest more = (j, kept)
+      chosen NoneReady none lowest more = (j, kept)
+      chosen (Hart h) none lowest more = stepped h (next_step j h) none lowest refl more
+
+      refusal : (o : Option ReplayError) → j.refused ≡ o → More n ts
+          → Ends (elim o as (λ y. Ran) [
+            | Some e ↦ ran (walk_of ts j) (Some (error_of e))
+            | None ↦ elim (choice j) as (λ y. Ran) [
+              | AllDone ↦ ran (walk_of ts j) None
+              | NoneReady ↦ ran (walk_of ts j) (Some (Stuck (positions_from 0 j.lanes)))
+              | Hart h ↦ elim (next_step j h) as (λ y. Ran) [
+                | None ↦ ran (walk_of ts j) None
+                | Some r ↦ elim r as (λ y. Ran) [ Err e ↦ ran (walk_of ts (record j { refused = Some e })) (Some (error_of e)) | Ok x ↦ run_for n (walk_of (record { hart = h; item = x.0 } ∷ ts) x.1) ]
+              ]
+            ]
+          ]).walk
+      refusal (Some e) f more = (j, kept)
+      refusal None f more = chosen (choice j) f refl more
 
 -- ---- all steps
 
@@ -193,22 +219,11 @@ module _ (law : RunsByStep) (steps : StepsPass) (stays : SoundnessStays) (harts 
     where
       by : (b : Bool) → (h == k) ≡ b → is_passed (slice_get x.1.lanes k) n ≡ true
       by true f =
-          let same = same_number h k f in
+          let same = eqb-true h k f in
           subst (λ (ls : List Lane). is_passed (slice_get ls k) n ≡ true) (sym s.lanes)
-          (subst (λ (o : Option Lane). is_passed o n ≡ true) (sym (ap (slice_get (slice_set j.lanes h s.next)) (sym same) ∙ set_here j.lanes h s.next s.lane s.at))
+          (subst (λ (o : Option Lane). is_passed o n ≡ true) (sym (ap (slice_get (slice_set j.lanes h s.next)) (sym same) ∙ get_same j.lanes h s.lane s.next s.at))
           (p.stays n (subst (λ (o : Option Lane). is_passed o n ≡ true) (ap (slice_get j.lanes) (sym same) ∙ s.at) e)))
-      by false f = subst (λ (o : Option Lane). is_passed o n ≡ true) (sym (ap (λ (ls : List Lane). slice_get ls k) s.lanes ∙ set_there j.lanes h k s.next f)) e
-
-  get_cases : (run : List Accessing) (new p : Accessing) (m : ℕ) → slice_get (run ++ new ∷ []) m ≡ Some p → (slice_get run m ≡ Some p) ⊎ ((m ≡ length run) × (new ≡ p))
-  get_cases [] new p zero e = inr (refl, some_same new p e)
-  get_cases [] new p (suc m) e = absurd cc
-  get_cases (q ∷ qs) new p zero e = inl e
-  get_cases (q ∷ qs) new p (suc m) e = elim (get_cases qs new p m e) [ inl f ↦ inl f | inr f ↦ inr (ap suc f.0, f.1) ]
-
-  within : (run : List Accessing) (m : ℕ) (p : Accessing) → slice_get run m ≡ Some p → m < length run
-  within [] m p e = absurd cc
-  within (q ∷ qs) zero p e = omega arith
-  within (q ∷ qs) (suc m) p e = let low = within qs m p e in omega (arith, low)
+      by false f = subst (λ (o : Option Lane). is_passed o n ≡ true) (sym (ap (λ (ls : List Lane). slice_get ls k) s.lanes ∙ get_other j.lanes h k s.next (eqb-false h k f))) e
 
   one_more : (j : Joining) (h : ℕ) (x : Item × Joining) (before : HartState) (row : Row) (t : Touch) (run : List Accessing) → choice j ≡ Hart h → (s : IsLaneStep j h x) → Passes j.program s.lane x.0 s.next → IsSound x.1 → length x.1.lanes ≡ harts
       → x.0 ≡ Doing before row → touch_of before row ≡ Some t → IsCounted harts j run → IsCounted harts x.1 (run ++ record { hart = h; row = row; touch = t } ∷ [])
@@ -220,16 +235,16 @@ module _ (law : RunsByStep) (steps : StepsPass) (stays : SoundnessStays) (harts 
         sound = sound;
         long = long;
         counted = record {
-          harts_below = λ m q e. elim (get_cases run new q m e) [
+          harts_below = λ m q e. elim (get_last run new m q e) [
             | inl f ↦ c.counted.harts_below m q f
             | inr f ↦ subst (λ (a : Accessing). a.hart < harts) f.1 (subst (λ (k : ℕ). h < k) c.long (law.there j h lowest))
           ];
-          rise = λ m n a b e f same low. rises d.was m n a b (get_cases run new a m e) (get_cases run new b n f) same low;
+          rise = λ m n a b e f same low. rises d.was m n a b (get_last run new m a e) (get_last run new n b f) same low;
         };
-        passed = λ m q e. elim (get_cases run new q m e) [
+        passed = λ m q e. elim (get_last run new m q e) [
           | inl f ↦ still j h x s p q.hart q.row.ic (c.passed m q f)
           | inr f ↦ subst (λ (a : Accessing). is_passed (slice_get x.1.lanes a.hart) a.row.ic ≡ true) f.1
-              (subst (λ (o : Option Lane). is_passed o row.ic ≡ true) (sym (ap (λ (ls : List Lane). slice_get ls h) s.lanes ∙ set_here j.lanes h s.next s.lane s.at)) d.over)
+              (subst (λ (o : Option Lane). is_passed o row.ic ≡ true) (sym (ap (λ (ls : List Lane). slice_get ls h) s.lanes ∙ get_same j.lanes h s.lane s.next s.at)) d.over)
         ];
       }
     where
@@ -242,7 +257,7 @@ module _ (law : RunsByStep) (steps : StepsPass) (stays : SoundnessStays) (harts 
       rises : ((k : ℕ) → is_passed (Some s.lane) k ≡ true → k < row.ic) → (m n : ℕ) (a b : Accessing) → (slice_get run m ≡ Some a) ⊎ ((m ≡ length run) × (point ≡ a)) → (slice_get run n ≡ Some b) ⊎ ((n ≡ length run) × (point ≡ b)) → a.hart ≡ b.hart → m < n → a.row.ic < b.row.ic
       rises was m n a b (inl e) (inl f) same low = c.counted.rise m n a b e f same low
       rises was m n a b (inl e) (inr f) same low = subst (λ (k : ℕ). a.row.ic < k) (ap (λ (p : Accessing). p.row.ic) f.1) (earlier was m a e (same ∙ sym (ap (λ (p : Accessing). p.hart) f.1)))
-      rises was m n a b (inr e) (inl f) same low = let high = within run n b f in let at = e.0 in absurd (omega (arith, at, high, low))
+      rises was m n a b (inr e) (inl f) same low = let high = slice_get_within run n b f in let at = e.0 in absurd (omega (arith, at, high, low))
       rises was m n a b (inr e) (inr f) same low = let at = e.0 in let to = f.0 in absurd (omega (arith, at, to, low))
 
   none_more : (j : Joining) (h : ℕ) (x : Item × Joining) (run : List Accessing) → (s : IsLaneStep j h x) → Passes j.program s.lane x.0 s.next → IsSound x.1 → length x.1.lanes ≡ harts → IsCounted harts j run → IsCounted harts x.1 (run ++ [])
@@ -277,62 +292,16 @@ module _ (law : RunsByStep) (steps : StepsPass) (stays : SoundnessStays) (harts 
       by (Doing before row) f = row_by before row (touch_of before row) f refl
       by (Ending n m) f = none_more j h x run s p sound long c
 
-  abbrev walk_of : List Taken → Joining → Walk
-  walk_of ts j = record { taken = ts; now = j }
-
-  abbrev More : ℕ → List Taken → Type 0
-  More n ts = (h : ℕ) (x : Item × Joining) → IsCounted harts x.1 (points_of ts ++ point_in h x.0) → AreCounted harts (points_of (run_for n (walk_of (record { hart = h; item = x.0 } ∷ ts) x.1)).walk.taken)
-
-  counted_run : (n : ℕ) (ts : List Taken) (j : Joining) → IsCounted harts j (points_of ts) → AreCounted harts (points_of (run_for n (walk_of ts j)).walk.taken)
-  counted_run zero ts j c = c.counted
-  counted_run (suc n) ts j c = refusal j.refused refl (λ h x d. counted_run n (record { hart = h; item = x.0 } ∷ ts) x.1 d)
-    where
-      stepped : (h : ℕ) (o : Option (Result (Item × Joining) ReplayError)) → j.refused ≡ None → choice j ≡ Hart h → next_step j h ≡ o → More n ts
-          → AreCounted harts (points_of (elim o as (λ y. Ran) [
-            | None ↦ ran (walk_of ts j) None
-            | Some r ↦ elim r as (λ y. Ran) [ Err e ↦ ran (walk_of ts (record j { refused = Some e })) (Some (error_of e)) | Ok x ↦ run_for n (walk_of (record { hart = h; item = x.0 } ∷ ts) x.1) ]
-          ]).walk.taken)
-      stepped h None none lowest e more = c.counted
-      stepped h (Some (Err g)) none lowest e more = c.counted
-      stepped h (Some (Ok x)) none lowest e more = more h x (step_keeps j h x (points_of ts) none lowest e c)
-
-      chosen : (k : Next) → j.refused ≡ None → choice j ≡ k → More n ts
-          → AreCounted harts (points_of (elim k as (λ y. Ran) [
-            | AllDone ↦ ran (walk_of ts j) None
-            | NoneReady ↦ ran (walk_of ts j) (Some (Stuck (positions_from 0 j.lanes)))
-            | Hart h ↦ elim (next_step j h) as (λ y. Ran) [
-              | None ↦ ran (walk_of ts j) None
-              | Some r ↦ elim r as (λ y. Ran) [ Err e ↦ ran (walk_of ts (record j { refused = Some e })) (Some (error_of e)) | Ok x ↦ run_for n (walk_of (record { hart = h; item = x.0 } ∷ ts) x.1) ]
-            ]
-          ]).walk.taken)
-      chosen AllDone none lowest more = c.counted
-      chosen NoneReady none lowest more = c.counted
-      chosen (Hart h) none lowest more = stepped h (next_step j h) none lowest refl more
-
-      refusal : (o : Option ReplayError) → j.refused ≡ o → More n ts
-          → AreCounted harts (points_of (elim o as (λ y. Ran) [
-            | Some e ↦ ran (walk_of ts j) (Some (error_of e))
-            | None ↦ elim (choice j) as (λ y. Ran) [
-              | AllDone ↦ ran (walk_of ts j) None
-              | NoneReady ↦ ran (walk_of ts j) (Some (Stuck (positions_from 0 j.lanes)))
-              | Hart h ↦ elim (next_step j h) as (λ y. Ran) [
-                | None ↦ ran (walk_of ts j) None
-                | Some r ↦ elim r as (λ y. Ran) [ Err e ↦ ran (walk_of ts (record j { refused = Some e })) (Some (error_of e)) | Ok x ↦ run_for n (walk_of (record { hart = h; item = x.0 } ∷ ts) x.1) ]
-              ]
-            ]
-          ]).walk.taken)
-      refusal (Some e) f more = c.counted
-      refusal None f more = chosen (choice j) f refl more
-
-lanes_long : (i : Program) (records : List Record) (h n : ℕ) → length (lanes_from i records h n) ≡ n
+pub lanes_long : (i : Program) (records : List Record) (h n : ℕ) → length (lanes_from i records h n) ≡ n
 lanes_long i records h zero = refl
 lanes_long i records h (suc n) = ap suc (lanes_long i records (h + 1) n)
 
 pub points_are_counted : RunsByStep → StepsPass → SoundnessStays → StartsAreSound → PointsAreCounted
 points_are_counted law steps stays starts i s dropped records low order =
-    counted_run law steps stays s.harts (steps_left (fresh i s.harts records).lanes + 1) [] (fresh i s.harts records) (record {
+    (run_keeps (λ ts j. IsCounted s.harts j (points_of ts)) (λ ts j h x none lowest e c. step_keeps law steps stays s.harts j h x (points_of ts) none lowest e c)
+    (steps_left (fresh i s.harts records).lanes + 1) [] (fresh i s.harts records) (record {
       sound = starts i s dropped records low order;
       long = lanes_long i records 0 s.harts;
       counted = record { harts_below = λ m p e. absurd cc; rise = λ m n p q e f same up. absurd cc };
       passed = λ m p e. absurd cc;
-    })
+    })).1.counted

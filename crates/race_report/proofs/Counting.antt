@@ -51,9 +51,6 @@ state_over harts most h row (Some t) run g over s = record {
   over = λ high. let old = s.over high in let more = count_more run (point_by h row t) in omega (arith, old, more);
 }
 
-pub state_same : (harts most h : ℕ) (row : Row) (o : Option Touch) (run : List Accessing) (g : Gathered) → None ≡ o → IsState harts most run g → IsState harts most (run ++ accessing h row o) g
-state_same harts most h row o run g e s = subst (λ (u : Option Touch). IsState harts most (run ++ accessing h row u) g) e (subst (λ (r : List Accessing). IsState harts most r g) (sym (append-nil run)) s)
-
 pub state_of : (harts most : ℕ) (run : List Accessing) (g : Gathered) → IsGathered harts run g → IsState harts most run g
 state_of harts most run g i = record { gathered = λ low. i; over = λ high. let same = total_is harts run g i in omega (arith, same, high) }
 

@@ -1,37 +1,19 @@
 -- The accesses of each word, with those of one point more.
-use Rattle.race_report.proofs.Common.{◌≡◌, ◌≢◌, ℕ, zero, suc, ◌+◌, ◌≤◌, ◌/◌, ◌%◌, ◌^◌, ◌==◌, Bool, true, false, cond, ◌&&◌, ◌||◌, refl, sym, ap, ◌∙◌, subst, arith, List, [], ◌∷◌, ◌++◌, length, map, slice_get, Option, Some, None, list_any, Row, clashes, Touch, Track, Accessing, words_from, AreBelow, noted_one, noted, IsTracked, meets, passes, AreFalling, ArePlaces, Follows, point_by}
+use Rattle.race_report.proofs.Common.{◌≡◌, ◌≢◌, ℕ, zero, suc, ◌+◌, ◌≤◌, ◌/◌, ◌%◌, ◌^◌, ◌==◌, Bool, true, false, cond, ◌&&◌, ◌||◌, refl, sym, ap, ◌∙◌, subst, arith, List, [], ◌∷◌, ◌++◌, length, map, slice_get, Option, Some, None, list_any, Row, clashes, Touch, Track, Accessing, words_from, AreBelow, noted_one, noted, IsTracked, meets, passes, AreFalling, ArePlaces, Follows, point_by, and-false, both_ways, eq-eqb, eqb-true, or-false, true≢false, slice_get_past, slice_get_within, and-true}
 use Rattle.race_report.proofs.Lists.{is_in}
 use Rattle.race_report.proofs.Rounds.{AllAligned}
-use Rattle.race_report.proofs.Prefixes.{get_last, get_none, length_more}
-
-same_is : (n : ℕ) → (n == n) ≡ true
-same_is n = grind arith
-
-same_number : (a b : ℕ) → (a == b) ≡ true → a ≡ b
-same_number a b h = grind arith
-
-same_bools : (a b : Bool) → (a ≡ true → b ≡ true) → (b ≡ true → a ≡ true) → a ≡ b
-same_bools true b f g = sym (f refl)
-same_bools false true f g = g refl
-same_bools false false f g = refl
-
-is_number : (a b : ℕ) → a ≡ b → (a == b) ≡ true
-is_number a b h = grind arith
-
-no_number : (a b : ℕ) → a ≢ b → (a == b) ≡ false
-no_number a b h = grind arith
+use Rattle.race_report.proofs.Prefixes.{length_more}
+use Rattle.joint_replay.proofs.Merging.{get_next}
+use Rattle.race_report.proofs.Walking.{next_aligned}
 
 -- ---- words
-
-next_aligned : (w : ℕ) → w % 4 ≡ 0 → (w + 4) % 2 ^ 32 % 4 ≡ 0
-next_aligned w e = omega (arith, e)
 
 pub all_aligned : (w n : ℕ) → w % 4 ≡ 0 → AllAligned (words_from w n)
 all_aligned w zero e = tt
 all_aligned w (suc n) e = (e, all_aligned ((w + 4) % 2 ^ 32) n (next_aligned w e))
 
 same_word : (v w : ℕ) → v % 4 ≡ 0 → w % 4 ≡ 0 → (v / 4 == w / 4) ≡ (v == w)
-same_word v w e f = same_bools (v / 4 == w / 4) (v == w) (λ h. is_number v w (let same = same_number (v / 4) (w / 4) h in omega (arith, same, e, f))) (λ h. is_number (v / 4) (w / 4) (let same = same_number v w h in omega (arith, same)))
+same_word v w e f = both_ways (v / 4 == w / 4) (v == w) (λ h. eq-eqb v w (let same = eqb-true (v / 4) (w / 4) h in omega (arith, same, e, f))) (λ h. eq-eqb (v / 4) (w / 4) (let same = eqb-true v w h in omega (arith, same)))
 
 -- ---- which places are noted
 
@@ -44,7 +26,7 @@ noted_other h w g n m [] ps e = refl
 noted_other h w g n m (v ∷ vs) ps e = noted_other h w g n m vs (noted_one h w g n v ps) e ∙ in_other m n (g == h && (v / 4 == w / 4)) ps e
 
 in_here : (n : ℕ) (b : Bool) (ps : List ℕ) → is_in n (cond b (n ∷ ps) ps) ≡ (b || is_in n ps)
-in_here n true ps = ap (λ (b : Bool). b || is_in n ps) (same_is n)
+in_here n true ps = ap (λ (b : Bool). b || is_in n ps) (eq-eqb n n refl)
 in_here n false ps = refl
 
 swap : (b i r : Bool) → ((b || i) || r) ≡ (i || (b || r))
@@ -53,12 +35,8 @@ swap true false r = refl
 swap false true r = refl
 swap false false r = refl
 
-or_false : (b : Bool) → (b || false) ≡ b
-or_false true = refl
-or_false false = refl
-
 noted_here : (h w g n : ℕ) (words ps : List ℕ) → is_in n (noted h w g n words ps) ≡ (is_in n ps || list_any (λ v. g == h && (v / 4 == w / 4)) words)
-noted_here h w g n [] ps = sym (or_false (is_in n ps))
+noted_here h w g n [] ps = sym (or-false (is_in n ps))
 noted_here h w g n (v ∷ vs) ps =
     noted_here h w g n vs (noted_one h w g n v ps)
     ∙ ap (λ (b : Bool). b || list_any (λ u. g == h && (u / 4 == w / 4)) vs) (in_here n (g == h && (v / 4 == w / 4)) ps)
@@ -70,11 +48,7 @@ clash_any : (g h w : ℕ) (writes other : Bool) (words : List ℕ) → w % 4 ≡
 clash_any g h w writes other words low a e = by (g == h)
   where
     one : (v : ℕ) → v % 4 ≡ 0 → (v / 4 == w / 4) ≡ ((v == w) && (writes || other))
-    one v f = same_word v w f low ∙ and_true (v == w) ∙ ap (λ (b : Bool). (v == w) && b) (sym e)
-      where
-        and_true : (b : Bool) → b ≡ (b && true)
-        and_true true = refl
-        and_true false = refl
+    one v f = same_word v w f low ∙ sym (and-true (v == w)) ∙ ap (λ (b : Bool). (v == w) && b) (sym e)
 
     all : (us : List ℕ) → AllAligned us → list_any (λ v. v / 4 == w / 4) us ≡ list_any (λ y. clashes y (record { word = w; writes = other })) (map (λ v. record { word = v; writes = writes }) us)
     all [] b = refl
@@ -90,11 +64,7 @@ clash_any g h w writes other words low a e = by (g == h)
 
 no_clash : (w : ℕ) (words : List ℕ) → list_any (λ y. clashes y (record { word = w; writes = false })) (map (λ v. record { word = v; writes = false }) words) ≡ false
 no_clash w [] = refl
-no_clash w (v ∷ vs) = ap (λ (b : Bool). b || list_any (λ y. clashes y (record { word = w; writes = false })) (map (λ u. record { word = u; writes = false }) vs)) (both_false (v == w)) ∙ no_clash w vs
-  where
-    both_false : (b : Bool) → (b && false) ≡ false
-    both_false true = refl
-    both_false false = refl
+no_clash w (v ∷ vs) = ap (λ (b : Bool). b || list_any (λ y. clashes y (record { word = w; writes = false })) (map (λ u. record { word = u; writes = false }) vs)) (and-false (v == w)) ∙ no_clash w vs
 
 -- ---- falling places
 
@@ -116,19 +86,11 @@ top_is run test [] a = tt
 top_is run test (p ∷ ps) a = by (slice_get run p) refl (a.members p)
   where
     here : is_in p (p ∷ ps) ≡ true
-    here = ap (λ (b : Bool). b || is_in p ps) (same_is p)
-
-    within : (xs : List Accessing) (k : ℕ) (x : Accessing) → slice_get xs k ≡ Some x → k ≤ length xs
-    within [] k x e = absurd cc
-    within (y ∷ ys) zero x e = omega arith
-    within (y ∷ ys) (suc k) x e = let low = within ys k x e in omega (arith, low)
+    here = ap (λ (b : Bool). b || is_in p ps) (eq-eqb p p refl)
 
     by : (o : Option Accessing) → slice_get run p ≡ o → is_in p (p ∷ ps) ≡ passes test o → p ≤ length run
-    by None e f = absurd (no (sym here ∙ f))
-      where
-        no : true ≡ false → ⊥
-        no e = cc
-    by (Some x) e f = within run p x e
+    by None e f = absurd (true≢false (sym here ∙ f))
+    by (Some x) e f = let low = slice_get_within run p x e in omega (arith, low)
 
 -- ---- one point more
 
@@ -146,11 +108,11 @@ members_more : (run : List Accessing) (p : Accessing) (test : Accessing → Bool
 members_more run p test ps qs old others here m = by (length run == m) refl
   where
     by : (b : Bool) → (length run == m) ≡ b → is_in m qs ≡ passes test (slice_get (run ++ p ∷ []) m)
-    by true e = subst (λ (k : ℕ). is_in k qs ≡ passes test (slice_get (run ++ p ∷ []) k)) (same_number (length run) m e) (here ∙ ap (passes test) (sym (get_last run p)))
+    by true e = subst (λ (k : ℕ). is_in k qs ≡ passes test (slice_get (run ++ p ∷ []) k)) (eqb-true (length run) m e) (here ∙ ap (passes test) (sym (get_next run p [])))
     by false e = others m e ∙ old m ∙ ap (passes test) (sym (other_place run p m e))
 
 out_before : (run : List Accessing) (test : Accessing → Bool) (ps : List ℕ) → ArePlaces run test ps → is_in (length run) ps ≡ false
-out_before run test ps a = a.members (length run) ∙ ap (passes test) (get_none run (length run) (omega arith))
+out_before run test ps a = a.members (length run) ∙ ap (passes test) (slice_get_past run (length run) (omega arith))
 
 pub places_more : (h w hart : ℕ) (row : Row) (touch : Touch) (writes : Bool) (run : List Accessing) (ps : List ℕ) → w % 4 ≡ 0 → touch.first % 4 ≡ 0 → (touch.writes || writes) ≡ true
     → ArePlaces run (meets h w writes) ps → ArePlaces (run ++ point_by hart row touch ∷ []) (meets h w writes) (noted h w hart (length run) (words_from touch.first touch.count) ps)
@@ -172,11 +134,7 @@ places_same h w hart row touch run ps e a = record {
   where
     none : meets h w false (point_by hart row touch) ≡ false
     none = ap (λ (b : Bool). hart == h && list_any (λ y. clashes y (record { word = w; writes = false })) (map (λ v. record { word = v; writes = b }) (words_from touch.first touch.count))) e
-        ∙ ap (λ (b : Bool). hart == h && b) (no_clash w (words_from touch.first touch.count)) ∙ both_false (hart == h)
-      where
-        both_false : (b : Bool) → (b && false) ≡ false
-        both_false true = refl
-        both_false false = refl
+        ∙ ap (λ (b : Bool). hart == h && b) (no_clash w (words_from touch.first touch.count)) ∙ and-false (hart == h)
 
 below_more : (run : List Accessing) (p : Accessing) (t : Track) → AreBelow (suc (length run)) t.entries.items → AreBelow (length (run ++ p ∷ [])) t.entries.items
 below_more run p t b = subst (λ (k : ℕ). AreBelow k t.entries.items) (sym (length_more run p)) b

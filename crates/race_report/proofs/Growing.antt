@@ -1,19 +1,11 @@
 -- The races, with those of one point more.
-use Rattle.race_report.proofs.Common.{◌≡◌, ◌≢◌, ℕ, zero, suc, ◌+◌, ◌<◌, ◌≤◌, ◌%◌, ◌==◌, nat_lt, Bool, true, false, not, cond, ◌&&◌, refl, sym, ap, ◌∙◌, arith, List, [], ◌∷◌, ◌++◌, length, filter, slice_get, Option, Some, None, append-nil, list_any, Row, clashes, before, IsInOrder, IsTimesOf, Meeting, Touch, Track, Accessing, accesses_of, words_from, sync_point, syncs_from, shared, least_from, race_at, race_word, meeting_at, meetings_below, meetings_of, last_meets, met_words, sync_of, point_by, meets, passes, Follows}
+use Rattle.race_report.proofs.Common.{◌≡◌, ℕ, zero, suc, ◌+◌, ◌<◌, ◌≤◌, ◌%◌, ◌==◌, nat_lt, Bool, true, false, not, cond, ◌&&◌, refl, sym, ap, ◌∙◌, arith, List, [], ◌∷◌, ◌++◌, length, filter, slice_get, Option, Some, None, append-nil, list_any, Row, clashes, before, IsInOrder, IsTimesOf, Meeting, Touch, Track, Accessing, accesses_of, words_from, sync_point, syncs_from, shared, least_from, race_at, race_word, meeting_at, meetings_below, meetings_of, last_meets, met_words, sync_of, point_by, meets, passes, Follows, eq-eqb, eqb-false, eqb-true, lt-ltb, ltb-false, ltb-true}
 use Rattle.race_report.proofs.Lists.{is_in}
 use Rattle.race_report.proofs.Rounds.{found_at}
 use Rattle.race_report.proofs.Ordered.{TestsDecide, PlacesStandForCounts, ordered_is, shared_is}
-use Rattle.race_report.proofs.Prefixes.{get_front, get_last, syncs_at, meetings_more, meetings_none, length_more}
+use Rattle.race_report.proofs.Prefixes.{syncs_at, meetings_more, meetings_none, length_more}
 use Rattle.race_report.proofs.Following.{all_aligned}
-
-same_number : (a b : ℕ) → (a == b) ≡ true → a ≡ b
-same_number a b h = grind arith
-
-is_lt : (m n : ℕ) → m < n → nat_lt m n ≡ true
-is_lt m n h = grind arith
-
-apart_is : (a b : ℕ) → (a == b) ≡ false → a ≢ b
-apart_is a b h = grind arith
+use Rattle.joint_replay.proofs.Merging.{get_back, get_next}
 
 -- ---- the last of a place's races so far
 
@@ -64,22 +56,22 @@ module _ (hart : ℕ) (row : Row) (touch : Touch) (run : List Accessing) (counts
   race_known m q low e =
       ap (λ (o : Option Accessing). elim o as (λ y. Option ℕ) [ None ↦ None | Some a ↦ elim (slice_get all n) as (λ y. Option ℕ) [ None ↦ None | Some b ↦ race_word all m n a b ] ]) at_m
       ∙ ap (λ (o : Option Accessing). elim o as (λ y. Option ℕ) [ None ↦ None | Some b ↦ race_word all m n q b ]) at_n
-      ∙ ap (λ (b : Bool). cond (b && (not (q.hart == hart) && not (before (syncs_from 0 all) m n))) (least_from None (shared (accesses_of q.touch) (accesses_of touch))) None) (is_lt m n low)
+      ∙ ap (λ (b : Bool). cond (b && (not (q.hart == hart) && not (before (syncs_from 0 all) m n))) (least_from None (shared (accesses_of q.touch) (accesses_of touch))) None) (lt-ltb m n low)
       ∙ ap (λ (ws : List ℕ). cond (not (q.hart == hart) && not (before (syncs_from 0 all) m n)) (least_from None ws) None) (shared_is (accesses_of q.touch) touch.writes (words_from touch.first touch.count))
       ∙ by (q.hart == hart) refl
     where
       at_m : slice_get all m ≡ Some q
-      at_m = get_front run (p ∷ []) m low ∙ e
+      at_m = get_back run (p ∷ []) m low ∙ e
 
       at_n : slice_get all n ≡ Some p
-      at_n = get_last run p
+      at_n = get_next run p []
 
       by : (b : Bool) → (q.hart == hart) ≡ b
           → cond (not b && not (before (syncs_from 0 all) m n)) (least_from None (filter (clash q) (words_from touch.first touch.count))) None
           ≡ cond (not b && not (nat_lt m (counts q.hart))) (least_from None (filter (clash q) (words_from touch.first touch.count))) None
       by true f = refl
       by false f = ap (λ (b : Bool). cond (not b) (least_from None (filter (clash q) (words_from touch.first touch.count))) None)
-          (ordered_is tests places (syncs_from 0 all) m n (sync_point m q) (sync_of hart n touch) counts order (at_place m q at_m) (at_place n p at_n) times (apart_is q.hart hart f))
+          (ordered_is tests places (syncs_from 0 all) m n (sync_point m q) (sync_of hart n touch) counts order (at_place m q at_m) (at_place n p at_n) times (eqb-false q.hart hart f))
 
   pub meetings_known : (m : ℕ) (q : Accessing) → m < n → slice_get run m ≡ Some q → meetings_of run m ++ meeting_at n (word_with q m) ≡ meetings_of all m
   meetings_known m q low e = ap (λ (o : Option ℕ). meetings_of run m ++ meeting_at n o) (sym (race_known m q low e)) ∙ sym (meetings_more run p m)
@@ -100,17 +92,14 @@ module _ (hart : ℕ) (row : Row) (touch : Touch) (run : List Accessing) (counts
       own q e g w a h = here (q.hart == g) refl (sym ((f.are g w a).members m ∙ ap (passes (meets g w writes)) e) ∙ h)
         where
           here : (b : Bool) → (q.hart == g) ≡ b → (b && list_any (λ y. clashes y (record { word = w; writes = writes })) (accesses_of q.touch)) ≡ true → g ≡ q.hart
-          here true i j = sym (same_number q.hart g i)
+          here true i j = sym (eqb-true q.hart g i)
           here false i j = absurd cc
 
       members : (q : Accessing) → slice_get run m ≡ Some q → (w : ℕ) → w % 4 ≡ 0 → is_in m (f.places q.hart w) ≡ clash q w
       members q e w a =
           (f.are q.hart w a).members m ∙ ap (passes (meets q.hart w writes)) e
-          ∙ ap (λ (b : Bool). b && list_any (λ y. clashes y (record { word = w; writes = writes })) (accesses_of q.touch)) (same_is q.hart)
+          ∙ ap (λ (b : Bool). b && list_any (λ y. clashes y (record { word = w; writes = writes })) (accesses_of q.touch)) (eq-eqb q.hart q.hart refl)
           ∙ ap (λ (b : Bool). list_any (λ y. clashes y (record { word = w; writes = b })) (accesses_of q.touch)) same
-        where
-          same_is : (k : ℕ) → (k == k) ≡ true
-          same_is k = grind arith
 
       by : (o : Option Accessing) → slice_get run m ≡ o → slice_get new m ≡ Some (meetings_of all m)
       by None e = absurd (no_item run m below e)
@@ -125,17 +114,11 @@ pub lists_more : (run : List Accessing) (p : Accessing) (ls new : List (List Mee
     → new ≡ ls ++ [] ∷ [] → (m : ℕ) → m < length (run ++ p ∷ []) → slice_get new m ≡ Some (meetings_of (run ++ p ∷ []) m)
 lists_more run p ls new size old is m below = ap (λ (x : List (List Meeting)). slice_get x m) is ∙ by (nat_lt m (length run)) refl
   where
-    false_le : (a b : ℕ) → nat_lt a b ≡ false → b ≤ a
-    false_le a b h = grind arith
-
-    true_lt : (a b : ℕ) → nat_lt a b ≡ true → a < b
-    true_lt a b h = grind arith
-
     last : m ≡ length run → slice_get (ls ++ [] ∷ []) m ≡ Some (meetings_of (run ++ p ∷ []) m)
     last e =
-        ap (slice_get (ls ++ [] ∷ [])) (e ∙ sym size) ∙ get_last ls []
+        ap (slice_get (ls ++ [] ∷ [])) (e ∙ sym size) ∙ get_next ls [] []
         ∙ ap (λ (x : List Meeting). Some x) (sym (meetings_none (run ++ p ∷ []) m (length (run ++ p ∷ [])) (let long = length_more run p in omega (arith, long, e))))
 
     by : (b : Bool) → nat_lt m (length run) ≡ b → slice_get (ls ++ [] ∷ []) m ≡ Some (meetings_of (run ++ p ∷ []) m)
-    by true e = let low = true_lt m (length run) e in get_front ls ([] ∷ []) m (omega (arith, low, size)) ∙ old m low
-    by false e = last (let high = false_le m (length run) e in let long = length_more run p in omega (arith, high, long, below))
+    by true e = let low = ltb-true m (length run) e in get_back ls ([] ∷ []) m (omega (arith, low, size)) ∙ old m low
+    by false e = last (let high = ltb-false m (length run) e in let long = length_more run p in omega (arith, high, long, below))

@@ -7,7 +7,6 @@ pub mod Ordered
 pub mod Prefixes
 pub mod Following
 pub mod Growing
-pub mod Points
 pub mod Tracking
 pub mod Walking
 pub mod Taking

@@ -1,11 +1,5 @@
 -- The list of races has all of them, and nothing else.
-use Rattle.race_report.proofs.Common.{◌≡◌, ◌⊎◌, inl, inr, ℕ, zero, suc, ◌<◌, ◌==◌, Bool, true, false, cond, refl, sym, ap, ◌∙◌, subst, arith, List, [], ◌∷◌, ◌++◌, length, slice_get, Option, Some, None, In, Meeting, Race, Accessing, race_at, meeting_at, meetings_below, meetings_of, row_if, row_of, race_by, race_if, races_with, races_by_second, is_at, races_by_place, races_by_first, races_of, TestsSayRaces, AreCounted, IsRaceOf, RacesAreListed}
-
-pub same_number : (a b : ℕ) → (a == b) ≡ true → a ≡ b
-same_number a b h = grind arith
-
-same_is : (n : ℕ) → (n == n) ≡ true
-same_is n = grind arith
+use Rattle.race_report.proofs.Common.{◌≡◌, ◌⊎◌, inl, inr, ℕ, zero, suc, ◌<◌, ◌==◌, Bool, true, false, cond, refl, sym, ap, ◌∙◌, subst, arith, List, [], ◌∷◌, ◌++◌, length, slice_get, Option, Some, None, In, Meeting, Race, Accessing, race_at, meeting_at, meetings_below, meetings_of, row_if, row_of, race_by, race_if, races_with, races_by_second, is_at, races_by_place, races_by_first, races_of, TestsSayRaces, AreCounted, IsRaceOf, RacesAreListed, eq-eqb, eqb-true, slice_get_within}
 
 -- ---- lists
 
@@ -108,7 +102,7 @@ module _ (harts : ℕ) (run : List Accessing) where
       by : (b : Bool) → (k == n) ≡ b → (k < n → In (meetings_below run m n) (record { second = k; word = w })) → In (meetings_below run m n ++ meeting_at n (race_at run m n)) (record { second = k; word = w })
       by true f rest =
           in_right (meetings_below run m n) (meeting_at n (race_at run m n)) (record { second = k; word = w })
-          (subst (λ (o : Option ℕ). In (meeting_at n o) (record { second = k; word = w })) (sym (ap (race_at run m) (sym (same_number k n f)) ∙ e)) (inl (ap (λ (j : ℕ). record { second = j; word = w }) (sym (same_number k n f)))))
+          (subst (λ (o : Option ℕ). In (meeting_at n o) (record { second = k; word = w })) (sym (ap (race_at run m) (sym (eqb-true k n f)) ∙ e)) (inl (ap (λ (j : ℕ). record { second = j; word = w }) (sym (eqb-true k n f)))))
       by false f rest = in_left (meetings_below run m n) (meeting_at n (race_at run m n)) (record { second = k; word = w }) (rest (less_than k n low f))
 
   put_with : (m g : ℕ) (xs : List Meeting) (x : Meeting) (r : Race) → In xs x → In (race_if run m g x) r → In (races_with run m g xs) r
@@ -124,7 +118,7 @@ module _ (harts : ℕ) (run : List Accessing) where
       less_than a b l f = grind arith
 
       by : (b : Bool) → (k == g) ≡ b → (k < g → In (races_by_second run m g) r) → In (races_by_second run m g ++ races_with run m g (meetings_of run m)) r
-      by true f rest = in_right (races_by_second run m g) (races_with run m g (meetings_of run m)) r (subst (λ (j : ℕ). In (races_with run m j (meetings_of run m)) r) (same_number k g f) i)
+      by true f rest = in_right (races_by_second run m g) (races_with run m g (meetings_of run m)) r (subst (λ (j : ℕ). In (races_with run m j (meetings_of run m)) r) (eqb-true k g f) i)
       by false f rest = in_left (races_by_second run m g) (races_with run m g (meetings_of run m)) r (rest (less_than k g low f))
 
   put_place : (h m k : ℕ) (r : Race) → k < m → is_at run k h ≡ true → In (races_by_second run k harts) r → In (races_by_place harts run h m) r
@@ -136,7 +130,7 @@ module _ (harts : ℕ) (run : List Accessing) where
 
       by : (b : Bool) → (k == m) ≡ b → (k < m → In (races_by_place harts run h m) r) → In (races_by_place harts run h m ++ cond (is_at run m h) (races_by_second run m harts) []) r
       by true f rest =
-          let same = same_number k m f in
+          let same = eqb-true k m f in
           in_right (races_by_place harts run h m) (cond (is_at run m h) (races_by_second run m harts) []) r
           (subst (λ (b : Bool). In (cond b (races_by_second run m harts) []) r) (sym (ap (λ (j : ℕ). is_at run j h) (sym same) ∙ a)) (subst (λ (j : ℕ). In (races_by_second run j harts) r) same i))
       by false f rest = in_left (races_by_place harts run h m) (cond (is_at run m h) (races_by_second run m harts) []) r (rest (less_than k m low f))
@@ -149,30 +143,25 @@ module _ (harts : ℕ) (run : List Accessing) where
       less_than a b l f = grind arith
 
       by : (b : Bool) → (g == h) ≡ b → (g < h → In (races_by_first harts run h) r) → In (races_by_first harts run h ++ races_by_place harts run h (length run)) r
-      by true f rest = in_right (races_by_first harts run h) (races_by_place harts run h (length run)) r (subst (λ (j : ℕ). In (races_by_place harts run j (length run)) r) (same_number g h f) i)
+      by true f rest = in_right (races_by_first harts run h) (races_by_place harts run h (length run)) r (subst (λ (j : ℕ). In (races_by_place harts run j (length run)) r) (eqb-true g h f) i)
       by false f rest = in_left (races_by_first harts run h) (races_by_place harts run h (length run)) r (rest (less_than g h low f))
-
-  within : (xs : List Accessing) (m : ℕ) (p : Accessing) → slice_get xs m ≡ Some p → m < length xs
-  within [] m p e = absurd cc
-  within (q ∷ qs) zero p e = omega arith
-  within (q ∷ qs) (suc m) p e = let low = within qs m p e in omega (arith, low)
 
   race_put : TestsSayRaces → AreCounted harts run → (r : Race) → IsRaceOf run r → In (races_of harts run) r
   race_put tests counted r i =
       put_first harts i.first.hart r (counted.harts_below i.m i.first i.first_at)
-      (put_place i.first.hart (length run) i.m r (within run i.m i.first i.first_at) at
+      (put_place i.first.hart (length run) i.m r (slice_get_within run i.m i.first i.first_at) at
       (put_second i.m harts i.second.hart r (counted.harts_below i.n i.second i.second_at)
       (put_with i.m i.second.hart (meetings_of run i.m) (record { second = i.n; word = i.word }) r
-      (put_meeting i.m (length run) i.n i.word (within run i.n i.second i.second_at) ((tests run i.m i.n i.word).1 i.race)) there)))
+      (put_meeting i.m (length run) i.n i.word (slice_get_within run i.n i.second i.second_at) ((tests run i.m i.n i.word).1 i.race)) there)))
     where
       at : is_at run i.m i.first.hart ≡ true
-      at = ap (λ (o : Option Accessing). elim o as (λ y. Bool) [ None ↦ false | Some p ↦ p.hart == i.first.hart ]) i.first_at ∙ same_is i.first.hart
+      at = ap (λ (o : Option Accessing). elim o as (λ y. Bool) [ None ↦ false | Some p ↦ p.hart == i.first.hart ]) i.first_at ∙ eq-eqb i.first.hart i.first.hart refl
 
       there : In (race_if run i.m i.second.hart (record { second = i.n; word = i.word })) r
       there =
           subst (λ (o : Option Accessing). In (race_by o (row_of run i.n i.second.hart) i.word) r) (sym i.first_at)
           (subst (λ (o : Option Accessing). In (race_by (Some i.first) (row_if i.second.hart o) i.word) r) (sym i.second_at)
-          (subst (λ (b : Bool). In (race_by (Some i.first) (cond b (Some i.second.row) None) i.word) r) (sym (same_is i.second.hart)) (inl (sym i.is))))
+          (subst (λ (b : Bool). In (race_by (Some i.first) (cond b (Some i.second.row) None) i.word) r) (sym (eq-eqb i.second.hart i.second.hart refl)) (inl (sym i.is))))
 
 pub races_are_listed : TestsSayRaces → RacesAreListed
 races_are_listed tests harts run counted r = (race_in harts run tests r, race_put harts run tests counted r)

@@ -1,5 +1,5 @@
 -- What is found of a point's races, place by place.
-use Rattle.race_report.proofs.Common.{◌≡◌, ◌≢◌, ℕ, zero, suc, ◌+◌, ◌-◌, if◌then◌else◌, slice_index_or, ◌<◌, ◌==◌, Bool, true, false, cond, ◌||◌, refl, sym, ap, ◌∙◌, subst, arith, List, [], ◌∷◌, ◌++◌, length, slice_get, slice_set, min, Vec, Option, Some, None, slice_get-get_or, Global, list_any, Meeting, lesser, meeting_at, meeting, lists_in, total_of, total, last_meets, met, met_at, met_all}
+use Rattle.race_report.proofs.Common.{◌≡◌, ◌≢◌, ℕ, zero, suc, ◌+◌, ◌-◌, if◌then◌else◌, slice_index_or, ◌<◌, ◌==◌, Bool, true, false, cond, ◌||◌, refl, sym, ap, ◌∙◌, subst, arith, List, [], ◌∷◌, ◌++◌, length, slice_get, slice_set, min, Vec, Option, Some, None, slice_get-get_or, Global, list_any, Meeting, lesser, meeting_at, meeting, lists_in, total_of, total, last_meets, met, met_at, met_all, eq-eqb, eqb-true, ne_eqb}
 
 -- ---- one list
 
@@ -25,16 +25,10 @@ meet_some n w v (suc k) (x ∷ []) l e = absurd (omega (arith, l))
 meet_some n w v zero (x ∷ y ∷ ys) l e = absurd (omega (arith, l))
 meet_some n w v (suc k) (x ∷ y ∷ ys) l e = ap (λ (zs : List Meeting). x ∷ zs) (meet_some n w v k (y ∷ ys) (omega (arith, l)) e)
 
-same_is : (n : ℕ) → (n == n) ≡ true
-same_is n = grind arith
-
-same_number : (a b : ℕ) → (a == b) ≡ true → a ≡ b
-same_number a b h = grind arith
-
 -- after a list that isn't with place n
 pub met_after : (n w : ℕ) (xs : List Meeting) (o : Option ℕ) → last_meets n xs ≡ None → met n w (xs ++ meeting_at n o) ≡ xs ++ meeting_at n (lesser o w)
 met_after n w [] None e = refl
-met_after n w [] (Some v) e = ap (λ (b : Bool). elim b as (λ y. List Meeting) [ true ↦ meeting n (min v w) ∷ [] | false ↦ meeting n v ∷ meeting n w ∷ [] ]) (same_is n)
+met_after n w [] (Some v) e = ap (λ (b : Bool). elim b as (λ y. List Meeting) [ true ↦ meeting n (min v w) ∷ [] | false ↦ meeting n v ∷ meeting n w ∷ [] ]) (eq-eqb n n refl)
 met_after n w (x ∷ []) None e = sym (meet_none n w (x ∷ []) e)
 met_after n w (x ∷ []) (Some v) e = ap (λ (zs : List Meeting). x ∷ zs) (met_after n w [] (Some v) refl)
 met_after n w (x ∷ y ∷ ys) o e = ap (λ (zs : List Meeting). x ∷ zs) (met_after n w (y ∷ ys) o e)
@@ -47,10 +41,10 @@ abbrev one_met : ℕ → ℕ → Meeting → Bool → List Meeting
 one_met n w x b = elim b as (λ y. List Meeting) [ true ↦ meeting n (min x.word w) ∷ [] | false ↦ x ∷ meeting n w ∷ [] ]
 
 last_twice : (n w : ℕ) → met n w (meeting n w ∷ []) ≡ meeting n w ∷ []
-last_twice n w = ap (λ (b : Bool). one_met n w (meeting n w) b) (same_is n) ∙ ap (λ (u : ℕ). meeting n u ∷ []) (omega arith)
+last_twice n w = ap (λ (b : Bool). one_met n w (meeting n w) b) (eq-eqb n n refl) ∙ ap (λ (u : ℕ). meeting n u ∷ []) (omega arith)
 
 one_twice : (n w : ℕ) (x : Meeting) (b : Bool) → (x.second == n) ≡ b → met n w (one_met n w x b) ≡ one_met n w x b
-one_twice n w x true f = ap (λ (b : Bool). one_met n w (meeting n (min x.word w)) b) (same_is n) ∙ ap (λ (u : ℕ). meeting n u ∷ []) (twice_least x.word w)
+one_twice n w x true f = ap (λ (b : Bool). one_met n w (meeting n (min x.word w)) b) (eq-eqb n n refl) ∙ ap (λ (u : ℕ). meeting n u ∷ []) (twice_least x.word w)
 one_twice n w x false f = ap (λ (zs : List Meeting). x ∷ zs) (last_twice n w)
 
 -- after another one
@@ -127,7 +121,7 @@ met_all_at n w k (m ∷ ms) ls l e = by (m == k) refl (λ x f. met_all_at n w k 
     by : (b : Bool) → (m == k) ≡ b → ((x : List Meeting) → slice_get (met_at n w m ls) k ≡ Some x → slice_get (met_all n w ms (met_at n w m ls)) k ≡ Some (cond (is_in k ms) (met n w x) x))
         → slice_get (met_all n w ms (met_at n w m ls)) k ≡ Some (cond (b || is_in k ms) (met n w l) l)
     by true f rest =
-        let here : slice_get (met_at n w m ls) k ≡ Some (met n w l) = subst (λ (j : ℕ). slice_get (met_at n w m ls) j ≡ Some (met n w l)) (same_number m k f) (met_here n w m ls l (ap (slice_get ls) (same_number m k f) ∙ e)) in
+        let here : slice_get (met_at n w m ls) k ≡ Some (met n w l) = subst (λ (j : ℕ). slice_get (met_at n w m ls) j ≡ Some (met n w l)) (eqb-true m k f) (met_here n w m ls l (ap (slice_get ls) (eqb-true m k f) ∙ e)) in
         rest (met n w l) here ∙ ap (λ (x : List Meeting). Some x) (cond_same (is_in k ms) (met n w (met n w l)) (met n w l) (met_twice n w l))
     by false f rest = rest l (met_there n w m k ls f ∙ e)
 
@@ -147,19 +141,13 @@ last_is n (suc k) (x ∷ y ∷ ys) d l = last_is n k (y ∷ ys) d (omega (arith,
 
 pub last_with : (n : ℕ) (xs : List Meeting) (d : Meeting) → 0 < length xs → (slice_index_or xs (length xs - 1) d).second ≡ n → Some (slice_index_or xs (length xs - 1) d).word ≡ last_meets n xs
 last_with n xs d some e =
-    ap (λ (b : Bool). elim b as (λ y. Option ℕ) [ true ↦ Some (slice_index_or xs (length xs - 1) d).word | false ↦ None ]) (sym (is_number _ n e))
+    ap (λ (b : Bool). elim b as (λ y. Option ℕ) [ true ↦ Some (slice_index_or xs (length xs - 1) d).word | false ↦ None ]) (sym (eq-eqb _ n e))
     ∙ last_is n (length xs - 1) xs d (omega (arith, some))
-  where
-    is_number : (a b : ℕ) → a ≡ b → (a == b) ≡ true
-    is_number a b h = grind arith
 
 pub last_without : (n : ℕ) (xs : List Meeting) (d : Meeting) → 0 < length xs → (slice_index_or xs (length xs - 1) d).second ≢ n → None ≡ last_meets n xs
 last_without n xs d some e =
-    ap (λ (b : Bool). elim b as (λ y. Option ℕ) [ true ↦ Some (slice_index_or xs (length xs - 1) d).word | false ↦ None ]) (sym (no_number _ n e))
+    ap (λ (b : Bool). elim b as (λ y. Option ℕ) [ true ↦ Some (slice_index_or xs (length xs - 1) d).word | false ↦ None ]) (sym (ne_eqb _ n e))
     ∙ last_is n (length xs - 1) xs d (omega (arith, some))
-  where
-    no_number : (a b : ℕ) → a ≢ b → (a == b) ≡ false
-    no_number a b h = grind arith
 
 pub some_there : (xs : List Meeting) → (length xs == 0) ≡ false → 0 < length xs
 some_there [] e = absurd cc

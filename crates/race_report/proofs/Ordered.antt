@@ -1,5 +1,5 @@
 -- Counts tell which points are ordered before a point, and the words that two points share.
-use Rattle.race_report.proofs.Common.{◌≡◌, ◌≢◌, ◌↔◌, inl, inr, ℕ, ◌<◌, nat_lt, Bool, true, false, IsTrue, cond, refl, sym, ap, arith, List, [], ◌∷◌, map, filter, slice_get, Some, list_any, Point, Access, Before, before, clashes, IsInOrder, Leads, IsTimesOf, IsUpTo, shared}
+use Rattle.race_report.proofs.Common.{◌≡◌, ◌≢◌, ◌↔◌, inl, inr, ℕ, nat_lt, Bool, true, false, IsTrue, cond, refl, ap, List, [], ◌∷◌, map, filter, slice_get, Some, list_any, Point, Access, Before, before, clashes, IsInOrder, Leads, IsTimesOf, IsUpTo, shared, both_ways, lt-ltb, ltb-true}
 
 abbrev pub TestsDecide : Type 0
 TestsDecide = (run : List Point) (m n : ℕ) → IsTrue (before run m n) ↔ Before run m n
@@ -7,23 +7,12 @@ TestsDecide = (run : List Point) (m n : ℕ) → IsTrue (before run m n) ↔ Bef
 abbrev pub PlacesStandForCounts : Type 0
 PlacesStandForCounts = (run : List Point) → IsInOrder run → (m n : ℕ) (p q : Point) → slice_get run m ≡ Some p → slice_get run n ≡ Some q → Before run m n ↔ Leads run p.hart p.count q.hart q.count
 
-same_bools : (a b : Bool) → (a ≡ true → b ≡ true) → (b ≡ true → a ≡ true) → a ≡ b
-same_bools true b f g = sym (f refl)
-same_bools false true f g = g refl
-same_bools false false f g = refl
-
-is_lt : (m n : ℕ) → m < n → nat_lt m n ≡ true
-is_lt m n h = grind arith
-
-true_lt : (m n : ℕ) → nat_lt m n ≡ true → m < n
-true_lt m n h = grind arith
-
 pub ordered_is : TestsDecide → PlacesStandForCounts → (run : List Point) (k n : ℕ) (p q : Point) (counts : ℕ → ℕ) → IsInOrder run → slice_get run k ≡ Some p → slice_get run n ≡ Some q → IsTimesOf run q counts
     → p.hart ≢ q.hart → before run k n ≡ nat_lt p.count (counts p.hart)
 ordered_is tests places run k n p q counts order at_k at_n times apart =
-    same_bools (before run k n) (nat_lt p.count (counts p.hart))
-    (λ e. is_lt p.count (counts p.hart) ((times p.hart p.count).1 (inr ((places run order k n p q at_k at_n).0 ((tests run k n).0 e)))))
-    (λ e. (tests run k n).1 (by ((times p.hart p.count).0 (true_lt p.count (counts p.hart) e))))
+    both_ways (before run k n) (nat_lt p.count (counts p.hart))
+    (λ e. lt-ltb p.count (counts p.hart) ((times p.hart p.count).1 (inr ((places run order k n p q at_k at_n).0 ((tests run k n).0 e)))))
+    (λ e. (tests run k n).1 (by ((times p.hart p.count).0 (ltb-true p.count (counts p.hart) e))))
   where
     by : IsUpTo run p.hart p.count q → Before run k n
     by (inl same) = absurd (apart same.0)

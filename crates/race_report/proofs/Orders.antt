@@ -68,6 +68,3 @@ yes_at run m h row e = by (slice_get run m) e
 -- items, and more of them
 pub then_more : {X : Type 0} (xs ys zs us vs : List X) → ys ≡ xs ++ us → zs ≡ ys ++ vs → zs ≡ xs ++ (us ++ vs)
 then_more xs ys zs us vs e f = f ∙ ap (λ ws. ws ++ vs) e ∙ append_assoc xs us vs
-
-pub same_meetings : (xs ys : List Meeting) → ◌≡◌ {A = Option (List Meeting)} (Some xs) (Some ys) → xs ≡ ys
-same_meetings xs ys e = cc

@@ -1,5 +1,5 @@
 -- The row of each point is its hart's.
-use Rattle.race_report.proofs.Common.{◌≡◌, ℕ, zero, suc, ◌+◌, ◌-◌, ◌==◌, nat_lt, Bool, true, false, not, ◌&&◌, ◌||◌, refl, sym, ap, ◌∙◌, subst, arith, List, [], ◌∷◌, ◌++◌, slice_get, slice_set, slice_index, Option, Some, None, Result, Ok, Err, append-nil, Program, Row, Record, ReplayError, Outcome, Done, Refused, Replayed, Interval, Position, On, Stop, interval_of, word_for, missing, slot, after_ask, after_sc, call_reason, found, system_step, ask_step, one_step, left_over, onto, finish, fault_end, ended, steps, first, replayed_in, replayed, Stuck, Next as Choice, Hart, AllDone, NoneReady, Cursor, Lane, Item, Passing, Doing, Ending, row_given, with_cursor, cursors_of, lane_of, lane_step, cursor_step, Joining, Taken, Walk, Ran, ran, fresh, lanes_from, choice, next_step, error_of, positions_from, steps_left, run_for, Touch, Accessing, accessing, touch_of, point_in, points_of, HaveOwnRows, PointsHaveOwnRows}
+use Rattle.race_report.proofs.Common.{◌≡◌, ℕ, zero, suc, ◌+◌, ◌-◌, ◌==◌, nat_lt, Bool, true, false, not, ◌&&◌, ◌||◌, refl, sym, ap, ◌∙◌, subst, arith, List, [], ◌∷◌, ◌++◌, slice_get, slice_set, slice_index, Option, Some, None, Result, Ok, Err, append-nil, Program, Row, Record, ReplayError, Outcome, Done, Refused, Replayed, Interval, Position, On, Stop, interval_of, word_for, missing, slot, after_ask, after_sc, call_reason, found, system_step, ask_step, one_step, left_over, onto, finish, fault_end, ended, steps, first, replayed_in, replayed, Cursor, Lane, Item, Passing, Doing, Ending, row_given, with_cursor, cursors_of, lane_of, lane_step, cursor_step, Joining, fresh, lanes_from, next_step, steps_left, Touch, Accessing, accessing, touch_of, point_in, points_of, HaveOwnRows, PointsHaveOwnRows, eqb-true, same_Some, eqb-false}
 use Rattle.bn_base.specs.Faults.{fault_number}
 use Rattle.rv_meaning.specs.Access.{stored_word, amo_result}
 use Rattle.rv_meaning.specs.Execute.{Step, Quiet, Asks, step, absorbed}
@@ -10,7 +10,8 @@ use Rattle.rv_meaning.specs.declared.asks.Reply.TheVariants.{Word, Stored, Answe
 use Rattle.hart_replay.specs.declared.error.ReplayError.TheVariants.{EndDiffers, ScMissing}
 use Rattle.hart_replay.specs.Replay.{Next}
 use Rattle.joint_replay.specs.Points.{intervals_in}
-use Rattle.race_report.proofs.Counted.{step_lane, set_here, set_there, same_number, some_same}
+use Rattle.race_report.proofs.Counted.{step_lane, run_keeps}
+use Rattle.joint_replay.proofs.Soundness.{get_same, get_other}
 
 -- ---- the rows of a replay
 
@@ -158,7 +159,7 @@ begin_own : (i : Program) (records : List Record) (h n k : ℕ) (lane : Lane) �
 begin_own i records h zero k lane e = absurd cc
 begin_own i records h (suc n) zero lane e =
     let at : h ≡ h + 0 = omega arith in
-    subst (λ (l : Lane). CursorsOwn (h + 0) l.cursors) (some_same (lane_of i records h) lane e) (subst (λ k. CursorsOwn k (cursors_of i records h (intervals_in h records))) at (cursors_own i records h (intervals_in h records)))
+    subst (λ (l : Lane). CursorsOwn (h + 0) l.cursors) (same_Some (lane_of i records h) lane e) (subst (λ k. CursorsOwn k (cursors_of i records h (intervals_in h records))) at (cursors_own i records h (intervals_in h records)))
 begin_own i records h (suc n) (suc k) lane e =
     let at : h + 1 + k ≡ h + suc k = omega arith in subst (λ m. CursorsOwn m lane.cursors) at (begin_own i records (h + 1) n k lane e)
 
@@ -188,24 +189,24 @@ cursor_own i h c cs x a rest e = by c.left.rows c.left.outcome a e
     by [] (Refused g) a e = absurd cc
 
 lane_own : (i : Program) (h : ℕ) (points : List ℕ) (cursors : List Cursor) (x : Item × Lane) → CursorsOwn h cursors → lane_step i (record { points = points; cursors = cursors }) ≡ Some (Ok x) → StepOwn h x
-lane_own i h (p ∷ ps) cursors x a e = subst (StepOwn h) (same_pair (Passing p, record { points = ps; cursors = cursors }) x (some_same (Ok (Passing p, record { points = ps; cursors = cursors })) (Ok x) e)) (tt, a)
+lane_own i h (p ∷ ps) cursors x a e = subst (StepOwn h) (same_pair (Passing p, record { points = ps; cursors = cursors }) x (same_Some (Ok (Passing p, record { points = ps; cursors = cursors })) (Ok x) e)) (tt, a)
 lane_own i h [] [] x a e = absurd cc
-lane_own i h [] (c ∷ cs) x a e = cursor_own i h c cs x a.0 a.1 (some_same (cursor_step i c cs) (Ok x) e)
+lane_own i h [] (c ∷ cs) x a e = cursor_own i h c cs x a.0 a.1 (same_Some (cursor_step i c cs) (Ok x) e)
 
 set_own : (lanes : List Lane) (h : ℕ) (lane new : Lane) → slice_get lanes h ≡ Some lane → LanesOwn lanes → CursorsOwn h new.cursors → LanesOwn (slice_set lanes h new)
 set_own lanes h lane new at own here k other e = by (h == k) refl
   where
     by : (b : Bool) → (h == k) ≡ b → CursorsOwn k other.cursors
     by true f =
-        let same = same_number h k f in
-        subst (λ (l : Lane). CursorsOwn k l.cursors) (some_same new other (sym (ap (slice_get (slice_set lanes h new)) (sym same) ∙ set_here lanes h new lane at) ∙ e)) (subst (λ n. CursorsOwn n new.cursors) same here)
-    by false f = own k other (sym (set_there lanes h k new f) ∙ e)
+        let same = eqb-true h k f in
+        subst (λ (l : Lane). CursorsOwn k l.cursors) (same_Some new other (sym (ap (slice_get (slice_set lanes h new)) (sym same) ∙ get_same lanes h lane new at) ∙ e)) (subst (λ n. CursorsOwn n new.cursors) same here)
+    by false f = own k other (sym (get_other lanes h k new (eqb-false h k f)) ∙ e)
 
 -- ---- all steps
 
 -- one more
 more_own : (run : List Accessing) (new : Accessing) → new.row.hart ≡ new.hart → HaveOwnRows run → HaveOwnRows (run ++ new ∷ [])
-more_own [] new is own zero p e = subst (λ (q : Accessing). q.row.hart ≡ q.hart) (some_same new p e) is
+more_own [] new is own zero p e = subst (λ (q : Accessing). q.row.hart ≡ q.hart) (same_Some new p e) is
 more_own [] new is own (suc m) p e = absurd cc
 more_own (q ∷ qs) new is own zero p e = own 0 p e
 more_own (q ∷ qs) new is own (suc m) p e = more_own qs new is (λ k. own (suc k)) m p e
@@ -225,54 +226,10 @@ step_own j h x own e =
     let d = lane_own j.program h s.lane.points s.lane.cursors (x.0, s.next) (own h s.lane s.at) s.step in
     (d.0, subst LanesOwn (sym s.lanes) (set_own j.lanes h s.lane s.next s.at own d.1))
 
-abbrev walk_of : List Taken → Joining → Walk
-walk_of ts j = record { taken = ts; now = j }
-
-abbrev More : ℕ → List Taken → Type 0
-More n ts = (h : ℕ) (x : Item × Joining) → HaveOwnRows (points_of ts ++ point_in h x.0) → LanesOwn x.1.lanes → HaveOwnRows (points_of (run_for n (walk_of (record { hart = h; item = x.0 } ∷ ts) x.1)).walk.taken)
-
-run_own : (n : ℕ) (ts : List Taken) (j : Joining) → HaveOwnRows (points_of ts) → LanesOwn j.lanes → HaveOwnRows (points_of (run_for n (walk_of ts j)).walk.taken)
-run_own zero ts j own lanes = own
-run_own (suc n) ts j own lanes = refusal j.refused (λ h x a b. run_own n (record { hart = h; item = x.0 } ∷ ts) x.1 a b)
-  where
-    done : (h : ℕ) (o : Option (Result (Item × Joining) ReplayError)) → next_step j h ≡ o → More n ts
-        → HaveOwnRows (points_of (elim o as (λ y. Ran) [
-          | None ↦ ran (walk_of ts j) None
-          | Some r ↦ elim r as (λ y. Ran) [ Err e ↦ ran (walk_of ts (record j { refused = Some e })) (Some (error_of e)) | Ok x ↦ run_for n (walk_of (record { hart = h; item = x.0 } ∷ ts) x.1) ]
-        ]).walk.taken)
-    done h None e more = own
-    done h (Some (Err g)) e more = own
-    done h (Some (Ok x)) e more = (let s = step_own j h x lanes e in more h x (item_own (points_of ts) h x.0 s.0 own) s.1)
-
-    chosen : (k : Choice) → More n ts
-        → HaveOwnRows (points_of (elim k as (λ y. Ran) [
-          | AllDone ↦ ran (walk_of ts j) None
-          | NoneReady ↦ ran (walk_of ts j) (Some (Stuck (positions_from 0 j.lanes)))
-          | Hart h ↦ elim (next_step j h) as (λ y. Ran) [
-            | None ↦ ran (walk_of ts j) None
-            | Some r ↦ elim r as (λ y. Ran) [ Err e ↦ ran (walk_of ts (record j { refused = Some e })) (Some (error_of e)) | Ok x ↦ run_for n (walk_of (record { hart = h; item = x.0 } ∷ ts) x.1) ]
-          ]
-        ]).walk.taken)
-    chosen AllDone more = own
-    chosen NoneReady more = own
-    chosen (Hart h) more = done h (next_step j h) refl more
-
-    refusal : (o : Option ReplayError) → More n ts
-        → HaveOwnRows (points_of (elim o as (λ y. Ran) [
-          | Some e ↦ ran (walk_of ts j) (Some (error_of e))
-          | None ↦ elim (choice j) as (λ y. Ran) [
-            | AllDone ↦ ran (walk_of ts j) None
-            | NoneReady ↦ ran (walk_of ts j) (Some (Stuck (positions_from 0 j.lanes)))
-            | Hart h ↦ elim (next_step j h) as (λ y. Ran) [
-              | None ↦ ran (walk_of ts j) None
-              | Some r ↦ elim r as (λ y. Ran) [ Err e ↦ ran (walk_of ts (record j { refused = Some e })) (Some (error_of e)) | Ok x ↦ run_for n (walk_of (record { hart = h; item = x.0 } ∷ ts) x.1) ]
-            ]
-          ]
-        ]).walk.taken)
-    refusal (Some e) more = own
-    refusal None more = chosen (choice j) more
-
 pub points_have_own_rows : PointsHaveOwnRows
 points_have_own_rows i s records =
-    run_own (steps_left (fresh i s.harts records).lanes + 1) [] (fresh i s.harts records) (λ m p e. absurd cc)
-    (λ h lane e. let at : 0 + h ≡ h = omega arith in subst (λ k. CursorsOwn k lane.cursors) at (begin_own i records 0 s.harts h lane e))
+    (run_keeps (λ ts j. HaveOwnRows (points_of ts) × LanesOwn j.lanes) (λ ts j h x none lowest e kept. let one = step_own j h x kept.1 e in (item_own (points_of ts) h x.0 one.0 kept.0, one.1))
+    (steps_left (fresh i s.harts records).lanes + 1) [] (fresh i s.harts records) (
+      (λ m p e. absurd cc),
+      (λ h lane e. let at : 0 + h ≡ h = omega arith in subst (λ k. CursorsOwn k lane.cursors) at (begin_own i records 0 s.harts h lane e)),
+    )).1.0

@@ -1,30 +1,8 @@
 -- Races of the first points are races of all.
-use Rattle.race_report.proofs.Common.{◌≡◌, ℕ, zero, suc, ◌+◌, ◌<◌, ◌≤◌, ◌==◌, nat_lt, Bool, true, false, not, cond, ◌&&◌, ◌||◌, refl, sym, ap, ◌∙◌, arith, List, [], ◌∷◌, ◌++◌, length, slice_get, Option, Some, None, Point, before, leads, either, at_places, of_both, program_order, conflict, is_same_hart, is_conflict, Meeting, Accessing, accesses_of, shared, least_from, sync_point, syncs_from, race_at, race_word, meeting_at, meetings_below, meetings_of}
-
-false_le : (m n : ℕ) → nat_lt m n ≡ false → n ≤ m
-false_le m n h = grind arith
-
-true_lt : (m n : ℕ) → nat_lt m n ≡ true → m < n
-true_lt m n h = grind arith
-
-not_lt : (m n : ℕ) → n ≤ m → nat_lt m n ≡ false
-not_lt m n h = grind arith
+use Rattle.race_report.proofs.Common.{◌≡◌, ℕ, zero, suc, ◌+◌, ◌<◌, ◌≤◌, ◌==◌, nat_lt, Bool, true, false, not, cond, ◌&&◌, ◌||◌, refl, sym, ap, ◌∙◌, arith, List, [], ◌∷◌, ◌++◌, length, slice_get, Option, Some, None, Point, before, leads, either, at_places, of_both, program_order, conflict, is_same_hart, is_conflict, Meeting, Accessing, accesses_of, shared, least_from, sync_point, syncs_from, race_at, race_word, meeting_at, meetings_below, meetings_of, le-ltb, ltb-true}
+use Rattle.joint_replay.proofs.Merging.{get_back}
 
 -- ---- items of a list that grows
-
-pub get_front : {X : Type 0} (xs ys : List X) (k : ℕ) → k < length xs → slice_get (xs ++ ys) k ≡ slice_get xs k
-get_front [] ys k low = absurd (omega (arith, low))
-get_front (x ∷ xs) ys zero low = refl
-get_front (x ∷ xs) ys (suc k) low = get_front xs ys k (omega (arith, low))
-
-pub get_last : {X : Type 0} (xs : List X) (x : X) → slice_get (xs ++ x ∷ []) (length xs) ≡ Some x
-get_last [] x = refl
-get_last (y ∷ ys) x = get_last ys x
-
-pub get_none : {X : Type 0} (xs : List X) (k : ℕ) → length xs ≤ k → slice_get xs k ≡ None
-get_none [] k high = refl
-get_none (x ∷ xs) zero high = absurd (omega (arith, high))
-get_none (x ∷ xs) (suc k) high = get_none xs k (omega (arith, high))
 
 pub length_more : {X : Type 0} (xs : List X) (x : X) → length (xs ++ x ∷ []) ≡ suc (length xs)
 length_more [] x = refl
@@ -63,7 +41,7 @@ leads_same step other top same m (suc k) n low high =
 
 at_places_same : (test : Point → Point → Bool) (xs ys : List Point) (k n : ℕ) → k < length xs → n < length xs → at_places test (xs ++ ys) k n ≡ at_places test xs k n
 unfolding at_places
-at_places_same test xs ys k n low high = ap (λ (o : Option Point). nat_lt k n && of_both test o (slice_get (xs ++ ys) n)) (get_front xs ys k low) ∙ ap (λ (o : Option Point). nat_lt k n && of_both test (slice_get xs k) o) (get_front xs ys n high)
+at_places_same test xs ys k n low high = ap (λ (o : Option Point). nat_lt k n && of_both test o (slice_get (xs ++ ys) n)) (get_back xs ys k low) ∙ ap (λ (o : Option Point). nat_lt k n && of_both test (slice_get xs k) o) (get_back xs ys n high)
 
 pub before_same : (xs ys : List Point) (m n : ℕ) → n < length xs → before (xs ++ ys) m n ≡ before xs m n
 unfolding before
@@ -105,12 +83,12 @@ race_same run p m n high = by (nat_lt m n) refl
 
     here : m < length run → race_at (run ++ p ∷ []) m n ≡ race_at run m n
     here low =
-        ap (λ (o : Option Accessing). elim o as (λ y. Option ℕ) [ None ↦ None | Some a ↦ elim (slice_get (run ++ p ∷ []) n) as (λ y. Option ℕ) [ None ↦ None | Some b ↦ race_word (run ++ p ∷ []) m n a b ] ]) (get_front run (p ∷ []) m low)
-        ∙ ap (λ (o : Option Accessing). elim (slice_get run m) as (λ y. Option ℕ) [ None ↦ None | Some a ↦ elim o as (λ y. Option ℕ) [ None ↦ None | Some b ↦ race_word (run ++ p ∷ []) m n a b ] ]) (get_front run (p ∷ []) n high)
+        ap (λ (o : Option Accessing). elim o as (λ y. Option ℕ) [ None ↦ None | Some a ↦ elim (slice_get (run ++ p ∷ []) n) as (λ y. Option ℕ) [ None ↦ None | Some b ↦ race_word (run ++ p ∷ []) m n a b ] ]) (get_back run (p ∷ []) m low)
+        ∙ ap (λ (o : Option Accessing). elim (slice_get run m) as (λ y. Option ℕ) [ None ↦ None | Some a ↦ elim o as (λ y. Option ℕ) [ None ↦ None | Some b ↦ race_word (run ++ p ∷ []) m n a b ] ]) (get_back run (p ∷ []) n high)
         ∙ words (slice_get run m) (slice_get run n)
 
     by : (b : Bool) → nat_lt m n ≡ b → race_at (run ++ p ∷ []) m n ≡ race_at run m n
-    by true e = here (let low = true_lt m n e in omega (arith, low, high))
+    by true e = here (let low = ltb-true m n e in omega (arith, low, high))
     by false e = no_race (run ++ p ∷ []) m n e ∙ sym (no_race run m n e)
 
 pub meetings_same : (run : List Accessing) (p : Accessing) (m n : ℕ) → n ≤ length run → meetings_below (run ++ p ∷ []) m n ≡ meetings_below run m n
@@ -132,4 +110,4 @@ meetings_more run p m = ap (meetings_below (run ++ p ∷ []) m) (length_more run
 pub meetings_none : (run : List Accessing) (m n : ℕ) → n ≤ suc m → meetings_below run m n ≡ []
 unfolding meetings_below
 meetings_none run m zero low = refl
-meetings_none run m (suc n) low = ap (λ (xs : List Meeting). xs ++ meeting_at n (race_at run m n)) (meetings_none run m n (omega (arith, low))) ∙ ap (meeting_at n) (no_race run m n (not_lt m n (omega (arith, low))))
+meetings_none run m (suc n) low = ap (λ (xs : List Meeting). xs ++ meeting_at n (race_at run m n)) (meetings_none run m n (omega (arith, low))) ∙ ap (meeting_at n) (no_race run m n (le-ltb m n (omega (arith, low))))

@@ -1,28 +1,6 @@
 -- What is found of a point's races with all other harts, at one earlier place.
-use Rattle.race_report.proofs.Common.{◌≡◌, ◌≢◌, ℕ, zero, suc, ◌<◌, ◌≤◌, ◌%◌, ◌==◌, nat_lt, Bool, true, false, not, cond, ◌&&◌, ◌||◌, refl, sym, ap, ◌∙◌, arith, List, [], ◌∷◌, ◌++◌, length, filter, slice_get, Option, Some, None, append-nil, Meeting, lesser, least_from, meeting_at, last_meets, met, met_all, uncovered, met_harts, met_words, AreFalling}
+use Rattle.race_report.proofs.Common.{◌≡◌, ℕ, zero, suc, ◌<◌, ◌≤◌, ◌%◌, ◌==◌, nat_lt, Bool, true, false, not, cond, ◌&&◌, ◌||◌, refl, sym, ap, ◌∙◌, arith, List, [], ◌∷◌, ◌++◌, length, filter, slice_get, Option, Some, None, append-nil, Meeting, lesser, least_from, meeting_at, last_meets, met, met_all, uncovered, met_harts, met_words, AreFalling, and-false, and-true, eqb-true, le-ltb, lt-ltb, ltb-false, ltb-true}
 use Rattle.race_report.proofs.Lists.{is_in, met_all_at, met_all_length, met_after}
-
-false_le : (m n : ℕ) → nat_lt m n ≡ false → n ≤ m
-false_le m n h = grind arith
-
-true_lt : (m n : ℕ) → nat_lt m n ≡ true → m < n
-true_lt m n h = grind arith
-
-is_lt : (m n : ℕ) → m < n → nat_lt m n ≡ true
-is_lt m n h = grind arith
-
-not_lt : (m n : ℕ) → n ≤ m → nat_lt m n ≡ false
-not_lt m n h = grind arith
-
-same_number : (a b : ℕ) → (a == b) ≡ true → a ≡ b
-same_number a b h = grind arith
-
-no_number : (a b : ℕ) → a ≢ b → (a == b) ≡ false
-no_number a b h = grind arith
-
-both_false : (b : Bool) → (b && false) ≡ false
-both_false true = refl
-both_false false = refl
 
 -- ---- falling places
 
@@ -34,12 +12,12 @@ falling_most : (k m : ℕ) (ms : List ℕ) → AreFalling (m ∷ ms) → is_in k
 falling_most k m [] f e = here (m == k) refl e
   where
     here : (b : Bool) → (m == k) ≡ b → (b || false) ≡ true → k ≤ m
-    here true g h = let same = same_number m k g in omega (arith, same)
+    here true g h = let same = eqb-true m k g in omega (arith, same)
     here false g h = absurd cc
 falling_most k m (n ∷ ns) f e = by (m == k) refl e (λ h. falling_most k n ns f.1 h)
   where
     by : (b : Bool) → (m == k) ≡ b → (b || is_in k (n ∷ ns)) ≡ true → (is_in k (n ∷ ns) ≡ true → k ≤ n) → k ≤ m
-    by true g h rest = let same = same_number m k g in omega (arith, same)
+    by true g h rest = let same = eqb-true m k g in omega (arith, same)
     by false g h rest = let low = rest h in let top = f.0 in omega (arith, low, top)
 
 pub uncovered_in : (count k : ℕ) (ps : List ℕ) → AreFalling ps → is_in k (uncovered count ps) ≡ (is_in k ps && not (nat_lt k count))
@@ -47,11 +25,11 @@ uncovered_in count k [] f = refl
 uncovered_in count k (m ∷ ms) f = by (nat_lt m count) refl (uncovered_in count k ms (falling_tail m ms f))
   where
     none : nat_lt m count ≡ true → (b : Bool) → is_in k (m ∷ ms) ≡ b → false ≡ (b && not (nat_lt k count))
-    none e true g = let low = falling_most k m ms f g in let top = true_lt m count e in ap not (sym (is_lt k count (omega (arith, low, top))))
+    none e true g = let low = falling_most k m ms f g in let top = ltb-true m count e in ap not (sym (lt-ltb k count (omega (arith, low, top))))
     none e false g = refl
 
     here : (b : Bool) → (m == k) ≡ b → nat_lt m count ≡ false → is_in k (uncovered count ms) ≡ (is_in k ms && not (nat_lt k count)) → (b || is_in k (uncovered count ms)) ≡ ((b || is_in k ms) && not (nat_lt k count))
-    here true g e rest = ap not (sym (not_lt k count (let same = same_number m k g in let low = false_le m count e in omega (arith, same, low))))
+    here true g e rest = ap not (sym (le-ltb k count (let same = eqb-true m k g in let low = ltb-false m count e in omega (arith, same, low))))
     here false g e rest = rest
 
     by : (b : Bool) → nat_lt m count ≡ b → is_in k (uncovered count ms) ≡ (is_in k ms && not (nat_lt k count)) → is_in k (cond b [] (m ∷ uncovered count ms)) ≡ (is_in k (m ∷ ms) && not (nat_lt k count))
@@ -88,7 +66,7 @@ module _ (n w h k g0 : ℕ) (counts : ℕ → ℕ) (places : ℕ → List ℕ) (
   lt_own g e = grind arith
 
   pub met_harts_at : (harts : ℕ) (ls : List (List Meeting)) (l : List Meeting) → slice_get ls k ≡ Some l → slice_get (met_harts n w h counts places harts ls) k ≡ Some (after harts l)
-  met_harts_at zero ls l e = e ∙ ap (λ (b : Bool). Some (cond (b && admits) (met n w l) l)) (sym (not_lt g0 0 (omega arith)))
+  met_harts_at zero ls l e = e ∙ ap (λ (b : Bool). Some (cond (b && admits) (met n w l) l)) (sym (le-ltb g0 0 (omega arith)))
   met_harts_at (suc g) ls l e = by (met_harts_at g ls l e) (g == g0) refl (g == h) refl
     where
       skipped : g ≡ g0 → (g == h) ≡ true → admits ≡ false
@@ -101,10 +79,10 @@ module _ (n w h k g0 : ℕ) (counts : ℕ → ℕ) (places : ℕ → List ℕ) (
       by : slice_get (met_harts n w h counts places g ls) k ≡ Some (after g l) → (b : Bool) → (g == g0) ≡ b → (c : Bool) → (g == h) ≡ c
           → slice_get (cond c (met_harts n w h counts places g ls) (met_all n w (uncovered (counts g) (places g)) (met_harts n w h counts places g ls))) k ≡ Some (cond (nat_lt g0 (suc g) && admits) (met n w l) l)
       by before true f true i =
-          let same = same_number g g0 f in
+          let same = eqb-true g g0 f in
           before ∙ ap (λ (b : Bool). Some (cond b (met n w l) l)) (ap (λ (b : Bool). b && admits) (lt_own g same) ∙ sym (skipped same i) ∙ ap (λ (b : Bool). b && admits) (sym (lt_here g same)))
       by before true f false i =
-          let same = same_number g g0 f in
+          let same = eqb-true g g0 f in
           met_all_at n w k (uncovered (counts g) (places g)) (met_harts n w h counts places g ls) (after g l) before
           ∙ ap (λ (b : Bool). Some (cond (is_in k (uncovered (counts g) (places g))) (met n w (cond (b && admits) (met n w l) l)) (cond (b && admits) (met n w l) l))) (lt_own g same)
           ∙ ap (λ (b : Bool). Some (cond b (met n w l) l)) (sym (opened same i) ∙ ap (λ (b : Bool). b && admits) (sym (lt_here g same)))
@@ -154,12 +132,8 @@ filter_same test other (w ∷ ws) e = ap (λ (b : Bool). cond b (w ∷ filter te
 pub least_if : (here there covered : Bool) (test : ℕ → Bool) (ws : List ℕ) → here ≡ true
     → least_from None (filter (λ w. here && (not there && (test w && not covered))) ws) ≡ cond (not there && not covered) (least_from None (filter test ws)) None
 least_if true true covered test ws e = ap (least_from None) (filter_none (λ w. false) ws (λ w. refl))
-least_if true false true test ws e = ap (least_from None) (filter_none (λ w. test w && false) ws (λ w. both_false (test w)))
-least_if true false false test ws e = ap (least_from None) (filter_same (λ w. test w && true) test ws (λ w. both_true (test w)))
-  where
-    both_true : (b : Bool) → (b && true) ≡ b
-    both_true true = refl
-    both_true false = refl
+least_if true false true test ws e = ap (least_from None) (filter_none (λ w. test w && false) ws (λ w. and-false (test w)))
+least_if true false false test ws e = ap (least_from None) (filter_same (λ w. test w && true) test ws (λ w. and-true (test w)))
 least_if false there covered test ws e = absurd cc
 
 abbrev pub AllAligned : List ℕ → Type 0
@@ -184,4 +158,4 @@ module _ (n h k g0 harts : ℕ) (counts : ℕ → ℕ) (places : ℕ → ℕ →
   found_at ws ls l a low none e =
       met_words_at ws ls l a e
       ∙ ap (λ (x : List Meeting). Some x) (ap (folded n meets_in ws) (sym (append-nil l)) ∙ folded_is n meets_in ws l None none
-      ∙ ap (λ (o : Option ℕ). l ++ meeting_at n o) (least_if (nat_lt g0 harts) (g0 == h) (nat_lt k (counts g0)) passes ws (is_lt g0 harts low)))
+      ∙ ap (λ (o : Option ℕ). l ++ meeting_at n o) (least_if (nat_lt g0 harts) (g0 == h) (nat_lt k (counts g0)) passes ws (lt-ltb g0 harts low)))

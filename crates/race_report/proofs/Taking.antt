@@ -1,5 +1,5 @@
 -- One point more is taken in.
-use Rattle.race_report.proofs.Common.{◌≡◌, ℕ, zero, suc, ◌+◌, ◌<◌, ◌≤◌, ◌%◌, ◌==◌, Bool, true, false, IsTrue, ◌||◌, if◌then◌else◌, refl, sym, ap, ◌∙◌, subst, arith, All, List, [], ◌∷◌, ◌++◌, length, map, slice_get, Some, Row, Point, IsTimesOf, after, RepresentsAccesses, harts_of, next_turn, next_count, lasting_of, Meeting, Touch, Gathered, Accessing, IsTouch, words_from, sync_point, syncs_from, meetings_of, AreBelow, noted, met_words, IsTracked, lists_of, everyone, sync_of, point_by, Follows, IsGathered}
+use Rattle.race_report.proofs.Common.{◌≡◌, ℕ, zero, suc, ◌+◌, ◌<◌, ◌≤◌, ◌%◌, ◌==◌, Bool, true, false, IsTrue, ◌||◌, if◌then◌else◌, refl, sym, ap, ◌∙◌, subst, arith, All, List, [], ◌∷◌, ◌++◌, length, map, slice_get, Some, Row, Point, IsTimesOf, after, RepresentsAccesses, harts_of, next_turn, next_count, lasting_of, Meeting, Touch, Gathered, Accessing, IsTouch, words_from, sync_point, syncs_from, meetings_of, AreBelow, noted, met_words, IsTracked, lists_of, everyone, sync_of, point_by, Follows, IsGathered, or-true}
 use Rattle.std.proofs.lemmas.List.Elements.{All-head, All-tail}
 use Rattle.race_log.specs.Sweep.{has_bit}
 use Rattle.race_report.proofs.Rounds.{met_words_length}
@@ -86,12 +86,8 @@ module _ (tests : TestsDecide) (places : PlacesStandForCounts) (harts hart : ℕ
       by true e = ap length (t.wrote e g.all.places g.all.tracked) ∙ met_words_length (length run) hart counts g.all.places old.harts (words_from touch.first touch.count) (lists_of old.found) ∙ g.size
       by false e = ap length (t.read e g.written.places g.written.tracked) ∙ met_words_length (length run) hart counts g.written.places old.harts (words_from touch.first touch.count) (lists_of old.found) ∙ g.size
 
-  any_true : (b : Bool) → (b || true) ≡ true
-  any_true true = refl
-  any_true false = refl
-
   all_now : Follows harts (run ++ p ∷ []) true new.all
-  all_now = follows_more harts hart row touch true run old.all new.all whole.aligned (any_true touch.writes) t.all_harts
+  all_now = follows_more harts hart row touch true run old.all new.all whole.aligned (or-true touch.writes) t.all_harts
       (t.all_below (suc (length run)) (omega arith) (below_weaker old.all (length run) (suc (length run)) (omega arith) g.all.below)) t.all_noted g.all
 
   written_now : Follows harts (run ++ p ∷ []) false new.written

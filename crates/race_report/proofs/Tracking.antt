@@ -1,6 +1,8 @@
 -- The accesses of each word, as linked entries.
-use Rattle.race_report.proofs.Common.{rules, ◌≡◌, ℕ, zero, suc, ◌<◌, ◌≤◌, ◌/◌, ◌==◌, nat_lt, Bool, true, false, cond, ◌&&◌, if◌then◌else◌, refl, sym, ap, ◌∙◌, subst, arith, List, [], ◌∷◌, ◌++◌, length, slice_get, slice_set, slice_index_or, Option, Some, None, IfSome, Result, Ok, Err, OnOk, IsOk, slice_get-get_or, Known, word_at, TrackEntry, known_at, head_at, room_in, room_at, IsChain, IsTrackedIn, AreLinked, AreBelow, noted_one}
-use Rattle.race_report.proofs.Prefixes.{get_front, get_last, length_more}
+use Rattle.race_report.proofs.Common.{rules, ◌≡◌, ℕ, zero, suc, ◌<◌, ◌≤◌, ◌/◌, ◌==◌, nat_lt, Bool, true, false, cond, ◌&&◌, if◌then◌else◌, refl, sym, ap, ◌∙◌, subst, arith, List, [], ◌∷◌, ◌++◌, length, slice_get, slice_set, slice_index_or, Option, Some, None, IfSome, Result, Ok, Err, OnOk, IsOk, slice_get-get_or, Known, word_at, TrackEntry, known_at, head_at, room_in, room_at, IsChain, IsTrackedIn, AreLinked, noted_one, both_ways, eq-eqb, eqb-true, false≢true, slice_get_within, eqb-false}
+use Rattle.race_log.proofs.PageLemmas.{get_here}
+use Rattle.joint_replay.proofs.Soundness.{get_other}
+use Rattle.joint_replay.proofs.Merging.{get_back, get_next}
 
 pub if_some : {X : Type 0} (P : X → Type 0) (o : Option X) → ((x : X) → o ≡ Some x → P x) → IfSome o P
 if_some P None f = search rules
@@ -12,24 +14,6 @@ known_is heads h p low e = slice_get-get_or heads h p low ∙ ap (λ (k : Known)
 pub head_is : (heads : List Known) (h w : ℕ) (p : Known) → h < length heads → p ≡ slice_index_or heads h p → word_at p.pages (w / 4) ≡ head_at heads h w
 head_is heads h w p low e = ap (λ (o : Option Known). known_at o w) (sym (known_is heads h p low e))
 
-pub set_here : {X : Type 0} (xs : List X) (k : ℕ) (x : X) → k < length xs → slice_get (slice_set xs k x) k ≡ Some x
-set_here [] k x low = absurd (omega (arith, low))
-set_here (y ∷ ys) zero x low = refl
-set_here (y ∷ ys) (suc k) x low = set_here ys k x (omega (arith, low))
-
-pub set_there : {X : Type 0} (xs : List X) (k j : ℕ) (x : X) → (k == j) ≡ false → slice_get (slice_set xs k x) j ≡ slice_get xs j
-set_there [] k j x e = refl
-set_there (y ∷ ys) zero zero x e = absurd cc
-set_there (y ∷ ys) zero (suc j) x e = refl
-set_there (y ∷ ys) (suc k) zero x e = refl
-set_there (y ∷ ys) (suc k) (suc j) x e = set_there ys k j x (less k j e)
-  where
-    less : (k j : ℕ) → (suc k == suc j) ≡ false → (k == j) ≡ false
-    less k j f = grind arith
-
-same_number : (a b : ℕ) → (a == b) ≡ true → a ≡ b
-same_number a b h = grind arith
-
 -- ---- room
 
 pub heads_same : (heads : List Known) (hart : ℕ) (old new : Known) → hart < length heads → slice_get heads hart ≡ Some old → ((k : ℕ) → word_at new.pages k ≡ word_at old.pages k)
@@ -37,35 +21,20 @@ pub heads_same : (heads : List Known) (hart : ℕ) (old new : Known) → hart < 
 heads_same heads hart old new low there same h w = by (hart == h) refl
   where
     by : (b : Bool) → (hart == h) ≡ b → head_at (slice_set heads hart new) h w ≡ head_at heads h w
-    by true e = subst (λ (k : ℕ). head_at (slice_set heads hart new) k w ≡ head_at heads k w) (same_number hart h e) (ap (λ (o : Option Known). known_at o w) (set_here heads hart new low) ∙ same (w / 4) ∙ ap (λ (o : Option Known). known_at o w) (sym there))
-    by false e = ap (λ (o : Option Known). known_at o w) (set_there heads hart h new e)
+    by true e = subst (λ (k : ℕ). head_at (slice_set heads hart new) k w ≡ head_at heads k w) (eqb-true hart h e) (ap (λ (o : Option Known). known_at o w) (get_here heads hart new low) ∙ same (w / 4) ∙ ap (λ (o : Option Known). known_at o w) (sym there))
+    by false e = ap (λ (o : Option Known). known_at o w) (get_other heads hart h new (eqb-false hart h e))
 
 pub linked_same : (heads other : List Known) (entries : List TrackEntry) → ((h w : ℕ) → head_at other h w ≡ head_at heads h w) → AreLinked heads entries → AreLinked other entries
 linked_same heads other entries same l = record { heads_there = λ h w k e. l.heads_there h w k (sym (same h w) ∙ e); links_back = l.links_back }
 
 pub room_here : (heads : List Known) (hart : ℕ) (new : Known) → hart < length heads → 1 ≤ new.room → 0 < room_at (slice_set heads hart new) hart
-room_here heads hart new low room = subst (λ (o : Option Known). 0 < room_in o) (sym (set_here heads hart new low)) (omega (arith, room))
+room_here heads hart new low room = subst (λ (o : Option Known). 0 < room_in o) (sym (get_here heads hart new low)) (omega (arith, room))
 
 -- ---- one entry more
-
-get_cases : (entries : List TrackEntry) (e x : TrackEntry) (k : ℕ) → slice_get (entries ++ e ∷ []) k ≡ Some x → (P : ℕ → TrackEntry → Type 0) → (slice_get entries k ≡ Some x → P k x) → P (length entries) e → P k x
-get_cases [] e x zero f P old last = let same : e ≡ x = cc in subst (λ (y : TrackEntry). P 0 y) same last
-get_cases [] e x (suc k) f P old last = absurd cc
-get_cases (y ∷ ys) e x zero f P old last = old f
-get_cases (y ∷ ys) e x (suc k) f P old last = get_cases ys e x k f (λ j z. P (suc j) z) old last
-
-pub below_more : (entries : List TrackEntry) (e : TrackEntry) (count : ℕ) → e.place < count → AreBelow count entries → AreBelow count (entries ++ e ∷ [])
-below_more entries e count low below = λ k x f. get_cases entries e x k f (λ j y. y.place < count) (λ g. below k x g) low
 
 pub if_some_is : (o : Option ℕ) (P : ℕ → Type 0) (j : ℕ) → o ≡ Some j → IfSome o P → P j
 if_some_is None P j e i = absurd cc
 if_some_is (Some x) P j e i = let same : x ≡ j = cc in subst P same i
-
-pub linked_more : (heads : List Known) (entries : List TrackEntry) (e : TrackEntry) → IfSome e.previous (λ k. k < length entries) → AreLinked heads entries → AreLinked heads (entries ++ e ∷ [])
-linked_more heads entries e previous l = record {
-  heads_there = λ h w k f. let low = l.heads_there h w k f in let long = length_more entries e in omega (arith, low, long);
-  links_back = λ k j x f g. get_cases entries e x k f (λ i y. y.previous ≡ Some j → j < i) (λ there i. l.links_back k j x there i) (λ i. if_some_is e.previous (λ k. k < length entries) j i previous) g;
-}
 
 -- ---- another head
 
@@ -75,15 +44,7 @@ pub heads_set : (heads : List Known) (hart word number : ℕ) (old new : Known) 
 heads_set heads hart word number old new low there put h w = by (hart == h) refl
   where
     turned : (a b : ℕ) → (a == b) ≡ (b == a)
-    turned a b = same_bools (a == b) (b == a) (λ e. is_number b a (sym (same_number a b e))) (λ e. is_number a b (sym (same_number b a e)))
-      where
-        is_number : (a b : ℕ) → a ≡ b → (a == b) ≡ true
-        is_number a b h = grind arith
-
-        same_bools : (a b : Bool) → (a ≡ true → b ≡ true) → (b ≡ true → a ≡ true) → a ≡ b
-        same_bools true b f g = sym (f refl)
-        same_bools false true f g = g refl
-        same_bools false false f g = refl
+    turned a b = both_ways (a == b) (b == a) (λ e. eq-eqb b a (sym (eqb-true a b e))) (λ e. eq-eqb a b (sym (eqb-true b a e)))
 
     as_cond : (b : Bool) (x y : Option ℕ) → (if b then x else y) ≡ cond b x y
     as_cond true x y = refl
@@ -91,11 +52,11 @@ heads_set heads hart word number old new low there put h w = by (hart == h) refl
 
     by : (b : Bool) → (hart == h) ≡ b → head_at (slice_set heads hart new) h w ≡ cond (b && (word / 4 == w / 4)) (Some number) (head_at heads h w)
     by true e =
-        subst (λ (k : ℕ). head_at (slice_set heads hart new) k w ≡ cond (word / 4 == w / 4) (Some number) (head_at heads k w)) (same_number hart h e)
-        (ap (λ (o : Option Known). known_at o w) (set_here heads hart new low) ∙ put (w / 4) ∙ as_cond (w / 4 == word / 4) (Some number) (word_at old.pages (w / 4))
+        subst (λ (k : ℕ). head_at (slice_set heads hart new) k w ≡ cond (word / 4 == w / 4) (Some number) (head_at heads k w)) (eqb-true hart h e)
+        (ap (λ (o : Option Known). known_at o w) (get_here heads hart new low) ∙ put (w / 4) ∙ as_cond (w / 4 == word / 4) (Some number) (word_at old.pages (w / 4))
         ∙ ap (λ (b : Bool). cond b (Some number) (word_at old.pages (w / 4))) (turned (w / 4) (word / 4))
         ∙ ap (λ (o : Option Known). cond (word / 4 == w / 4) (Some number) (known_at o w)) (sym there))
-    by false e = ap (λ (o : Option Known). known_at o w) (set_there heads hart h new e)
+    by false e = ap (λ (o : Option Known). known_at o w) (get_other heads hart h new (eqb-false hart h e))
 
 pub linked_set : (heads other : List Known) (entries : List TrackEntry) (hart word number : ℕ) → number < length entries
     → ((h w : ℕ) → head_at other h w ≡ cond (hart == h && (word / 4 == w / 4)) (Some number) (head_at heads h w)) → AreLinked heads entries → AreLinked other entries
@@ -109,12 +70,7 @@ linked_set heads other entries hart word number low set l = record { heads_there
 
 chain_more : (entries more : List TrackEntry) (o : Option ℕ) (ps : List ℕ) → IsChain entries o ps → IsChain (entries ++ more) o ps
 chain_more entries more o [] c = c
-chain_more entries more o (p ∷ ps) c = (c.0, c.1, c.2, get_front entries more c.0 (within entries c.0 c.1 c.3) ∙ c.3, c.4, chain_more entries more c.1.previous ps c.5)
-  where
-    within : (xs : List TrackEntry) (k : ℕ) (x : TrackEntry) → slice_get xs k ≡ Some x → k < length xs
-    within [] k x e = absurd cc
-    within (y ∷ ys) zero x e = omega arith
-    within (y ∷ ys) (suc k) x e = let low = within ys k x e in omega (arith, low)
+chain_more entries more o (p ∷ ps) c = (c.0, c.1, c.2, get_back entries more c.0 (slice_get_within entries c.0 c.1 c.3) ∙ c.3, c.4, chain_more entries more c.1.previous ps c.5)
 
 pub tracked_more : (heads other : List Known) (entries new : List TrackEntry) (e : TrackEntry) (hart word : ℕ) → new ≡ entries ++ e ∷ [] → e.previous ≡ head_at heads hart word
     → ((h w : ℕ) → head_at other h w ≡ cond (hart == h && (word / 4 == w / 4)) (Some (length entries)) (head_at heads h w))
@@ -130,7 +86,7 @@ tracked_more heads other entries new e hart word is previous set h w ps t = subs
 
     by : (b : Bool) → (hart == h) ≡ b → (d : Bool) → (word / 4 == w / 4) ≡ d → head_at other h w ≡ cond (b && d) (Some (length entries)) (head_at heads h w)
         → IsChain (entries ++ e ∷ []) (head_at other h w) (cond (b && d) (e.place ∷ ps) ps)
-    by true f true g i = (length entries, e, i, get_last entries e, refl, subst (λ (o : Option ℕ). IsChain (entries ++ e ∷ []) o ps) (sym (here (same_number hart h f) (same_number (word / 4) (w / 4) g))) (chain_more entries (e ∷ []) (head_at heads h w) ps t))
+    by true f true g i = (length entries, e, i, get_next entries e [], refl, subst (λ (o : Option ℕ). IsChain (entries ++ e ∷ []) o ps) (sym (here (eqb-true hart h f) (eqb-true (word / 4) (w / 4) g))) (chain_more entries (e ∷ []) (head_at heads h w) ps t))
     by true f false g i = subst (λ (o : Option ℕ). IsChain (entries ++ e ∷ []) o ps) (sym i) (chain_more entries (e ∷ []) (head_at heads h w) ps t)
     by false f d g i = subst (λ (o : Option ℕ). IsChain (entries ++ e ∷ []) o ps) (sym i) (chain_more entries (e ∷ []) (head_at heads h w) ps t)
 
@@ -173,8 +129,5 @@ not_covered true x y f e = absurd cc
 not_covered false x y f e = by (nat_lt x y) refl
   where
     by : (c : Bool) → nat_lt x y ≡ c → y ≤ x
-    by true g = absurd (no (f (let low : x < y = grind (arith, g) in low)))
-      where
-        no : false ≡ true → ⊥
-        no h = cc
+    by true g = absurd (false≢true (f (let low : x < y = grind (arith, g) in low)))
     by false g = grind (arith, g)

@@ -1,14 +1,11 @@
 -- A walk back over a hart's accesses of a word, and over words one after another.
-use Rattle.race_report.proofs.Common.{◌≡◌, ℕ, suc, ◌+◌, ◌-◌, ◌<◌, ◌≤◌, ◌%◌, ◌^◌, nat_lt, Bool, true, false, cond, refl, sym, ap, ◌∙◌, subst, arith, List, [], ◌∷◌, slice_get, Option, Some, None, Meeting, TrackEntry, words_from, IsChain, met_at, met_all, uncovered}
+use Rattle.race_report.proofs.Common.{◌≡◌, ℕ, suc, ◌+◌, ◌-◌, ◌<◌, ◌≤◌, ◌%◌, ◌^◌, Bool, cond, sym, ap, ◌∙◌, subst, arith, List, [], ◌∷◌, slice_get, Option, Some, None, Meeting, TrackEntry, words_from, IsChain, met_at, met_all, uncovered, le-ltb, lt-ltb, same_Some}
 
 -- what is left of a walk: the places from an entry on, and what their races make of what is found
 pub record IsLeft (entries : List TrackEntry) (number : Option ℕ) (count n w : ℕ) (end now : List (List Meeting)) : Type 0 where
   pub places : List ℕ
   pub chain : IsChain entries number places
   pub rest : end ≡ met_all n w (uncovered count places) now
-
-pub left_first : (entries : List TrackEntry) (number : Option ℕ) (count n w : ℕ) (ps : List ℕ) (ls : List (List Meeting)) → IsChain entries number ps → IsLeft entries number count n w (met_all n w (uncovered count ps) ls) ls
-left_first entries number count n w ps ls c = record { places = ps; chain = c; rest = refl }
 
 pub left_none : (entries : List TrackEntry) (count n w : ℕ) (end now : List (List Meeting)) → IsLeft entries None count n w end now → now ≡ end
 left_none entries count n w end now l = by l.places l.chain l.rest
@@ -35,30 +32,18 @@ first_left entries k e count n w end now at l = by l.places l.chain l.rest
         no : ◌≡◌ {A = Option ℕ} (Some k) None → ⊥
         no f = cc
     by (p ∷ ps) c r =
-        let number : k ≡ c.0 = same_some k c.0 c.2 in
-        let entry : e ≡ c.1 = same_entry e c.1 (sym at ∙ ap (slice_get entries) number ∙ c.3) in
+        let number : k ≡ c.0 = same_Some k c.0 c.2 in
+        let entry : e ≡ c.1 = same_Some e c.1 (sym at ∙ ap (slice_get entries) number ∙ c.3) in
         record {
           places = ps;
           chain = subst (λ (x : TrackEntry). IsChain entries x.previous ps) (sym entry) c.5;
           rest = r ∙ ap (λ (x : ℕ). met_all n w (uncovered count (x ∷ ps)) now) (sym c.4 ∙ ap (λ (x : TrackEntry). x.place) (sym entry));
         }
-      where
-        same_some : (a b : ℕ) → ◌≡◌ {A = Option ℕ} (Some a) (Some b) → a ≡ b
-        same_some a b f = cc
-
-        same_entry : (a b : TrackEntry) → ◌≡◌ {A = Option TrackEntry} (Some a) (Some b) → a ≡ b
-        same_entry a b f = cc
-
-is_lt : (m n : ℕ) → m < n → nat_lt m n ≡ true
-is_lt m n h = grind arith
-
-not_lt : (m n : ℕ) → n ≤ m → nat_lt m n ≡ false
-not_lt m n h = grind arith
 
 pub left_covered : (entries : List TrackEntry) (k : ℕ) (e : TrackEntry) (count n w : ℕ) (end now : List (List Meeting)) → slice_get entries k ≡ Some e → e.place < count → IsLeft entries (Some k) count n w end now → now ≡ end
 left_covered entries k e count n w end now at low l =
     let f = first_left entries k e count n w end now at l in
-    sym (f.rest ∙ ap (λ (b : Bool). met_all n w (cond b [] (e.place ∷ uncovered count f.places)) now) (is_lt e.place count low))
+    sym (f.rest ∙ ap (λ (b : Bool). met_all n w (cond b [] (e.place ∷ uncovered count f.places)) now) (lt-ltb e.place count low))
 
 pub left_next : (entries : List TrackEntry) (k : ℕ) (e : TrackEntry) (count n w : ℕ) (end now new : List (List Meeting)) → slice_get entries k ≡ Some e → count ≤ e.place → new ≡ met_at n w e.place now
     → IsLeft entries (Some k) count n w end now → IsLeft entries e.previous count n w end new
@@ -67,7 +52,7 @@ left_next entries k e count n w end now new at high is l =
     record {
       places = f.places;
       chain = f.chain;
-      rest = f.rest ∙ ap (λ (b : Bool). met_all n w (cond b [] (e.place ∷ uncovered count f.places)) now) (not_lt e.place count high) ∙ ap (λ (x : List (List Meeting)). met_all n w (uncovered count f.places) x) (sym is);
+      rest = f.rest ∙ ap (λ (b : Bool). met_all n w (cond b [] (e.place ∷ uncovered count f.places)) now) (le-ltb e.place count high) ∙ ap (λ (x : List (List Meeting)). met_all n w (uncovered count f.places) x) (sym is);
     }
 
 -- the same of a number that is known by an equation
@@ -85,9 +70,6 @@ next_left entries o k e count n w end now new is at high met l = left_next entri
 
 pub words_next : (w count k : ℕ) → k < count → words_from w (count - k) ≡ w ∷ words_from ((w + 4) % 2 ^ 32) (count - (k + 1))
 words_next w count k low = let one : count - k ≡ suc (count - (k + 1)) = omega (arith, low) in ap (words_from w) one
-
-pub words_done : (w count : ℕ) → words_from w (count - count) ≡ []
-words_done w count = let none : count - count ≡ 0 = omega arith in ap (words_from w) none
 
 pub next_aligned : (w : ℕ) → w % 4 ≡ 0 → (w + 4) % 2 ^ 32 % 4 ≡ 0
 next_aligned w e = omega (arith, e)

@@ -15,6 +15,7 @@ pub fn tests_say_races()
 
 /// In the joint replay of a log in order each point is of one of its harts, and a hart's points come by
 /// their counts. So the places of points order a hart's points as their counts do.
+#[tactic(auto, using(crate::proofs::Counted::points_are_counted))]
 pub fn points_are_counted()
     ensures { PointsAreCounted }
 {
@@ -25,6 +26,7 @@ pub fn points_are_counted()
 }
 
 /// The list of all races has each pair of points that is a race, with its word, and nothing else.
+#[tactic(auto, using(crate::proofs::Listed::races_are_listed))]
 pub fn races_are_listed()
     ensures { RacesAreListed }
 {
@@ -54,6 +56,7 @@ pub fn reports_ascend()
 }
 
 /// Two orders of the same points with the same order of conflicting points have the same list of races.
+#[tactic(auto, using(crate::proofs::Alike::races_go_by_conflicts))]
 pub fn races_go_by_conflicts()
     ensures { RacesGoByConflicts }
 {

@@ -1,5 +1,5 @@
-use Rattle.race_report.proofs.Common.{◌∙◌, ◌++◌, append_assoc, ◌+◌, ap, sym, arith, List, drop, append-nil, Meeting, Race, races_with, meetings_of}
-use Rattle.race_report.proofs.Orders.{with_more, with_done, same_meetings}
+use Rattle.race_report.proofs.Common.{◌∙◌, ◌++◌, append_assoc, ◌+◌, ap, sym, arith, List, drop, append-nil, Meeting, Race, races_with, meetings_of, same_Some}
+use Rattle.race_report.proofs.Orders.{with_more, with_done}
 use Rattle.race_report.proofs.gathered.Gathered.push_with.Goals as goal
 
 pub loop-k-preserved : goal.loop-k-preserved
@@ -16,4 +16,4 @@ returns c = λ harts run g.
     let xs = c.with-meetings.result.now in
     sym (append-nil c.loop-k.out.items) ∙ ap (λ (rs : List Race). c.loop-k.out.items ++ rs) (sym (with_done run c.args.first c.args.hart c.loop-k.k xs c.loop-k-test.false))
     ∙ c.loop-k.invariant harts run g
-    ∙ ap (λ (ys : List Meeting). c.args.out.now.items ++ races_with run c.args.first c.args.hart ys) (same_meetings xs (meetings_of run c.args.first) (sym c.with-meetings.ensures ∙ g.lists c.args.first (let size = g.size in omega (arith, c.requires, size))))
+    ∙ ap (λ (ys : List Meeting). c.args.out.now.items ++ races_with run c.args.first c.args.hart ys) (same_Some xs (meetings_of run c.args.first) (sym c.with-meetings.ensures ∙ g.lists c.args.first (let size = g.size in omega (arith, c.requires, size))))
