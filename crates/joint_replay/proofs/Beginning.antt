@@ -19,9 +19,6 @@ own_added : (i : Program) (records : List Record) (h : ℕ) (hs : List HartLane)
 own_added i records h [] l own p r e = (p, r, omega (arith, e), tt)
 own_added i records h (x ∷ hs) l own p r e = (own.0, own.1, own.2, own_added i records (h + 1) hs l own.3 p r (omega (arith, e)))
 
-pub none_begun : (i : Program) (records : List Record) (hs : List HartLane) → hs ≡ [] → AreBegun i records 0 hs
-none_begun i records hs e = subst (AreBegun i records 0) (sym e) (record { lanes = refl; own = tt; length_is = refl })
-
 pub one_begun : (i : Program) (records : List Record) (count : ℕ) (hs all : List HartLane) (l : HartLane) → AreBegun i records count hs
     → l ≡ record { program = i; records = records; hart = count; lane = lane_of i records count } → all ≡ hs ++ l ∷ [] → AreBegun i records (count + 1) all
 one_begun i records count hs all l b e f = subst (AreBegun i records (count + 1)) (sym f) (record {

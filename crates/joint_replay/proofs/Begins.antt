@@ -1,24 +1,18 @@
 -- The lanes of a log in order.
-use Rattle.joint_replay.proofs.Common.{◌≡◌, ℕ, zero, suc, ◌+◌, ◌^◌, ◌<◌, ◌≤◌, Bool, true, false, ◌&&◌, ◌||◌, ◌==◌, ◌⊎◌, inl, inr, nat_lt, refl, sym, ap, ◌∙◌, subst, arith, List, [], ◌∷◌, slice_get, replicate, length, Option, Some, None, Result, Ok, Err, if◌then◌else◌, list_any, eqb_tells, Program, EndMark, Record, Header, FirstLoad, ScOk, ScFailed, Edge, End, hart_of, bytes_of, total, OrderLimits, HartView, OrderBreak, is_number, is_unfinished, step, after_all, end_break, broken, broken_in, order_limits_of, order_break, Interval, interval_of, interval_from, puts, nothing, replayed, intervals_in, first_count, is_below, points_below, Cursor, Lane, with_cursor, cursors_of, lane_of, lanes_from, is_passed, RowsFrom, GoesOn, AreFrom, AreCursors, ArePoints, IsBelow, IsLane, Has, last_count, InCursors, HasEdge, Span, mark_of, spans, AreSpans, Fits, is_known, last_of, IsInside, OrderedLogsHaveShape, EdgesAreInside, PointsAscend, StartsAreSound}
+use Rattle.joint_replay.proofs.Common.{◌≡◌, ℕ, zero, suc, ◌+◌, ◌^◌, ◌<◌, ◌≤◌, Bool, true, false, ◌&&◌, ◌||◌, ◌==◌, ◌⊎◌, inl, inr, nat_lt, refl, sym, ap, ◌∙◌, subst, arith, List, [], ◌∷◌, slice_get, replicate, length, Option, Some, None, Result, Ok, Err, if◌then◌else◌, list_any, eqb_tells, Program, EndMark, Record, Header, FirstLoad, ScOk, ScFailed, Edge, End, hart_of, bytes_of, total, OrderLimits, HartView, OrderBreak, is_number, is_unfinished, step, after_all, end_break, broken, broken_in, order_limits_of, order_break, Interval, interval_of, interval_from, puts, nothing, replayed, intervals_in, first_count, is_below, points_below, Cursor, Lane, with_cursor, cursors_of, lane_of, lanes_from, is_passed, RowsFrom, GoesOn, AreFrom, AreCursors, ArePoints, IsBelow, IsLane, Has, last_count, InCursors, HasEdge, Span, mark_of, spans, AreSpans, Fits, is_known, last_of, IsInside, OrderedLogsHaveShape, EdgesAreInside, PointsAscend, StartsAreSound, eq-eqb, lt-ltb, or_parts, RowsGoOn}
 use Rattle.log_order.specs.declared.view.Phase.TheVariants.{Unknown}
 use Rattle.log_order.specs.Rules.{fresh as fresh_view}
-use Rattle.joint_replay.proofs.Onto.{ReplaysGoOn}
+use Rattle.joint_replay.proofs.Onto.{ReplaysGoOn, replays_go_on}
 use Rattle.joint_replay.proofs.Soundness.{get_other, some_is}
 use Rattle.joint_replay.proofs.Shapes.{step_gives, placed}
 use Rattle.joint_replay.proofs.LaneSteps.{above}
 use Rattle.joint_replay.proofs.Walks.{undone}
+use Rattle.joint_replay.proofs.Follows.{CountsGoUp, AsksPass}
 
 -- ---- intervals by their numbers
 
-eqb_same : (k : ℕ) → (k == k) ≡ true
-eqb_same k = grind arith
-
 apart : (a b : ℕ) → a < b → (a == b) ≡ false
 apart a b h = grind arith
-
-and_false : (a b : Bool) → b ≡ false → (a && b) ≡ false
-and_false true b e = e
-and_false false b e = refl
 
 -- a cursor is of a span
 pub record IsOf (i : Program) (s : Span) (c : Cursor) : Type 0 where
@@ -60,7 +54,7 @@ module _ (i : Program) (records : List Record) (h limit : ℕ) (fits : limit < 2
       by true e from a rest =
           let v : Interval = interval_from (record { pc = pc; x = x; ic = ic }) (puts h rs nothing) in
           let found : interval_of h n records ≡ Some v =
-          from n (number n a.0) ∙ ap (λ b. elim b as (λ y. Option Interval) [ true ↦ Some (interval_from (record { pc = pc; x = x; ic = ic }) (puts h rs nothing)) | false ↦ interval_of h n rs ]) (eqb_same n) in
+          from n (number n a.0) ∙ ap (λ b. elim b as (λ y. Option Interval) [ true ↦ Some (interval_from (record { pc = pc; x = x; ic = ic }) (puts h rs nothing)) | false ↦ interval_of h n rs ]) (eq-eqb n n refl) in
           one_of n ic pc x rs (spans h rs) (cursors_of i records h (intervals_in h rs)) v found refl refl a.3
           (rest (Some (n + 1)) (n + 1) (mark_of h rs).ic (λ m f. above m f)
           (λ m up. from m (let one = number n a.0 in omega (arith, one, up)) ∙ ap (λ b. elim b as (λ y. Option Interval) [ true ↦ Some (interval_from (record { pc = pc; x = x; ic = ic }) (puts h rs nothing)) | false ↦ interval_of h m rs ]) (apart n m (omega (arith, up))))
@@ -164,16 +158,8 @@ edges_there t place harts ends (r ∷ rs) h ic s j e edge =
 
 pub not_any : (p : HartView → Bool) (xs : List HartView) (h : ℕ) (w : HartView) → list_any p xs ≡ false → slice_get xs h ≡ Some w → p w ≡ false
 not_any p [] h w e f = cc
-not_any p (x ∷ xs) zero w e f = subst (λ y. p y ≡ false) (some_is x w (Some x) refl f) (or_left (p x) (list_any p xs) e)
-  where
-    or_left : (a b : Bool) → (a || b) ≡ false → a ≡ false
-    or_left true b e = e
-    or_left false b e = refl
-not_any p (x ∷ xs) (suc h) w e f = not_any p xs h w (or_right (p x) (list_any p xs) e) f
-  where
-    or_right : (a b : Bool) → (a || b) ≡ false → b ≡ false
-    or_right true b e = cc
-    or_right false b e = e
+not_any p (x ∷ xs) zero w e f = subst (λ y. p y ≡ false) (some_is x w (Some x) refl f) ((or_parts (p x) (list_any p xs) e).0)
+not_any p (x ∷ xs) (suc h) w e f = not_any p xs h w ((or_parts (p x) (list_any p xs) e).1) f
 
 all_ended : (all : Bool) (ends : List HartView) (rs : List Record) → end_break all ends rs ≡ None → list_any (is_unfinished all) ends ≡ false
 unfolding end_break
@@ -198,9 +184,6 @@ fresh_known true e = refl
 fresh_known false e = cc
 
 module _ (i : Program) (records : List Record) (h limit : ℕ) (fits : limit < 2 ^ 64) (goes : ReplaysGoOn i records) (points : PointsAscend) where
-  abbrev own : List Cursor
-  own = cursors_of i records h (intervals_in h records)
-
   spans_are : (all : Bool) → Fits limit (fresh_view all).phase (mark_of h records) (spans h records) → (next : Option ℕ) × (begin : ℕ) × AreSpans limit next begin (spans h records)
   spans_are true f = (Some 0, 0, f)
   spans_are false f = by (spans h records) f
@@ -234,20 +217,13 @@ module _ (i : Program) (records : List Record) (h limit : ℕ) (fits : limit < 2
         cursors = are.1;
       }
 
-  -- a target is among the points, or in the intervals
-  Place : ℕ → Type 0
-  Place ic = Has (points_below (first_count h records) h records) ic ⊎ InCursors (cursors_of i records h (intervals_in h records)) ic
-
   placed_at : (all : Bool) (ss : List Span) (cs : List Cursor) (ic : ℕ) → spans h records ≡ ss → AreOf i ss cs → Fits limit (fresh_view all).phase (mark_of h records) ss → IsInside (fresh_view all).phase (mark_of h records) ss ic → (is_below (first_count h records) ic ≡ true) ⊎ InCursors cs ic
   placed_at true [] cs ic e a f inside = absurd inside
   placed_at false [] cs ic e a f inside = inl (ap (λ o. is_below o ic) (no_begin h records e))
   placed_at all (s ∷ ss) [] ic e a f inside = absurd a
   placed_at true (s ∷ ss) (c ∷ cs) ic e a f inside =
       let begin = a.0.begin in let first = f.1 in inr (omega (arith, begin, first), subst (λ n. ic < n) (sym (last_same i records h limit fits goes s ss c cs a.0 a.1)) inside.1)
-  placed_at false (s ∷ ss) (c ∷ cs) ic e a f (inl low) = inl (ap (λ o. is_below o ic) (first_begin h records s ss e) ∙ lt_true ic s.begin low)
-    where
-      lt_true : (m n : ℕ) → m < n → nat_lt m n ≡ true
-      lt_true m n h = grind arith
+  placed_at false (s ∷ ss) (c ∷ cs) ic e a f (inl low) = inl (ap (λ o. is_below o ic) (first_begin h records s ss e) ∙ lt-ltb ic s.begin low)
   placed_at false (s ∷ ss) (c ∷ cs) ic e a f (inr inside) =
       let begin = a.0.begin in let low = inside.0 in inr (omega (arith, begin, low), subst (λ n. ic < n) (sym (last_same i records h limit fits goes s ss c cs a.0 a.1)) inside.1)
 
@@ -270,9 +246,9 @@ unpassed i (p ∷ ps) cursors k a c e (inr h) = let up = above i p ps cursors k 
     below : (p k : ℕ) → p < k → nat_lt k p ≡ true → ⊥
     below p k e f = grind arith
 
-pub starts_sound : OrderedLogsHaveShape → EdgesAreInside → PointsAscend → ((i : Program) (records : List Record) → ReplaysGoOn i records) → StartsAreSound
-starts_sound shape inside points goes_on i s dropped records low order =
-    let goes : ReplaysGoOn i records = goes_on i records in
+pub starts_sound : OrderedLogsHaveShape → EdgesAreInside → PointsAscend → CountsGoUp → AsksPass → RowsGoOn → StartsAreSound
+starts_sound shape inside points counted asks rows i s dropped records low order =
+    let goes : ReplaysGoOn i records = replays_go_on counted asks rows i records in
     let all = dropped == 0 in
     let t = order_limits_of s in
     let harts = replicate s.harts (fresh_view (dropped == 0)) in

@@ -1,5 +1,8 @@
 -- What several files of proofs/ cite of other crates and of specs/. They import it from here, by one line.
-pub use Rattle.std.proofs.Common.{Bool, Equal, Err, Greater, IfSome, Less, List, None, Ok, Option, Result, Some, [], ap, append-nil, append_assoc, arith, cond, drop, eq-eqb, false, filter, if◌then◌else◌, inl, inr, is_some, length, map, max, nat_le, nat_lt, ne_eqb, not, refl, replicate, reverse, slice_get, slice_index, slice_index_or, slice_set, subst, suc, sym, take, true, zero, ℕ, ◌%◌, ◌&&◌, ◌*◌, ◌++◌, ◌+◌, ◌-◌, ◌/◌, ◌<◌, ◌==◌, ◌^◌, ◌||◌, ◌↔◌, ◌∙◌, ◌∷◌, ◌≡◌, ◌≤◌, ◌⊎◌}
+pub use Rattle.std.proofs.Common.{Bool, Equal, Err, Greater, IfSome, Less, IsTrue, List, None, Ok, Option, Result, Some, [], ap, append-nil, append_assoc, arith, cond, drop, eq-eqb, false, filter, if◌then◌else◌, inl, inr, is_some, length, map, max, nat_le, nat_lt, ne_eqb, not, refl, replicate, reverse, slice_get, slice_index, slice_index_or, slice_set, subst, suc, sym, take, true, zero, ℕ, ◌%◌, ◌&&◌, ◌*◌, ◌++◌, ◌+◌, ◌-◌, ◌/◌, ◌<◌, ◌==◌, ◌^◌, ◌||◌, ◌↔◌, ◌∙◌, ◌∷◌, ◌≡◌, ◌≤◌, ◌⊎◌}
+pub use Rattle.std.proofs.lemmas.Bool.{and_parts, cases_lt, eqb-false, eqb-true, le-ltb, leb-false, leb-true, lt-ltb, ltb-false, ltb-true, not-false, or_parts, true≢false}
+pub use Rattle.std.proofs.Math.Bool.{or-true}
+pub use Rattle.std.proofs.lemmas.Option.{none-some, same_Some, slice_get_within}
 pub use Rattle.std.proofs.Math.Seq.{drop-nil}
 pub use Rattle.std.proofs.lemmas.Bool.Decides.{eqb_tells}
 pub use Rattle.std.proofs.lemmas.List.{reverse-append}
@@ -11,7 +14,7 @@ pub use Rattle.bn_base.specs.declared.end_mark.EndMark.{EndMark}
 pub use Rattle.bn_base.specs.declared.row.Row.{Row}
 pub use Rattle.bn_base.specs.declared.settings.RawSettings.{RawSettings}
 pub use Rattle.bn_base.specs.declared.state.HartState.{HartState}
-pub use Rattle.hart_replay.specs.Coming.{Begins, Replaying, after_row, given, outcome_only, reply_in, to_come, with_rows, without_rows}
+pub use Rattle.hart_replay.specs.Coming.{after_row, given, outcome_only, reply_in, to_come, with_rows, without_rows}
 pub use Rattle.hart_replay.specs.Pages.{Frame, Known, word_at}
 pub use Rattle.hart_replay.specs.Replay.{Done, Interval, Logged, On, Outcome, Position, Refused, Replayed, Stop, after_ask, after_sc, ask_step, call_reason, ended, fault_end, finish, first, found, interval_from, interval_of, left_over, missing, nothing, one_step, onto, puts, replayed, replayed_in, slot, steps, word_for}
 pub use Rattle.hart_replay.specs.declared.error.ReplayError.{ReplayError}
@@ -32,7 +35,7 @@ pub use Rattle.rv_meaning.specs.Rows.{call_row, fault_row, row_of}
 pub use Rattle.rv_meaning.specs.Words.{aligned}
 pub use Rattle.rv_meaning.specs.declared.asks.Want.{Want}
 pub use Rattle.rv_meaning.specs.declared.asks.Want.TheVariants.{Amo, Cut, Faulted, Load, LoadReserved, Store, StoreConditional, System}
-pub use Rattle.joint_replay.specs.Calls.{IsReached, IsRefused, RanOut, StepUnrefused, Steps, bare, bare_cursor, stepped_of}
+pub use Rattle.joint_replay.specs.Calls.{IsReached, RanOut, StepUnrefused, Steps, bare, bare_cursor, stepped_of}
 pub use Rattle.joint_replay.specs.Counts.{RowsFrom}
 pub use Rattle.joint_replay.specs.Harts.{HartLane, IsHartLane, Running, hart_cursors, hart_lane, later_cursors, running}
 pub use Rattle.joint_replay.specs.Inside.{IsInside, last_of}
@@ -44,7 +47,7 @@ pub use Rattle.joint_replay.specs.Memory.{Bytes, filled, forget, has_byte, known
 pub use Rattle.joint_replay.specs.Merges.{Admits, AreMerges, AreSources, AreUnrefused, IsAt, IsAtMerge, IsChosenThere, IsFront, IsMerge, IsNamed, IsPassed, IsReadyThere, IsRefusedAt, IsWhole, PassedIsStanding, PointsAreNamed, ReadyIsAdmitted, SourcesAreThere, Stands, WalksAreMerges, harts_of, interval_then, intervals_items, items_of, one_more, outcome_done, own, point_at, rows_then, steps_of}
 pub use Rattle.joint_replay.specs.Moves.{CursorSteps, CursorUnrefused, IsMoved, LaneRefuses, LaneSteps, LaneUnrefused, noted, range_of, stepped_by, told}
 pub use Rattle.joint_replay.specs.Orders.{IsAllowed, IsBegun, ready_step, walk_on}
-pub use Rattle.joint_replay.specs.Points.{IsThere, first_count, insert, insert_if, intervals_in, is_below, number_before, number_in, ordering_points, points_below, sources_into}
+pub use Rattle.joint_replay.specs.Points.{IsThere, first_count, insert, insert_if, intervals_in, is_below, number_in, ordering_points, points_below, sources_into}
 pub use Rattle.joint_replay.specs.Shape.{AreSpans, Fits, Span, is_known, mark_of, spans}
 pub use Rattle.joint_replay.specs.Sound.{HasEdge, IsSound, SoundIf}
 pub use Rattle.joint_replay.specs.Sources.{AscendFrom, edges_into, source_before}

@@ -1,19 +1,9 @@
 -- If no hart is ready, each one waits for an earlier one, without end.
-use Rattle.joint_replay.proofs.Common.{◌≡◌, ℕ, zero, suc, ◌+◌, ◌<◌, ◌≤◌, Bool, true, false, not, ◌&&◌, ◌||◌, ◌==◌, ◌⊎◌, inl, inr, nat_lt, refl, sym, ap, ◌∙◌, subst, arith, List, [], ◌∷◌, slice_get, Option, Some, None, Record, Header, FirstLoad, ScOk, ScFailed, Edge, End, Coming, PassAt, RowAt, EndAt, Readiness, Next, Hart, AllDone, NoneReady, sources_into, Cursor, Lane, coming_of, count_of, point_of, is_within, is_passed, first_waited, waits_for, readiness_of, choice_from, HasEdge, NeverStuck}
+use Rattle.joint_replay.proofs.Common.{◌≡◌, ℕ, zero, suc, ◌+◌, ◌<◌, ◌≤◌, Bool, true, false, not, ◌&&◌, ◌||◌, ◌==◌, ◌⊎◌, inl, inr, nat_lt, refl, sym, ap, ◌∙◌, subst, arith, List, [], ◌∷◌, slice_get, Option, Some, None, Record, Header, FirstLoad, ScOk, ScFailed, Edge, End, Coming, PassAt, RowAt, EndAt, Readiness, Next, Hart, AllDone, NoneReady, sources_into, Cursor, Lane, coming_of, count_of, point_of, is_within, is_passed, first_waited, waits_for, readiness_of, choice_from, HasEdge, NeverStuck, and_parts, eqb-true, ltb-false}
 use Rattle.joint_replay.specs.declared.kinds.Readiness.TheVariants as is
 use Rattle.joint_replay.specs.Chains.{HaveTimes}
 
-false_le : (m n : ℕ) → nat_lt m n ≡ false → n ≤ m
-false_le m n h = grind arith
-
 -- ---- what is waited for
-
-both : (a b : Bool) → (a && b) ≡ true → (a ≡ true) × (b ≡ true)
-both true b e = (refl, e)
-both false b e = cc
-
-same_number : (a b : ℕ) → (a == b) ≡ true → a ≡ b
-same_number a b h = grind arith
 
 -- the first that isn't passed is the source of an Edge, and isn't passed
 abbrev pub Waited : List Record → List Lane → ℕ → ℕ → Option (ℕ × ℕ) → Type 0
@@ -44,7 +34,7 @@ waited (Edge k n a b ∷ rs) lanes h ic = by (k == h && (n == ic)) refl (waited_
     here : (k == h && (n == ic)) ≡ true → (x : Bool) → is_passed (slice_get lanes a) b ≡ x → Waited (Edge k n a b ∷ rs) lanes h ic (first_waited lanes (sources_into rs h ic))
         → Waited (Edge k n a b ∷ rs) lanes h ic (elim x as (λ y. Option (ℕ × ℕ)) [ true ↦ first_waited lanes (sources_into rs h ic) | false ↦ Some (a, b) ])
     here e true passed w = w
-    here e false passed w = let parts = both (k == h) (n == ic) e in (inl (same_number k h parts.0, same_number n ic parts.1, refl, refl), passed)
+    here e false passed w = let parts = and_parts (k == h) (n == ic) e in (inl (eqb-true k h parts.0, eqb-true n ic parts.1, refl, refl), passed)
 
     by : (x : Bool) → (k == h && (n == ic)) ≡ x → Waited (Edge k n a b ∷ rs) lanes h ic (first_waited lanes (sources_into rs h ic))
         → Waited (Edge k n a b ∷ rs) lanes h ic (first_waited lanes (elim x as (λ y. List (ℕ × ℕ)) [ true ↦ (a, b) ∷ sources_into rs h ic | false ↦ sources_into rs h ic ]))
@@ -105,7 +95,7 @@ module _ (records : List Record) (lanes : List Lane) (time : ℕ → ℕ → ℕ
       by : (d : Option Coming) → coming_of lane ≡ d → elim d as (λ x. Bool) [ None ↦ true | Some c ↦ nat_lt j (count_of c) ] ≡ false
           → (l : Lane) × (c : Coming) × (Some lane ≡ Some l) × (coming_of l ≡ Some c) × (count_of c ≤ j)
       by None i e = absurd cc
-      by (Some c) i e = (lane, c, refl, i, false_le j (count_of c) e)
+      by (Some c) i e = (lane, c, refl, i, ltb-false j (count_of c) e)
 
   waits : (h : ℕ) (lane : Lane) (c : Coming) → slice_get lanes h ≡ Some lane → coming_of lane ≡ Some c → WaitsAt records lanes h lane
   waits h lane c e f = not_ready records lanes h lane (coming_of lane) (point_of lane) refl refl (stuck h lane e) c f

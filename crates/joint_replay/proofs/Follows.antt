@@ -1,7 +1,8 @@
 -- The rows of a replay have the hart's counts, one after another, and the states between them.
-use Rattle.joint_replay.proofs.Common.{◌≡◌, ℕ, ◌+◌, Bool, true, false, ◌&&◌, ◌||◌, ◌==◌, refl, sym, ap, ◌∙◌, List, ◌∷◌, Option, Some, None, slice_index, fault_number, Program, Row, HartState, Want, Load, Store, LoadReserved, StoreConditional, Amo, System, Cut, Faulted, row_of, call_row, ReplayError, LoadMissing, ScMissing, EndDiffers, Outcome, Done, Refused, Interval, Position, On, Stop, one_step, ask_step, after_ask, after_sc, missing, word_for, slot, found, call_reason, after_row, reply_in}
+use Rattle.joint_replay.proofs.Common.{◌≡◌, ℕ, ◌+◌, Bool, true, false, ◌&&◌, ◌||◌, ◌==◌, refl, sym, ap, ◌∙◌, List, ◌∷◌, Option, Some, None, slice_index, fault_number, Program, Row, HartState, Want, Load, Store, LoadReserved, StoreConditional, Amo, System, Cut, Faulted, row_of, call_row, ReplayError, LoadMissing, ScMissing, EndDiffers, Outcome, Done, Refused, Interval, Position, On, Stop, one_step, ask_step, after_ask, after_sc, missing, word_for, slot, found, call_reason, after_row, reply_in, IsTrue}
 use Rattle.rv_meaning.specs.Access.{stored_word, amo_result}
 use Rattle.rv_meaning.specs.Execute.{Step, Quiet, Asks, step, absorbed, count_up, count_up_if}
+use Rattle.rv_meaning.specs.Orderly.{is_cut, passes}
 use Rattle.rv_meaning.specs.declared.asks.Reply.{Reply}
 use Rattle.rv_meaning.specs.declared.asks.Reply.TheVariants.{Word, Stored, Answer, Over}
 use Rattle.rv_meaning.specs.declared.asks.Reply.TheVariants as replies
@@ -101,3 +102,14 @@ module _ (i : Program) (h : ℕ) (v : Interval) (p : Position) where
 
   pub follows : ((s t : HartState) → step i s ≡ Quiet t → t.ic ≡ count_up s.ic) → ((s : HartState) → step i s ≡ Asks Cut → ⊥) → Follows i p (one_step i h v p)
   follows counted uncut = by_step counted uncut (step i p.state) refl
+
+-- ---- what the law on instructions says
+
+abbrev pub CountsGoUp : Type 0
+CountsGoUp = (i : Program) (s t : HartState) → step i s ≡ Quiet t → t.ic ≡ count_up s.ic
+
+abbrev pub AsksPass : Type 0
+AsksPass = (i : Program) (s : HartState) (w : Want) → step i s ≡ Asks w → (is_cut w ≡ false) × IsTrue (passes i w)
+
+pub uncut : AsksPass → (i : Program) (s : HartState) → step i s ≡ Asks Cut → ⊥
+uncut asks i s e = let f : true ≡ false = (asks i s Cut e).0 in cc

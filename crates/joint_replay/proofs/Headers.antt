@@ -1,56 +1,28 @@
 -- The places of a hart's Headers in a log in order.
-use Rattle.joint_replay.proofs.Common.{◌≡◌, ℕ, zero, suc, ◌+◌, ◌<◌, ◌≤◌, Bool, true, false, ◌&&◌, ◌==◌, refl, sym, ap, ◌∙◌, subst, arith, List, [], ◌∷◌, take, length, slice_get, slice_index_or, replicate, is_some, Option, Some, None, RawSettings, Record, Header, FirstLoad, ScOk, ScFailed, Edge, End, HartView, is_unfinished, broken_by, order_limits_of, Interval, interval_from, puts, nothing, interval_of, intervals_in, number_in, number_before, IsThere, Span, mark_of, spans, AreSpans, Fits, OrderedLogsHaveShape}
+use Rattle.joint_replay.proofs.Common.{◌≡◌, ℕ, zero, suc, ◌+◌, ◌<◌, ◌≤◌, Bool, true, false, ◌&&◌, ◌==◌, refl, sym, ap, ◌∙◌, subst, arith, List, [], ◌∷◌, take, length, slice_get, slice_index_or, replicate, is_some, Option, Some, None, RawSettings, Record, Header, FirstLoad, ScOk, ScFailed, Edge, End, HartView, is_unfinished, broken_by, order_limits_of, Interval, interval_from, puts, nothing, interval_of, number_in, IsThere, Span, mark_of, spans, AreSpans, Fits, OrderedLogsHaveShape, eq-eqb, eqb-true, none-some, same_Some}
 use Rattle.log_order.specs.Rules.{fresh as fresh_view}
 use Rattle.joint_replay.proofs.Begins.{walk_of, not_any, fresh_known}
-
-same_number : (a b : ℕ) → (a == b) ≡ true → a ≡ b
-same_number a b h = grind arith
 
 different : (m n : ℕ) → m < n → (m == n) ≡ false
 different m n h = grind arith
 
-itself : (n : ℕ) → (n == n) ≡ true
-itself n = grind arith
-
-number : (m n : ℕ) → ◌≡◌ {A = Option ℕ} (Some m) (Some n) → m ≡ n
-number m n e = cc
-
-number_none : (n : ℕ) → ◌≡◌ {A = Option ℕ} None (Some n) → ⊥
-number_none n e = cc
-
--- the numbers of the intervals, by the first record
-pub numbered : (h : ℕ) (r : Record) (rs : List Record) → intervals_in h (r ∷ rs) ≡ number_before (number_in h r) (intervals_in h rs)
-numbered h (Header k n ic pc x) rs = by (k == h)
-  where
-    by : (b : Bool) → elim b as (λ y. List ℕ) [ true ↦ n ∷ intervals_in h rs | false ↦ intervals_in h rs ] ≡ number_before (elim b as (λ y. Option ℕ) [ true ↦ Some n | false ↦ None ]) (intervals_in h rs)
-    by true = refl
-    by false = refl
-numbered h (FirstLoad k skip value) rs = refl
-numbered h (ScOk k) rs = refl
-numbered h (ScFailed k) rs = refl
-numbered h (Edge k ic s j) rs = refl
-numbered h (End k m) rs = refl
-
 -- a Header's interval is there
 pub there : (h n p : ℕ) (rs : List Record) (r : Record) → slice_get rs p ≡ Some r → number_in h r ≡ Some n → is_some (interval_of h n rs) ≡ true
 there h n p [] r at e = absurd cc
-there h n zero (r ∷ rs) q at e = first r (subst (λ x. number_in h x ≡ Some n) (sym (same r q at)) e)
+there h n zero (r ∷ rs) q at e = first r (subst (λ x. number_in h x ≡ Some n) (sym (same_Some r q at)) e)
   where
-    same : (a b : Record) → ◌≡◌ {A = Option Record} (Some a) (Some b) → a ≡ b
-    same a b f = cc
-
     own : (k m ic pc : ℕ) (x : List ℕ) (b : Bool) → elim b as (λ y. Option ℕ) [ true ↦ Some m | false ↦ None ] ≡ Some n
         → is_some (elim (b && (m == n)) as (λ y. Option Interval) [ true ↦ Some (interval_from (record { pc = pc; x = x; ic = ic }) (puts h rs nothing)) | false ↦ interval_of h n rs ]) ≡ true
-    own k m ic pc x true f = ap (λ c. is_some (elim c as (λ y. Option Interval) [ true ↦ Some (interval_from (record { pc = pc; x = x; ic = ic }) (puts h rs nothing)) | false ↦ interval_of h n rs ])) (ap (λ a. a == n) (number m n f) ∙ itself n)
-    own k m ic pc x false f = absurd (number_none n f)
+    own k m ic pc x true f = ap (λ c. is_some (elim c as (λ y. Option Interval) [ true ↦ Some (interval_from (record { pc = pc; x = x; ic = ic }) (puts h rs nothing)) | false ↦ interval_of h n rs ])) (ap (λ a. a == n) (same_Some m n f) ∙ eq-eqb n n refl)
+    own k m ic pc x false f = absurd (none-some n f)
 
     first : (a : Record) → number_in h a ≡ Some n → is_some (interval_of h n (a ∷ rs)) ≡ true
     first (Header k m ic pc x) f = own k m ic pc x (k == h) f
-    first (FirstLoad k skip value) f = absurd (number_none n f)
-    first (ScOk k) f = absurd (number_none n f)
-    first (ScFailed k) f = absurd (number_none n f)
-    first (Edge k ic s j) f = absurd (number_none n f)
-    first (End k m) f = absurd (number_none n f)
+    first (FirstLoad k skip value) f = absurd (none-some n f)
+    first (ScOk k) f = absurd (none-some n f)
+    first (ScFailed k) f = absurd (none-some n f)
+    first (Edge k ic s j) f = absurd (none-some n f)
+    first (End k m) f = absurd (none-some n f)
 there h n (suc p) (Header k m ic pc x ∷ rs) r at e = by (k == h && (m == n)) (there h n p rs r at e)
   where
     by : (b : Bool) → is_some (interval_of h n rs) ≡ true → is_some (elim b as (λ y. Option Interval) [ true ↦ Some (interval_from (record { pc = pc; x = x; ic = ic }) (puts h rs nothing)) | false ↦ interval_of h n rs ]) ≡ true
@@ -65,30 +37,27 @@ there h n (suc p) (End k m ∷ rs) r at e = there h n p rs r at e
 -- numbers are at least the one that comes first
 above : (limit h n p q b : ℕ) (rs : List Record) (r : Record) → AreSpans limit (Some q) b (spans h rs) → slice_get rs p ≡ Some r → number_in h r ≡ Some n → q ≤ n
 above limit h n p q b [] r fits at e = absurd cc
-above limit h n zero q b (r ∷ rs) o fits at e = first r fits (subst (λ x. number_in h x ≡ Some n) (sym (same r o at)) e)
+above limit h n zero q b (r ∷ rs) o fits at e = first r fits (subst (λ x. number_in h x ≡ Some n) (sym (same_Some r o at)) e)
   where
-    same : (a c : Record) → ◌≡◌ {A = Option Record} (Some a) (Some c) → a ≡ c
-    same a c f = cc
-
     own : (m : ℕ) (s : Span) (c : Bool) → s.number ≡ m → AreSpans limit (Some q) b (elim c as (λ y. List Span) [ true ↦ s ∷ spans h rs | false ↦ spans h rs ])
         → elim c as (λ y. Option ℕ) [ true ↦ Some m | false ↦ None ] ≡ Some n → q ≤ n
-    own m s true is (a, x1, x2, x3, rest) f = omega (arith, same_number q s.number a, is, number m n f)
-    own m s false is a f = absurd (number_none n f)
+    own m s true is (a, x1, x2, x3, rest) f = omega (arith, eqb-true q s.number a, is, same_Some m n f)
+    own m s false is a f = absurd (none-some n f)
 
     first : (a : Record) → AreSpans limit (Some q) b (spans h (a ∷ rs)) → number_in h a ≡ Some n → q ≤ n
     first (Header k m ic pc x) g f = own m _ (k == h) refl g f
-    first (FirstLoad k skip value) g f = absurd (number_none n f)
-    first (ScOk k) g f = absurd (number_none n f)
-    first (ScFailed k) g f = absurd (number_none n f)
-    first (Edge k ic s j) g f = absurd (number_none n f)
-    first (End k m) g f = absurd (number_none n f)
+    first (FirstLoad k skip value) g f = absurd (none-some n f)
+    first (ScOk k) g f = absurd (none-some n f)
+    first (ScFailed k) g f = absurd (none-some n f)
+    first (Edge k ic s j) g f = absurd (none-some n f)
+    first (End k m) g f = absurd (none-some n f)
 above limit h n (suc p) q b (Header k m ic pc x ∷ rs) r fits at e = by _ (k == h) refl fits (λ c f. above limit h n p (m + 1) c rs r f at e) (λ f. above limit h n p q b rs r f at e)
   where
     by : (s : Span) (c : Bool) → s.number ≡ m → AreSpans limit (Some q) b (elim c as (λ y. List Span) [ true ↦ s ∷ spans h rs | false ↦ spans h rs ])
         → ((d : ℕ) → AreSpans limit (Some (m + 1)) d (spans h rs) → m + 1 ≤ n) → (AreSpans limit (Some q) b (spans h rs) → q ≤ n) → q ≤ n
     by s true is (a, x1, x2, x3, rest) own others =
         let up : m + 1 ≤ n = own s.mark.ic (subst (λ x. AreSpans limit (Some (x + 1)) s.mark.ic (spans h rs)) is rest) in
-        omega (arith, same_number q s.number a, is, up)
+        omega (arith, eqb-true q s.number a, is, up)
     by s false is a own others = others a
 above limit h n (suc p) q b (FirstLoad k skip value ∷ rs) r fits at e = above limit h n p q b rs r fits at e
 above limit h n (suc p) q b (ScOk k ∷ rs) r fits at e = above limit h n p q b rs r fits at e

@@ -1,8 +1,8 @@
 -- The targets of the Edges into a hart, by the walk of the order's rules: `seen` is above each target so far, and not above
 -- the next Header's or End's count.
-use Rattle.joint_replay.proofs.Common.{◌≡◌, ℕ, ◌+◌, ◌<◌, ◌≤◌, Bool, true, false, not, ◌&&◌, ◌||◌, ◌==◌, ◌⊎◌, inl, inr, nat_lt, refl, sym, ap, ◌∙◌, subst, arith, List, [], ◌∷◌, Option, Some, None, Result, Ok, if◌then◌else◌, nat_le, EndMark, Record, Header, FirstLoad, ScOk, ScFailed, Edge, End, hart_of, OrderLimits, HartView, Phase, takes_header, takes_other, is_awaited, is_number, has_edge, has_end, goes_on, phase_after, after_one, is_done, is_unfinished, puts, nothing, Logged, HasEdge, Span, mark_of, spans, AreSpans, Fits, is_known, last_of, IsInside, EdgesAreInside}
+use Rattle.joint_replay.proofs.Common.{◌≡◌, ℕ, ◌+◌, ◌<◌, ◌≤◌, Bool, true, false, not, ◌&&◌, ◌||◌, ◌==◌, ◌⊎◌, inl, inr, nat_lt, refl, sym, ap, ◌∙◌, subst, arith, List, [], ◌∷◌, Option, Some, None, Result, Ok, if◌then◌else◌, nat_le, EndMark, Record, Header, FirstLoad, ScOk, ScFailed, Edge, End, hart_of, OrderLimits, HartView, Phase, takes_header, takes_other, is_awaited, is_number, has_edge, has_end, goes_on, phase_after, after_one, is_done, is_unfinished, puts, nothing, Logged, HasEdge, Span, mark_of, spans, AreSpans, Fits, is_known, last_of, IsInside, EdgesAreInside, and_parts, eqb-false, eqb-true, leb-true, or-true}
 use Rattle.log_order.specs.declared.view.Phase.TheVariants.{Unknown, Awaiting, Open, Done}
-use Rattle.joint_replay.proofs.Shapes.{◌>>◌, own_walk, both, same_number, is_le, ok_is, goes_through, headed, other, edged, ended, Same, loads_same, ok_same, failed_same, others_same, project, fit, or_true}
+use Rattle.joint_replay.proofs.Shapes.{◌>>◌, own_walk, ok_is, goes_through, headed, other, edged, ended, Same, loads_same, ok_same, failed_same, others_same, project, fit, unfinished, met_of}
 
 -- the counts seen so far are not above what comes
 abbrev HasSeen : Phase → ℕ → EndMark → List Span → Type 0
@@ -34,7 +34,7 @@ module _ (limit : ℕ) where
 
   header_inside : (p : Phase) (n ic k : ℕ) (m : EndMark) (ss : List Span) → takes_header p ≡ true → is_awaited p n ic ≡ true → (ic ≤ k) × (k < last_of m ss) → IsInside p m (record { number = n; begin = ic; mark = m } ∷ ss) k
   header_inside Unknown n ic k m ss t a i = inr i
-  header_inside (Awaiting next begin) n ic k m ss t a i = let e = same_number begin ic (both (begin == ic) (is_number next n) a).0 in let low = i.0 in (omega (arith, e, low), i.1)
+  header_inside (Awaiting next begin) n ic k m ss t a i = let e = eqb-true begin ic (and_parts (begin == ic) (is_number next n) a).0 in let low = i.0 in (omega (arith, e, low), i.1)
   header_inside (Open next since) n ic k m ss t a i = cc
   header_inside Done n ic k m ss t a i = cc
 
@@ -43,7 +43,7 @@ module _ (limit : ℕ) where
   edge_inside interval Unknown seen ic m (s ∷ ss) t e up h f = inl (omega (arith, up, h))
   edge_inside interval (Awaiting next begin) seen ic m ss t e up h f = cc
   edge_inside interval (Open next since) seen ic m ss t e up h f =
-      let low = is_le since ic (both (nat_le since ic) (nat_lt ic (since + interval)) e).0 in
+      let low = leb-true since ic (and_parts (nat_le since ic) (nat_lt ic (since + interval)) e).0 in
       let last = last_up limit (Some next) m ss f.2 in
       (low, omega (arith, up, h, last))
   edge_inside interval Done seen ic m ss t e up h f = cc
@@ -71,7 +71,7 @@ module _ (limit : ℕ) where
   end_inside interval (Open next since) k m late ss t h f i = by ss (goes_on m.reason) i
     where
       up : since ≤ m.ic
-      up = is_le since m.ic (both (nat_le since m.ic) (if m.reason == 1 then m.ic == since + interval else nat_le m.ic (since + interval)) h).0
+      up = leb-true since m.ic (and_parts (nat_le since m.ic) (if m.reason == 1 then m.ic == since + interval else nat_le m.ic (since + interval)) h).0
 
       by : (ss : List Span) (b : Bool) → IsInside (if b then Awaiting (Some next) m.ic else Done) late ss k → (since ≤ k) × (k < last_of m ss)
       by [] true i = absurd i
@@ -86,10 +86,7 @@ other_edges (Header k n c pc x) rs h ic s j e i = i
 other_edges (FirstLoad k skip value) rs h ic s j e i = i
 other_edges (ScOk k) rs h ic s j e i = i
 other_edges (ScFailed k) rs h ic s j e i = i
-other_edges (Edge k n a b) rs h ic s j e (inl i) = absurd (apart k h e i.0)
-  where
-    apart : (k h : ℕ) → (k == h) ≡ false → k ≡ h → ⊥
-    apart k h e f = grind arith
+other_edges (Edge k n a b) rs h ic s j e (inl i) = absurd (eqb-false k h e i.0)
 other_edges (Edge k n a b) rs h ic s j e (inr i) = i
 other_edges (End k m) rs h ic s j e i = i
 
@@ -102,10 +99,6 @@ module _ (t : OrderLimits) (all : Bool) (h : ℕ) (w : HartView) (over : is_unfi
   at_nothing Unknown seen met k e = tt
   at_nothing (Awaiting next begin) seen met k e = tt
   at_nothing (Open next since) seen met k e = absurd (unfinished (all || met) (k refl) e)
-    where
-      unfinished : (m : Bool) → m ≡ true → (m && true) ≡ false → ⊥
-      unfinished true e f = cc
-      unfinished false e f = cc
   at_nothing Done seen met k e = tt
 
   same_known : (v u : HartView) (r : Record) (rs : List Record) → u.phase ≡ v.phase → v.seen ≤ u.seen → Same h r rs → HasSeen u.phase u.seen (mark_of h rs) (spans h rs) → HasSeen v.phase v.seen (mark_of h (r ∷ rs)) (spans h (r ∷ rs))
@@ -153,14 +146,6 @@ module _ (t : OrderLimits) (all : Bool) (h : ℕ) (w : HartView) (over : is_unfi
             (end_inside t.limit t.interval v.phase c m (mark_of h rs) (spans h rs) d.takes d.fits fits (subst (λ p. IsInside p (mark_of h rs) (spans h rs) c) d.phase (known.inside c s j edge)));
       }
 
-  met_of : (r : Record) (v u : HartView) → after_one t v r ≡ Ok u → u.met ≡ true
-  met_of (Header k n ic pc x) v u e = (headed t v u n ic e).met
-  met_of (FirstLoad k skip value) v u e = (other v u e).met
-  met_of (ScOk k) v u e = (other v u e).met
-  met_of (ScFailed k) v u e = (other v u e).met
-  met_of (Edge k n a b) v u e = (edged t v u n b e).stays.met
-  met_of (End k m) v u e = (ended t v u m e).met
-
   known_by : (v : HartView) (rs : List Record) → (is_known v.phase ≡ true → (all || v.met) ≡ true) → own_walk t h v rs ≡ Ok w → Known v rs
   known_by v [] k e = record { seen = at_nothing v.phase v.seen v.met k (ap (λ (x : HartView). is_unfinished all x) (ok_is v w e) ∙ over); inside = λ ic s j edge. absurd edge }
   known_by v (r ∷ rs) k e = by (hart_of r == h) refl e (λ u known walked. known_by u rs known walked)
@@ -169,7 +154,7 @@ module _ (t : OrderLimits) (all : Bool) (h : ℕ) (w : HartView) (over : is_unfi
           → ((u : HartView) → (is_known u.phase ≡ true → (all || u.met) ≡ true) → own_walk t h u rs ≡ Ok w → Known u rs) → Known v (r ∷ rs)
       by true own f rest =
           let g = goes_through (after_one t v r) (λ u. own_walk t h u rs) w f in
-          let known : is_known g.0.phase ≡ true → (all || g.0.met) ≡ true = λ x. ap (λ b. all || b) (met_of r v g.0 g.1) ∙ or_true all in
+          let known : is_known g.0.phase ≡ true → (all || g.0.met) ≡ true = λ x. ap (λ b. all || b) (met_of t r v g.0 g.1) ∙ or-true all in
           by_record r rs v g.0 own g.1 (fit t all h w over g.0 rs known g.2) (rest g.0 known g.2)
       by false apart f rest =
           let known = rest v k f in

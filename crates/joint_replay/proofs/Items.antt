@@ -1,6 +1,6 @@
 -- What a step of a hart takes from the hart's list of items.
-use Rattle.joint_replay.proofs.Common.{◌≡◌, ℕ, ◌+◌, ◌≤◌, Bool, true, false, inl, inr, refl, sym, ap, ◌∙◌, arith, List, [], ◌∷◌, ◌++◌, map, Option, Some, None, Result, Ok, Err, ◌↔◌, is_some, Program, EndMark, Row, HartState, Record, ReplayError, Outcome, Done, Refused, Interval, interval_of, replayed, Coming, PassAt, RowAt, EndAt, Cursor, Lane, Item, Passing, Doing, Ending, with_cursor, cursors_of, coming_of, point_of, has_row, is_within, lane_step, cursor_step, is_passed, RowsFrom, AreFrom, AreCursors, ArePoints, IsLane, rows_then, interval_then, intervals_items, outcome_done, AreUnrefused, IsAt}
-use Rattle.joint_replay.proofs.LaneSteps.{lt_true, true_lt, less_or, cursor_passed, first_goes, passed_with, next_cursor, next_goes}
+use Rattle.joint_replay.proofs.Common.{◌≡◌, ℕ, ◌+◌, ◌≤◌, Bool, true, false, inl, inr, refl, sym, ap, ◌∙◌, arith, List, [], ◌∷◌, ◌++◌, map, Option, Some, None, Result, Ok, Err, ◌↔◌, is_some, Program, EndMark, Row, HartState, Record, ReplayError, Outcome, Done, Refused, Interval, interval_of, replayed, Coming, PassAt, RowAt, EndAt, Cursor, Lane, Item, Passing, Doing, Ending, with_cursor, cursors_of, coming_of, point_of, has_row, is_within, lane_step, cursor_step, is_passed, RowsFrom, AreFrom, AreCursors, ArePoints, IsLane, rows_then, interval_then, intervals_items, outcome_done, AreUnrefused, IsAt, cases_lt, lt-ltb, ltb-true, none-some}
+use Rattle.joint_replay.proofs.LaneSteps.{cursor_passed, first_goes, passed_with, next_cursor, next_goes}
 use Rattle.joint_replay.proofs.Soundness.{some_is}
 
 -- ---- the items that a hart has left
@@ -50,9 +50,6 @@ TellsIf i lane None = lane_items i lane ≡ []
 TellsIf i lane (Some (Err e)) = lane_items i lane ≡ []
 TellsIf i lane (Some (Ok x)) = Tells i lane x.0 x.1
 
-no_point : (k : ℕ) → ◌≡◌ {A = Option ℕ} None (Some k) → ⊥
-no_point k e = cc
-
 module _ (i : Program) where
   passing : (p : ℕ) (ps : List ℕ) (cs : List Cursor) → ArePoints (p ∷ ps) cs → AreCursors i cs → Tells i (record { points = p ∷ ps; cursors = cs }) (Passing p) (record { points = ps; cursors = cs })
   passing p ps cs a s = record {
@@ -71,16 +68,16 @@ module _ (i : Program) where
       record {
         items = ap (λ (rows : List Row). rows_then i c.number c.mark c.left.outcome c.state rows (cursors_items i cs)) is;
         point = by_within (is_within c) refl;
-        at = λ k h. elim (less_or c.state.ic c.mark.ic) [
-          | inl less ↦ ap (λ (b : Bool). elim b as (λ y. Option ℕ) [ true ↦ Some c.state.ic | false ↦ None ]) (lt_true c.state.ic c.mark.ic less) ∙ ap (λ (m : ℕ). Some m) (sym g.0 ∙ h.0)
+        at = λ k h. elim (cases_lt c.state.ic c.mark.ic) [
+          | inl less ↦ ap (λ (b : Bool). elim b as (λ y. Option ℕ) [ true ↦ Some c.state.ic | false ↦ None ]) (lt-ltb c.state.ic c.mark.ic less) ∙ ap (λ (m : ℕ). Some m) (sym g.0 ∙ h.0)
           | inr past ↦ absurd (faults past h.1)
         ];
-        passed = λ k h. elim (less_or c.state.ic c.mark.ic) [
+        passed = λ k h. elim (cases_lt c.state.ic c.mark.ic) [
           | inl less ↦
               let up : (next_cursor i c r rs).state.ic ≡ c.state.ic + 1 = (g.1 less).1 in
               let e = g.0 in
               let f = h.0 in
-              cursor_passed i (next_cursor i c r rs) cs k goes.0 ∙ lt_true k (next_cursor i c r rs).state.ic (omega (arith, up, e, f))
+              cursor_passed i (next_cursor i c r rs) cs k goes.0 ∙ lt-ltb k (next_cursor i c r rs).state.ic (omega (arith, up, e, f))
           | inr past ↦ absurd (faults past h.1)
         ];
         done = (λ u. u, λ u. u);
@@ -90,8 +87,8 @@ module _ (i : Program) where
       faults past none = let f : is_some r.fault ≡ true = (g.2 past).0 in let e : is_some r.fault ≡ false = ap is_some none in let both : false ≡ true = sym e ∙ f in cc
 
       by_within : (b : Bool) → is_within c ≡ b → (k : ℕ) → elim b as (λ y. Option ℕ) [ true ↦ Some c.state.ic | false ↦ None ] ≡ Some k → (r.ic ≡ k) × (r.fault ≡ None)
-      by_within true w k e = (g.0 ∙ some_is c.state.ic k (Some c.state.ic) refl e, (g.1 (true_lt c.state.ic c.mark.ic w)).0)
-      by_within false w k e = absurd (no_point k e)
+      by_within true w k e = (g.0 ∙ some_is c.state.ic k (Some c.state.ic) refl e, (g.1 (ltb-true c.state.ic c.mark.ic w)).0)
+      by_within false w k e = absurd (none-some k e)
 
   ending : (c : Cursor) (cs : List Cursor) → c.left.rows ≡ [] → c.left.outcome ≡ Done → c.mark.ic ≤ c.state.ic
       → Tells i (record { points = []; cursors = c ∷ cs }) (Ending c.number c.mark) (record { points = []; cursors = cs })
@@ -105,8 +102,8 @@ module _ (i : Program) where
   }
     where
       by_within : (b : Bool) → is_within c ≡ b → (k : ℕ) → elim b as (λ y. Option ℕ) [ true ↦ Some c.state.ic | false ↦ None ] ≡ Some k → ⊥
-      by_within true w k e = let less = true_lt c.state.ic c.mark.ic w in omega (arith, less, past)
-      by_within false w k e = no_point k e
+      by_within true w k e = let less = ltb-true c.state.ic c.mark.ic w in omega (arith, less, past)
+      by_within false w k e = none-some k e
 
   by_left : (number : ℕ) (mark : EndMark) (state : HartState) (rows : List Row) (o : Outcome) (faulted : Bool) (cs : List Cursor)
       → let c : Cursor = record { number = number; mark = mark; state = state; left = record { rows = rows; outcome = o }; faulted = faulted } in
@@ -192,5 +189,5 @@ point_comes lane k e = by lane.points lane.cursors e
 
     by : (points : List ℕ) (cursors : List Cursor) → point_of (record { points = points; cursors = cursors }) ≡ Some k → (c : Coming) × (coming_of (record { points = points; cursors = cursors }) ≡ Some c)
     by (p ∷ ps) cs e = (PassAt p, refl)
-    by [] [] e = absurd (no_point k e)
+    by [] [] e = absurd (none-some k e)
     by [] (c ∷ cs) e = row (has_row c) c

@@ -1,5 +1,5 @@
 -- The steps of a joint replay.
-use Rattle.joint_replay.proofs.Common.{◌≡◌, ℕ, zero, suc, ◌+◌, true, refl, sym, ap, ◌∙◌, subst, arith, List, [], ◌∷◌, ◌++◌, length, map, slice_get, slice_set, is_some, Option, Some, None, Result, Ok, Err, option_map, Program, Record, Content, ReplayError, Coming, Readiness, Lane, Item, lane_step, coming_of, point_of, sources_into, Bytes, memory_after, bytes_at, Joining, Walk, begun, longer, fresh, is_passed, readiness, readiness_of, first_waited, waits_for, next_step, move, with_step, ready_step, walk_on, HartLane, bare, IsReached, StepUnrefused, range_of, LaneUnrefused, lanes_of, joining, AreHarts, IsTogether, IsSound, Passes, PassesIf}
+use Rattle.joint_replay.proofs.Common.{◌≡◌, ℕ, zero, suc, ◌+◌, true, refl, sym, ap, ◌∙◌, subst, arith, List, [], ◌∷◌, ◌++◌, length, map, slice_get, slice_set, is_some, Option, Some, None, Result, Ok, Err, option_map, Program, Record, Content, ReplayError, Coming, Readiness, Lane, Item, lane_step, coming_of, point_of, sources_into, Bytes, memory_after, bytes_at, Joining, Walk, begun, longer, fresh, is_passed, readiness, readiness_of, first_waited, waits_for, next_step, move, with_step, ready_step, walk_on, HartLane, bare, IsReached, StepUnrefused, range_of, LaneUnrefused, lanes_of, joining, AreHarts, IsTogether, IsSound, Passes, PassesIf, same_Some}
 use Rattle.hart_replay.specs.declared.error.ReplayError.TheVariants as replay
 use Rattle.joint_replay.specs.declared.kinds.Readiness.TheVariants as is
 use Rattle.joint_replay.proofs.LaneSteps.{steps_pass}
@@ -22,30 +22,27 @@ lane_got [] h l e = absurd cc
 lane_got (x ∷ hs) zero l e = ap (λ (o : Option HartLane). option_map (λ (y : HartLane). y.lane) o) e
 lane_got (x ∷ hs) (suc h) l e = lane_got hs h l e
 
-same_hart : (a b : HartLane) → ◌≡◌ {A = Option HartLane} (Some a) (Some b) → a ≡ b
-same_hart a b e = cc
-
 -- the hart of this number has the program and the records
 pub own_at : (i : Program) (records : List Record) (n h : ℕ) (hs : List HartLane) (l : HartLane) → AreHarts i records n hs → slice_get hs h ≡ Some l → (l.program ≡ i) × (l.records ≡ records) × (l.hart ≡ n + h)
 own_at i records n h [] l own e = absurd cc
-own_at i records n zero (x ∷ hs) l own e = let same = same_hart x l e in (sym (ap (λ (y : HartLane). y.program) same) ∙ own.0, sym (ap (λ (y : HartLane). y.records) same) ∙ own.1, sym (ap (λ (y : HartLane). y.hart) same) ∙ own.2 ∙ omega arith)
+own_at i records n zero (x ∷ hs) l own e = let same = same_Some x l e in (sym (ap (λ (y : HartLane). y.program) same) ∙ own.0, sym (ap (λ (y : HartLane). y.records) same) ∙ own.1, sym (ap (λ (y : HartLane). y.hart) same) ∙ own.2 ∙ omega arith)
 own_at i records n (suc h) (x ∷ hs) l own e = let rest = own_at i records (n + 1) h hs l own.3 e in let at : n + 1 + h ≡ n + suc h = omega arith in (rest.0, rest.1, rest.2 ∙ at)
 
 own_set : (i : Program) (records : List Record) (n h : ℕ) (hs : List HartLane) (l new : HartLane) → AreHarts i records n hs → slice_get hs h ≡ Some l → new ≡ record l { lane = new.lane } → AreHarts i records n (slice_set hs h new)
 own_set i records n h [] l new own e f = tt
-own_set i records n zero (x ∷ hs) l new own e f = let same = same_hart x l e in
+own_set i records n zero (x ∷ hs) l new own e f = let same = same_Some x l e in
     (ap (λ (y : HartLane). y.program) f ∙ sym (ap (λ (y : HartLane). y.program) same) ∙ own.0, ap (λ (y : HartLane). y.records) f ∙ sym (ap (λ (y : HartLane). y.records) same) ∙ own.1, ap (λ (y : HartLane). y.hart) f ∙ sym (ap (λ (y : HartLane). y.hart) same) ∙ own.2, own.3)
 own_set i records n (suc h) (x ∷ hs) l new own e f = (own.0, own.1, own.2, own_set i records (n + 1) h hs l new own.3 e f)
 
 pub bare_set : (hs : List HartLane) (h : ℕ) (l new : HartLane) → slice_get hs h ≡ Some l → bare new.lane ≡ bare l.lane → map bare (lanes_of (slice_set hs h new)) ≡ map bare (lanes_of hs)
 bare_set [] h l new e f = refl
-bare_set (x ∷ hs) zero l new e f = ap (λ (y : Lane). y ∷ map bare (lanes_of hs)) (f ∙ ap (λ (y : HartLane). bare y.lane) (sym (same_hart x l e)))
+bare_set (x ∷ hs) zero l new e f = ap (λ (y : Lane). y ∷ map bare (lanes_of hs)) (f ∙ ap (λ (y : HartLane). bare y.lane) (sym (same_Some x l e)))
 bare_set (x ∷ hs) (suc h) l new e f = ap (λ (ls : List Lane). bare x.lane ∷ ls) (bare_set hs h l new e f)
 
 -- a hart that stays as it was
 pub lane_kept : (hs : List HartLane) (h : ℕ) (l new : HartLane) → slice_get hs h ≡ Some l → new.lane ≡ l.lane → lanes_of (slice_set hs h new) ≡ lanes_of hs
 lane_kept [] h l new e f = refl
-lane_kept (x ∷ hs) zero l new e f = ap (λ (y : Lane). y ∷ lanes_of hs) (f ∙ ap (λ (y : HartLane). y.lane) (sym (same_hart x l e)))
+lane_kept (x ∷ hs) zero l new e f = ap (λ (y : Lane). y ∷ lanes_of hs) (f ∙ ap (λ (y : HartLane). y.lane) (sym (same_Some x l e)))
 lane_kept (x ∷ hs) (suc h) l new e f = ap (λ (ls : List Lane). x.lane ∷ ls) (lane_kept hs h l new e f)
 
 -- ---- an order that is longer by one

@@ -1,5 +1,5 @@
 -- The steps of a hart.
-use Rattle.joint_replay.proofs.Common.{◌≡◌, ◌⊎◌, inl, inr, ℕ, ◌<◌, true, false, refl, sym, ap, ◌∙◌, subst, arith, length, map, List, [], ◌∷◌, is_some, Option, Some, None, IfSome, Result, Ok, Err, Program, EndMark, Row, Record, ReplayError, OutOfMemory, Outcome, Done, Refused, Replayed, after_row, with_rows, outcome_only, Retained, Did, Cursor, Lane, Item, Passing, Doing, Ending, cursor_step, lane_step, Running, hart_lane, hart_cursors, later_cursors, bare_cursor, bare, CursorUnrefused, LaneUnrefused, CursorSteps, LaneRefuses, LaneSteps}
+use Rattle.joint_replay.proofs.Common.{◌≡◌, ◌⊎◌, inl, inr, ℕ, ◌<◌, true, false, refl, sym, ap, ◌∙◌, subst, arith, length, map, List, [], ◌∷◌, is_some, Option, Some, None, IfSome, Result, Ok, Err, Program, EndMark, Row, Record, ReplayError, OutOfMemory, Outcome, Done, Refused, Replayed, after_row, with_rows, outcome_only, Retained, Did, Cursor, Lane, Item, Passing, Doing, Ending, cursor_step, lane_step, Running, hart_lane, hart_cursors, later_cursors, bare_cursor, bare, CursorUnrefused, LaneUnrefused, CursorSteps, LaneRefuses, LaneSteps, same_Some}
 use Rattle.joint_replay.specs.declared.lane.Moved.TheVariants as to
 
 module _ (i : Program) (records : List Record) (h : ℕ) (later : List Retained) where
@@ -54,12 +54,9 @@ module _ (i : Program) (records : List Record) (h : ℕ) (later : List Retained)
       at : List ℕ → List Cursor → Result (Item × Lane) ReplayError
       at ps cs = Ok (Ending cursor.cursor.number cursor.cursor.mark, record { points = ps; cursors = cs })
 
-  same_cursor : (cursor r : Running) → ◌≡◌ {A = Option Running} (Some cursor) (Some r) → cursor ≡ r
-  same_cursor cursor r e = cc
-
   own_program : (o : Option Running) (cursor : Running) → o ≡ Some cursor → IfSome o (λ (r : Running). r.program ≡ i) → cursor.program ≡ i
   own_program None cursor e p = cc
-  own_program (Some r) cursor e p = sym (ap (λ (x : Running). x.program) (same_cursor r cursor e)) ∙ p
+  own_program (Some r) cursor e p = sym (ap (λ (x : Running). x.program) (same_Some r cursor e)) ∙ p
 
   pub gives_in : (old new : List ℕ) (o : Option Running) (cursor after : Running) (x : Did) → o ≡ Some cursor → IfSome o (λ (r : Running). r.program ≡ i)
       → old ≡ [] → new ≡ [] → CursorSteps cursor (Ok (Some x)) after → LaneSteps (hart_lane i records h old o later) (Ok to.Row) x (hart_lane i records h new (Some after) later)

@@ -1,26 +1,7 @@
 -- A step of a hart passes the point that it is at, and no other on its way.
-use Rattle.joint_replay.proofs.Common.{◌≡◌, ℕ, ◌+◌, ◌<◌, ◌≤◌, Bool, true, false, not, ◌&&◌, ◌||◌, ◌⊎◌, inl, inr, nat_lt, refl, sym, ap, ◌∙◌, subst, arith, List, [], ◌∷◌, Option, Some, None, is_some, Program, EndMark, Row, HartState, Outcome, Done, Refused, after_row, Coming, RowAt, EndAt, Cursor, Lane, Passing, Doing, Ending, count_of, has_row, is_within, lane_step, cursor_step, is_passed, RowsFrom, GoesOn, AreFrom, AreCursors, ArePoints, Has, last_count, InCursors, Passes, PassesIf, StepsPass}
-
-pub lt_true : (m n : ℕ) → m < n → nat_lt m n ≡ true
-lt_true m n h = grind arith
-
-pub true_lt : (m n : ℕ) → nat_lt m n ≡ true → m < n
-true_lt m n h = grind arith
-
-false_le : (m n : ℕ) → nat_lt m n ≡ false → n ≤ m
-false_le m n h = grind arith
-
-or_left : (a b : Bool) → (a || b) ≡ false → a ≡ false
-or_left true b e = e
-or_left false b e = refl
-
-pub less_or : (m n : ℕ) → (m < n) ⊎ (n ≤ m)
-less_or m n = grind arith
+use Rattle.joint_replay.proofs.Common.{◌≡◌, ℕ, ◌+◌, ◌<◌, ◌≤◌, Bool, true, false, not, ◌&&◌, ◌⊎◌, inl, inr, nat_lt, refl, sym, ap, ◌∙◌, subst, arith, List, [], ◌∷◌, Option, Some, None, is_some, Program, EndMark, Row, HartState, Outcome, Done, Refused, after_row, Coming, RowAt, EndAt, Cursor, Passing, Doing, Ending, count_of, has_row, is_within, lane_step, cursor_step, is_passed, RowsFrom, GoesOn, AreFrom, AreCursors, ArePoints, Has, last_count, InCursors, Passes, PassesIf, StepsPass, cases_lt, lt-ltb, ltb-false, ltb-true, or_parts}
 
 -- ---- what is passed, by the count that comes next
-
-at_cursor : Cursor → List Cursor → Lane
-at_cursor c cs = record { points = []; cursors = c ∷ cs }
 
 passed_by : (c : Cursor) (k : ℕ) (b : Bool) → (b ≡ false → c.mark.ic ≡ c.state.ic)
     → elim (elim b as (λ x. Option Coming) [ true ↦ Some (RowAt c.state.ic) | false ↦ Some (EndAt c.mark.ic) ]) as (λ x. Bool) [ None ↦ true | Some d ↦ nat_lt k (count_of d) ] ≡ nat_lt k c.state.ic
@@ -30,7 +11,7 @@ passed_by c k false e = ap (nat_lt k) (e refl)
 module _ (i : Program) where
   pub cursor_passed : (c : Cursor) (cs : List Cursor) (k : ℕ) → c.state.ic ≤ c.mark.ic → is_passed (Some (record { points = []; cursors = c ∷ cs })) k ≡ nat_lt k c.state.ic
   cursor_passed c cs k low =
-      passed_by c k (has_row c) (λ e. let past = false_le c.state.ic c.mark.ic (or_left (is_within c) (nat_lt 16 c.mark.reason && not c.faulted) e) in omega (arith, past, low))
+      passed_by c k (has_row c) (λ e. let past = ltb-false c.state.ic c.mark.ic ((or_parts (is_within c) (nat_lt 16 c.mark.reason && not c.faulted) e).0) in omega (arith, past, low))
 
   pub first_goes : (c : Cursor) (cs : List Cursor) → AreFrom i c cs → GoesOn i c
   first_goes c [] a = a
@@ -53,11 +34,11 @@ module _ (i : Program) where
   not_yet p [] [] k a s e (inr h) = absurd h
   not_yet p [] (c ∷ cs) k a s e (inl h) = absurd h
   not_yet p [] (c ∷ cs) k a s e (inr h) =
-      let low = true_lt k c.state.ic (sym (cursor_passed c cs k (first_goes c cs s).0) ∙ e) in omega (arith, low, h.0)
-  not_yet p (q ∷ qs) cs k a s e (inl (inl same)) = let low = true_lt k q e in omega (arith, low, same)
-  not_yet p (q ∷ qs) cs k a s e (inl (inr h)) = let low = true_lt k q e in let up = above q qs cs k a.1 h in omega (arith, low, up)
+      let low = ltb-true k c.state.ic (sym (cursor_passed c cs k (first_goes c cs s).0) ∙ e) in omega (arith, low, h.0)
+  not_yet p (q ∷ qs) cs k a s e (inl (inl same)) = let low = ltb-true k q e in omega (arith, low, same)
+  not_yet p (q ∷ qs) cs k a s e (inl (inr h)) = let low = ltb-true k q e in let up = above q qs cs k a.1 h in omega (arith, low, up)
   not_yet p (q ∷ qs) [] k a s e (inr h) = absurd h
-  not_yet p (q ∷ qs) (c ∷ cs) k a s e (inr h) = let low = true_lt k q e in let up = under q qs a.1 in omega (arith, low, up, h.0)
+  not_yet p (q ∷ qs) (c ∷ cs) k a s e (inr h) = let low = ltb-true k q e in let up = under q qs a.1 in omega (arith, low, up, h.0)
     where
       under : (p : ℕ) (ps : List ℕ) → ArePoints (p ∷ ps) (c ∷ cs) → p < c.state.ic
       under p [] b = b
@@ -66,13 +47,13 @@ module _ (i : Program) where
   -- with the first point, all below it and itself is passed
   pub passed_with : (p : ℕ) (ps : List ℕ) (cs : List Cursor) (k : ℕ) → ArePoints (p ∷ ps) cs → AreCursors i cs → k ≤ p → is_passed (Some (record { points = ps; cursors = cs })) k ≡ true
   passed_with p [] [] k a s low = refl
-  passed_with p [] (c ∷ cs) k a s low = cursor_passed c cs k (first_goes c cs s).0 ∙ lt_true k c.state.ic (omega (arith, low, a))
-  passed_with p (q ∷ qs) cs k a s low = lt_true k q (omega (arith, low, a.0))
+  passed_with p [] (c ∷ cs) k a s low = cursor_passed c cs k (first_goes c cs s).0 ∙ lt-ltb k c.state.ic (omega (arith, low, a))
+  passed_with p (q ∷ qs) cs k a s low = lt-ltb k q (omega (arith, low, a.0))
 
   passing : (p : ℕ) (ps : List ℕ) (cs : List Cursor) → ArePoints (p ∷ ps) cs → AreCursors i cs → Passes i (record { points = p ∷ ps; cursors = cs }) (Passing p) (record { points = ps; cursors = cs })
   passing p ps cs a s = record {
     lane = record { points = rest_points p ps cs a; cursors = s };
-    stays = λ k e. passed_with p ps cs k a s (let low = true_lt k p e in omega (arith, low));
+    stays = λ k e. passed_with p ps cs k a s (let low = ltb-true k p e in omega (arith, low));
     one = λ k o e. elim o [
       | inl before ↦ inl before
       | inr (inl (inl same)) ↦ inr (ap (λ n. Some n) same)
@@ -80,7 +61,7 @@ module _ (i : Program) where
       | inr (inr h) ↦ absurd (not_yet p ps cs k a s e (inr h))
     ];
     on = λ k o. elim o [
-      | inl before ↦ inl (passed_with p ps cs k a s (let low = true_lt k p before in omega (arith, low)))
+      | inl before ↦ inl (passed_with p ps cs k a s (let low = ltb-true k p before in omega (arith, low)))
       | inr (inl (inl same)) ↦ inl (passed_with p ps cs k a s (omega (arith, same)))
       | inr (inl (inr h)) ↦ inr (inl h)
       | inr (inr h) ↦ inr (inr h)
@@ -97,7 +78,7 @@ module _ (i : Program) where
   -- the counts of a row: below the End's it goes one on, and at it, it stays
   row_counts : (c : Cursor) (r : Row) (rs : List Row) → c.state.ic ≤ c.mark.ic → RowsFrom i c.mark.ic c.left.outcome c.state (r ∷ rs)
       → ((c.state.ic < c.mark.ic) × ((next_cursor c r rs).state.ic ≡ c.state.ic + 1)) ⊎ ((next_cursor c r rs).state.ic ≡ c.state.ic)
-  row_counts c r rs low g = elim (less_or c.state.ic c.mark.ic) [
+  row_counts c r rs low g = elim (cases_lt c.state.ic c.mark.ic) [
     | inl less ↦ inl (less, (g.1 less).1)
     | inr past ↦ inr (ap (λ (s : HartState). s.ic) (g.2 past).1)
   ]
@@ -124,38 +105,38 @@ module _ (i : Program) where
       let up : c.state.ic ≤ d.state.ic = elim (row_counts c r rs low g) [ inl x ↦ (let b = x.1 in omega (arith, b)) | inr e ↦ omega (arith, e) ] in
       record {
         lane = record { points = tt; cursors = replace c d cs refl goes a };
-        stays = λ k e. (let under = true_lt k c.state.ic (sym (old k low) ∙ e) in new k goes.0 ∙ lt_true k d.state.ic (omega (arith, under, up)));
+        stays = λ k e. (let under = ltb-true k c.state.ic (sym (old k low) ∙ e) in new k goes.0 ∙ lt-ltb k d.state.ic (omega (arith, under, up)));
         one = λ k o e.
-            let under : k < d.state.ic = true_lt k d.state.ic (sym (new k goes.0) ∙ e) in
-            elim (less_or k c.state.ic) [
-              | inl before ↦ inl (old k low ∙ lt_true k c.state.ic before)
+            let under : k < d.state.ic = ltb-true k d.state.ic (sym (new k goes.0) ∙ e) in
+            elim (cases_lt k c.state.ic) [
+              | inl before ↦ inl (old k low ∙ lt-ltb k c.state.ic before)
               | inr at ↦ elim (row_counts c r rs low g) [
                 | inl x ↦
                     let more = x.1 in
                     let same : c.state.ic ≡ k = omega (arith, at, under, more) in
-                    inr (ap (λ (b : Bool). elim b as (λ y. Option ℕ) [ true ↦ Some c.state.ic | false ↦ None ]) (lt_true c.state.ic c.mark.ic x.0) ∙ ap (λ n. Some n) same)
+                    inr (ap (λ (b : Bool). elim b as (λ y. Option ℕ) [ true ↦ Some c.state.ic | false ↦ None ]) (lt-ltb c.state.ic c.mark.ic x.0) ∙ ap (λ n. Some n) same)
                 | inr stays ↦ absurd (omega (arith, at, under, stays))
               ]
             ];
-        on = λ k o. elim (less_or k d.state.ic) [
-          | inl before ↦ inl (new k goes.0 ∙ lt_true k d.state.ic before)
+        on = λ k o. elim (cases_lt k d.state.ic) [
+          | inl before ↦ inl (new k goes.0 ∙ lt-ltb k d.state.ic before)
           | inr at ↦ elim o [
-            | inl passed ↦ (let under = true_lt k c.state.ic (sym (old k low) ∙ passed) in absurd (omega (arith, under, at, up)))
+            | inl passed ↦ (let under = ltb-true k c.state.ic (sym (old k low) ∙ passed) in absurd (omega (arith, under, at, up)))
             | inr (inl h) ↦ absurd h
             | inr (inr h) ↦ inr (inr (at, subst (λ n. k < n) (sym (same_last c d cs refl)) h.1))
           ]
         ];
-        rows = λ k h. elim (less_or k d.state.ic) [
+        rows = λ k h. elim (cases_lt k d.state.ic) [
           | inr at ↦ inl (at, subst (λ n. k < n) (sym (same_last c d cs refl)) h.1)
           | inl under ↦ elim (row_counts c r rs low g) [
             | inl x ↦ (let e = g.0 in let l = h.0 in let more = x.1 in inr (omega (arith, e, l, under, more), (g.1 x.0).0))
             | inr stays ↦ (let l = h.0 in absurd (omega (arith, l, under, stays)))
           ]
         ];
-        at = λ n h. elim (less_or c.state.ic c.mark.ic) [
+        at = λ n h. elim (cases_lt c.state.ic c.mark.ic) [
           | inl less ↦ (
-            ap (λ (b : Bool). elim b as (λ y. Option ℕ) [ true ↦ Some c.state.ic | false ↦ None ]) (lt_true c.state.ic c.mark.ic less) ∙ ap (λ m. Some m) (sym g.0 ∙ h.0),
-            λ k under. old k low ∙ lt_true k c.state.ic (let e = g.0 in let f = h.0 in omega (arith, e, f, under)),
+            ap (λ (b : Bool). elim b as (λ y. Option ℕ) [ true ↦ Some c.state.ic | false ↦ None ]) (lt-ltb c.state.ic c.mark.ic less) ∙ ap (λ m. Some m) (sym g.0 ∙ h.0),
+            λ k under. old k low ∙ lt-ltb k c.state.ic (let e = g.0 in let f = h.0 in omega (arith, e, f, under)),
           )
           | inr past ↦ (let faults : is_some r.fault ≡ true = (g.2 past).0 in let none : is_some r.fault ≡ false = ap is_some h.1 in let f : false ≡ true = sym none ∙ faults in absurd cc)
         ];

@@ -8,7 +8,6 @@ pub mod JointMoves
 pub mod Beginning
 pub mod Choosing
 pub mod LaneMoves
-pub mod Harts
 pub mod Retaining
 pub mod Headers
 pub mod InsertedKeys
@@ -25,7 +24,6 @@ pub mod Insides
 pub mod Begins
 pub mod Onto
 pub mod Onward
-pub mod Positions
 pub mod Telling
 pub mod Firsts
 pub mod Items

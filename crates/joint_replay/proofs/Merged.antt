@@ -1,8 +1,7 @@
 -- Each walk is a merge of the harts' lists, and each merge that the kept Edges allow is a walk.
-use Rattle.joint_replay.proofs.Common.{◌≡◌, ℕ, zero, suc, ◌+◌, ◌<◌, ◌≤◌, ◌^◌, Bool, true, false, ◌==◌, ◌⊎◌, inl, inr, nat_lt, refl, sym, ap, ◌∙◌, subst, arith, List, [], ◌∷◌, ◌++◌, append_assoc, map, reverse, length, slice_get, Option, Some, None, Result, Ok, Err, ◌↔◌, eqb_tells, append-nil, reverse-append, Program, Record, Content, IsContent, ReplayError, Coming, Readiness, intervals_in, first_count, is_below, ordering_points, Lane, Item, Passing, lane_of, coming_of, point_of, lane_step, Joining, Taken, Walk, begun, longer, fresh, lanes_from, is_passed, readiness_of, readiness, coming, HartLane, joining, IsTogether, IsReached, IsBegun, IsAllowed, ready_step, walk_on, Has, InCursors, IsOn, Passes, PassesIf, HasEdge, IsSound, StepsPass, StartsAreSound, own, harts_of, steps_of, one_more, items_of, AreUnrefused, IsFront, IsAt, Stands, IsMerge, IsWhole, IsPassed, IsRefusedAt, point_at, AreMerges, IsReadyThere, IsChosenThere, Admits, IsAtMerge, AreSources, SourcesAreThere, WalksAreMerges, ReadyIsAdmitted, PassedIsStanding}
+use Rattle.joint_replay.proofs.Common.{◌≡◌, ℕ, zero, suc, ◌+◌, ◌<◌, ◌≤◌, ◌^◌, Bool, true, false, ◌==◌, ◌⊎◌, inl, inr, nat_lt, refl, sym, ap, ◌∙◌, subst, arith, List, [], ◌∷◌, ◌++◌, append_assoc, map, reverse, length, slice_get, Option, Some, None, Result, Ok, Err, ◌↔◌, eqb_tells, append-nil, reverse-append, Program, Record, Content, IsContent, ReplayError, Coming, Readiness, intervals_in, first_count, is_below, ordering_points, Lane, Item, Passing, lane_of, coming_of, point_of, lane_step, Joining, Taken, Walk, begun, longer, fresh, lanes_from, is_passed, readiness_of, readiness, coming, HartLane, joining, IsTogether, IsReached, IsBegun, IsAllowed, ready_step, walk_on, Has, InCursors, IsOn, Passes, PassesIf, HasEdge, IsSound, StepsPass, StartsAreSound, own, harts_of, steps_of, one_more, items_of, AreUnrefused, IsFront, IsAt, Stands, IsMerge, IsWhole, IsPassed, IsRefusedAt, point_at, AreMerges, IsReadyThere, IsChosenThere, Admits, IsAtMerge, AreSources, SourcesAreThere, WalksAreMerges, ReadyIsAdmitted, PassedIsStanding, cases_lt, le-ltb, lt-ltb, none-some, true≢false}
 use Rattle.joint_replay.specs.declared.kinds.Readiness.TheVariants as is
 use Rattle.joint_replay.proofs.Soundness.{get_same, get_other, some_is, sources_passed, stays, after_sound}
-use Rattle.joint_replay.proofs.LaneSteps.{lt_true, less_or}
 use Rattle.joint_replay.proofs.Walks.{undone, passed_lower}
 use Rattle.joint_replay.proofs.PointLists.{sources as source_points}
 use Rattle.joint_replay.proofs.Begins.{unpassed}
@@ -188,9 +187,6 @@ module _ (pass : StepsPass) (start : Start) (from : HasSources start) where
     pub follows : Follows start v.now (reverse v.taken)
     pub harts : harts_of (reverse v.taken) ≡ order
 
-  no_walk : (v : Walk) → ◌≡◌ {A = Option Walk} None (Some v) → ⊥
-  no_walk v e = cc
-
   walked : (order before : List ℕ) (w v : Walk) → Walked w before → walk_on w order ≡ Some v → Walked v (before ++ order)
   walked [] before w v k e =
       subst (λ (u : Walk). Walked u (before ++ [])) (some_is w v (Some w) refl e) (record { follows = k.follows; harts = k.harts ∙ sym (append-nil before) })
@@ -206,7 +202,7 @@ module _ (pass : StepsPass) (start : Start) (from : HasSources start) where
 
       by : (o : Option (Item × Joining)) → ready_step w.now h ≡ o → elim o as (λ x. Option Walk) [ None ↦ None | Some x ↦ walk_on (longer w h x) hs ] ≡ Some v
           → ((x : Item × Joining) → Walked (longer w h x) (before ++ h ∷ []) → walk_on (longer w h x) hs ≡ Some v → Walked v ((before ++ h ∷ []) ++ hs)) → Walked v (before ++ h ∷ hs)
-      by None i g rest = absurd (no_walk v g)
+      by None i g rest = absurd (none-some v g)
       by (Some x) i g rest =
           let s = steps_by w.now h x i in
           subst (Walked v) (append_assoc before (h ∷ []) hs) (rest x (subst (λ (y : Item × Joining). Walked (longer w h y) (before ++ h ∷ [])) (sym s.1) (longer_is s.0)) g)
@@ -318,13 +314,10 @@ below_none h = grind arith
 zero_below : (n : ℕ) → nat_lt 0 (suc n) ≡ true
 zero_below n = grind arith
 
-not_lt : (m n : ℕ) → n ≤ m → nat_lt m n ≡ false
-not_lt m n low = grind arith
-
 both_up : (h n : ℕ) → nat_lt (suc h) (suc n) ≡ nat_lt h n
-both_up h n = elim (less_or h n) [
-  | inl less ↦ lt_true (suc h) (suc n) (omega (arith, less)) ∙ sym (lt_true h n less)
-  | inr past ↦ not_lt (suc h) (suc n) (omega (arith, past)) ∙ sym (not_lt h n past)
+both_up h n = elim (cases_lt h n) [
+  | inl less ↦ lt-ltb (suc h) (suc n) (omega (arith, less)) ∙ sym (lt-ltb h n less)
+  | inr past ↦ le-ltb (suc h) (suc n) (omega (arith, past)) ∙ sym (le-ltb h n past)
 ]
 
 -- the lanes by their harts
@@ -426,7 +419,7 @@ module _ (pass : StepsPass) (i : Program) (harts : ℕ) (records : List Record) 
   none_come : (now : Joining) (steps : List Taken) → Follows start now steps → IsWhole i harts records steps → (k : ℕ) (lane : Lane) → slice_get now.lanes k ≡ Some lane → coming_of lane ≡ None
   none_come now steps f whole k lane at =
       let left : left_of now.program (slice_get now.lanes k) ≡ [] = cancel (own k steps) (left_of now.program (slice_get now.lanes k)) [] (f.merge k ∙ sym (whole.all k) ∙ sym (append-nil (own k steps))) in
-      nothing_comes now.program lane (ap (left_of now.program) (sym at) ∙ left) (subst done_of at ((f.ends k).1 (done (less_or k harts))))
+      nothing_comes now.program lane (ap (left_of now.program) (sym at) ∙ left) (subst done_of at ((f.ends k).1 (done (cases_lt k harts))))
     where
       done : (k < harts) ⊎ (harts ≤ k) → done_of (slice_get first.lanes k)
       done (inl low) = (unrefused_is k low).1 (whole.unrefused k low)
@@ -503,21 +496,18 @@ module _ (pass : StepsPass) (i : Program) (harts : ℕ) (records : List Record) 
   chosen_there : (now : Joining) (steps : List Taken) → Follows start now steps → IsChosenThere i harts records steps now
   chosen_there now steps f = record {
     chosen = λ h e. (ready_there now steps h f).admitted (chosen_ready now h e);
-    lowest = λ h k item e m. (let l = ready_lane now steps k item f m in elim (less_or k h) [
+    lowest = λ h k item e m. (let l = ready_lane now steps k item f m in elim (cases_lt k h) [
       | inl low ↦ absurd (lower_waits now.records now.lanes 0 now.lanes false h e k k l.0 (omega arith) low l.1 l.2)
       | inr high ↦ high
     ]);
     none = λ h item e m. (let l = ready_lane now steps h item f m in
         let not : is_ready_now (readiness_of now.records now.lanes h l.0) ≡ false = (all_wait now.records now.lanes 0 now.lanes false (ap is_none e)).0 h h l.0 (omega arith) l.1 in
-        never (sym (ap is_ready_now l.2) ∙ not));
+        true≢false (sym (ap is_ready_now l.2) ∙ not));
     done = (
       λ e. all_done now steps f (chosen_none now.records now.lanes 0 now.lanes e),
       λ whole. none_chosen now.records now.lanes 0 now.lanes (none_come now steps f whole),
     );
   }
-    where
-      never : true ≡ false → ⊥
-      never e = cc
 
   pub admits : (order : List ℕ) (w : Walk) → IsBegun i harts records order w → Admits i harts records (steps_of w) w.now
   admits order w b =
@@ -527,7 +517,7 @@ module _ (pass : StepsPass) (i : Program) (harts : ℕ) (records : List Record) 
   -- ---- passed sources
 
   lane_same : (n k h : ℕ) (lane : Lane) → slice_get (lanes_from i records k n) h ≡ Some lane → lane_of i records (k + h) ≡ lane
-  lane_same n k h lane e = elim (less_or h n) [
+  lane_same n k h lane e = elim (cases_lt h n) [
     | inl low ↦ some_is (lane_of i records (k + h)) lane (slice_get (lanes_from i records k n) h) (lane_there i records n k h low) e
     | inr high ↦ absurd (no_lane (sym (lane_none i records n k h high) ∙ e))
   ]

@@ -1,15 +1,10 @@
 -- Walks and the merges of the harts' lists.
-use Rattle.joint_replay.proofs.Common.{◌≡◌, ℕ, zero, suc, ◌+◌, ◌<◌, Bool, true, false, ◌==◌, ◌⊎◌, inl, inr, refl, sym, ap, ◌∙◌, arith, List, [], ◌∷◌, ◌++◌, length, slice_get, slice_set, Option, Some, None, Result, Ok, Err, Record, ReplayError, Coming, Readiness, sources_into, Lane, Item, coming_of, point_of, lane_step, memory_after, Next, Hart, AllDone, Joining, Taken, is_passed, first_waited, waits_for, readiness_of, readiness, choice_from, next_step, move, ready_step, HasEdge, own, Stands}
+use Rattle.joint_replay.proofs.Common.{◌≡◌, ℕ, zero, suc, ◌+◌, ◌<◌, Bool, true, false, ◌==◌, ◌⊎◌, inl, inr, refl, sym, ap, ◌∙◌, arith, List, [], ◌∷◌, ◌++◌, length, slice_get, slice_set, Option, Some, None, Result, Ok, Err, Record, ReplayError, Coming, Readiness, sources_into, Lane, Item, coming_of, point_of, lane_step, memory_after, Next, Hart, AllDone, Joining, Taken, is_passed, first_waited, waits_for, readiness_of, readiness, choice_from, next_step, move, ready_step, HasEdge, own, Stands, none-some, slice_get_within, true≢false}
 use Rattle.joint_replay.specs.declared.kinds.Readiness.TheVariants as is
 use Rattle.joint_replay.proofs.Soundness.{some_is}
 use Rattle.joint_replay.proofs.Descent.{Waited, waited}
 
 -- ---- places
-
-pub get_low : {X : Type 0} (xs : List X) (x : ℕ) (u : X) → slice_get xs x ≡ Some u → x < length xs
-get_low [] x u e = cc
-get_low (y ∷ xs) zero u e = omega arith
-get_low (y ∷ xs) (suc x) u e = let rest = get_low xs x u e in omega (arith, rest)
 
 pub get_more : {X : Type 0} (xs ys : List X) (x : ℕ) (u : X) → slice_get xs x ≡ Some u → slice_get (xs ++ ys) x ≡ Some u
 get_more [] ys x u e = cc
@@ -33,7 +28,7 @@ get_last (z ∷ xs) y zero u e = inl e
 get_last (z ∷ xs) y (suc x) u e = elim (get_last xs y x u e) [ inl f ↦ inl f | inr p ↦ inr (ap suc p.0, p.1) ]
 
 pub stands_low : (ts : List Taken) (x s j : ℕ) → Stands ts x s j → x < length ts
-stands_low ts x s j d = get_low ts x d.step d.at
+stands_low ts x s j d = slice_get_within ts x d.step d.at
 
 pub stands_more : (ts us : List Taken) (x s j : ℕ) → Stands ts x s j → Stands (ts ++ us) x s j
 stands_more ts us x s j d = record { step = d.step; at = get_more ts us x d.step d.at; hart_is = d.hart_is; item = d.item }
@@ -80,10 +75,7 @@ module _ (records : List Record) (lanes : List Lane) (h : ℕ) (lane : Lane) whe
 
   none_waited : (ic : ℕ) → ((s j : ℕ) → HasEdge records h ic s j → is_passed (slice_get lanes s) j ≡ true) → (o : Option (ℕ × ℕ)) → Waited records lanes h ic o → waits_for o ≡ is.Ready
   none_waited ic all None w = refl
-  none_waited ic all (Some p) w = absurd (never (sym (all p.0 p.1 w.0) ∙ w.1))
-    where
-      never : true ≡ false → ⊥
-      never e = cc
+  none_waited ic all (Some p) w = absurd (true≢false (sym (all p.0 p.1 w.0) ∙ w.1))
 
   by_point : (q : Option ℕ) → ((ic : ℕ) → q ≡ Some ic → (s j : ℕ) → HasEdge records h ic s j → is_passed (slice_get lanes s) j ≡ true) → (c : Coming) → ready_by (Some c) q ≡ is.Ready
   by_point None all c = refl
@@ -213,17 +205,14 @@ readiness_by now h o = elim o as (λ x. Readiness) [ None ↦ is.Done | Some lan
 abbrev step_by : Joining → ℕ → Option Lane → Option (Result (Item × Joining) ReplayError)
 step_by now h o = elim o as (λ x. Option (Result (Item × Joining) ReplayError)) [ None ↦ None | Some lane ↦ move now h (lane_step now.program lane) ]
 
-no_step : (x : Item × Joining) → ◌≡◌ {A = Option (Item × Joining)} None (Some x) → ⊥
-no_step x e = cc
-
 module _ (now : Joining) (h : ℕ) (x : Item × Joining) where
   abbrev Gives : Type 0
   Gives = (s : Steps now h) × (x ≡ (s.item, stepped now h s.item s.next))
 
   by_move : (lane : Lane) → slice_get now.lanes h ≡ Some lane → readiness_of now.records now.lanes h lane ≡ is.Ready → (o : Option (Result (Item × Lane) ReplayError)) → lane_step now.program lane ≡ o
       → only_ok (move now h o) ≡ Some x → Gives
-  by_move lane at ready None e f = absurd (no_step x f)
-  by_move lane at ready (Some (Err g)) e f = absurd (no_step x f)
+  by_move lane at ready None e f = absurd (none-some x f)
+  by_move lane at ready (Some (Err g)) e f = absurd (none-some x f)
   by_move lane at ready (Some (Ok y)) e f = (
     record { lane = lane; at = at; ready = ready; item = y.0; next = y.1; step = e },
     sym (some_is (y.0, stepped now h y.0 y.1) x (Some (y.0, stepped now h y.0 y.1)) refl f),
@@ -231,17 +220,17 @@ module _ (now : Joining) (h : ℕ) (x : Item × Joining) where
 
   by_refused : (lane : Lane) → slice_get now.lanes h ≡ Some lane → readiness_of now.records now.lanes h lane ≡ is.Ready → (r : Option ReplayError)
       → only_ok (unrefused r (move now h (lane_step now.program lane))) ≡ Some x → Gives
-  by_refused lane at ready (Some e) f = absurd (no_step x f)
+  by_refused lane at ready (Some e) f = absurd (none-some x f)
   by_refused lane at ready None f = by_move lane at ready (lane_step now.program lane) refl f
 
   by_readiness : (lane : Lane) → slice_get now.lanes h ≡ Some lane → (r : Readiness) → readiness_of now.records now.lanes h lane ≡ r
       → if_ready r (only_ok (unrefused now.refused (move now h (lane_step now.program lane)))) ≡ Some x → Gives
   by_readiness lane at is.Ready e f = by_refused lane at e now.refused f
-  by_readiness lane at (is.Waits s ic) e f = absurd (no_step x f)
-  by_readiness lane at is.Done e f = absurd (no_step x f)
+  by_readiness lane at (is.Waits s ic) e f = absurd (none-some x f)
+  by_readiness lane at is.Done e f = absurd (none-some x f)
 
   by_hart : (o : Option Lane) → slice_get now.lanes h ≡ o → if_ready (readiness_by now h o) (only_ok (unrefused now.refused (step_by now h o))) ≡ Some x → Gives
-  by_hart None e f = absurd (no_step x f)
+  by_hart None e f = absurd (none-some x f)
   by_hart (Some lane) e f = by_readiness lane e (readiness_of now.records now.lanes h lane) refl f
 
   pub steps_by : ready_step now h ≡ Some x → (s : Steps now h) × (x ≡ (s.item, stepped now h s.item s.next))

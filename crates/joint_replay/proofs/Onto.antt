@@ -2,7 +2,7 @@
 use Rattle.joint_replay.proofs.Common.{◌≡◌, ℕ, zero, suc, ◌+◌, ◌-◌, ◌^◌, ◌<◌, Some, Bool, true, false, not, ◌&&◌, ◌||◌, ◌==◌, nat_lt, refl, sym, ◌∙◌, subst, List, [], ◌∷◌, take, fault_number, Program, Row, HartState, Want, Load, Store, LoadReserved, StoreConditional, Amo, System, Cut, Faulted, fault_row, Record, EndDiffers, Refused, Replayed, Interval, Position, On, Stop, one_step, ended, fault_end, finish, left_over, found, onto, steps, first, interval_of, replayed, replayed_in, with_rows, without_rows, to_come, RowsFrom, RowsGoOn}
 use Rattle.rv_meaning.specs.Execute.{Step, Quiet, Asks, step, count_up}
 use Rattle.hart_replay.specs.Replay.{Next}
-use Rattle.joint_replay.proofs.Follows.{Follows, follows}
+use Rattle.joint_replay.proofs.Follows.{Follows, follows, CountsGoUp, AsksPass, uncut}
 
 abbrev behind : List Row → Replayed → Replayed
 behind rows x = record { rows = onto rows x.rows; outcome = x.outcome }
@@ -63,7 +63,7 @@ abbrev pub ReplaysGoOn : Program → List Record → Type 0
 ReplaysGoOn i records = (h n : ℕ) (v : Interval) → interval_of h n records ≡ Some v → v.mark.ic < 2 ^ 64
     → RowsFrom i v.mark.ic (replayed i records h n).outcome v.start (replayed i records h n).rows
 
-pub replays_go_on : ((i : Program) (s t : HartState) → step i s ≡ Quiet t → t.ic ≡ count_up s.ic) → ((i : Program) (s : HartState) → step i s ≡ Asks Cut → ⊥) → RowsGoOn → (i : Program) (records : List Record) → ReplaysGoOn i records
-replays_go_on counted uncut rows i records h n v e fits =
+pub replays_go_on : CountsGoUp → AsksPass → RowsGoOn → (i : Program) (records : List Record) → ReplaysGoOn i records
+replays_go_on counted asks rows i records h n v e fits =
     subst (λ o. RowsFrom i v.mark.ic (replayed_in i h n o).outcome v.start (replayed_in i h n o).rows) (sym e)
-    (subst (λ (x : Replayed). RowsFrom i v.mark.ic x.outcome v.start x.rows) (sym (replay_rows i h v (counted i) (uncut i) (v.mark.ic - v.start.ic))) (rows i h v (first v) fits))
+    (subst (λ (x : Replayed). RowsFrom i v.mark.ic x.outcome v.start x.rows) (sym (replay_rows i h v (counted i) (uncut asks i) (v.mark.ic - v.start.ic))) (rows i h v (first v) fits))

@@ -1,14 +1,11 @@
 -- Runs, step by step.
-use Rattle.joint_replay.proofs.Common.{◌≡◌, ℕ, zero, suc, ◌+◌, ◌<◌, ◌⊎◌, inl, inr, refl, sym, ap, ◌∙◌, subst, arith, List, [], ◌∷◌, ◌++◌, append_assoc, length, slice_get, slice_set, Option, Some, None, Result, Ok, Err, append-nil, Program, Row, ReplayError, Outcome, Done, Refused, JointError, Stuck, Next, Hart, AllDone, NoneReady, Cursor, Lane, Item, Doing, Ending, row_given, cursors_steps, lane_step, lane_steps, memory_after, Joining, Taken, Walk, Ran, begun, ran, choice, move, next_step, error_of, positions_from, steps_left, run_on, run_for, run_all, item_text, steps_text}
+use Rattle.joint_replay.proofs.Common.{◌≡◌, ℕ, zero, suc, ◌+◌, ◌<◌, ◌⊎◌, inl, inr, refl, sym, ap, ◌∙◌, subst, arith, List, [], ◌∷◌, ◌++◌, append_assoc, length, slice_get, slice_set, Option, Some, None, Result, Ok, Err, append-nil, Program, Row, ReplayError, Outcome, Done, Refused, JointError, Stuck, Next, Hart, AllDone, NoneReady, Cursor, Lane, Item, Doing, Ending, row_given, cursors_steps, lane_step, lane_steps, memory_after, Joining, Taken, Walk, Ran, begun, ran, choice, move, next_step, error_of, positions_from, steps_left, run_on, run_for, run_all, item_text, steps_text, same_Some}
 use Rattle.joint_replay.specs.Runs.{one_step, IsStep, IsFirstTaken, RunsGoOn, RunsEnd}
 
 -- ---- a step lowers what is left
 
 same_pair : (x y : Item × Lane) → ◌≡◌ {A = Result (Item × Lane) ReplayError} (Ok x) (Ok y) → x ≡ y
 same_pair x y e = cc
-
-some_pair : (x y : Result (Item × Lane) ReplayError) → ◌≡◌ {A = Option (Result (Item × Lane) ReplayError)} (Some x) (Some y) → x ≡ y
-some_pair x y e = cc
 
 -- an interval's step, by what is left of it
 abbrev step_by : Program → Cursor → List Cursor → List Row → Outcome → Result (Item × Lane) ReplayError
@@ -25,10 +22,10 @@ cursor_fewer i c cs (r ∷ rs) o x e = subst (λ (y : Item × Lane). lane_steps 
 lane_fewer : (i : Program) (points : List ℕ) (cursors : List Cursor) (x : Item × Lane) → lane_step i (record { points = points; cursors = cursors }) ≡ Some (Ok x) → lane_steps x.1 < length points + cursors_steps cursors
 lane_fewer i [] [] x e = absurd cc
 lane_fewer i [] (c ∷ cs) x e =
-    let low = cursor_fewer i c cs c.left.rows c.left.outcome x (some_pair (step_by i c cs c.left.rows c.left.outcome) (Ok x) e) in
+    let low = cursor_fewer i c cs c.left.rows c.left.outcome x (same_Some (step_by i c cs c.left.rows c.left.outcome) (Ok x) e) in
     omega (arith, low)
 lane_fewer i (p ∷ ps) cursors x e =
-    subst (λ (y : Item × Lane). lane_steps y.1 < length (p ∷ ps) + cursors_steps cursors) (same_pair _ x (some_pair _ (Ok x) e)) (omega arith)
+    subst (λ (y : Item × Lane). lane_steps y.1 < length (p ∷ ps) + cursors_steps cursors) (same_pair _ x (same_Some _ (Ok x) e)) (omega arith)
 
 set_fewer : (ls : List Lane) (h : ℕ) (lane new : Lane) → slice_get ls h ≡ Some lane → lane_steps new < lane_steps lane → steps_left (slice_set ls h new) < steps_left ls
 set_fewer [] h lane new e low = absurd cc
@@ -76,13 +73,6 @@ by_choice ts j go n = elim n [ AllDone ↦ ran (walk_of ts j) None | NoneReady �
 abbrev by_refusal : List Taken → Joining → (Walk → Ran) → Option ReplayError → Ran
 by_refusal ts j go o = elim o [ Some e ↦ ran (walk_of ts j) (Some (error_of e)) | None ↦ by_choice ts j go (choice j) ]
 
--- a run of one step, by the step of the lowest ready hart
-abbrev pub step_made : Joining → ℕ → Option (Result (Item × Joining) ReplayError) → Ran
-step_made j h o = by_step [] j (λ w. run_for 0 w) h o
-
-pub first_step : (j : Joining) (h : ℕ) → j.refused ≡ None → choice j ≡ Hart h → one_step j ≡ step_made j h (next_step j h)
-first_step j h none lowest = ap (by_refusal [] j (λ w. run_for 0 w)) none ∙ ap (by_choice [] j (λ w. run_for 0 w)) lowest
-
 -- a step is taken, and the run continues
 abbrev Goes : Joining → Taken → Joining → Type 0
 Goes j t next = (ts : List Taken) (go : Walk → Ran) → run_on (walk_of ts j) go ≡ go (walk_of (t ∷ ts) next)
@@ -114,9 +104,6 @@ none_ready j none c = λ ts go. ap (by_refusal ts j go) none ∙ ap (by_choice t
 
 by_next : (j : Joining) (h : ℕ) (o : Option (Result (Item × Joining) ReplayError)) → j.refused ≡ None → choice j ≡ Hart h → next_step j h ≡ o → (ts : List Taken) (go : Walk → Ran) → run_on (walk_of ts j) go ≡ by_step ts j go h o
 by_next j h o none c e ts go = ap (by_refusal ts j go) none ∙ ap (by_choice ts j go) c ∙ ap (by_step ts j go h) e
-
-pub refusal_stays : (j : Joining) (e : ReplayError) → j.refused ≡ Some e → one_step j ≡ ran (begun j) (Some (error_of e))
-refusal_stays j e f = refused_there j e f [] (λ v. run_for 0 v)
 
 pub step_taken : (j : Joining) (h : ℕ) (x : Item × Joining) → j.refused ≡ None → choice j ≡ Hart h → next_step j h ≡ Some (Ok x) → IsStep j (taken_by h x.0) x.1
 step_taken j h x none c e = by_next j h (Some (Ok x)) none c e [] (λ v. run_for 0 v)

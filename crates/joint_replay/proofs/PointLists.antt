@@ -1,21 +1,8 @@
 -- Numbers put in their places.
-use Rattle.joint_replay.proofs.Common.{◌≡◌, ℕ, ◌<◌, Bool, true, false, ◌&&◌, ◌==◌, ◌⊎◌, inl, inr, nat_lt, refl, sym, ap, ◌∙◌, subst, arith, List, [], ◌∷◌, Option, Record, Header, FirstLoad, ScOk, ScFailed, Edge, End, Cursor, first_count, is_below, insert, insert_if, points_below, ArePoints, IsBelow, Has, HasEdge, PointsAscend, IsNamed, PointsAreNamed}
-
-true_lt : (m n : ℕ) → nat_lt m n ≡ true → m < n
-true_lt m n h = grind arith
+use Rattle.joint_replay.proofs.Common.{◌≡◌, ℕ, ◌<◌, Bool, true, false, ◌&&◌, ◌==◌, ◌⊎◌, inl, inr, nat_lt, refl, sym, ap, ◌∙◌, subst, arith, List, [], ◌∷◌, Option, Record, Header, FirstLoad, ScOk, ScFailed, Edge, End, Cursor, first_count, is_below, insert, insert_if, points_below, ArePoints, IsBelow, Has, HasEdge, PointsAscend, IsNamed, PointsAreNamed, and_parts, eq-eqb, eqb-true, ltb-true}
 
 above_of : (m n : ℕ) → (n == m) ≡ false → nat_lt n m ≡ false → m < n
 above_of m n e f = grind arith
-
-same_number : (a b : ℕ) → (a == b) ≡ true → a ≡ b
-same_number a b h = grind arith
-
-eqb_same : (k : ℕ) → (k == k) ≡ true
-eqb_same k = grind arith
-
-both : (a b : Bool) → (a && b) ≡ true → (a ≡ true) × (b ≡ true)
-both true b e = (refl, e)
-both false b e = cc
 
 -- the first of these numbers is above m; if there is none, m is below the intervals
 abbrev Above : ℕ → List ℕ → List Cursor → Type 0
@@ -50,7 +37,7 @@ insert_points n (x ∷ xs) cs low p = by (n == x) refl (nat_lt n x) refl (insert
     by : (b : Bool) → (n == x) ≡ b → (c : Bool) → nat_lt n x ≡ c → ArePoints (insert n xs) cs
         → ArePoints (elim b as (λ y. List ℕ) [ true ↦ x ∷ xs | false ↦ elim c as (λ y. List ℕ) [ true ↦ n ∷ x ∷ xs | false ↦ x ∷ insert n xs ] ]) cs
     by true e c f rest = p
-    by false e true f rest = (true_lt n x f, p)
+    by false e true f rest = (ltb-true n x f, p)
     by false e false f rest = behind x (insert n xs) cs (above_insert x n xs cs (above_of x n e f) (first_above x xs cs p)) rest
 
 has_new : (n : ℕ) (xs : List ℕ) → Has (insert n xs) n
@@ -58,7 +45,7 @@ has_new n [] = inl refl
 has_new n (x ∷ xs) = by (n == x) refl (nat_lt n x) (has_new n xs)
   where
     by : (b : Bool) → (n == x) ≡ b → (c : Bool) → Has (insert n xs) n → Has (elim b as (λ y. List ℕ) [ true ↦ x ∷ xs | false ↦ elim c as (λ y. List ℕ) [ true ↦ n ∷ x ∷ xs | false ↦ x ∷ insert n xs ] ]) n
-    by true e c rest = inl (sym (same_number n x e))
+    by true e c rest = inl (sym (eqb-true n x e))
     by false e true rest = inl refl
     by false e false rest = inr rest
 
@@ -92,8 +79,8 @@ ascend first h (ScOk k ∷ rs) cs low = ascend first h rs cs low
 ascend first h (ScFailed k ∷ rs) cs low = ascend first h rs cs low
 ascend first h (End k m ∷ rs) cs low = ascend first h rs cs low
 ascend first h (Edge k ic s j ∷ rs) cs low =
-    if_points (k == h && is_below first ic) ic (insert_if (s == h && is_below first j) j (points_below first h rs)) cs (λ e. low ic (both (k == h) (is_below first ic) e).1)
-    (if_points (s == h && is_below first j) j (points_below first h rs) cs (λ e. low j (both (s == h) (is_below first j) e).1) (ascend first h rs cs low))
+    if_points (k == h && is_below first ic) ic (insert_if (s == h && is_below first j) j (points_below first h rs)) cs (λ e. low ic (and_parts (k == h) (is_below first ic) e).1)
+    (if_points (s == h && is_below first j) j (points_below first h rs) cs (λ e. low j (and_parts (s == h) (is_below first j) e).1) (ascend first h rs cs low))
 
 targets : (first : Option ℕ) (h ic s j : ℕ) (rs : List Record) → HasEdge rs h ic s j → is_below first ic ≡ true → Has (points_below first h rs) ic
 targets first h ic s j [] e low = absurd e
@@ -103,7 +90,7 @@ targets first h ic s j (ScOk k ∷ rs) e low = targets first h ic s j rs e low
 targets first h ic s j (ScFailed k ∷ rs) e low = targets first h ic s j rs e low
 targets first h ic s j (End k m ∷ rs) e low = targets first h ic s j rs e low
 targets first h ic s j (Edge k n a b ∷ rs) (inl e) low =
-    let own : (k == h) ≡ true = ap (λ t. t == h) e.0 ∙ eqb_same h in
+    let own : (k == h) ≡ true = ap (λ t. t == h) e.0 ∙ eq-eqb h h refl in
     let here : (k == h && is_below first n) ≡ true = ap (λ t. t && is_below first n) own ∙ (ap (is_below first) e.1 ∙ low) in
     subst (Has (insert_if (k == h && is_below first n) n (insert_if (a == h && is_below first b) b (points_below first h rs)))) e.1
     (if_new (k == h && is_below first n) n (insert_if (a == h && is_below first b) b (points_below first h rs)) here)
@@ -120,7 +107,7 @@ sources first k ic h j (ScOk m ∷ rs) e low = sources first k ic h j rs e low
 sources first k ic h j (ScFailed m ∷ rs) e low = sources first k ic h j rs e low
 sources first k ic h j (End m mark ∷ rs) e low = sources first k ic h j rs e low
 sources first k ic h j (Edge m n a b ∷ rs) (inl e) low =
-    let own : (a == h) ≡ true = ap (λ t. t == h) e.2 ∙ eqb_same h in
+    let own : (a == h) ≡ true = ap (λ t. t == h) e.2 ∙ eq-eqb h h refl in
     let here : (a == h && is_below first b) ≡ true = ap (λ t. t && is_below first b) own ∙ (ap (is_below first) e.3 ∙ low) in
     if_old (m == h && is_below first n) n j (insert_if (a == h && is_below first b) b (points_below first h rs))
     (subst (Has (insert_if (a == h && is_below first b) b (points_below first h rs))) e.3 (if_new (a == h && is_below first b) b (points_below first h rs) here))
@@ -154,13 +141,13 @@ named first h k (ScFailed m ∷ rs) i = named first h k rs i
 named first h k (End m mark ∷ rs) i = named first h k rs i
 named first h k (Edge m n a b ∷ rs) i = elim (if_inserted (m == h && is_below first n) n k (insert_if (a == h && is_below first b) b (points_below first h rs)) i) [
   | inl target ↦ (
-      let parts = both (m == h) (is_below first n) target.0 in
-      (inl (a, b, inl (same_number m h parts.0, target.1, refl, refl)), subst (λ t. is_below first t ≡ true) target.1 parts.1)
+      let parts = and_parts (m == h) (is_below first n) target.0 in
+      (inl (a, b, inl (eqb-true m h parts.0, target.1, refl, refl)), subst (λ t. is_below first t ≡ true) target.1 parts.1)
       )
   | inr more ↦ elim (if_inserted (a == h && is_below first b) b k (points_below first h rs) more) [
     | inl source ↦ (
-        let parts = both (a == h) (is_below first b) source.0 in
-        (inr (m, n, inl (refl, refl, same_number a h parts.0, source.1)), subst (λ t. is_below first t ≡ true) source.1 parts.1)
+        let parts = and_parts (a == h) (is_below first b) source.0 in
+        (inr (m, n, inl (refl, refl, eqb-true a h parts.0, source.1)), subst (λ t. is_below first t ≡ true) source.1 parts.1)
         )
     | inr later ↦ (
         let l = named first h k rs later in

@@ -2,7 +2,7 @@
 use Rattle.joint_replay.proofs.Common.{◌≡◌, ℕ, zero, suc, ◌+◌, ◌-◌, ◌<◌, ◌≤◌, ◌^◌, Bool, true, false, not, ◌&&◌, ◌||◌, ◌==◌, nat_lt, refl, sym, ap, ◌∙◌, subst, arith, [], ◌∷◌, ◌++◌, take, fault_number, Program, HartState, Want, Load, Store, LoadReserved, StoreConditional, Amo, System, Cut, Faulted, fault_row, EndDiffers, Refused, Replayed, Interval, Position, On, Stop, one_step, ended, fault_end, finish, left_over, found, with_rows, without_rows, to_come, RowsFrom, RowsGoOn}
 use Rattle.rv_meaning.specs.Execute.{Step, Quiet, Asks, step, count_up}
 use Rattle.hart_replay.specs.Replay.{Next}
-use Rattle.joint_replay.proofs.Follows.{Follows, follows}
+use Rattle.joint_replay.proofs.Follows.{Follows, follows, CountsGoUp, AsksPass, uncut}
 
 abbrev GoOn : Program → ℕ → HartState → Replayed → Type 0
 GoOn i last s x = RowsFrom i last x.outcome s x.rows
@@ -62,5 +62,5 @@ module _ (i : Program) (h : ℕ) (v : Interval) where
             subst (λ s. GoOn i v.mark.ic s (to_come i h v n q)) f.4 later,
           )
 
-pub rows_go_on : ((i : Program) (s t : HartState) → step i s ≡ Quiet t → t.ic ≡ count_up s.ic) → ((i : Program) (s : HartState) → step i s ≡ Asks Cut → ⊥) → RowsGoOn
-rows_go_on counted uncut i h v p fits = go i h v (counted i) (uncut i) fits (v.mark.ic - p.state.ic) p refl
+pub rows_go_on : CountsGoUp → AsksPass → RowsGoOn
+rows_go_on counted asks i h v p fits = go i h v (counted i) (uncut asks i) fits (v.mark.ic - p.state.ic) p refl

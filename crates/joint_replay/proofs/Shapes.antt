@@ -1,28 +1,11 @@
 -- The intervals of a hart in a log in order, by the walk of the order's rules.
-use Rattle.joint_replay.proofs.Common.{◌≡◌, ◌<◌, ℕ, ◌+◌, ◌^◌, ◌≤◌, max, Bool, true, false, not, ◌&&◌, ◌||◌, ◌==◌, ◌⊎◌, inl, inr, nat_lt, refl, sym, ap, ◌∙◌, subst, arith, List, [], ◌∷◌, length, slice_get, slice_set, Option, Some, None, Result, Ok, Err, if◌then◌else◌, nat_le, EndMark, Record, Header, FirstLoad, ScOk, ScFailed, Edge, End, hart_of, OrderLimits, HartView, Phase, takes_header, takes_other, is_awaited, is_number, has_edge, has_end, goes_on, phase_after, after_one, after_header, after_edge, after_end, after_other, is_done, is_unfinished, puts, nothing, Logged, Span, mark_of, spans, AreSpans, Fits, is_known, OrderedLogsHaveShape, eqb_tells, bytes_of, ◌>>=◌, step, step_at, has_source, at_place, after_all, OrderBreak}
+use Rattle.joint_replay.proofs.Common.{◌≡◌, ◌<◌, ℕ, ◌+◌, ◌^◌, ◌≤◌, max, Bool, true, false, not, ◌&&◌, ◌||◌, ◌==◌, ◌⊎◌, inl, inr, nat_lt, refl, sym, ap, ◌∙◌, subst, arith, List, [], ◌∷◌, length, slice_get, slice_set, Option, Some, None, Result, Ok, Err, if◌then◌else◌, nat_le, EndMark, Record, Header, FirstLoad, ScOk, ScFailed, Edge, End, hart_of, OrderLimits, HartView, Phase, takes_header, takes_other, is_awaited, is_number, has_edge, has_end, goes_on, phase_after, after_one, after_header, after_edge, after_end, after_other, is_done, is_unfinished, puts, nothing, Logged, Span, mark_of, spans, AreSpans, Fits, is_known, OrderedLogsHaveShape, eqb_tells, bytes_of, ◌>>=◌, step, step_at, has_source, at_place, after_all, OrderBreak, and_parts, eqb-true, leb-true, ltb-false, not-false, or-true}
 use Rattle.log_order.specs.declared.view.Phase.TheVariants.{Unknown, Awaiting, Open, Done}
 use Rattle.joint_replay.proofs.Soundness.{get_same, get_other, some_is}
 
 pub passes : {A : Type 0} (b : Bool) (e : ℕ) (x : Result A ℕ) (w : A) → (if b then Err e else x) ≡ Ok w → (b ≡ false) × (x ≡ Ok w)
 passes true e x w h = cc
 passes false e x w h = (refl, h)
-
-pub not_false : (b : Bool) → not b ≡ false → b ≡ true
-not_false true e = refl
-not_false false e = absurd cc
-
-pub both : (a b : Bool) → (a && b) ≡ true → (a ≡ true) × (b ≡ true)
-both true b e = (refl, e)
-both false b e = cc
-
-pub same_number : (a b : ℕ) → (a == b) ≡ true → a ≡ b
-same_number a b h = grind arith
-
-not_less : (a b : ℕ) → nat_lt a b ≡ false → b ≤ a
-not_less a b h = grind arith
-
-pub is_le : (a b : ℕ) → nat_le a b ≡ true → a ≤ b
-is_le a b h = grind arith
 
 pub ok_is : {A : Type 0} (x y : A) → ◌≡◌ {A = Result A ℕ} (Ok x) (Ok y) → x ≡ y
 ok_is x y e = cc
@@ -46,7 +29,7 @@ headed t v u n ic e =
     let d = passes (nat_lt ic v.seen) 5 (if nat_lt t.limit ic then Err 5 else Ok (record { phase = Open (n + 1) ic; seen = v.seen; met = true; last = v.last })) u c.1 in
     let f = passes (nat_lt t.limit ic) 5 (Ok (record { phase = Open (n + 1) ic; seen = v.seen; met = true; last = v.last })) u d.1 in
     let is : ◌≡◌ {A = HartView} (record { phase = Open (n + 1) ic; seen = v.seen; met = true; last = v.last }) u = ok_is (record { phase = Open (n + 1) ic; seen = v.seen; met = true; last = v.last }) u f.1 in
-    record { takes = not_false (takes_header v.phase) a.0; awaited = not_false (is_awaited v.phase n ic) b.0; phase = sym (ap (λ (x : HartView). x.phase) is); low = not_less ic v.seen d.0; seen = ap (λ (x : HartView). x.seen) is; met = sym (ap (λ (x : HartView). x.met) is) }
+    record { takes = not-false (takes_header v.phase) a.0; awaited = not-false (is_awaited v.phase n ic) b.0; phase = sym (ap (λ (x : HartView). x.phase) is); low = ltb-false ic v.seen d.0; seen = ap (λ (x : HartView). x.seen) is; met = sym (ap (λ (x : HartView). x.met) is) }
 
 -- a record that changes no phase
 pub record Stays (v u : HartView) : Type 0 where
@@ -61,7 +44,7 @@ other v u e =
     let a = passes (not (takes_other v.phase)) 3 (Ok (record { phase = v.phase; seen = v.seen; met = true; last = v.last })) u e in
     let is : ◌≡◌ {A = HartView} (record { phase = v.phase; seen = v.seen; met = true; last = v.last }) u = ok_is (record { phase = v.phase; seen = v.seen; met = true; last = v.last }) u a.1 in
     let same = ap (λ (x : HartView). x.seen) is in
-    record { seen = omega (arith, same); takes = not_false (takes_other v.phase) a.0; phase = sym (ap (λ (x : HartView). x.phase) is); met = sym (ap (λ (x : HartView). x.met) is) }
+    record { seen = omega (arith, same); takes = not-false (takes_other v.phase) a.0; phase = sym (ap (λ (x : HartView). x.phase) is); met = sym (ap (λ (x : HartView). x.met) is) }
 
 pub record Edged (t : OrderLimits) (v u : HartView) (ic : ℕ) : Type 0 where
   pub stays : Stays v u
@@ -86,10 +69,10 @@ edged t v u ic j e =
     let f = passes (not (has_edge t.interval v.phase ic)) 5 (Ok last) u d.1 in
     let is : last ≡ u = ok_is last u f.1 in
     record {
-      stays = record { seen = subst (λ (x : HartView). v.seen ≤ x.seen) is (max_left v.seen (ic + 1)); takes = not_false (takes_other v.phase) a.0; phase = sym (ap (λ (x : HartView). x.phase) is); met = sym (ap (λ (x : HartView). x.met) is) };
+      stays = record { seen = subst (λ (x : HartView). v.seen ≤ x.seen) is (max_left v.seen (ic + 1)); takes = not-false (takes_other v.phase) a.0; phase = sym (ap (λ (x : HartView). x.phase) is); met = sym (ap (λ (x : HartView). x.met) is) };
       next = subst (λ (x : HartView). ic < x.seen) is (max_right ic v.seen);
-      low = not_less (ic + 1) v.seen d.0;
-      fits = not_false (has_edge t.interval v.phase ic) f.0;
+      low = ltb-false (ic + 1) v.seen d.0;
+      fits = not-false (has_edge t.interval v.phase ic) f.0;
     }
 
 pub record Ended (t : OrderLimits) (v u : HartView) (m : EndMark) : Type 0 where
@@ -113,10 +96,10 @@ ended t v u m e =
     let f = passes (not (has_end t.interval v.phase m.reason m.ic)) 5 (Ok last) u d.1 in
     let is : last ≡ u = ok_is last u f.1 in
     record {
-      takes = not_false (takes_other v.phase) a.0;
-      limit = not_less t.limit m.ic c.0;
-      low = not_less m.ic v.seen b.0;
-      fits = not_false (has_end t.interval v.phase m.reason m.ic) f.0;
+      takes = not-false (takes_other v.phase) a.0;
+      limit = ltb-false t.limit m.ic c.0;
+      low = ltb-false m.ic v.seen b.0;
+      fits = not-false (has_end t.interval v.phase m.reason m.ic) f.0;
       phase = sym (ap (λ (x : HartView). x.phase) is);
       seen = ap (λ (x : HartView). x.seen) is;
       met = sym (ap (λ (x : HartView). x.met) is);
@@ -129,7 +112,7 @@ module _ (limit : ℕ) where
   pub by_header : (p : Phase) (n ic : ℕ) (old m : EndMark) (ss : List Span) → takes_header p ≡ true → is_awaited p n ic ≡ true → Fits limit (Open (n + 1) ic) m ss
       → Fits limit p old (record { number = n; begin = ic; mark = m } ∷ ss)
   by_header Unknown n ic old m ss t a f = (refl, refl, f.0, f.1, f.2)
-  by_header (Awaiting next begin) n ic old m ss t a f = let parts = both (begin == ic) (is_number next n) a in (parts.1, sym (same_number begin ic parts.0), f.0, f.1, f.2)
+  by_header (Awaiting next begin) n ic old m ss t a f = let parts = and_parts (begin == ic) (is_number next n) a in (parts.1, sym (eqb-true begin ic parts.0), f.0, f.1, f.2)
   by_header (Open next since) n ic old m ss t a f = absurd cc
   by_header Done n ic old m ss t a f = absurd cc
 
@@ -149,7 +132,7 @@ module _ (limit : ℕ) where
       by false f = some_fits None m.ic m ss (empty_are None m.ic ss f)
   by_end interval (Awaiting next begin) m late ss t low h f = absurd cc
   by_end interval (Open next since) m late ss t low h f =
-      (is_le since m.ic (both (nat_le since m.ic) (if m.reason == 1 then m.ic == since + interval else nat_le m.ic (since + interval)) h).0, low, by (goes_on m.reason) f)
+      (leb-true since m.ic (and_parts (nat_le since m.ic) (if m.reason == 1 then m.ic == since + interval else nat_le m.ic (since + interval)) h).0, low, by (goes_on m.reason) f)
     where
       by : (b : Bool) → Fits limit (if b then Awaiting (Some next) m.ic else Done) late ss → AreSpans limit (Some next) m.ic ss
       by true f = f
@@ -196,9 +179,19 @@ others_same h (ScFailed k) rs e = failed_same h k rs
 others_same h (Edge k ic s j) rs e = (refl, refl)
 others_same h (End k m) rs e = (ap (λ b. (elim b as (λ y. Logged) [ true ↦ record { loads = []; conditionals = []; mark = m } | false ↦ puts h rs nothing ]).mark) e, refl)
 
-pub or_true : (b : Bool) → (b || true) ≡ true
-or_true true = refl
-or_true false = refl
+-- a hart that is met and not done is unfinished
+pub unfinished : (m : Bool) → m ≡ true → (m && true) ≡ false → ⊥
+unfinished true e f = cc
+unfinished false e f = cc
+
+-- the hart of a record is met
+pub met_of : (t : OrderLimits) (r : Record) (v u : HartView) → after_one t v r ≡ Ok u → u.met ≡ true
+met_of t (Header k n ic pc x) v u e = (headed t v u n ic e).met
+met_of t (FirstLoad k skip value) v u e = (other v u e).met
+met_of t (ScOk k) v u e = (other v u e).met
+met_of t (ScFailed k) v u e = (other v u e).met
+met_of t (Edge k n a b) v u e = (edged t v u n b e).stays.met
+met_of t (End k m) v u e = (ended t v u m e).met
 
 module _ (t : OrderLimits) (all : Bool) (h : ℕ) (w : HartView) (over : is_unfinished all w ≡ false) where
   abbrev pub Fit : HartView → List Record → Type 0
@@ -208,10 +201,6 @@ module _ (t : OrderLimits) (all : Bool) (h : ℕ) (w : HartView) (over : is_unfi
   at_nothing Unknown met k e = tt
   at_nothing (Awaiting next begin) met k e = tt
   at_nothing (Open next since) met k e = absurd (unfinished (all || met) (k refl) e)
-    where
-      unfinished : (m : Bool) → m ≡ true → (m && true) ≡ false → ⊥
-      unfinished true e f = cc
-      unfinished false e f = cc
   at_nothing Done met k e = refl
 
   -- what a record leaves is what the records after it have
@@ -253,7 +242,7 @@ module _ (t : OrderLimits) (all : Bool) (h : ℕ) (w : HartView) (over : is_unfi
       by true own f rest =
           let g = goes_through (after_one t v r) (λ u. own_walk t h u rs) w f in
           let left = by_record r rs v g.0 own g.1 in
-          left.fits (rest g.0 (λ x. ap (λ b. all || b) left.met ∙ or_true all) g.2)
+          left.fits (rest g.0 (λ x. ap (λ b. all || b) left.met ∙ or-true all) g.2)
       by false apart f rest = same_fits v v r rs refl (others_same h r rs apart) (rest v k f)
 
 -- ---- the walk of all harts

@@ -1,5 +1,5 @@
 -- A step of a ready hart keeps the sources of passed targets passed.
-use Rattle.joint_replay.proofs.Common.{◌≡◌, ℕ, zero, suc, ◌<◌, Bool, true, false, ◌&&◌, ◌==◌, ◌⊎◌, inl, inr, refl, sym, ap, ◌∙◌, subst, arith, List, [], ◌∷◌, length, slice_get, slice_set, slice_index_or, Option, Some, None, Result, Ok, Err, eqb_tells, Record, Header, FirstLoad, ScOk, ScFailed, Edge, End, ReplayError, Coming, Readiness, sources_into, Lane, Item, coming_of, point_of, lane_step, memory_after, Joining, is_passed, first_waited, waits_for, readiness_of, move, IsLane, IsOn, Passes, PassesIf, HasEdge, IsSound, SoundIf, StepsPass, SoundnessStays}
+use Rattle.joint_replay.proofs.Common.{◌≡◌, ℕ, zero, suc, ◌<◌, Bool, true, false, ◌&&◌, ◌==◌, ◌⊎◌, inl, inr, refl, sym, ap, ◌∙◌, subst, arith, List, [], ◌∷◌, length, slice_get, slice_set, slice_index_or, Option, Some, None, Result, Ok, Err, eqb_tells, Record, Header, FirstLoad, ScOk, ScFailed, Edge, End, ReplayError, Coming, Readiness, sources_into, Lane, Item, coming_of, point_of, lane_step, memory_after, Joining, is_passed, first_waited, waits_for, readiness_of, move, IsLane, IsOn, Passes, PassesIf, HasEdge, IsSound, SoundIf, StepsPass, SoundnessStays, eq-eqb}
 use Rattle.joint_replay.specs.declared.kinds.Readiness.TheVariants as is
 
 -- ---- lists
@@ -30,11 +30,8 @@ abbrev Pairs : List (ℕ × ℕ) → ℕ → ℕ → Type 0
 Pairs [] s j = ⊥
 Pairs (p ∷ ps) s j = ((p.0 ≡ s) × (p.1 ≡ j)) ⊎ Pairs ps s j
 
-eqb_same : (k : ℕ) → (k == k) ≡ true
-eqb_same k = grind arith
-
 both_same : (h ic : ℕ) → (h == h && (ic == ic)) ≡ true
-both_same h ic = ap (λ b. b && (ic == ic)) (eqb_same h) ∙ eqb_same ic
+both_same h ic = ap (λ b. b && (ic == ic)) (eq-eqb h h refl) ∙ eq-eqb ic ic refl
 
 in_sources : (rs : List Record) (h ic s j : ℕ) → HasEdge rs h ic s j → Pairs (sources_into rs h ic) s j
 in_sources [] h ic s j e = e
@@ -88,9 +85,6 @@ module _ (records : List Record) (lanes : List Lane) (h : ℕ) where
 
 module _ (now : Joining) (h : ℕ) (sound : IsSound now) (lane : Lane) (at : slice_get now.lanes h ≡ Some lane) (ready : readiness_of now.records now.lanes h lane ≡ is.Ready)
     (next : Lane) (item : Item) (passes : Passes now.program lane item next) where
-  new : Joining
-  new = record now { lanes = slice_set now.lanes h next; memory = memory_after item now.memory }
-
   pub stays : (s j : ℕ) → is_passed (slice_get now.lanes s) j ≡ true → is_passed (slice_get (slice_set now.lanes h next) s) j ≡ true
   stays s j e = elim (eqb_tells h s) [
     | inl same ↦

@@ -1,13 +1,13 @@
 -- The sources of Edges in a log in order: below the hart's first Header, or below its last End.
-use Rattle.joint_replay.proofs.Common.{◌≡◌, ℕ, zero, suc, ◌+◌, ◌<◌, ◌^◌, Bool, true, false, not, ◌&&◌, ◌||◌, ◌==◌, ◌⊎◌, inl, inr, nat_lt, refl, sym, ap, ◌∙◌, subst, arith, List, [], ◌∷◌, length, replicate, slice_get, slice_set, Option, Some, None, Result, Ok, Err, if◌then◌else◌, nat_le, list_any, option_map, eqb_tells, Program, EndMark, Record, Header, FirstLoad, ScOk, ScFailed, Edge, End, hart_of, bytes_of, total, OrderLimits, HartView, Phase, takes_header, takes_other, goes_on, phase_after, after_one, is_done, is_unfinished, ◌>>=◌, has_source, step_at, step, after_all, is_from, is_past, is_late, late_edge, end_break as ended_by, broken, broken_in, order_limits_of, order_break, puts, nothing, Logged, intervals_in, first_count, is_below, points_below, Cursor, Lane, cursors_of, lane_of, Has, InCursors, HasEdge, Span, mark_of, spans, Fits, is_known, last_of, OrderedLogsHaveShape, PointsAscend, SourcesAreThere}
+use Rattle.joint_replay.proofs.Common.{◌≡◌, ℕ, zero, suc, ◌+◌, ◌<◌, ◌^◌, Bool, true, false, not, ◌&&◌, ◌||◌, ◌==◌, ◌⊎◌, inl, inr, nat_lt, refl, sym, ap, ◌∙◌, subst, arith, List, [], ◌∷◌, length, replicate, slice_get, slice_set, Option, Some, None, Result, Ok, Err, if◌then◌else◌, list_any, option_map, eqb_tells, Program, EndMark, Record, Header, FirstLoad, ScOk, ScFailed, Edge, End, hart_of, bytes_of, total, OrderLimits, HartView, Phase, takes_header, takes_other, goes_on, phase_after, after_one, is_done, is_unfinished, ◌>>=◌, has_source, step_at, step, after_all, is_from, is_past, is_late, late_edge, end_break as ended_by, broken, broken_in, order_limits_of, order_break, puts, nothing, Logged, intervals_in, first_count, is_below, points_below, Cursor, Lane, cursors_of, lane_of, Has, InCursors, HasEdge, Span, mark_of, spans, Fits, is_known, last_of, OrderedLogsHaveShape, PointsAscend, SourcesAreThere, and_parts, cases_lt, leb-false, lt-ltb, ltb-true, or-true, RowsGoOn}
 use Rattle.log_order.specs.declared.view.Phase.TheVariants.{Unknown, Awaiting, Open, Done}
 use Rattle.log_order.specs.Rules.{fresh as fresh_view}
-use Rattle.joint_replay.proofs.Onto.{ReplaysGoOn}
+use Rattle.joint_replay.proofs.Onto.{ReplaysGoOn, replays_go_on}
 use Rattle.joint_replay.proofs.Soundness.{get_other}
-use Rattle.joint_replay.proofs.LaneSteps.{less_or, lt_true}
-use Rattle.joint_replay.proofs.Shapes.{◌>>◌, own_walk, ok_is, goes_through, headed, other, edged, ended, Same, loads_same, ok_same, failed_same, others_same, project, fit, or_true, step_gives, placed}
+use Rattle.joint_replay.proofs.Shapes.{◌>>◌, own_walk, ok_is, goes_through, headed, other, edged, ended, Same, loads_same, ok_same, failed_same, others_same, project, fit, step_gives, placed, unfinished, met_of}
 use Rattle.joint_replay.proofs.PointLists.{sources}
 use Rattle.joint_replay.proofs.Begins.{AreOf, last_same, first_begin, no_begin, lane_at, lane_for, cursors_of_spans, not_any, walk_of, fresh_known}
+use Rattle.joint_replay.proofs.Follows.{CountsGoUp, AsksPass}
 
 -- ---- the last End's count is that of the last interval
 
@@ -72,10 +72,6 @@ module _ (t : OrderLimits) (all : Bool) (h : ℕ) (w : HartView) (over : is_unfi
   at_nothing Unknown met last k e = tt
   at_nothing (Awaiting next begin) met last k e = refl
   at_nothing (Open next since) met last k e = absurd (unfinished (all || met) (k refl) e)
-    where
-      unfinished : (m : Bool) → m ≡ true → (m && true) ≡ false → ⊥
-      unfinished true e f = cc
-      unfinished false e f = cc
   at_nothing Done met last k e = refl
 
   -- by a record that changes neither mark nor intervals
@@ -102,14 +98,6 @@ module _ (t : OrderLimits) (all : Bool) (h : ℕ) (w : HartView) (over : is_unfi
       (end_last t.limit v.phase m (mark_of h rs) (spans h rs) v.last w.last d.takes (subst (λ p. Fits t.limit p (mark_of h rs) (spans h rs)) d.phase f)
       (subst (λ o. LastIs (phase_after v.phase m) (mark_of h rs) (spans h rs) o w.last) d.last (subst (λ p. LastIs p (mark_of h rs) (spans h rs) u.last w.last) d.phase is)))
 
-  met_of : (r : Record) (v u : HartView) → after_one t v r ≡ Ok u → u.met ≡ true
-  met_of (Header k n ic pc x) v u e = (headed t v u n ic e).met
-  met_of (FirstLoad k skip value) v u e = (other v u e).met
-  met_of (ScOk k) v u e = (other v u e).met
-  met_of (ScFailed k) v u e = (other v u e).met
-  met_of (Edge k n a b) v u e = (edged t v u n b e).stays.met
-  met_of (End k m) v u e = (ended t v u m e).met
-
   last_by : (v : HartView) (rs : List Record) → (is_known v.phase ≡ true → (all || v.met) ≡ true) → own_walk t h v rs ≡ Ok w → LastIs v.phase (mark_of h rs) (spans h rs) v.last w.last
   last_by v [] k e =
       subst (λ (x : HartView). LastIs v.phase (mark_of h []) [] v.last x.last) (ok_is v w e)
@@ -121,7 +109,7 @@ module _ (t : OrderLimits) (all : Bool) (h : ℕ) (w : HartView) (over : is_unfi
           → LastIs v.phase (mark_of h (r ∷ rs)) (spans h (r ∷ rs)) v.last w.last
       by true own f rest =
           let g = goes_through (after_one t v r) (λ u. own_walk t h u rs) w f in
-          let known : is_known g.0.phase ≡ true → (all || g.0.met) ≡ true = λ x. ap (λ b. all || b) (met_of r v g.0 g.1) ∙ or_true all in
+          let known : is_known g.0.phase ≡ true → (all || g.0.met) ≡ true = λ x. ap (λ b. all || b) (met_of t r v g.0 g.1) ∙ or-true all in
           by_record r rs v g.0 own g.1 (fit t all h w over g.0 rs known g.2) (rest g.0 known g.2)
       by false apart f rest =
           let same = others_same h r rs apart in
@@ -198,29 +186,19 @@ sources_known t place harts ends (r ∷ rs) h ic s j e edge =
       | inr apart ↦ (let rest = sources_known t (place + length (bytes_of r)) g.0 ends rs h ic s j g.2 later in (rest.0, sym (get_other harts (hart_of r) s gives.new apart.1) ∙ (ap (λ hs. slice_get hs s) (sym gives.is) ∙ rest.1)))
     ])
   where
-    left : (a b : Bool) → (a && b) ≡ true → a ≡ true
-    left true b e = refl
-    left false b e = e
-
-    true_lt : (m n : ℕ) → nat_lt m n ≡ true → m < n
-    true_lt m n h = grind arith
-
     by : (r : Record) → HasEdge (r ∷ rs) h ic s j → has_source (length harts) r ≡ true → (HasEdge rs h ic s j → (v : HartView) × (slice_get harts s ≡ Some v)) → (v : HartView) × (slice_get harts s ≡ Some v)
     by (Header k n c pc x) edge has rest = rest edge
     by (FirstLoad k skip value) edge has rest = rest edge
     by (ScOk k) edge has rest = rest edge
     by (ScFailed k) edge has rest = rest edge
-    by (Edge k n a b) (inl edge) has rest = low_get harts s (subst (λ m. m < length harts) edge.2 (true_lt a (length harts) (left (nat_lt a (length harts)) (not (a == k)) has)))
+    by (Edge k n a b) (inl edge) has rest = low_get harts s (subst (λ m. m < length harts) edge.2 (ltb-true a (length harts) ((and_parts (nat_lt a (length harts)) (not (a == k)) has).0)))
     by (Edge k n a b) (inr edge) has rest = rest edge
     by (End k m) edge has rest = rest edge
 
 -- ---- the place of a source
 
 not_past : (o : Option HartView) (w : HartView) (n j : ℕ) → o ≡ Some w → w.last ≡ Some n → is_past o j ≡ false → j < n
-not_past o w n j at last e = less n j (sym (ap (λ x. is_from x j) last) ∙ sym (ap (λ x. is_past x j) at) ∙ e)
-  where
-    less : (n j : ℕ) → nat_le n j ≡ false → j < n
-    less n j e = grind arith
+not_past o w n j at last e = leb-false n j (sym (ap (λ x. is_from x j) last) ∙ sym (ap (λ x. is_past x j) at) ∙ e)
 
 module _ (i : Program) (records : List Record) (s limit : ℕ) (low : limit < 2 ^ 64) (goes : ReplaysGoOn i records) (points : PointsAscend) (all : Bool) where
   -- by what is known at the end
@@ -240,16 +218,16 @@ module _ (i : Program) (records : List Record) (s limit : ℕ) (low : limit < 2 
           → Has (points_below (first_count s records) s records) j ⊎ InCursors cs j
       by [] cs e a l = inl (sources (first_count s records) h ic s j records edge (ap (λ x. is_below x j) (no_begin s records e)))
       by (x ∷ xs) [] e a l = absurd a
-      by (x ∷ xs) (c ∷ cs) e a l = elim (less_or j x.begin) [
-        | inl less ↦ inl (sources (first_count s records) h ic s j records edge (ap (λ y. is_below y j) (first_begin s records x xs e) ∙ lt_true j x.begin less))
+      by (x ∷ xs) (c ∷ cs) e a l = elim (cases_lt j x.begin) [
+        | inl less ↦ inl (sources (first_count s records) h ic s j records edge (ap (λ y. is_below y j) (first_begin s records x xs e) ∙ lt-ltb j x.begin less))
         | inr from ↦ inr (
           let begin = a.0.begin in omega (arith, begin, from),
           subst (λ n. j < n) (sym (last_same i records s limit low goes x xs c cs a.0 a.1)) (not_past o w (last_of x.mark xs) j at (known_last xs (fresh_view all).last w.last x (mark_of s records) l) past),
         )
       ]
 
-pub sources_are_there : OrderedLogsHaveShape → PointsAscend → ((i : Program) (records : List Record) → ReplaysGoOn i records) → SourcesAreThere
-sources_are_there shape points goes_on i b dropped records low order h ic s j edge =
+pub sources_are_there : OrderedLogsHaveShape → PointsAscend → CountsGoUp → AsksPass → RowsGoOn → SourcesAreThere
+sources_are_there shape points counted asks rows i b dropped records low order h ic s j edge =
     let all = dropped == 0 in
     let w = walk_of (order_limits_of b) b.harts (dropped == 0) records order in
     let over : (h : ℕ) (x : HartView) → slice_get w.0 h ≡ Some x → is_unfinished (dropped == 0) x ≡ false = λ h x e. not_any (is_unfinished (dropped == 0)) w.0 h x w.2 e in
@@ -265,5 +243,5 @@ sources_are_there shape points goes_on i b dropped records low order h ic s j ed
       l.0,
       l.1,
       subst (λ (x : Lane). Has x.points j ⊎ InCursors x.cursors j) (ap (lane_of i records) (sym same) ∙ at.0)
-          (source_placed i records s b.limit low (goes_on i records) points (dropped == 0) h ic j p.0 (slice_get w.0 s) p.1 edge none fits last),
+          (source_placed i records s b.limit low (replays_go_on counted asks rows i records) points (dropped == 0) h ic j p.0 (slice_get w.0 s) p.1 edge none fits last),
     )

@@ -1,11 +1,11 @@
 -- Steps that are told one after another.
-use Rattle.joint_replay.proofs.Common.{◌≡◌, ℕ, zero, suc, ◌+◌, ◌<◌, ◌⊎◌, inl, inr, Bool, true, false, refl, sym, ap, ◌∙◌, subst, arith, List, [], ◌∷◌, ◌++◌, append_assoc, length, slice_get, Option, Some, None, Result, Ok, Err, append-nil, Record, ReplayError, JointError, Stuck, Readiness, Next, Hart, NoneReady, Lane, Item, Passing, Doing, Ending, Joining, Taken, Walk, Ran, begun, ran, choice, choice_from, readiness, readiness_of, positions_from, error_of, next_step, run_for, run_all, stepped_of, RanOut, IsRefused, StepUnrefused, Steps, item_text, stepped_text, steps_text}
+use Rattle.joint_replay.proofs.Common.{◌≡◌, ℕ, suc, ◌+◌, ◌<◌, ◌⊎◌, inl, inr, Bool, true, false, refl, sym, ap, ◌∙◌, subst, arith, List, [], ◌∷◌, ◌++◌, append_assoc, length, slice_get, Option, Some, None, Result, Ok, Err, append-nil, Record, JointError, Readiness, Next, Hart, Lane, Item, Passing, Doing, Ending, Joining, Taken, Walk, Ran, begun, ran, choice, choice_from, readiness, readiness_of, run_for, run_all, stepped_of, RanOut, Steps, item_text, stepped_text, steps_text, slice_get_within}
 use Rattle.hart_replay.specs.declared.error.ReplayError.TheVariants as replay
 use Rattle.joint_replay.specs.declared.error.JointError.TheVariants as why
 use Rattle.joint_replay.specs.declared.kinds.Readiness.TheVariants as is
 use Rattle.joint_replay.specs.declared.kinds.Stepped.{Stepped}
 use Rattle.joint_replay.specs.Runs.{one_step, IsStep, Advanced, IsStarved, RunUnrefused, Advances, Runs, IsFirstTaken, RunsGoOn, RunsEnd}
-use Rattle.joint_replay.proofs.Onward.{walk_of, taken_by, step_made, first_step, none_ready, step_fewer, step_taken, step_refused, longer_run}
+use Rattle.joint_replay.proofs.Onward.{walk_of, taken_by, step_fewer, step_taken, longer_run}
 
 -- ---- the lowest ready hart
 
@@ -34,13 +34,8 @@ chosen records lanes h (l ∷ ls) waiting n e = by (readiness_of records lanes h
     by (is.Waits s ic) f g rest = later (rest true g)
     by is.Done f g rest = later (rest waiting g)
 
-within : (ls : List Lane) (k : ℕ) (lane : Lane) → slice_get ls k ≡ Some lane → k < length ls
-within [] k lane e = absurd cc
-within (l ∷ ls) zero lane e = omega arith
-within (l ∷ ls) (suc k) lane e = let low = within ls k lane e in omega (arith, low)
-
 pub chosen_there : (j : Joining) (h : ℕ) → choice j ≡ Hart h → h < length j.lanes
-chosen_there j h e = let c = chosen j.records j.lanes 0 j.lanes false h e in let low = within j.lanes c.place c.lane c.at in let same = c.number in omega (arith, low, same)
+chosen_there j h e = let c = chosen j.records j.lanes 0 j.lanes false h e in let low = slice_get_within j.lanes c.place c.lane c.at in let same = c.number in omega (arith, low, same)
 
 pub chosen_ready : (j : Joining) (h : ℕ) → choice j ≡ Hart h → readiness j h ≡ is.Ready
 chosen_ready j h e =
@@ -63,57 +58,7 @@ told_step old new h stepped out_old out_new none lowest s text = record {
   text = text ∙ ap (λ (t : List ℕ). out_old ++ t) (ap stepped_text s.2 ∙ line_is h s.0);
 }
 
-pub untold_step : (old mid new : Joining) (h : ℕ) (stepped : Stepped) → old.refused ≡ None → choice old ≡ Hart h → Steps old h (Ok stepped) mid → RanOut mid new → IsStarved old new
-untold_step old mid new h stepped none lowest s ran_out = inr (taken_by h s.0, mid, step_taken old h (s.0, mid) none lowest s.1, ran_out)
-
 -- ---- no refusal comes first
-
--- only out of memory is told as such
-only_memory : (r : ReplayError) → why.OutOfMemory ≡ error_of r → r ≡ replay.OutOfMemory
-only_memory (replay.NoInterval h c) e = absurd cc
-only_memory (replay.LoadMissing h ic a) e = absurd cc
-only_memory (replay.ScMissing h ic) e = absurd cc
-only_memory (replay.RecordsLeft h n) e = absurd cc
-only_memory (replay.EndDiffers h said found) e = absurd cc
-only_memory replay.OutOfMemory e = refl
-
-same_error : (a b : JointError) → ◌≡◌ {A = Option JointError} (Some a) (Some b) → a ≡ b
-same_error a b e = cc
-
-no_error : {X : Type 0} (e : JointError) → ◌≡◌ {A = Option JointError} None (Some e) → X
-no_error e f = absurd cc
-
--- a run whose first step isn't refused
-pub begins_unrefused : (j : Joining) (h : ℕ) → j.refused ≡ None → choice j ≡ Hart h → StepUnrefused j h → RunUnrefused j
-begins_unrefused j h none lowest on r e = by (next_step j h) refl (sym (ap (λ (x : Ran). x.stopped) (first_step j h none lowest)) ∙ e)
-  where
-    by : (o : Option (Result (Item × Joining) ReplayError)) → next_step j h ≡ o → (step_made j h o).stopped ≡ Some (error_of r) → r ≡ replay.OutOfMemory
-    by None f g = no_error (error_of r) g
-    by (Some (Ok x)) f g = no_error (error_of r) g
-    by (Some (Err a)) f g = only_memory r (sym (ap error_of (on a f)) ∙ same_error (error_of a) (error_of r) g)
-
--- a run that is stuck at once isn't refused
-pub stuck_unrefused : (j : Joining) → j.refused ≡ None → choice j ≡ NoneReady → RunUnrefused j
-stuck_unrefused j none stuck r e = by r (same_error (Stuck (positions_from 0 j.lanes)) (error_of r) (sym (ap (λ (x : Ran). x.stopped) (none_ready j none stuck [] (λ w. run_for 0 w))) ∙ e))
-  where
-    by : (r : ReplayError) → Stuck (positions_from 0 j.lanes) ≡ error_of r → r ≡ replay.OutOfMemory
-    by (replay.NoInterval h c) f = absurd cc
-    by (replay.LoadMissing h ic a) f = absurd cc
-    by (replay.ScMissing h ic) f = absurd cc
-    by (replay.RecordsLeft h n) f = absurd cc
-    by (replay.EndDiffers h said found) f = absurd cc
-    by replay.OutOfMemory f = refl
-
--- nor is one that takes a step
-pub step_unrefused : (j next : Joining) (t : Taken) → IsStep j t next → RunUnrefused j
-step_unrefused j next t s r e = no_error (error_of r) (sym (ap (λ (x : Ran). x.stopped) s) ∙ e)
-
-pub no_step : (old new : Joining) (h : ℕ) (e : JointError) (out : List ℕ) → old.refused ≡ None → choice old ≡ Hart h → Steps old h (Err e) new → Advances old (Err e) new out out
-no_step old new h e out none lowest (inl r) = (refl, inl (refused r))
-  where
-    refused : IsRefused old h e new → one_step old ≡ ran (begun new) (Some e)
-    refused r = step_refused old h r.refusal none lowest r.there ∙ ap (λ (x : JointError). ran (begun (record old { refused = Some r.refusal })) (Some x)) (sym r.error_is) ∙ ap (λ (k : Joining). ran (begun k) (Some e)) (sym r.repeated)
-no_step old new h e out none lowest (inr m) = (refl, inr (m.0, none, inl m.2, begins_unrefused old h none lowest m.3))
 
 -- ---- steps that are told, one after another
 
@@ -151,16 +96,6 @@ stands_more go old now next out_old out_now out_next s a =
 
 ended_text : (old now new : Joining) (out_old out_now : List ℕ) (why : Option JointError) → Stands old now out_old out_now → run_all now ≡ ran (begun new) why → out_old ++ steps_text (run_all old).walk.taken ≡ out_now
 ended_text old now new out_old out_now why s e = s.text ∙ ap (λ (r : Ran). out_now ++ steps_text r.walk.taken) e ∙ append-nil out_now
-
--- all harts are done
-pub stands_done : RunsEnd → (old now new : Joining) (out_old out_now out_new : List ℕ) → Stands old now out_old out_now → (one_step now ≡ ran (begun new) None) × (out_new ≡ out_now) → Runs old (Ok tt) new out_old out_new
-stands_done end old now new out_old out_now out_new s e =
-    let ended : run_all now ≡ ran (begun new) None = end now new None e.0 in
-    inl (record {
-      ends = s.stopped ∙ ap (λ (r : Ran). r.stopped) ended;
-      now = s.last ∙ ap (λ (r : Ran). r.walk.now) ended;
-      text = e.1 ∙ sym (ended_text old now new out_old out_now None s ended);
-    })
 
 halted_here : (old now new : Joining) (s : Walk) (steps : ℕ) → run_for steps (begun old) ≡ ran s None → s.now ≡ now → RanOut now new → RanOut (run_for steps (begun old)).walk.now new
 halted_here old now new s steps so_far here h = subst (λ (k : Joining). RanOut k new) (sym (ap (λ (r : Ran). r.walk.now) so_far ∙ here)) h

@@ -1,15 +1,15 @@
 -- Chains in the walks of allowed orders.
-use Rattle.joint_replay.proofs.Common.{◌≡◌, ℕ, zero, suc, ◌<◌, ◌≤◌, Bool, true, ◌⊎◌, inl, inr, nat_lt, refl, sym, ap, ◌∙◌, subst, arith, List, [], ◌∷◌, slice_get, slice_set, Option, Some, None, Result, Ok, Err, eqb_tells, Program, Record, ReplayError, Coming, Readiness, Cursor, Lane, Item, coming_of, count_of, lane_step, memory_after, Joining, Taken, Walk, begun, longer, fresh, is_passed, readiness_of, move, IsBegun, ready_step, walk_on, AreCursors, ArePoints, InCursors, IsRowAt, Passes, PassesIf, IsSound, StepsPass, ChainsAreKept}
+use Rattle.joint_replay.proofs.Common.{◌≡◌, ℕ, zero, suc, ◌<◌, ◌≤◌, Bool, true, ◌⊎◌, inl, inr, nat_lt, refl, sym, ap, ◌∙◌, subst, arith, List, [], ◌∷◌, slice_get, slice_set, Option, Some, None, Result, Ok, Err, eqb_tells, Program, Record, ReplayError, Coming, Readiness, Cursor, Lane, Item, coming_of, count_of, lane_step, memory_after, Joining, Taken, Walk, begun, longer, fresh, is_passed, readiness_of, move, IsBegun, ready_step, walk_on, AreCursors, ArePoints, InCursors, IsRowAt, Passes, PassesIf, IsSound, StepsPass, ChainsAreKept, lt-ltb, ltb-true}
 use Rattle.joint_replay.specs.declared.kinds.Readiness.TheVariants as is
 use Rattle.joint_replay.specs.Chains.{StepTo, Leads, one, more, Did, IsLeft, IsToDo}
-use Rattle.joint_replay.proofs.LaneSteps.{cursor_passed, first_goes, true_lt, lt_true}
+use Rattle.joint_replay.proofs.LaneSteps.{cursor_passed, first_goes}
 use Rattle.joint_replay.proofs.Soundness.{get_same, get_other, some_is, sources_passed, after_sound}
 
 -- ---- passed instructions
 
 lower : (c : Option Coming) (n k : ℕ) → k ≤ n → elim c as (λ x. Bool) [ None ↦ true | Some d ↦ nat_lt n (count_of d) ] ≡ true → elim c as (λ x. Bool) [ None ↦ true | Some d ↦ nat_lt k (count_of d) ] ≡ true
 lower None n k low e = refl
-lower (Some d) n k low e = let up = true_lt n (count_of d) e in lt_true k (count_of d) (omega (arith, up, low))
+lower (Some d) n k low e = let up = ltb-true n (count_of d) e in lt-ltb k (count_of d) (omega (arith, up, low))
 
 pub passed_lower : (o : Option Lane) (n k : ℕ) → k ≤ n → is_passed o n ≡ true → is_passed o k ≡ true
 passed_lower None n k low e = refl
@@ -18,8 +18,8 @@ passed_lower (Some lane) n k low e = lower (coming_of lane) n k low e
 -- what is still to be done isn't passed
 pub undone : (i : Program) (points : List ℕ) (cursors : List Cursor) (k : ℕ) → ArePoints points cursors → AreCursors i cursors → is_passed (Some (record { points = points; cursors = cursors })) k ≡ true → InCursors cursors k → ⊥
 undone i points [] k a s e h = absurd h
-undone i [] (c ∷ cs) k a s e h = let low = true_lt k c.state.ic (sym (cursor_passed i c cs k (first_goes i c cs s).0) ∙ e) in omega (arith, low, h.0)
-undone i (p ∷ ps) (c ∷ cs) k a s e h = let low = true_lt k p e in let up = under p ps a in omega (arith, low, up, h.0)
+undone i [] (c ∷ cs) k a s e h = let low = ltb-true k c.state.ic (sym (cursor_passed i c cs k (first_goes i c cs s).0) ∙ e) in omega (arith, low, h.0)
+undone i (p ∷ ps) (c ∷ cs) k a s e h = let low = ltb-true k p e in let up = under p ps a in omega (arith, low, up, h.0)
   where
     under : (p : ℕ) (ps : List ℕ) → ArePoints (p ∷ ps) (c ∷ cs) → p < c.state.ic
     under p [] b = b

@@ -1,17 +1,10 @@
 -- Lists of known words.
-use Rattle.joint_replay.proofs.Common.{◌≡◌, ℕ, zero, suc, ◌+◌, ◌-◌, ◌*◌, ◌/◌, ◌%◌, ◌^◌, ◌<◌, ◌≤◌, Bool, true, false, cond, not, ◌&&◌, ◌||◌, nat_le, ◌==◌, nat_lt, ◌⊎◌, inl, inr, if◌then◌else◌, refl, sym, ap, ◌∙◌, arith, List, [], ◌∷◌, filter, Option, Some, None, eq-eqb, ne_eqb, eqb_tells, aligned, Frame, Known, word_at, Bytes, has_byte, forget, put_word, word_in, known_from, in_front, words_from, words_of, AreBelow}
+use Rattle.joint_replay.proofs.Common.{◌≡◌, ℕ, zero, suc, ◌+◌, ◌-◌, ◌*◌, ◌/◌, ◌%◌, ◌^◌, ◌<◌, ◌≤◌, Bool, true, false, cond, not, ◌&&◌, ◌||◌, nat_le, ◌==◌, nat_lt, ◌⊎◌, inl, inr, if◌then◌else◌, refl, sym, ap, ◌∙◌, arith, List, [], ◌∷◌, filter, Option, Some, None, eq-eqb, ne_eqb, eqb_tells, aligned, Frame, Known, word_at, Bytes, has_byte, forget, put_word, word_in, known_from, in_front, words_from, words_of, AreBelow, le-ltb, lt-ltb}
 use Rattle.hart_replay.specs.Sides.{word_count}
 
 pub count_is : word_count ≡ 2 ^ 30
 unfolding word_count
 count_is = refl
-
-lt_true : (m n : ℕ) → m < n → nat_lt m n ≡ true
-lt_true m n h = grind arith
-
-same_words : (f g : ℕ → Option ℕ) (k n : ℕ) → ((j : ℕ) → f j ≡ g j) → words_from f k n ≡ words_from g k n
-same_words f g k zero e = refl
-same_words f g k (suc n) e = ap (λ (o : Option ℕ). in_front k o (words_from f (suc k) n)) (e k) ∙ ap (in_front k (g k)) (same_words f g (suc k) n e)
 
 -- ---- one word
 
@@ -52,10 +45,6 @@ none_known f k (suc n) e = ap (λ (o : Option ℕ). in_front k o (words_from f (
 pub no_words : (pages : List (ℕ × Frame)) → ((k : ℕ) → word_at pages k ≡ None) → words_of pages ≡ []
 no_words pages e = none_known (word_at pages) 0 word_count e
 
--- the same words
-pub words_stay : (old new : List (ℕ × Frame)) → ((k : ℕ) → word_at new k ≡ word_at old k) → words_of new ≡ words_of old
-words_stay old new e = same_words (word_at new) (word_at old) 0 word_count e
-
 -- ---- one word more
 
 put_front : (f : ℕ → Option ℕ) (k n j w : ℕ) → k < j → put_word (4 * k) w (words_from f j n) ≡ (4 * k, w) ∷ words_from f j n
@@ -67,7 +56,7 @@ put_front f k (suc n) j w low = by (f j) (put_front f k n (suc j) w (omega (arit
     by (Some x) rest =
         ap (λ b. elim b as (λ y. List (ℕ × ℕ)) [ true ↦ (4 * k, w) ∷ words_from f (suc j) n | false ↦ elim (nat_lt (4 * k) (4 * j)) as (λ y. List (ℕ × ℕ)) [ true ↦ (4 * k, w) ∷ (4 * j, x) ∷ words_from f (suc j) n | false ↦ (4 * j, x) ∷ put_word (4 * k) w (words_from f (suc j) n) ] ])
         (ne_eqb (4 * k) (4 * j) (λ e. absurd (omega (arith, low, e))))
-        ∙ ap (λ b. elim b as (λ y. List (ℕ × ℕ)) [ true ↦ (4 * k, w) ∷ (4 * j, x) ∷ words_from f (suc j) n | false ↦ (4 * j, x) ∷ put_word (4 * k) w (words_from f (suc j) n) ]) (lt_true (4 * k) (4 * j) (omega (arith, low)))
+        ∙ ap (λ b. elim b as (λ y. List (ℕ × ℕ)) [ true ↦ (4 * k, w) ∷ (4 * j, x) ∷ words_from f (suc j) n | false ↦ (4 * j, x) ∷ put_word (4 * k) w (words_from f (suc j) n) ]) (lt-ltb (4 * k) (4 * j) (omega (arith, low)))
 
 same_from : (f g : ℕ → Option ℕ) (k n : ℕ) → ((j : ℕ) → k ≤ j → f j ≡ g j) → words_from f k n ≡ words_from g k n
 same_from f g k zero e = refl
@@ -88,10 +77,7 @@ behind k j w None ms low = refl
 behind k j w (Some x) ms low =
     sym (ap (λ b. elim b as (λ y. List (ℕ × ℕ)) [ true ↦ (4 * j, w) ∷ ms | false ↦ elim (nat_lt (4 * j) (4 * k)) as (λ y. List (ℕ × ℕ)) [ true ↦ (4 * j, w) ∷ (4 * k, x) ∷ ms | false ↦ (4 * k, x) ∷ put_word (4 * j) w ms ] ])
     (ne_eqb (4 * j) (4 * k) (λ e. absurd (omega (arith, low, e))))
-    ∙ ap (λ b. elim b as (λ y. List (ℕ × ℕ)) [ true ↦ (4 * j, w) ∷ (4 * k, x) ∷ ms | false ↦ (4 * k, x) ∷ put_word (4 * j) w ms ]) (not_lt (4 * j) (4 * k) (omega (arith, low))))
-  where
-    not_lt : (m n : ℕ) → n ≤ m → nat_lt m n ≡ false
-    not_lt m n h = grind arith
+    ∙ ap (λ b. elim b as (λ y. List (ℕ × ℕ)) [ true ↦ (4 * j, w) ∷ (4 * k, x) ∷ ms | false ↦ (4 * k, x) ∷ put_word (4 * j) w ms ]) (le-ltb (4 * j) (4 * k) (omega (arith, low))))
 
 put_there : (f g : ℕ → Option ℕ) (k n j w : ℕ) → k ≤ j → j < k + n → ((x : ℕ) → g x ≡ (if x == j then Some w else f x)) → words_from g k n ≡ put_word (4 * j) w (words_from f k n)
 put_there f g k zero j w low high e = absurd (omega (arith, low, high))
@@ -160,7 +146,7 @@ bytes_gone old new first count last end e = words_gone (record { first = first; 
 
     by_end : (x : ℕ) → x < 0 + word_count → (last ≡ (first + count + 3) / 4) ⊎ ((word_count ≤ last) × (last ≤ (first + count + 3) / 4)) → nat_lt x last ≡ nat_lt x ((first + count + 3) / 4)
     by_end x h (inl q) = lt_same x last ((first + count + 3) / 4) q
-    by_end x h (inr q) = lt_true x last (omega (arith, h, q.0)) ∙ sym (lt_true x ((first + count + 3) / 4) (omega (arith, h, q.0, q.1)))
+    by_end x h (inr q) = lt-ltb x last (omega (arith, h, q.0)) ∙ sym (lt-ltb x ((first + count + 3) / 4) (omega (arith, h, q.0, q.1)))
 
 -- the words from the one that has the first byte on, up to a number, are unknown, and the others as they were
 pub record Without (first number : ℕ) (old new : Known) : Type 0 where
@@ -218,19 +204,16 @@ still_below first number old_end new_end old new e w b = (
 -- words below the address are passed
 passed_by : (a k : ℕ) (o : Option ℕ) (ms : List (ℕ × ℕ)) → 4 * k < a → known_from a (in_front k o ms) ≡ known_from a ms
 passed_by a k None ms low = refl
-passed_by a k (Some w) ms low = ap (λ (b : Bool). elim b as (λ y. List (ℕ × ℕ)) [ true ↦ known_from a ms | false ↦ (4 * k, w) ∷ ms ]) (lt_true (4 * k) a low)
+passed_by a k (Some w) ms low = ap (λ (b : Bool). elim b as (λ y. List (ℕ × ℕ)) [ true ↦ known_from a ms | false ↦ (4 * k, w) ∷ ms ]) (lt-ltb (4 * k) a low)
 
 -- those from it on stay
 all_above : (f : ℕ → Option ℕ) (a k n : ℕ) → a ≤ 4 * k → known_from a (words_from f k n) ≡ words_from f k n
 all_above f a k zero low = refl
 all_above f a k (suc n) low = by (f k) (all_above f a (suc k) n (omega (arith, low)))
   where
-    not_lt : (m n : ℕ) → n ≤ m → nat_lt m n ≡ false
-    not_lt m n h = grind arith
-
     by : (o : Option ℕ) → known_from a (words_from f (suc k) n) ≡ words_from f (suc k) n → known_from a (in_front k o (words_from f (suc k) n)) ≡ in_front k o (words_from f (suc k) n)
     by None rest = rest
-    by (Some w) rest = ap (λ (b : Bool). elim b as (λ y. List (ℕ × ℕ)) [ true ↦ known_from a (words_from f (suc k) n) | false ↦ (4 * k, w) ∷ words_from f (suc k) n ]) (not_lt (4 * k) a low)
+    by (Some w) rest = ap (λ (b : Bool). elim b as (λ y. List (ℕ × ℕ)) [ true ↦ known_from a (words_from f (suc k) n) | false ↦ (4 * k, w) ∷ words_from f (suc k) n ]) (le-ltb (4 * k) a low)
 
 from_number : (f : ℕ → Option ℕ) (a k d n j : ℕ) → j ≡ k + d → a ≤ 4 * j → 4 * j < a + 4 → known_from a (words_from f k (d + n)) ≡ words_from f j n
 from_number f a k zero n j e low high =

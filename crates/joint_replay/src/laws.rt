@@ -8,6 +8,7 @@ ghost use Rattle.joint_replay.specs.Merges.{PointsAreNamed, SourcesAreThere, Wal
 use rv_meaning::each_instruction_is_counted_or_asks;
 
 /// Rows to come have the counts from the hart's state on, one after another.
+#[tactic(auto, using(crate::proofs::RowsAre::rows_go_on))]
 pub fn the_rows_go_on()
     ensures { RowsGoOn }
 {
@@ -77,6 +78,7 @@ pub fn edges_ascend()
 {}
 
 /// The joint replay of a log in order begins sound.
+#[tactic(auto, using(crate::proofs::Begins::starts_sound))]
 pub fn starts_are_sound()
     ensures { StartsAreSound }
 {

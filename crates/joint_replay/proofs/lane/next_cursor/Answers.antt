@@ -1,6 +1,23 @@
-use Rattle.joint_replay.proofs.Common.{◌≡◌, ◌++◌, ◌-◌, List, [], false, take, sym, ap, ◌∙◌, Retained, running}
-use Rattle.joint_replay.proofs.Harts.{last_there, none_left, whole_without, whole_with}
+use Rattle.joint_replay.proofs.Common.{◌≡◌, ◌++◌, ◌-◌, List, [], false, take, sym, ap, ◌∙◌, Retained, running, ℕ, ◌<◌, subst, ◌∷◌, Some, None, Program, Record, Content, IsThere, AreThere, Running, later_cursors, hart_cursors, IsHartLane}
 use Rattle.joint_replay.proofs.lane.next_cursor.Goals as goal
+
+-- of some intervals that are there, the last one and those before it are
+last_there : (h : ℕ) (records : List Record) (rs all : List Retained) (r : Retained) → all ≡ rs ++ r ∷ [] → AreThere h records all → AreThere h records rs × IsThere h records r.number r.place
+last_there h records rs all r e a = split rs (subst (AreThere h records) e a)
+  where
+    split : (xs : List Retained) → AreThere h records (xs ++ r ∷ []) → AreThere h records xs × IsThere h records r.number r.place
+    split [] b = (tt, b.0)
+    split (x ∷ xs) b = let rest : AreThere h records xs × IsThere h records r.number r.place = split xs b.1 in ((b.0, rest.0), rest.1)
+
+-- none is left
+none_left : (i : Program) (h : ℕ) (records : List Record) (rs all : List Retained) → rs ≡ all → hart_cursors i records h None rs ≡ later_cursors i records h all
+none_left i h records rs all e = ap (later_cursors i records h) e
+
+whole_without : (i : Program) (log : Content) (h : ℕ) (rs : List Retained) → h < log.head.settings.harts → rs ≡ [] → IsHartLane i log h None rs
+whole_without i log h rs low e = record { hart = low; program = tt; there = subst (AreThere h log.records) (sym e) tt; goes = e }
+
+whole_with : (i : Program) (log : Content) (h : ℕ) (r : Running) (rs : List Retained) → h < log.head.settings.harts → r.program ≡ i → AreThere h log.records rs → IsHartLane i log h (Some r) rs
+whole_with i log h r rs low p there = record { hart = low; program = p; there = there; goes = tt }
 
 pub returns-in-None : goal.returns-in-None
 returns-in-None c =
