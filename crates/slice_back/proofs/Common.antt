@@ -1,5 +1,6 @@
 -- What several files of proofs/ cite of other crates and of specs/. They import it from here, by one line.
 pub use Rattle.std.proofs.Common.{Bool, Err, IsSome, List, None, Ok, Option, Result, Some, [], add-one, ap, append-nil, append_assoc, arith, bit_and, bit_or, bit_xor, cond, drop, false, get_or, if◌then◌else◌, inl, inr, is_some, length, length-drop, map, nat_lt, not, refl, replicate, reverse, set, slice_get, slice_index, subst, suc, sym, take, true, zero, ℕ, ◌%◌, ◌&&◌, ◌*◌, ◌++◌, ◌+◌, ◌-◌, ◌/◌, ◌<◌, ◌==◌, ◌^◌, ◌||◌, ◌↔◌, ◌∙◌, ◌∷◌, ◌≡◌, ◌≢◌, ◌≤◌, ◌⊎◌}
+pub use Rattle.std.proofs.lemmas.Bool.{and_from, and_parts, eq-eqb, eqb-true, not-true, or_cases, or_left, or_right, not_from_false}
 pub use Rattle.std.proofs.Math.Seq.{drop-cons}
 pub use Rattle.std.proofs.lemmas.Bool.Decides.{eqb_tells}
 pub use Rattle.std.proofs.lemmas.Grind.{common_steps}
@@ -17,7 +18,7 @@ pub use Rattle.hart_replay.specs.Laws.{AreMetByPlace}
 pub use Rattle.hart_replay.specs.Replay.{Done, Interval, Logged, Next, On, Outcome, Position, Refused, Replayed, Stop, after_ask, after_sc, ask_step, call_reason, ended, fault_end, finish, first, found, interval_of, left_over, logged, missing, nothing, one_step, onto, or_else, put, puts, replayed, replayed_in, slot, steps, word_for}
 pub use Rattle.hart_replay.specs.Scans.{IsWaiting, Pending, due, loads_in, met, scanned}
 pub use Rattle.hart_replay.specs.Sides.{call_answer, call_reg}
-pub use Rattle.hart_replay.specs.declared.error.ReplayError.TheVariants.{EndDiffers, LoadMissing, NoInterval, RecordsLeft, ScMissing}
+pub use Rattle.hart_replay.specs.declared.error.ReplayError.TheVariants.{EndDiffers, ScMissing}
 pub use Rattle.log_record.specs.declared.record.Record.{Record}
 pub use Rattle.rv_decode.specs.Table.{Instruction, decoded, fits, row_in, spelled, spelled_by, table}
 pub use Rattle.rv_decode.specs.declared.name.Name.{Name}

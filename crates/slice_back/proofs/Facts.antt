@@ -1,6 +1,5 @@
 -- What a row of a replay tells of the instruction and its states.
-use Rattle.slice_back.proofs.Common.{◌≡◌, ◌≢◌, ℕ, zero, suc, ◌<◌, ◌==◌, ◌⊎◌, Bool, true, false, List, [], ◌∷◌, length, Option, Some, None, refl, sym, ◌∙◌, ap, subst, inl, inr, arith, set, slice_index, eqb_tells, Program, code_at, put_reg, EndMark, Row, HartState, Instruction, decoded, loaded_value, Step, Quiet, Asks, step, fetched, executed, after, Want, Load, Store, LoadReserved, StoreConditional, Amo, System, Cut, Faulted, instruction_in, written, Interval, Position, call_reg, is_call, is_of}
-use Rattle.slice_back.proofs.Bools.{same_number}
+use Rattle.slice_back.proofs.Common.{◌≡◌, ◌≢◌, ℕ, zero, suc, ◌<◌, ◌==◌, ◌⊎◌, Bool, true, false, List, [], ◌∷◌, length, Option, Some, None, refl, sym, ◌∙◌, ap, subst, inl, inr, arith, set, slice_index, eqb_tells, Program, code_at, put_reg, EndMark, Row, HartState, Instruction, decoded, loaded_value, Step, Quiet, Asks, step, fetched, executed, after, Want, Load, Store, LoadReserved, StoreConditional, Amo, System, Cut, Faulted, instruction_in, written, Interval, Position, call_reg, is_call, is_of, eqb-true}
 use Rattle.slice_back.proofs.Fields.{no_rd}
 use Rattle.slice_back.proofs.Meanings.{writes_none, Changed, AskShape, Shape, shape}
 use Rattle.slice_back.proofs.Turns.{IsAsk, reply_for, asked_row, Turn}
@@ -162,11 +161,8 @@ After reg x y r = (reg ≡ Some (r, slice_index y r)) ⊎ ((is_of r reg ≡ fals
 pub changed_after : (d : Instruction) (s t : HartState) → Changed d s t → (r : ℕ) → After (written (Some d) t) s.x t.x r
 changed_after d s t h r = by (d.rd == 0) refl
   where
-    Told : Bool → Type 0
-    Told b = After (elim b as (λ c. Option (ℕ × ℕ)) [ true ↦ None | false ↦ Some (d.rd, slice_index t.x d.rd) ]) s.x t.x r
-
     none : (d.rd == 0) ≡ true → Changed d s t → slice_index t.x r ≡ slice_index s.x r
-    none z (inl c) = ap (λ x. slice_index x r) c.1 ∙ ap (λ n. slice_index (put_reg n c.0 s.x) r) (same_number d.rd 0 z)
+    none z (inl c) = ap (λ x. slice_index x r) c.1 ∙ ap (λ n. slice_index (put_reg n c.0 s.x) r) (eqb-true d.rd 0 z)
     none z (inr e) = ap (λ x. slice_index x r) e
 
     other : d.rd ≢ r → Changed d s t → slice_index t.x r ≡ slice_index s.x r

@@ -1,9 +1,8 @@
 -- Instructions whose format has no rd.
-use Rattle.slice_back.proofs.Common.{◌≡◌, ℕ, ◌==◌, Bool, true, false, not, ◌&&◌, ◌||◌, List, [], ◌∷◌, Option, Some, None, refl, sym, ◌∙◌, ap, subst, table, fits, row_in, Instruction, spelled, spelled_by, decoded, Name}
+use Rattle.slice_back.proofs.Common.{◌≡◌, ℕ, ◌==◌, Bool, true, false, not, ◌&&◌, ◌||◌, List, [], ◌∷◌, Option, Some, None, refl, sym, ◌∙◌, ap, subst, table, fits, row_in, Instruction, spelled, spelled_by, decoded, Name, and_parts}
 use Rattle.rv_decode.specs.Table.{Row}
 use Rattle.rv_decode.specs.declared.format.Format.{Format}
 use Rattle.rv_decode.specs.declared.format.Format.TheVariants.{U, J, I, B, S, Shift, R, Bare, Atomic}
-use Rattle.slice_back.proofs.Bools.{and_left, and_right}
 use Rattle.slice_back.proofs.Meanings.{writes_none}
 
 abbrev has_no_rd : Format → Bool
@@ -24,10 +23,10 @@ table_lies_so = refl
 
 row_lies_so : (rs : List Row) (w : ℕ) (r : Row) → all_lie_so rs ≡ true → row_in rs w ≡ Some r → lies_so r ≡ true
 row_lies_so [] w r h e = absurd cc
-row_lies_so (s ∷ rs) w r h e = by (fits s w) (λ f. row_lies_so rs w r (and_right (lies_so s) (all_lie_so rs) h) f) e
+row_lies_so (s ∷ rs) w r h e = by (fits s w) (λ f. row_lies_so rs w r (and_parts (lies_so s) (all_lie_so rs) h).1 f) e
   where
     by : (b : Bool) → (row_in rs w ≡ Some r → lies_so r ≡ true) → (elim b as (λ x. Option Row) [ true ↦ Some s | false ↦ row_in rs w ]) ≡ Some r → lies_so r ≡ true
-    by true rest f = let same : s ≡ r = cc in subst (λ (x : Row). lies_so x ≡ true) same (and_left (lies_so s) (all_lie_so rs) h)
+    by true rest f = let same : s ≡ r = cc in subst (λ (x : Row). lies_so x ≡ true) same (and_parts (lies_so s) (all_lie_so rs) h).0
     by false rest f = rest f
 
 spelled_name : (n : Name) (f : Format) (w : ℕ) → (spelled n f w).name ≡ n

@@ -1,7 +1,6 @@
 -- What is live before rows, and which rows are in the slice, by the definition of the least set.
-use Rattle.slice_back.proofs.Common.{◌≡◌, ℕ, ◌+◌, ◌<◌, ◌≤◌, Bool, true, false, ◌⊎◌, List, [], ◌∷◌, length, slice_get, Option, Some, None, refl, sym, ◌∙◌, ap, subst, inl, inr, arith, Noted, uses_register, writes_register, uses_word, stores_word, takes_word, is_of, is_word, word_of, passes, at, Needs, InSlice, Live, live, writes_live, stores_live, gives, is_last, in_slice}
+use Rattle.slice_back.proofs.Common.{◌≡◌, ℕ, ◌+◌, ◌<◌, ◌≤◌, Bool, true, false, ◌⊎◌, List, [], ◌∷◌, length, slice_get, Option, Some, None, refl, sym, ◌∙◌, ap, subst, inl, inr, arith, Noted, uses_register, writes_register, uses_word, stores_word, takes_word, is_of, is_word, word_of, passes, at, Needs, InSlice, Live, live, writes_live, stores_live, gives, is_last, in_slice, eq-eqb, eqb-true, or_cases, or_left, or_right}
 use Rattle.slice_back.specs.Needs.InSlice.{itself, needed}
-use Rattle.slice_back.proofs.Bools.{or_split, or_first, or_second, same_number, equal_numbers}
 
 -- ---- the least set
 
@@ -46,19 +45,19 @@ pub record Known (es : List Noted) (n m : ℕ) (l : Live) : Type 0 where
 
 written : (l : Live) (o : Option (ℕ × ℕ)) → writes_live l o ≡ true → (q : ℕ) × (l.registers q ≡ true) × (is_of q o ≡ true)
 written l None h = cc
-written l (Some x) h = (x.0, h, equal_numbers x.0)
+written l (Some x) h = (x.0, h, eq-eqb x.0 x.0 refl)
 
 writes : (l : Live) (o : Option (ℕ × ℕ)) (q : ℕ) → l.registers q ≡ true → is_of q o ≡ true → writes_live l o ≡ true
 writes l None q h t = cc
-writes l (Some x) q h t = ap l.registers (same_number x.0 q t) ∙ h
+writes l (Some x) q h t = ap l.registers (eqb-true x.0 q t) ∙ h
 
 stored : (l : Live) (o : Option ℕ) → stores_live l o ≡ true → (a : ℕ) × (l.words a ≡ true) × (is_word a o ≡ true)
 stored l None h = cc
-stored l (Some a) h = (a, h, equal_numbers a)
+stored l (Some a) h = (a, h, eq-eqb a a refl)
 
 stores : (l : Live) (o : Option ℕ) (a : ℕ) → l.words a ≡ true → is_word a o ≡ true → stores_live l o ≡ true
 stores l None a h t = cc
-stores l (Some b) a h t = sym (ap l.words (same_number a b t)) ∙ h
+stores l (Some b) a h t = sym (ap l.words (eqb-true a b t)) ∙ h
 
 last_is : (later : List Noted) → is_last later ≡ true → length later ≡ 0
 last_is [] h = refl
@@ -82,9 +81,9 @@ pub here_test : (es : List Noted) (m : ℕ) (e : Noted) (test : Noted → Bool) 
 here_test es m e test b here t = sym (ap (λ o. passes test o) here) ∙ t
 
 pub chosen_is : (es : List Noted) (n m : ℕ) (e : Noted) (later : List Noted) → Row_at es n m e later → in_slice e later ≡ true → InSlice es n m
-chosen_is es n m e later r t = elim (or_split (is_last later) (gives (live later) e.row) t) [
+chosen_is es n m e later r t = elim (or_cases (is_last later) (gives (live later) e.row) t) [
   | inl last ↦ (let none = last_is later last in let same : n ≡ m = omega (arith, none, r.count) in subst (λ x. InSlice es n x) same itself)
-  | inr gave ↦ elim (or_split (writes_live (live later) e.row.reg) (stores_live (live later) (word_of e.row.store)) gave) [
+  | inr gave ↦ elim (or_cases (writes_live (live later) e.row.reg) (stores_live (live later) (word_of e.row.store)) gave) [
     | inl w ↦ by_register (written (live later) e.row.reg w)
     | inr s ↦ by_word (stored (live later) (word_of e.row.store) s)
   ]
@@ -115,8 +114,8 @@ chosen_is es n m e later r t = elim (or_split (is_last later) (gives (live later
 
 pub is_chosen : (es : List Noted) (n m : ℕ) (e : Noted) (later : List Noted) → Row_at es n m e later → InSlice es n m → in_slice e later ≡ true
 is_chosen es n m e later r s = elim (split s) [
-  | inl same ↦ or_first (is_last later) (gives (live later) e.row) (is_none later (omega (arith, same, r.count)))
-  | inr x ↦ or_second (is_last later) (gives (live later) e.row) (by x.0 x.1 x.2)
+  | inl same ↦ or_left (is_last later) (gives (live later) e.row) (is_none later (omega (arith, same, r.count)))
+  | inr x ↦ or_right (is_last later) (gives (live later) e.row) (by x.0 x.1 x.2)
 ]
   where
     by : (j : ℕ) → InSlice es n j → Needs es j m → gives (live later) e.row ≡ true
@@ -128,7 +127,7 @@ is_chosen es n m e later r s = elim (split s) [
           used = h.1.used;
           unwritten = λ k low high. h.1.latest k (omega (arith, low)) high;
         } in
-        or_first (writes_live (live later) e.row.reg) (stores_live (live later) (word_of e.row.store))
+        or_left (writes_live (live later) e.row.reg) (stores_live (live later) (word_of e.row.store))
         (writes (live later) e.row.reg h.0 (r.known.is_registers h.0 l) (here_test es m e (λ f. writes_register h.0 f.row) true r.here h.1.written))
     by j chosen (inr h) =
         let l : LiveWord es n (m + 1) h.0 = record {
@@ -139,5 +138,5 @@ is_chosen es n m e later r s = elim (split s) [
           unstored = λ k low high. h.1.latest k (omega (arith, low)) high;
           untaken = λ k low high. h.1.untaken k (omega (arith, low)) high;
         } in
-        or_second (writes_live (live later) e.row.reg) (stores_live (live later) (word_of e.row.store))
+        or_right (writes_live (live later) e.row.reg) (stores_live (live later) (word_of e.row.store))
         (stores (live later) (word_of e.row.store) h.0 (r.known.is_words h.0 l) (here_test es m e (λ f. stores_word h.0 f.row) true r.here h.1.stored))

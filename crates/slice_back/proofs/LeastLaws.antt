@@ -1,7 +1,6 @@
 -- The tests of a slice are those of the least set.
-use Rattle.slice_back.proofs.Common.{◌≡◌, ℕ, suc, ◌+◌, ◌≤◌, ◌==◌, ◌↔◌, Bool, true, false, not, ◌&&◌, ◌||◌, List, [], ◌∷◌, length, drop, Option, Some, None, refl, sym, ◌∙◌, ap, subst, inl, inr, arith, length-drop, Noted, uses_word, stores_word, takes_word, used_word, took, is_word, at, InSlice, TakenBy, Live, live, in_slice, taken, wanted}
+use Rattle.slice_back.proofs.Common.{◌≡◌, ℕ, suc, ◌+◌, ◌≤◌, ◌==◌, ◌↔◌, Bool, true, false, not, ◌&&◌, ◌||◌, List, [], ◌∷◌, length, drop, Option, Some, None, refl, sym, ◌∙◌, ap, subst, inl, inr, arith, length-drop, Noted, uses_word, stores_word, takes_word, used_word, took, is_word, at, InSlice, TakenBy, Live, live, in_slice, taken, wanted, and_from, and_parts, eq-eqb, eqb-true, not-true, or_cases, or_left, or_right, not_from_false}
 use Rattle.slice_back.specs.Laws.{chosen, taken_first, Took, RowsAreLeast, RegistersAreFromBefore, WordsAreTaken}
-use Rattle.slice_back.proofs.Bools.{and_left, and_right, both, or_split, or_first, or_second, not_false, false_not, same_number, equal_numbers}
 use Rattle.slice_back.proofs.Least.{Known, Row_at, test_here, here_test, chosen_is, is_chosen, inside}
 use Rattle.slice_back.proofs.LeastSteps.{known_from, row_in, next_rest, first_or}
 
@@ -46,10 +45,6 @@ wanted_is : (b : Bool) (c d a v : ℕ) → wanted b c d ≡ Some (a, v) → (b �
 wanted_is true c d a v h = let p : ◌≡◌ {A = ℕ × ℕ} (c, d) (a, v) = cc in (refl, ap (λ (x : ℕ × ℕ). x.0) p, ap (λ (x : ℕ × ℕ). x.1) p)
 wanted_is false c d a v h = absurd cc
 
--- the taken word by the word that a row uses and its first load
-taken_of : Bool → Live → Noted → Option ℕ → Option ℕ → Option (ℕ × ℕ)
-taken_of c l e o p = elim o as (λ x. Option (ℕ × ℕ)) [ None ↦ None | Some a ↦ elim p as (λ x. Option (ℕ × ℕ)) [ None ↦ None | Some v ↦ wanted (c || (not (stores_word a e.row) && l.words a)) a v ] ]
-
 taken_says : (c : Bool) (l : Live) (e : Noted) (a v : ℕ) → taken c l e ≡ Some (a, v) → Says l c e a v
 taken_says c l e a v h = by (used_word e.row) (e.first_load) refl refl h
   where
@@ -59,7 +54,7 @@ taken_says c l e a v h = by (used_word e.row) (e.first_load) refl refl h
     by (Some b) (Some w) f g h =
         let is = wanted_is (c || (not (stores_word b e.row) && l.words b)) b w a v h in
         record {
-          used = ap (λ o. is_word a o) f ∙ ap (λ k. a == k) is.1 ∙ equal_numbers a;
+          used = ap (λ o. is_word a o) f ∙ ap (λ k. a == k) is.1 ∙ eq-eqb a a refl;
           first = g ∙ ap (λ k. Some k) is.2;
           wants = subst (λ (k : ℕ). (c || (not (stores_word k e.row) && l.words k)) ≡ true) is.1 is.0;
         }
@@ -72,7 +67,7 @@ says_taken c l e a v s = by (used_word e.row) (e.first_load) refl refl
     by (Some b) None f g = let t : ◌≡◌ {A = Option ℕ} None (Some v) = sym g ∙ s.first in absurd cc
     by (Some b) (Some w) f g =
         let value : w ≡ v = (let t : ◌≡◌ {A = Option ℕ} (Some w) (Some v) = sym g ∙ s.first in cc) in
-        let same : a ≡ b = same_number a b (sym (ap (λ o. is_word a o) f) ∙ s.used) in
+        let same : a ≡ b = eqb-true a b (sym (ap (λ o. is_word a o) f) ∙ s.used) in
         subst (λ (k : ℕ). wanted (c || (not (stores_word k e.row) && l.words k)) k w ≡ Some (a, v)) same
         (ap (λ t. wanted t a w) s.wants ∙ ap (λ k. Some (a, k)) value)
 
@@ -87,7 +82,7 @@ words_at es n m a v (e ∷ later) count d = (to, from)
     c = in_slice e later
 
     takes : e.first_load ≡ Some v → uses_word a e.row ≡ true → takes_word a e ≡ true
-    takes f u = both (took e.first_load) (uses_word a e.row) (ap (λ o. took o) f) u
+    takes f u = and_from (took e.first_load) (uses_word a e.row) (ap (λ o. took o) f) u
 
     to : taken c (live later) e ≡ Some (a, v) → Took es m v × ((j : ℕ) × InSlice es n j × TakenBy es j m a)
     to h = by (taken_says c (live later) e a v h)
@@ -95,7 +90,7 @@ words_at es n m a v (e ∷ later) count d = (to, from)
         by : Says (live later) c e a v → Took es m v × ((j : ℕ) × InSlice es n j × TakenBy es j m a)
         by s = (
           (e, r.here, s.first),
-          elim (or_split c (not (stores_word a e.row) && (live later).words a) s.wants) [
+          elim (or_cases c (not (stores_word a e.row) && (live later).words a) s.wants) [
             | inl own ↦ (
               m,
               chosen_is es n m e later r own,
@@ -107,7 +102,7 @@ words_at es n m a v (e ∷ later) count d = (to, from)
                 unstored = λ k low high. absurd (omega (arith, low, high));
               },
             )
-            | inr other ↦ (let l = r.known.words_is a (and_right (not (stores_word a e.row)) ((live later).words a) other) in (
+            | inr other ↦ (let l = r.known.words_is a (and_parts (not (stores_word a e.row)) ((live later).words a) other).1 in (
               l.place,
               l.chosen,
               record {
@@ -116,7 +111,7 @@ words_at es n m a v (e ∷ later) count d = (to, from)
                 taken = test_here es m e (takes_word a) true r.here (takes s.first s.used);
                 latest = λ k low high. l.untaken k (omega (arith, low)) high;
                 unstored = λ k low high. elim (first_or m k low) [
-                  | inl same ↦ subst (λ (x : ℕ). at es x (λ f. stores_word a f.row) ≡ false) same (test_here es m e (λ f. stores_word a f.row) false r.here (false_not (stores_word a e.row) (and_left (not (stores_word a e.row)) ((live later).words a) other)))
+                  | inl same ↦ subst (λ (x : ℕ). at es x (λ f. stores_word a f.row) ≡ false) same (test_here es m e (λ f. stores_word a f.row) false r.here (not-true (stores_word a e.row) (and_parts (not (stores_word a e.row)) ((live later).words a) other).0))
                   | inr more ↦ l.unstored k more high
                 ];
               },
@@ -126,12 +121,12 @@ words_at es n m a v (e ∷ later) count d = (to, from)
 
     from : Took es m v × ((j : ℕ) × InSlice es n j × TakenBy es j m a) → taken c (live later) e ≡ Some (a, v)
     from x = says_taken c (live later) e a v (record {
-      used = and_right (took e.first_load) (uses_word a e.row) (here_test es m e (takes_word a) true r.here x.1.2.taken);
+      used = (and_parts (took e.first_load) (uses_word a e.row) (here_test es m e (takes_word a) true r.here x.1.2.taken)).1;
       first = ap (λ (f : Noted). f.first_load) same_row ∙ x.0.2;
       wants = elim (first_or m x.1.0 x.1.2.earlier) [
-        | inl same ↦ or_first c (not (stores_word a e.row) && (live later).words a) (is_chosen es n m e later r (subst (λ (k : ℕ). InSlice es n k) (sym same) x.1.1))
-        | inr more ↦ or_second c (not (stores_word a e.row) && (live later).words a) (both (not (stores_word a e.row)) ((live later).words a)
-            (not_false (stores_word a e.row) (here_test es m e (λ f. stores_word a f.row) false r.here (x.1.2.unstored m (omega arith) (omega (arith, more)))))
+        | inl same ↦ or_left c (not (stores_word a e.row) && (live later).words a) (is_chosen es n m e later r (subst (λ (k : ℕ). InSlice es n k) (sym same) x.1.1))
+        | inr more ↦ or_right c (not (stores_word a e.row) && (live later).words a) (and_from (not (stores_word a e.row)) ((live later).words a)
+            (not_from_false (stores_word a e.row) (here_test es m e (λ f. stores_word a f.row) false r.here (x.1.2.unstored m (omega arith) (omega (arith, more)))))
             (r.known.is_words a (record { place = x.1.0; after = more; chosen = x.1.1; used = x.1.2.used; unstored = λ k low high. x.1.2.unstored k (omega (arith, low)) high; untaken = λ k low high. x.1.2.latest k (omega (arith, low)) high })))
       ];
     })

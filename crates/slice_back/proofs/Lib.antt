@@ -1,9 +1,7 @@
 mod Common
-mod Told
 mod Worked
 mod Traces
 mod Backs
-mod Bools
 mod Least
 mod LeastSteps
 mod LeastLaws

@@ -1,6 +1,5 @@
 -- Row by row, two replays that agree give rows that are told alike.
-use Rattle.slice_back.proofs.Common.{◌≡◌, ℕ, ◌==◌, ◌&&◌, ◌++◌, true, false, not, List, [], ◌∷◌, length, Option, Some, None, refl, sym, ◌∙◌, ap, subst, Program, code_at, Fault, FetchOutside, Row, HartState, Instruction, decoded, Step, Quiet, Asks, step, fetched, executed, Want, Faulted, instruction_in, fault_row, Interval, Position, Pending, Noted, used_word, uses_register, writes_register, stores_word, takes_word, reads, Live, note, passed, noted_from, live, live_before, gives, is_last, in_slice, bare, AllAlike, WordsAgree}
-use Rattle.slice_back.proofs.Bools.{both, or_first, or_second, not_false}
+use Rattle.slice_back.proofs.Common.{◌≡◌, ℕ, ◌==◌, ◌&&◌, ◌++◌, true, false, not, List, [], ◌∷◌, length, Option, Some, None, refl, sym, ◌∙◌, ap, subst, Program, code_at, Fault, FetchOutside, Row, HartState, Instruction, decoded, Step, Quiet, Asks, step, fetched, executed, Want, Faulted, instruction_in, fault_row, Interval, Position, Pending, Noted, used_word, uses_register, writes_register, stores_word, takes_word, reads, Live, note, passed, noted_from, live, live_before, gives, is_last, in_slice, bare, AllAlike, WordsAgree, and_from, or_left, or_right, not_from_false}
 use Rattle.slice_back.proofs.Meanings.{AlikeSteps}
 use Rattle.slice_back.proofs.Turns.{IsAsk, Turn}
 use Rattle.slice_back.proofs.Turns.Turn.{quiet, asked}
@@ -34,8 +33,8 @@ used_same : (i : Program) (p o : Position) (e : Noted) (l : Live) (d : Instructi
 used_same i p o e l d agree word pc one two is = record {
   pc = pc;
   zero_same = agree.zero_same;
-  read = λ q n r. agree.registers q (or_first (true && uses_register q e.row) (not (writes_register q e.row) && l.registers q)
-      (both true (uses_register q e.row) refl (both (not (q == 0)) (reads q (instruction_in e.row.word)) (not_false (q == 0) n) (ap (λ k. reads q k) (ap instruction_in word ∙ is) ∙ r))));
+  read = λ q n r. agree.registers q (or_left (true && uses_register q e.row) (not (writes_register q e.row) && l.registers q)
+      (and_from true (uses_register q e.row) refl (and_from (not (q == 0)) (reads q (instruction_in e.row.word)) (not_from_false (q == 0) n) (ap (λ k. reads q k) (ap instruction_in word ∙ is) ∙ r))));
   count = one ∙ sym two;
 }
 
@@ -98,12 +97,6 @@ pub record Alongside (v w : Interval) (p o : Position) (pend rest : Pending) (es
   pub reason : v.mark.reason ≡ w.mark.reason
   pub value : v.mark.value ≡ w.mark.value
   pub agree : Agreeing (live es) p o
-
--- the rows after the last are none
-none_behind : (later laters : List Noted) → AllAlike later laters → later ≡ [] → laters ≡ []
-none_behind [] [] a e = refl
-none_behind [] (f ∷ fs) a e = absurd a
-none_behind (x ∷ xs) fs a e = absurd cc
 
 none_before : (later laters : List Noted) → AllAlike later laters → laters ≡ [] → later ≡ []
 none_before [] fs a e = refl
@@ -174,7 +167,7 @@ both_go i h g v w p q o u pend rest row other later laters s a b c d = (
     words = s.words.1;
     reason = s.reason;
     value = s.value;
-    agree = twin_next i h g v w p q o u pend rest row other twin (live later) (in_slice (note pend row) later) (λ y. or_second (is_last later) (gives (live later) row) y) s.agree s.words.0;
+    agree = twin_next i h g v w p q o u pend rest row other twin (live later) (in_slice (note pend row) later) (λ y. or_right (is_last later) (gives (live later) row) y) s.agree s.words.0;
   },
 )
   where
@@ -195,9 +188,6 @@ matched i h g v w n m p o pend rest (e ∷ later) [] more others a b s = absurd 
 matched i h g v w n m p o pend rest (e ∷ later) (f ∷ laters) more others a b s =
     by (head i h v n p pend e later more a) (head i g w m o rest f laters others b) (λ k j q u pend2 rest2 a2 b2 s2. matched i h g v w k j q u pend2 rest2 later laters more others a2 b2 s2)
   where
-    Goes : Type 0
-    Goes = (k j : ℕ) (q u : Position) (pend2 rest2 : Pending) → later ++ more ≡ noted_from pend2 (rows_on i h v k q) → laters ++ others ≡ noted_from rest2 (rows_on i g w j u) → Alongside v w q u pend2 rest2 later laters → Matched later laters
-
     none : later ≡ [] → laters ≡ [] → Matched later laters
     none x y = subst (λ (zs : List Noted). Matched later zs) (sym y) (subst (λ (zs : List Noted). Matched zs []) (sym x) tt)
 

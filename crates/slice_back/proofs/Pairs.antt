@@ -1,6 +1,5 @@
 -- The same row of two replays.
-use Rattle.slice_back.proofs.Common.{◌≡◌, ℕ, ◌==◌, ◌||◌, Bool, true, false, cond, length, Option, Some, None, refl, sym, ◌∙◌, ap, subst, slice_index, Program, code_at, put_reg, EndMark, Fault, Row, HartState, Instruction, aligned, loaded_value, stored_word, amo_result, Step, step, executed, fetched, meaning, after, reg, Want, Load, Store, LoadReserved, StoreConditional, Amo, System, Cut, Faulted, instruction_in, written, call_reg, is_call, reads, bare, address_of}
-use Rattle.slice_back.proofs.Bools.{same_number, equal_numbers, or_first, or_second}
+use Rattle.slice_back.proofs.Common.{◌≡◌, ℕ, ◌==◌, ◌||◌, Bool, true, false, cond, length, Option, Some, None, refl, sym, ◌∙◌, ap, subst, slice_index, Program, code_at, put_reg, EndMark, Fault, Row, HartState, Instruction, aligned, loaded_value, stored_word, amo_result, Step, step, executed, fetched, meaning, after, reg, Want, Load, Store, LoadReserved, StoreConditional, Amo, System, Cut, Faulted, instruction_in, written, call_reg, is_call, reads, bare, address_of, eq-eqb, eqb-true, or_left, or_right}
 use Rattle.slice_back.proofs.Meanings.{AskShape, AlikeSteps, SameOperands, SameArguments, alike, written_put, written_none}
 use Rattle.slice_back.proofs.Turns.{IsAsk, reply_for, asked_row, whole}
 use Rattle.slice_back.proofs.Facts.{Code, StepShape, step_shape, reg_for}
@@ -29,14 +28,14 @@ source_same : (d : Instruction) (s t : HartState) (q : ℕ) → SameUsed d s t �
 source_same d s t q h u f = by (q == 0) refl
   where
     by : (b : Bool) → (q == 0) ≡ b → slice_index s.x q ≡ slice_index t.x q
-    by true z = let same : q ≡ 0 = same_number q 0 z in ap (λ k. slice_index s.x k) same ∙ h.zero_same ∙ sym (ap (λ k. slice_index t.x k) same)
+    by true z = let same : q ≡ 0 = eqb-true q 0 z in ap (λ k. slice_index s.x k) same ∙ h.zero_same ∙ sym (ap (λ k. slice_index t.x k) same)
     by false z = h.read q z (ap (λ (c : Bool). elim c as (λ x. Bool) [ true ↦ (q == 10) || (q == 11) || (q == 12) || (q == 17) | false ↦ (q == d.rs1) || (q == d.rs2) ]) f ∙ u f)
 
 operands : (d : Instruction) (s t : HartState) → SameUsed d s t → is_call d.name ≡ false → SameOperands d s t
 operands d s t h f = record {
   pc = h.pc;
-  first = source_same d s t d.rs1 h (λ g. or_first (d.rs1 == d.rs1) (d.rs1 == d.rs2) (equal_numbers d.rs1)) f;
-  second = source_same d s t d.rs2 h (λ g. or_second (d.rs2 == d.rs1) (d.rs2 == d.rs2) (equal_numbers d.rs2)) f;
+  first = source_same d s t d.rs1 h (λ g. or_left (d.rs1 == d.rs1) (d.rs1 == d.rs2) (eq-eqb d.rs1 d.rs1 refl)) f;
+  second = source_same d s t d.rs2 h (λ g. or_right (d.rs2 == d.rs1) (d.rs2 == d.rs2) (eq-eqb d.rs2 d.rs2 refl)) f;
   count = h.count;
 }
 

@@ -143,9 +143,6 @@ weaker : (low high : ℕ) (ks : List ℕ) → low ≤ high → AreRising high ks
 weaker low high [] up a = tt
 weaker low high (k ∷ ks) up a = let first_up = a.0 in (omega (arith, up, first_up), a.1)
 
-counts : List Noted → List ℕ
-counts es = map (λ (e : Noted). e.row.ic) es
-
 noted_rise : (low : ℕ) (p : Pending) (rows : List Row) → AreRising low (map (λ (r : Row). r.ic) rows) → AreRising low (map (λ (e : Noted). e.row.ic) (noted_from p rows))
 noted_rise low p [] a = tt
 noted_rise low p (r ∷ rs) a = (a.0, noted_rise (r.ic + 1) (passed p r) rs a.1)

@@ -1,7 +1,6 @@
 -- Slices of rows that are matched have the same rows, hart and counts aside.
-use Rattle.slice_back.proofs.Common.{◌≡◌, ℕ, suc, ◌-◌, ◌&&◌, ◌||◌, ◌++◌, Bool, true, false, not, List, [], ◌∷◌, length, map, Option, Some, None, refl, sym, ◌∙◌, ap, slice_index, Program, Row, Record, Interval, first, replayed_in, replayed, Noted, is_of, is_word, word_of, uses_register, writes_register, uses_word, stores_word, takes_word, Live, noted, noted_from, live, writes_live, stores_live, gives, is_last, in_slice, row_if, slice_rows, bare, RowsUpTo, SliceSuffices, AreMetByPlace}
+use Rattle.slice_back.proofs.Common.{◌≡◌, ℕ, suc, ◌-◌, ◌&&◌, ◌||◌, ◌++◌, Bool, true, false, not, List, [], ◌∷◌, length, map, Option, Some, None, refl, sym, ◌∙◌, ap, slice_index, Program, Row, Record, Interval, first, replayed_in, replayed, Noted, is_of, is_word, word_of, uses_register, writes_register, uses_word, stores_word, takes_word, Live, noted, noted_from, live, writes_live, stores_live, gives, is_last, in_slice, row_if, slice_rows, bare, RowsUpTo, SliceSuffices, AreMetByPlace, eq-eqb, eqb-true}
 use Rattle.log_record.specs.Spelling.{AreRegisters}
-use Rattle.slice_back.proofs.Bools.{same_number, equal_numbers}
 use Rattle.slice_back.proofs.Places.{linked_first}
 use Rattle.slice_back.proofs.RowsOn.{rows_on, steps_rows, up_to_front}
 use Rattle.slice_back.proofs.Matching.{Match, Matched, matched}
@@ -13,15 +12,15 @@ record SameLive (l m : Live) : Type 0 where
 
 writes_live_same : (l m : Live) (o k : Option (ℕ × ℕ)) → SameLive l m → ((q : ℕ) → is_of q o ≡ is_of q k) → writes_live l o ≡ writes_live m k
 writes_live_same l m None None s h = refl
-writes_live_same l m None (Some y) s h = absurd (let t : false ≡ true = h y.0 ∙ equal_numbers y.0 in cc)
-writes_live_same l m (Some x) None s h = absurd (let t : true ≡ false = sym (equal_numbers x.0) ∙ h x.0 in cc)
-writes_live_same l m (Some x) (Some y) s h = s.registers x.0 ∙ ap m.registers (sym (same_number y.0 x.0 (sym (h x.0) ∙ equal_numbers x.0)))
+writes_live_same l m None (Some y) s h = absurd (let t : false ≡ true = h y.0 ∙ eq-eqb y.0 y.0 refl in cc)
+writes_live_same l m (Some x) None s h = absurd (let t : true ≡ false = sym (eq-eqb x.0 x.0 refl) ∙ h x.0 in cc)
+writes_live_same l m (Some x) (Some y) s h = s.registers x.0 ∙ ap m.registers (sym (eqb-true y.0 x.0 (sym (h x.0) ∙ eq-eqb x.0 x.0 refl)))
 
 stores_live_same : (l m : Live) (o k : Option ℕ) → SameLive l m → ((a : ℕ) → is_word a o ≡ is_word a k) → stores_live l o ≡ stores_live m k
 stores_live_same l m None None s h = refl
-stores_live_same l m None (Some y) s h = absurd (let t : false ≡ true = h y ∙ equal_numbers y in cc)
-stores_live_same l m (Some x) None s h = absurd (let t : true ≡ false = sym (equal_numbers x) ∙ h x in cc)
-stores_live_same l m (Some x) (Some y) s h = s.words x ∙ ap m.words (same_number x y (sym (h x) ∙ equal_numbers x))
+stores_live_same l m None (Some y) s h = absurd (let t : false ≡ true = h y ∙ eq-eqb y y refl in cc)
+stores_live_same l m (Some x) None s h = absurd (let t : true ≡ false = sym (eq-eqb x x refl) ∙ h x in cc)
+stores_live_same l m (Some x) (Some y) s h = s.words x ∙ ap m.words (eqb-true x y (sym (h x) ∙ eq-eqb x x refl))
 
 last_same : (es fs : List Noted) → Matched es fs → is_last es ≡ is_last fs
 last_same [] [] h = refl

@@ -1,7 +1,6 @@
 -- What an instruction of a replay does: its state, its row, and the word that it has.
-use Rattle.slice_back.proofs.Common.{◌≡◌, ℕ, ◌+◌, ◌==◌, ◌&&◌, ◌||◌, Bool, true, false, cond, List, ◌∷◌, Option, Some, None, refl, sym, ◌∙◌, ap, subst, arith, slice_index, Program, EndMark, Row, HartState, stored_word, amo_result, Step, Quiet, Asks, step, after, absorbed, Ask, Want, Load, Store, LoadReserved, StoreConditional, Amo, System, Cut, Faulted, Reply, Word, Stored, Answer, Over, row_of, call_row, Refused, Interval, Position, Next, On, Stop, word_for, missing, after_ask, after_sc, slot, call_reason, found, ask_step, one_step, call_reg, call_answer, EndDiffers, ScMissing}
+use Rattle.slice_back.proofs.Common.{◌≡◌, ℕ, ◌+◌, ◌==◌, ◌&&◌, ◌||◌, Bool, true, false, cond, List, ◌∷◌, Option, Some, None, refl, sym, ◌∙◌, ap, subst, arith, slice_index, Program, EndMark, Row, HartState, stored_word, amo_result, Step, Quiet, Asks, step, after, absorbed, Ask, Want, Load, Store, LoadReserved, StoreConditional, Amo, System, Cut, Faulted, Reply, Word, Stored, Answer, Over, row_of, call_row, Refused, Interval, Position, Next, On, Stop, word_for, missing, after_ask, after_sc, slot, call_reason, found, ask_step, one_step, call_reg, call_answer, EndDiffers, ScMissing, and_parts, eqb-true}
 use Rattle.rv_meaning.specs.declared.asks.Reply.TheVariants as replies
-use Rattle.slice_back.proofs.Bools.{and_left, and_right, same_number}
 
 -- an ask is neither a cut nor a fault
 abbrev pub IsAsk : Want → Type 0
@@ -70,7 +69,7 @@ TurnTo i h v p (Stop o) = Unit {0}
 
 -- a store of a word leaves its value
 pub whole : (a w y x : ℕ) → (w == 4) ≡ true → stored_word a w y x ≡ y
-whole a w y x e = subst (λ (n : ℕ). stored_word a n y x ≡ y) (sym (same_number w 4 e)) refl
+whole a w y x e = subst (λ (n : ℕ). stored_word a n y x ≡ y) (sym (eqb-true w 4 e)) refl
 
 no_more : (n : ℕ) → n ≡ n + 0
 no_more n = omega arith
@@ -125,8 +124,7 @@ call_turn i h v p n args e = by (p.state.ic + 1 == v.mark.ic && (reason == v.mar
     leaving = record { state = absorbed ask Over; loads = p.loads; conditionals = p.conditionals; rows = call_row h i p.state None ∷ p.rows; called = true }
 
     same_reason : (p.state.ic + 1 == v.mark.ic && (reason == v.mark.reason) && ((reason == 2) || (value == v.mark.value))) ≡ true → reason ≡ v.mark.reason
-    same_reason t = same_number reason v.mark.reason (and_right (p.state.ic + 1 == v.mark.ic) (reason == v.mark.reason)
-        (and_left (p.state.ic + 1 == v.mark.ic && (reason == v.mark.reason)) ((reason == 2) || (value == v.mark.value)) t))
+    same_reason t = eqb-true reason v.mark.reason (and_parts (p.state.ic + 1 == v.mark.ic) (reason == v.mark.reason) (and_parts (p.state.ic + 1 == v.mark.ic && (reason == v.mark.reason)) ((reason == 2) || (value == v.mark.value)) t).0).1
 
     by : (c r : Bool) → (p.state.ic + 1 == v.mark.ic && (reason == v.mark.reason) && ((reason == 2) || (value == v.mark.value))) ≡ c → (reason == 2) ≡ r
         → TurnTo i h v p (elim c as (λ u. Next) [ true ↦ elim r as (λ u. Next) [ true ↦ On going | false ↦ On leaving ] | false ↦ Stop (Refused (EndDiffers h v.mark (found (p.state.ic + 1) reason value))) ])

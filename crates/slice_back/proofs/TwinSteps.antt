@@ -1,6 +1,5 @@
 -- Two replays continue alike: their rows of a slice are the same, and they agree on what is live after them.
-use Rattle.slice_back.proofs.Common.{◌≡◌, ℕ, ◌==◌, ◌&&◌, ◌||◌, Bool, true, false, not, List, Option, Some, None, refl, sym, ◌∙◌, ap, subst, inl, inr, arith, slice_index, Program, code_at, EndMark, Row, HartState, Instruction, aligned, Step, Quiet, Asks, step, after, Want, Load, Store, LoadReserved, StoreConditional, Amo, System, Cut, Faulted, instruction_in, written, known, at_address, Interval, Position, word_for, Pending, Noted, is_call, reads, is_of, is_word, word_of, used_word, uses_register, writes_register, uses_word, stores_word, takes_word, took, Live, note, live_before, writes_live, stores_live, gives, taken, bare, address_of, took_word, AreAlike}
-use Rattle.slice_back.proofs.Bools.{and_left, and_right, both, or_first, or_second, not_false, same_number, equal_numbers}
+use Rattle.slice_back.proofs.Common.{◌≡◌, ℕ, ◌==◌, ◌&&◌, ◌||◌, Bool, true, false, not, List, Option, Some, None, refl, sym, ◌∙◌, ap, subst, inl, inr, arith, slice_index, Program, code_at, EndMark, Row, HartState, Instruction, aligned, Step, Quiet, Asks, step, after, Want, Load, Store, LoadReserved, StoreConditional, Amo, System, Cut, Faulted, instruction_in, written, known, at_address, Interval, Position, word_for, Pending, Noted, is_call, reads, is_of, is_word, word_of, used_word, uses_register, writes_register, uses_word, stores_word, takes_word, took, Live, note, live_before, writes_live, stores_live, gives, taken, bare, address_of, took_word, AreAlike, and_from, and_parts, eq-eqb, eqb-true, or_left, or_right, not_from_false}
 use Rattle.slice_back.proofs.LeastLaws.{says_taken}
 use Rattle.slice_back.proofs.Meanings.{Shape, AlikeSteps}
 use Rattle.slice_back.proofs.Turns.{IsAsk, reply_for, asked_row, WordOf, Turn}
@@ -17,9 +16,6 @@ pub record Twin (i : Program) (h g : ℕ) (v w : Interval) (p q o u : Position) 
   pub alike : AreAlike (note pend row) (note rest other)
   pub reason : v.mark.reason ≡ w.mark.reason
   pub value : v.mark.value ≡ w.mark.value
-
-code_one : {i : Program} {h g : ℕ} {v w : Interval} {p q o u : Position} {pend rest : Pending} {row other : Row} → Twin i h g v w p q o u pend rest row other → Code i p.state
-code_one {i = i} {h = h} {v = v} {p = p} {q = q} {row = row} t = code_of i h v p q row t.one.turn
 
 code_two_is : {i : Program} {h g : ℕ} {v w : Interval} {p q o u : Position} {pend rest : Pending} {row other : Row} (t : Twin i h g v w p q o u pend rest row other) (c : Code i p.state) → instruction_in (code_at i o.state.pc) ≡ Some c.code
 code_two_is {i = i} {h = h} {g = g} {v = v} {w = w} {p = p} {q = q} {o = o} {u = u} {row = row} {other = other} t c =
@@ -134,8 +130,8 @@ twin_chosen i h g v w p q o u pend rest row other t l chosen is agree told = twi
     used = record {
       pc = sym (row_pc i h v p q row t.one.turn) ∙ t.alike.pc ∙ row_pc i g w o u other t.two.turn;
       zero_same = agree.zero_same;
-      read = λ r n m. agree.registers r (or_first (chosen && uses_register r row) (not (writes_register r row) && l.registers r)
-          (both chosen (uses_register r row) is (both (not (r == 0)) (reads r (instruction_in row.word)) (not_false (r == 0) n)
+      read = λ r n m. agree.registers r (or_left (chosen && uses_register r row) (not (writes_register r row) && l.registers r)
+          (and_from chosen (uses_register r row) is (and_from (not (r == 0)) (reads r (instruction_in row.word)) (not_from_false (r == 0) n)
           (ap (λ k. reads r k) (ap instruction_in (row_word i h v p q row t.one.turn) ∙ c.is) ∙ m))));
       count = t.one.count ∙ sym t.two.count;
     }
@@ -144,7 +140,7 @@ twin_chosen i h g v w p q o u pend rest row other t l chosen is agree told = twi
     words a x y u1 u2 (inl s1) s2 = by s2
       where
         first_is : f.first_load ≡ Some x
-        first_is = told a x (says_taken chosen l e a x (record { used = ap (λ k. is_word a k) u1 ∙ equal_numbers a; first = s1; wants = or_first chosen (not (stores_word a row) && l.words a) is }))
+        first_is = told a x (says_taken chosen l e a x (record { used = ap (λ k. is_word a k) u1 ∙ eq-eqb a a refl; first = s1; wants = or_left chosen (not (stores_word a row) && l.words a) is }))
 
         by : Source f.first_load o.rows a y → x ≡ y
         by (inl s) = let z : ◌≡◌ {A = Option ℕ} (Some x) (Some y) = sym first_is ∙ s in cc
@@ -158,8 +154,8 @@ twin_chosen i h g v w p q o u pend rest row other t l chosen is agree told = twi
         untaken = ap (λ k. took k && uses_word a row) s1.0
 
         known_same : known a p.rows ≡ known a o.rows
-        known_same = agree.words a (both (not (takes_word a e)) ((chosen && uses_word a row) || (not (stores_word a row) && l.words a)) (not_false (takes_word a e) untaken)
-            (or_first (chosen && uses_word a row) (not (stores_word a row) && l.words a) (both chosen (uses_word a row) is (ap (λ k. is_word a k) u1 ∙ equal_numbers a))))
+        known_same = agree.words a (and_from (not (takes_word a e)) ((chosen && uses_word a row) || (not (stores_word a row) && l.words a)) (not_from_false (takes_word a e) untaken)
+            (or_left (chosen && uses_word a row) (not (stores_word a row) && l.words a) (and_from chosen (uses_word a row) is (ap (λ k. is_word a k) u1 ∙ eq-eqb a a refl))))
 
         by : Source f.first_load o.rows a y → x ≡ y
         by (inl s) = absurd (let z : ◌≡◌ {A = Option ℕ} (Some a) None = sym u2 ∙ sym (ap (λ (k : Option ℕ). elim k as (λ n. Option ℕ) [ None ↦ None | Some n ↦ used_word other ]) s) ∙ took_none in cc)
@@ -203,14 +199,14 @@ twin_next i h g v w p q o u pend rest row other t l chosen gave agree told = rec
     after_two r = row_after i g w o u other c2 (omega (arith, t.two.count)) t.two.turn r
 
     written : (r x : ℕ) → other.reg ≡ Some (r, x) → writes_register r other ≡ true
-    written r x k = ap (λ z. is_of r z) k ∙ equal_numbers r
+    written r x k = ap (λ z. is_of r z) k ∙ eq-eqb r r refl
 
     registers : (r : ℕ) → l.registers r ≡ true → slice_index q.state.x r ≡ slice_index u.state.x r
     registers r live = by (after_one r) (after_two r)
       where
         by : After row.reg p.state.x q.state.x r → After other.reg o.state.x u.state.x r → slice_index q.state.x r ≡ slice_index u.state.x r
         by (inl a) b =
-            let given : gives l row ≡ true = or_first (writes_live l row.reg) (stores_live l (word_of row.store)) (ap (λ z. writes_live l z) a ∙ live) in
+            let given : gives l row ≡ true = or_left (writes_live l row.reg) (stores_live l (word_of row.store)) (ap (λ z. writes_live l z) a ∙ live) in
             let reg : row.reg ≡ other.reg = ap (λ (z : Row). z.reg) (rows_same given) in
             elim b [
               | inl n ↦ (let z : ◌≡◌ {A = Option (ℕ × ℕ)} (Some (r, slice_index q.state.x r)) (Some (r, slice_index u.state.x r)) = sym a ∙ reg ∙ n in
@@ -218,7 +214,7 @@ twin_next i h g v w p q o u pend rest row other t l chosen gave agree told = rec
               | inr n ↦ absurd (let z : true ≡ false = sym (written r (slice_index q.state.x r) (sym reg ∙ a)) ∙ n.0 in cc)
             ]
         by (inr a) (inl n) = absurd (let z : true ≡ false = sym (written r (slice_index u.state.x r) n) ∙ sym (twin_writes t r) ∙ a.0 in cc)
-        by (inr a) (inr n) = a.1 ∙ agree.registers r (or_second (chosen && uses_register r row) (not (writes_register r row) && l.registers r) (both (not (writes_register r row)) (l.registers r) (not_false (writes_register r row) a.0) live)) ∙ sym n.1
+        by (inr a) (inr n) = a.1 ∙ agree.registers r (or_right (chosen && uses_register r row) (not (writes_register r row) && l.registers r) (and_from (not (writes_register r row)) (l.registers r) (not_from_false (writes_register r row) a.0) live)) ∙ sym n.1
 
     zero_one : is_of 0 row.reg ≡ false
     zero_one = ap (λ z. is_of 0 z) (row_reg i h v p q row c t.one.turn) ∙ zero_unwritten c.code q.state v.mark
@@ -253,24 +249,24 @@ twin_next i h g v w p q o u pend rest row other t l chosen gave agree told = rec
           where
             store : (k : Option ℕ) → is_word a k ≡ true → stores_live l k ≡ true
             store None n = cc
-            store (Some b) n = sym (ap l.words (same_number a b n)) ∙ live
+            store (Some b) n = sym (ap l.words (eqb-true a b n)) ∙ live
 
         loads : stores_word a row ≡ false → (b : Bool) → takes_word a e ≡ b → from ≡ to
-        loads n true y = first e.first_load refl (and_left (took e.first_load) (uses_word a row) y)
+        loads n true y = first e.first_load refl (and_parts (took e.first_load) (uses_word a row) y).0
           where
             first : (k : Option ℕ) → e.first_load ≡ k → took k ≡ true → from ≡ to
             first None k z = cc
             first (Some x) k z =
-                let other_first : f.first_load ≡ Some x = told a x (says_taken chosen l e a x (record { used = and_right (took e.first_load) (uses_word a row) y; first = k; wants = or_second chosen (not (stores_word a row) && l.words a) (both (not (stores_word a row)) (l.words a) (not_false (stores_word a row) n) live) })) in
+                let other_first : f.first_load ≡ Some x = told a x (says_taken chosen l e a x (record { used = (and_parts (took e.first_load) (uses_word a row) y).1; first = k; wants = or_right chosen (not (stores_word a row) && l.words a) (and_from (not (stores_word a row)) (l.words a) (not_from_false (stores_word a row) n) live) })) in
                 taken_now i h v p q pend row a x t.one y n k ∙ sym (taken_now i g w o u rest other a x t.two (sym (takes_alike e f a t.alike) ∙ y) (sym (stores_alike e f a t.alike) ∙ n) other_first)
         loads n false y =
             kept i h v p q pend row a t.one y
-            ∙ agree.words a (both (not (takes_word a e)) ((chosen && uses_word a row) || (not (stores_word a row) && l.words a)) (not_false (takes_word a e) y)
-            (or_second (chosen && uses_word a row) (not (stores_word a row) && l.words a) (both (not (stores_word a row)) (l.words a) (not_false (stores_word a row) n) live)))
+            ∙ agree.words a (and_from (not (takes_word a e)) ((chosen && uses_word a row) || (not (stores_word a row) && l.words a)) (not_from_false (takes_word a e) y)
+            (or_right (chosen && uses_word a row) (not (stores_word a row) && l.words a) (and_from (not (stores_word a row)) (l.words a) (not_from_false (stores_word a row) n) live)))
             ∙ sym (kept i g w o u rest other a t.two (sym (takes_alike e f a t.alike) ∙ y))
 
         by : (b : Bool) → stores_word a row ≡ b → at_address a row.store from ≡ at_address a other.store to
         by true y =
-            let given : gives l row ≡ true = or_second (writes_live l row.reg) (stores_live l (word_of row.store)) (stored y) in
+            let given : gives l row ≡ true = or_right (writes_live l row.reg) (stores_live l (word_of row.store)) (stored y) in
             over_store a row.store from to y ∙ ap (λ (k : Option (ℕ × ℕ)). at_address a k to) (ap (λ (z : Row). z.store) (rows_same given))
         by false y = past_store a row.store from y ∙ loads y (takes_word a e) refl ∙ sym (past_store a other.store to (sym (stores_alike e f a t.alike) ∙ y))

@@ -1,6 +1,5 @@
 -- The same row of two replays that agree on what is live: what it tells, and what is live after it.
-use Rattle.slice_back.proofs.Common.{◌≡◌, ℕ, ◌==◌, ◌&&◌, Bool, true, false, ◌∷◌, length, Option, Some, None, refl, sym, ◌∙◌, ap, subst, inl, inr, slice_index, Program, Row, aligned, Want, Load, Store, LoadReserved, StoreConditional, Amo, System, Cut, Faulted, instruction_in, known, at_address, Interval, Position, word_for, Pending, Noted, is_word, word_of, used_word, uses_word, stores_word, takes_word, took, stores_part, Live, note, address_of, took_word, AreAlike}
-use Rattle.slice_back.proofs.Bools.{and_right, both, same_number, equal_numbers}
+use Rattle.slice_back.proofs.Common.{◌≡◌, ℕ, ◌==◌, ◌&&◌, Bool, true, false, ◌∷◌, length, Option, Some, None, refl, sym, ◌∙◌, ap, subst, inl, inr, slice_index, Program, Row, aligned, Want, Load, Store, LoadReserved, StoreConditional, Amo, System, Cut, Faulted, instruction_in, known, at_address, Interval, Position, word_for, Pending, Noted, is_word, word_of, used_word, uses_word, stores_word, takes_word, took, stores_part, Live, note, address_of, took_word, AreAlike, and_from, and_parts, eq-eqb, eqb-true}
 use Rattle.slice_back.proofs.Turns.{IsAsk, asked_row, WordOf, Turn}
 use Rattle.slice_back.proofs.Turns.Turn.{quiet, asked}
 use Rattle.slice_back.proofs.Places.{Linked}
@@ -62,17 +61,17 @@ kept i h v p q pend row a s n = by row.load refl
         at false f = refl
         at true f = elim (loaded i h v p q pend row z.0 z.1 s e) [
           | inl first ↦ absurd (
-              let same : aligned z.0 ≡ a = same_number (aligned z.0) a f in
+              let same : aligned z.0 ≡ a = eqb-true (aligned z.0) a f in
               let uses : used_word row ≡ Some a = ap (λ (o : Option (ℕ × ℕ)). elim o as (λ y. Option ℕ) [ Some z ↦ Some (aligned z.0) | None ↦ elim (stores_part (instruction_in row.word)) as (λ y. Option ℕ) [ true ↦ word_of row.store | false ↦ None ] ]) e ∙ ap (λ k. Some k) same in
-              let yes : takes_word a (note pend row) ≡ true = both (took (note pend row).first_load) (uses_word a row) (ap took first) (ap (λ o. is_word a o) uses ∙ equal_numbers a) in
+              let yes : takes_word a (note pend row) ≡ true = and_from (took (note pend row).first_load) (uses_word a row) (ap took first) (ap (λ o. is_word a o) uses ∙ eq-eqb a a refl) in
               let t : true ≡ false = sym yes ∙ n in cc)
-          | inr known_is ↦ sym known_is.1 ∙ ap (λ k. known k p.rows) (same_number (aligned z.0) a f)
+          | inr known_is ↦ sym known_is.1 ∙ ap (λ k. known k p.rows) (eqb-true (aligned z.0) a f)
         ]
 
 -- a row that takes one and doesn't store the word has its value
 pub taken_now : (i : Program) (h : ℕ) (v : Interval) (p q : Position) (pend : Pending) (row : Row) (a x : ℕ) → Side i h v p q pend row → takes_word a (note pend row) ≡ true → stores_word a row ≡ false → (note pend row).first_load ≡ Some x
     → at_address a row.load (known a p.rows) ≡ Some x
-taken_now i h v p q pend row a x s t n f = by row.load refl (and_right (took (note pend row).first_load) (uses_word a row) t)
+taken_now i h v p q pend row a x s t n f = by row.load refl (and_parts (took (note pend row).first_load) (uses_word a row) t).1
   where
     stored : (b : Bool) → is_word a (elim b as (λ y. Option ℕ) [ true ↦ word_of row.store | false ↦ None ]) ≡ true → ⊥
     stored true u = let t : true ≡ false = sym u ∙ n in cc
@@ -81,8 +80,8 @@ taken_now i h v p q pend row a x s t n f = by row.load refl (and_right (took (no
     by : (o : Option (ℕ × ℕ)) → row.load ≡ o → is_word a (elim o as (λ y. Option ℕ) [ Some z ↦ Some (aligned z.0) | None ↦ elim (stores_part (instruction_in row.word)) as (λ y. Option ℕ) [ true ↦ word_of row.store | false ↦ None ] ]) ≡ true → at_address a o (known a p.rows) ≡ Some x
     by None e u = absurd (stored (stores_part (instruction_in row.word)) u)
     by (Some z) e u =
-        let same : a ≡ aligned z.0 = same_number a (aligned z.0) u in
-        let here : (aligned z.0 == a) ≡ true = ap (λ k. k == a) (sym same) ∙ equal_numbers a in
+        let same : a ≡ aligned z.0 = eqb-true a (aligned z.0) u in
+        let here : (aligned z.0 == a) ≡ true = ap (λ k. k == a) (sym same) ∙ eq-eqb a a refl in
         ap (λ b. elim b as (λ y. Option ℕ) [ true ↦ Some z.1 | false ↦ known a p.rows ]) here
         ∙ elim (loaded i h v p q pend row z.0 z.1 s e) [
           | inl first ↦ sym first ∙ f
@@ -111,8 +110,8 @@ takes_alike e f a h = takes_by_word a e ∙ ap (λ o. is_word a o) h.took ∙ sy
 pub over_store : (a : ℕ) (o : Option (ℕ × ℕ)) (r s : Option ℕ) → is_word a (word_of o) ≡ true → at_address a o r ≡ at_address a o s
 over_store a None r s t = absurd cc
 over_store a (Some z) r s t =
-    let same : a ≡ aligned z.0 = same_number a (aligned z.0) t in
-    let here : (aligned z.0 == a) ≡ true = ap (λ k. k == a) (sym same) ∙ equal_numbers a in
+    let same : a ≡ aligned z.0 = eqb-true a (aligned z.0) t in
+    let here : (aligned z.0 == a) ≡ true = ap (λ k. k == a) (sym same) ∙ eq-eqb a a refl in
     ap (λ b. elim b as (λ y. Option ℕ) [ true ↦ Some z.1 | false ↦ r ]) here ∙ sym (ap (λ b. elim b as (λ y. Option ℕ) [ true ↦ Some z.1 | false ↦ s ]) here)
 
 flip : (a b : ℕ) → (a == b) ≡ false → (b == a) ≡ false
@@ -120,7 +119,7 @@ flip a b h = by (b == a) refl
   where
     by : (c : Bool) → (b == a) ≡ c → c ≡ false
     by false e = refl
-    by true e = sym (equal_numbers a) ∙ ap (λ k. a == k) (sym (same_number b a e)) ∙ h
+    by true e = sym (eq-eqb a a refl) ∙ ap (λ k. a == k) (sym (eqb-true b a e)) ∙ h
 
 pub past_store : (a : ℕ) (o : Option (ℕ × ℕ)) (r : Option ℕ) → is_word a (word_of o) ≡ false → at_address a o r ≡ r
 past_store a None r t = refl
