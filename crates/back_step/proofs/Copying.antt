@@ -1,5 +1,5 @@
 -- At which positions there are copies.
-use Rattle.back_step.proofs.Common.{◌≡◌, ℕ, zero, suc, ◌+◌, ◌-◌, ◌*◌, ◌/◌, ◌%◌, ◌<◌, ◌≤◌, Bool, true, false, refl, sym, ap, ◌∙◌, subst, arith, inl, inr, ◌⊎◌, List, [], ◌∷◌, ◌++◌, length, take, drop, slice_get, Option, Some, None, add-mul, one-mul, mul-le-mul_right, ◌==◌, ◌&&◌, ◌≢◌, div-add-mod', length-append, length-take-le, take-append-drop, take-append-le, take-take, take_all, drop-take, eq-eqb, cases_lt, cases_eq, Joining, Entry, LeadsBy, CanTake, with_copy, HasCopies, IsTrail}
+use Rattle.back_step.proofs.Common.{◌≡◌, ℕ, zero, suc, ◌+◌, ◌-◌, ◌*◌, ◌/◌, ◌%◌, ◌<◌, ◌≤◌, Bool, true, false, refl, sym, ap, ◌∙◌, subst, arith, inl, inr, ◌⊎◌, List, [], ◌∷◌, ◌++◌, length, take, drop, slice_get, Some, None, add-mul, one-mul, mul-le-mul_right, ◌==◌, ◌&&◌, ◌≢◌, div-add-mod', length-append, length-take-le, take-append-drop, take-append-le, take-take, take_all, drop-take, eq-eqb, cases_lt, cases_eq, Joining, Entry, LeadsBy, CanTake, with_copy, HasCopies, IsTrail, false≢true, same_Some, slice_get_within}
 use Rattle.std.proofs.lemmas.Nat.{div-mul-add, mod-mul-add, mod_below, div_below, le-div}
 use Rattle.std.proofs.lemmas.Bool.Decides.{eqb_tells}
 use Rattle.back_step.proofs.Leading.{leads_append, leads_split, one_end, calm_after}
@@ -52,12 +52,9 @@ pub due_there : (every p n : ℕ) → n ≡ p / every → p % every ≡ 0 → is
 due_there every p n e z =
     ap (λ (b : Bool). b && (p / every == n)) (eq-eqb (p % every) 0 z) ∙ eq-eqb (p / every) n (sym e)
 
-false_true : false ≡ true → ⊥
-false_true e = cc
-
 -- of which position the copy is due
 pub due_tells : (every p n : ℕ) → HasCopies every p n → is_due every p n ≡ true → (n ≡ p / every) × (p % every ≡ 0)
-due_tells every p n (inl e) d = absurd (false_true (sym (not_due every p n e) ∙ d))
+due_tells every p n (inl e) d = absurd (false≢true (sym (not_due every p n e) ∙ d))
 due_tells every p n (inr e) d = e
 
 -- there is one more, unless it was there
@@ -71,17 +68,9 @@ many_after every p n j copies due size d (inr e) =
 abbrev pub AreCopies : ℕ → Joining → List Entry → List Joining → Type 0
 AreCopies every start entries copies = (i : ℕ) (c : Joining) → slice_get copies i ≡ Some c → LeadsBy start (take (i * every) entries) c
 
-below : (cs : List Joining) (i : ℕ) (c : Joining) → slice_get cs i ≡ Some c → i < length cs
-below [] i c e = absurd cc
-below (x ∷ cs) zero c e = omega arith
-below (x ∷ cs) (suc i) c e = omega (arith, below cs i c e)
-
-same_copy : (c d : Joining) → ◌≡◌ {A = Option Joining} (Some c) (Some d) → c ≡ d
-same_copy c d e = cc
-
 -- of one more, it is the last
 last_or : (cs : List Joining) (j : Joining) (i : ℕ) (c : Joining) → slice_get (cs ++ j ∷ []) i ≡ Some c → (slice_get cs i ≡ Some c) ⊎ ((i ≡ length cs) × (j ≡ c))
-last_or [] j zero c e = inr (refl, same_copy j c e)
+last_or [] j zero c e = inr (refl, same_Some j c e)
 last_or [] j (suc i) c e = absurd cc
 last_or (x ∷ cs) j zero c e = inl e
 last_or (x ∷ cs) j (suc i) c e = elim (last_or cs j i c e) [ inl f ↦ inl f | inr f ↦ inr (let g = f.0 in omega (arith, g), f.1) ]
@@ -109,7 +98,7 @@ copies_kept every start entries now copies true t d i c e = by (last_or copies n
 -- with one entry more
 pub copies_longer : (every : ℕ) (start : Joining) (entries : List Entry) (e : Entry) (copies : List Joining) → length copies ≡ length entries / every + 1 → AreCopies every start entries copies → AreCopies every start (entries ++ e ∷ []) copies
 copies_longer every start entries e copies size are i c at =
-    let low : i ≤ length entries / every = omega (arith, below copies i c at, size) in
+    let low : i ≤ length entries / every = omega (arith, slice_get_within copies i c at, size) in
     let under : i * every ≤ length entries = omega (arith, mul-le-mul_right every low, multiple_low every (length entries)) in
     subst (λ (es : List Entry). LeadsBy start es c) (sym (take-append-le (i * every) entries (e ∷ []) under)) (are i c at)
 
@@ -177,7 +166,7 @@ module _ (every : ℕ) (start : Joining) (entries : List Entry) (now : Joining) 
 
     pub trail_there : IsTrail every start (take to entries) joint (take (to / every + 1) copies)
     trail_there =
-        let there : to / every < length copies = below copies (to / every) copy at in
+        let there : to / every < length copies = slice_get_within copies (to / every) copy at in
         let size : length (take (to / every + 1) copies) ≡ to / every + 1 = length-take-le (to / every + 1) copies (omega (arith, there)) in
         record {
           some = t.some;

@@ -1,11 +1,8 @@
 -- Steps that lead from one joint replay to another.
-use Rattle.back_step.proofs.Common.{◌≡◌, ℕ, zero, suc, ◌+◌, ◌<◌, refl, sym, ap, ◌∙◌, subst, arith, List, [], ◌∷◌, ◌++◌, length, take, drop, slice_get, slice_index_or, append_assoc, Option, Some, None, Result, Ok, Err, append-nil, drop_more, take_more, ReplayError, Readiness, Lane, Item, Passing, Doing, Ending, lane_step, Joining, Walk, begun, longer, readiness, readiness_of, next_step, move, ready_step, walk_on, Entry, entry_of, entries_of, harts_of, state_after, CanStep, Took, LeadsBy, CanTake}
+use Rattle.back_step.proofs.Common.{◌≡◌, ℕ, zero, suc, ◌+◌, ◌<◌, refl, sym, ap, ◌∙◌, subst, arith, List, [], ◌∷◌, ◌++◌, length, take, drop, slice_get, slice_index_or, append_assoc, Option, Some, None, Result, Ok, Err, append-nil, drop_more, take_more, ReplayError, Readiness, Lane, Item, Passing, Doing, Ending, lane_step, Joining, Walk, begun, longer, readiness, next_step, move, ready_step, walk_on, Entry, entry_of, entries_of, harts_of, state_after, Took, LeadsBy, CanTake, same_Some}
 use Rattle.joint_replay.specs.declared.kinds.Readiness.TheVariants as is
 
 -- ---- a step of a ready hart
-
-same_step : (x y : Item × Joining) → ◌≡◌ {A = Option (Item × Joining)} (Some x) (Some y) → x ≡ y
-same_step x y e = cc
 
 -- by a hart's readiness, and what its next step is
 abbrev step_if : Readiness → Option (Result (Item × Joining) ReplayError) → Option (Item × Joining)
@@ -18,31 +15,15 @@ step_if r o = elim r [
 is_ready : (r : Readiness) (o : Option (Result (Item × Joining) ReplayError)) (x : Item × Joining) → step_if r o ≡ Some x → (r ≡ is.Ready) × (o ≡ Some (Ok x))
 is_ready is.Ready None x e = absurd cc
 is_ready is.Ready (Some (Err g)) x e = absurd cc
-is_ready is.Ready (Some (Ok y)) x e = (refl, ap (λ (z : Item × Joining). Some (Ok z)) (same_step y x e))
+is_ready is.Ready (Some (Ok y)) x e = (refl, ap (λ (z : Item × Joining). Some (Ok z)) (same_Some y x e))
 is_ready (is.Waits s ic) o x e = absurd cc
 is_ready is.Done o x e = absurd cc
-
-pub ready_is : (j : Joining) (h : ℕ) (x : Item × Joining) → ready_step j h ≡ Some x → readiness j h ≡ is.Ready
-ready_is j h x e = (is_ready (readiness j h) (next_step j h) x e).0
 
 pub next_is : (j : Joining) (h : ℕ) (x : Item × Joining) → ready_step j h ≡ Some x → next_step j h ≡ Some (Ok x)
 next_is j h x e = (is_ready (readiness j h) (next_step j h) x e).1
 
 pub step_there : (j : Joining) (h : ℕ) (x : Item × Joining) → readiness j h ≡ is.Ready → next_step j h ≡ Some (Ok x) → ready_step j h ≡ Some x
 step_there j h x ready next = ap (λ (r : Readiness). step_if r (next_step j h)) ready ∙ ap (step_if is.Ready) next
-
-below : (ls : List Lane) (h : ℕ) (lane : Lane) → slice_get ls h ≡ Some lane → h < length ls
-below [] h lane e = absurd cc
-below (l ∷ ls) zero lane e = omega arith
-below (l ∷ ls) (suc h) lane e = omega (arith, below ls h lane e)
-
--- a ready hart is there
-pub lane_there : (j : Joining) (h : ℕ) → readiness j h ≡ is.Ready → h < length j.lanes
-lane_there j h e = by (slice_get j.lanes h) refl e
-  where
-    by : (o : Option Lane) → slice_get j.lanes h ≡ o → elim o as (λ y. Readiness) [ None ↦ is.Done | Some lane ↦ readiness_of j.records j.lanes h lane ] ≡ is.Ready → h < length j.lanes
-    by None at e = absurd cc
-    by (Some lane) at e = below j.lanes h lane at
 
 -- a step is done only if no refusal is repeated, and leaves none
 abbrev IsCalm : Option ReplayError → Option (Result (Item × Joining) ReplayError) → Type 0
@@ -82,7 +63,7 @@ leads_split j l (e ∷ es) fs a = let r = leads_split a.0.1 l es fs a.3 in (r.0,
 pub one_end : (j k l : Joining) (es : List Entry) → LeadsBy j es k → LeadsBy j es l → k ≡ l
 one_end j k l [] a b = a ∙ sym b
 one_end j k l (e ∷ es) a b =
-    let same : a.0 ≡ b.0 = same_step a.0 b.0 (sym a.1 ∙ b.1) in
+    let same : a.0 ≡ b.0 = same_Some a.0 b.0 (sym a.1 ∙ b.1) in
     one_end b.0.1 k l es (subst (λ (x : Item × Joining). LeadsBy x.1 es k) same a.3) b.3
 
 -- one more
@@ -137,12 +118,9 @@ module _ (first j : Joining) (steps : List Entry) (at : ℕ) (e : Entry) (low : 
   opened : CanTake j (e ∷ drop (at + 1) steps)
   opened = subst (CanTake j) (drop_more steps at e low ∙ ap (λ (y : Entry). y ∷ drop (at + 1) steps) (sym here)) rest
 
-  pub can_step : CanStep j e.hart
-  can_step = (opened.1.0, opened.1.1)
-
   module _ (k : Joining) (took : Took j e.hart k) where
     same : opened.1.0 ≡ (took.0, k)
-    same = same_step opened.1.0 (took.0, k) (sym opened.1.1 ∙ took.1)
+    same = same_Some opened.1.0 (took.0, k) (sym opened.1.1 ∙ took.1)
 
     pub rest_after : CanTake k (drop (at + 1) steps)
     rest_after = (opened.0, subst (λ (x : Item × Joining). LeadsBy x.1 (drop (at + 1) steps) opened.0) same opened.1.3)
