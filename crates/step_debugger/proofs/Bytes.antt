@@ -1,7 +1,8 @@
 -- Lines read byte after byte.
-use Rattle.step_debugger.proofs.Common.{◌≡◌, ℕ, ◌<◌, ◌≤◌, true, false, refl, sym, ap, subst, ◌∙◌, arith, inl, inr, List, [], ◌∷◌, ◌++◌, append_assoc, append-nil, length, map, take, Option, Some, None, Ok, Err, Consumes, Consumes-trans, Rose, ConsumesAll, EndsExactly, ReadNote, Stream, Supply, noted_after, DebugError, ReadFault, WriteFault, LineTooLong, TooMuch, Joint, OutOfMemory, Reading, Input, input_from, line_limit, NoLine, TakesByte, ReadsLine, EndsTooMany, StopsAt, NextLine}
+use Rattle.step_debugger.proofs.Common.{◌≡◌, ℕ, ◌<◌, ◌≤◌, true, false, refl, sym, ap, subst, ◌∙◌, arith, List, [], ◌∷◌, ◌++◌, append_assoc, append-nil, length, map, take, Option, Some, None, Ok, Err, Consumes, Consumes-trans, Rose, ConsumesAll, EndsExactly, ReadNote, Stream, Supply, noted_after, DebugError, ReadFault, WriteFault, LineTooLong, TooMuch, Joint, OutOfMemory, Reading, Input, input_from, line_limit, NoLine, TakesByte, ReadsLine, EndsTooMany, StopsAt, NextLine}
 use Rattle.step_debugger.proofs.InTurn.{unended_more, one_read, line_byte_read}
 use Rattle.step_debugger.proofs.ReadCounts.{byte_read, not_taken}
+use Rattle.bn_outside.proofs.Pieces.{rose_last}
 
 -- a read of no byte
 pub no_byte : (old new : Option (List ℕ)) (n : ℕ) (buffer : List ℕ) → n ≡ 0 → 0 < length buffer → Consumes old new (take n buffer) → EndsExactly old n buffer → ConsumesAll old new []
@@ -18,10 +19,6 @@ all_gone (Some x) None c bytes p q = absurd p
 all_gone (Some x) (Some y) c bytes p q =
     let whole : x ≡ bytes = p ∙ ap (λ z. bytes ++ z) (sym q.0) ∙ append-nil bytes in
     ((sym whole, q.1), subst (λ (d : Option (List ℕ)). Consumes (Some x) d bytes) (sym q.1) (whole ∙ sym (append-nil bytes)))
-
-rose_later : (a b c : ℕ) → a ≤ b → Rose b c → Rose a c
-rose_later a b c h (inl less) = inl (omega (arith, h, less))
-rose_later a b c h (inr last) = inr last
 
 -- the bytes of the line so far are gone, each by a read
 pub record SoFar (start : ℕ) (r : Reading) (old now : Supply) (note : ReadNote) (out : Stream) : Type 0 where
@@ -64,7 +61,7 @@ module _ (start : Reading) {r : Reading} {old now : Supply} (next : Supply) {not
   read_failed p rose = record {
     gone = r.line;
     taken = subst (Consumes old.left next.left) (append-nil r.line) (Consumes-trans old.left now.left next.left r.line [] s.gone p);
-    read = (ap (input_from start.count []) (sym (append-nil r.line)) ∙ s.as_far [], rose_later old.faults now.faults next.faults s.later rose);
+    read = (ap (input_from start.count []) (sym (append-nil r.line)) ∙ s.as_far [], rose_last old.faults now.faults next.faults s.later rose);
     stops = tt;
     front = r.line;
     last = [];

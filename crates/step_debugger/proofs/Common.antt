@@ -1,12 +1,13 @@
 -- What several files of proofs/ cite of other crates and of specs/. They import it from here, by one line.
 pub use Rattle.std.proofs.Common.{Bool, Err, List, None, Ok, Option, Result, Some, [], ap, append-nil, append_assoc, ap₂, arith, codes, drop, false, get_or, inl, inr, length, length-append, map, nat_lt, pow-suc, refl, replicate, slice_get, slice_set, subst, suc, sym, take, take_all, true, zero, ℕ, ◌*◌, ◌++◌, ◌+◌, ◌-◌, ◌<◌, ◌^◌, ◌∙◌, ◌∷◌, ◌≡◌, ◌≤◌, ◌⊎◌}
+pub use Rattle.std.proofs.lemmas.Option.{same_Some}
 pub use Rattle.std.proofs.KnownBytes.{Appends-nil, Appends-trans, Consumes-nil, Consumes-trans}
 pub use Rattle.std.proofs.lemmas.List.{drop_more, take-append-le}
 pub use Rattle.std.specs.Io.KnownBytes.{Appends, Consumes}
 pub use Rattle.back_step.specs.Traces.{Trace, Trailed, entry_of, trace_step, with_entry}
 pub use Rattle.bn_outside.specs.Counts.{Rose}
 pub use Rattle.bn_outside.specs.Streams.{AppendsPart, AppendsShort, ConsumesAll, EndsExactly, ReadNote, Stream, Supply, noted_after}
-pub use Rattle.joint_replay.specs.Joining.{Joining, choice, choice_from, move, next_step, readiness, readiness_of, steps_left}
+pub use Rattle.joint_replay.specs.Joining.{Joining, choice, move, next_step, readiness, steps_left}
 pub use Rattle.step_debugger.specs.Answers.{Answer, Moves, Session, answer, begin_at, go_by, go_on, go_past, hart_place, places_from, says, step_by, step_up_to, stop_before, stop_below, stop_unless}
 unfoldable pub use Rattle.step_debugger.specs.Answers.{address_text, at_text, four_text, half_text, hart_done_text, hart_text, place_text, point_text, register_text, stop_text, two_text, waits_text, word_text}
 pub use Rattle.step_debugger.specs.Commands.{command_of}

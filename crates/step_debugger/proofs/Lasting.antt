@@ -3,7 +3,8 @@ use Rattle.step_debugger.proofs.Common.{◌≡◌, ℕ, ◌+◌, ◌≤◌, leng
 use Rattle.joint_replay.specs.declared.error.JointError.{JointError}
 use Rattle.step_debugger.proofs.InTurn.{no_lines, further}
 use Rattle.step_debugger.proofs.ReadCounts.{joined_reads, joined_one, not_read_once}
-use Rattle.step_debugger.proofs.Sent.{part_longer, part_behind, part_whole, rose_later}
+use Rattle.step_debugger.proofs.Sent.{part_longer, part_behind, part_whole}
+use Rattle.bn_outside.proofs.Pieces.{rose_last}
 
 -- ---- what is read
 
@@ -141,7 +142,7 @@ module _ (j : Trace) (s : Session) (old : Reading) (input now_input : Supply) (n
         ap (λ (a : Answer). a.ends) (lines_said gone new.line r.0),
         ap (λ (i : Input). i.refused) (joined gone (ends_in new.line None) r.0),
         text_sent gone new.line r.0,
-        rose_later input.faults now_input.faults next_input.faults fell r.1,
+        rose_last input.faults now_input.faults next_input.faults fell r.1,
       )
       by WriteFault gone r = absurd r
       by (LineTooLong k) gone r = stopped gone new.line (LineTooLong k) (whole gone (r []))
@@ -238,7 +239,7 @@ module _ (j : Trace) (s : Session) (old : Reading) (input now_input : Supply) (n
 
           by : (e : DebugError) → SendsPart e now_out.text next_out.text answered.text → Stops now_out next_out e → Debugged j input next_input note out next_out (Err e)
           by ReadFault p h = absurd h
-          by WriteFault p h = over (Err WriteFault) (part (p.0, p.2), rose_later out.faults now_out.faults next_out.faults fell h) (line_or_all whole n WriteFault p) (read_by whole n)
+          by WriteFault p h = over (Err WriteFault) (part (p.0, p.2), rose_last out.faults now_out.faults next_out.faults fell h) (line_or_all whole n WriteFault p) (read_by whole n)
           by (LineTooLong k) p h = absurd h
           by (TooMuch k) p h = absurd h
           by (Joint f) p h = absurd h

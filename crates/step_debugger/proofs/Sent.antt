@@ -1,6 +1,7 @@
 -- Texts that are sent one after another.
-use Rattle.step_debugger.proofs.Common.{◌≡◌, ℕ, suc, ◌+◌, ◌-◌, ◌≤◌, ◌<◌, List, [], ◌∷◌, ◌++◌, length, take, Option, Some, None, ◌∙◌, ap, subst, sym, arith, inl, inr, ◌⊎◌, append_assoc, length-append, Ok, Appends, Appends-trans, take_all, take-append-le, Rose, AppendsPart, AppendsShort, Stream, Joining, readiness, Trace, trace_step, DebugError, ReadFault, WriteFault, LineTooLong, TooMuch, Joint, OutOfMemory, Ending, Moves, step_by, step_up_to, hart_place, places_from, StepsOnce, Stops, SendsPart, Gathers}
+use Rattle.step_debugger.proofs.Common.{◌≡◌, ℕ, suc, ◌+◌, ◌-◌, ◌≤◌, ◌<◌, List, [], ◌∷◌, ◌++◌, length, take, Option, Some, None, ◌∙◌, ap, subst, sym, arith, inl, inr, ◌⊎◌, append_assoc, length-append, Ok, Appends, Appends-trans, take_all, take-append-le, AppendsPart, AppendsShort, Stream, Joining, readiness, Trace, trace_step, DebugError, ReadFault, WriteFault, LineTooLong, TooMuch, Joint, OutOfMemory, Ending, Moves, step_by, step_up_to, hart_place, places_from, StepsOnce, Stops, SendsPart, Gathers}
 use Rattle.std.proofs.lemmas.Bool.{cases_lt}
+use Rattle.bn_outside.proofs.Pieces.{rose_last}
 
 -- the front of a longer text
 front_longer : (n : ℕ) (s t : List ℕ) → (length s < n) ⊎ (n ≤ length s) → (m : ℕ) × (take m (s ++ t) ≡ take n s)
@@ -54,14 +55,9 @@ cut_behind OutOfMemory a b c s t h k = part_behind a b c s t h k
 pub part_whole : (old new : Option (List ℕ)) (text : List ℕ) → Appends old new text → AppendsPart old new text
 part_whole old new text h = (length text, subst (λ (t : List ℕ). Appends old new t) (sym (take_all (length text) text (omega arith))) h)
 
--- counts that don't fall
-pub rose_later : (a b c : ℕ) → a ≤ b → Rose b c → Rose a c
-rose_later a b c h (inl less) = inl (omega (arith, h, less))
-rose_later a b c h (inr last) = inr last
-
 pub stops_later : (a b c : Stream) (e : DebugError) → a.faults ≤ b.faults → Stops b c e → Stops a c e
 stops_later a b c ReadFault h s = absurd s
-stops_later a b c WriteFault h s = rose_later a.faults b.faults c.faults h s
+stops_later a b c WriteFault h s = rose_last a.faults b.faults c.faults h s
 stops_later a b c (LineTooLong n) h s = absurd s
 stops_later a b c (TooMuch n) h s = absurd s
 stops_later a b c (Joint e) h s = absurd s

@@ -1,66 +1,22 @@
 -- The lowest ready hart, and what its step leaves to do.
-use Rattle.step_debugger.proofs.Common.{◌≡◌, ℕ, zero, suc, ◌+◌, ◌<◌, Bool, true, false, refl, sym, ap, ap₂, ◌∙◌, subst, arith, List, [], ◌∷◌, ◌++◌, length, slice_get, slice_set, Option, Some, None, Result, Ok, Err, Joining, choice, choice_from, readiness, readiness_of, next_step, move, steps_left, entry_of, Trace, Trailed, with_entry, trace_step, go_by, go_past, stop_unless, GoesOnce}
+use Rattle.step_debugger.proofs.Common.{◌≡◌, ℕ, zero, suc, ◌+◌, Bool, refl, sym, ap, ap₂, ◌∙◌, subst, arith, List, [], ◌∷◌, ◌++◌, length, slice_get, slice_set, Option, Some, None, Result, Ok, Err, Joining, choice, next_step, move, steps_left, entry_of, Trace, Trailed, with_entry, trace_step, go_by, go_past, stop_unless, GoesOnce, same_Some}
 use Rattle.bn_base.specs.Programs.{Program}
 use Rattle.bn_base.specs.declared.row.Row.{Row}
-use Rattle.log_record.specs.declared.record.Record.{Record}
 use Rattle.hart_replay.specs.declared.error.ReplayError.{ReplayError}
 use Rattle.hart_replay.specs.Replay.{Outcome, Done, Refused}
-use Rattle.joint_replay.specs.declared.kinds.Readiness.{Readiness}
-use Rattle.joint_replay.specs.declared.kinds.Readiness.TheVariants as is
 use Rattle.joint_replay.specs.declared.kinds.Next.{Next}
 use Rattle.joint_replay.specs.declared.kinds.Next.TheVariants as next
 use Rattle.joint_replay.specs.declared.kinds.Stepped.{Stepped}
 use Rattle.joint_replay.specs.Lanes.{Cursor, Lane, Item, Doing, Ending, row_given, cursors_steps, lane_step, lane_steps}
 use Rattle.joint_replay.specs.Memory.{memory_after}
 use Rattle.back_step.specs.Trails.{TrailSteps}
-
--- ---- the lowest ready hart is ready
-
--- a hart of those from k on that is ready
-pub record Found (records : List Record) (lanes : List Lane) (k : ℕ) (ls : List Lane) (h : ℕ) : Type 0 where
-  pub place : ℕ
-  pub lane : Lane
-  pub at : slice_get ls place ≡ Some lane
-  pub number : k + place ≡ h
-  pub ready : readiness_of records lanes h lane ≡ is.Ready
-
-found : (records : List Record) (lanes : List Lane) (k : ℕ) (ls : List Lane) (w : Bool) (h : ℕ) → choice_from records lanes k ls w ≡ next.Hart h → Found records lanes k ls h
-found records lanes k [] true h e = absurd cc
-found records lanes k [] false h e = absurd cc
-found records lanes k (l ∷ ls) w h e = by (readiness_of records lanes k l) refl (λ v f. found records lanes (k + 1) ls v h f) e
-  where
-    further : Found records lanes (k + 1) ls h → Found records lanes k (l ∷ ls) h
-    further f = record { place = suc f.place; lane = f.lane; at = f.at; number = omega (arith, f.number); ready = f.ready }
-
-    by : (r : Readiness) → readiness_of records lanes k l ≡ r → ((v : Bool) → choice_from records lanes (k + 1) ls v ≡ next.Hart h → Found records lanes (k + 1) ls h)
-        → elim r as (λ y. Next) [ is.Ready ↦ next.Hart k | is.Waits s ic ↦ choice_from records lanes (k + 1) ls true | is.Done ↦ choice_from records lanes (k + 1) ls w ] ≡ next.Hart h → Found records lanes k (l ∷ ls) h
-    by is.Ready f rest e = let same : k ≡ h = cc in record { place = 0; lane = l; at = refl; number = omega (arith, same); ready = subst (λ n. readiness_of records lanes n l ≡ is.Ready) same f }
-    by (is.Waits s ic) f rest e = further (rest true e)
-    by is.Done f rest e = further (rest w e)
-
-below : (ls : List Lane) (k : ℕ) (lane : Lane) → slice_get ls k ≡ Some lane → k < length ls
-below [] k lane e = absurd cc
-below (l ∷ ls) zero lane e = omega arith
-below (l ∷ ls) (suc k) lane e = omega (arith, below ls k lane e)
-
-pub lowest_is_ready : (j : Joining) (h : ℕ) → choice j ≡ next.Hart h → readiness j h ≡ is.Ready
-lowest_is_ready j h e =
-    let f = found j.records j.lanes 0 j.lanes false h e in
-    let same : f.place ≡ h = omega (arith, f.number) in
-    ap (λ (o : Option Lane). elim o as (λ y. Readiness) [ None ↦ is.Done | Some lane ↦ readiness_of j.records j.lanes h lane ]) (ap (slice_get j.lanes) (sym same) ∙ f.at) ∙ f.ready
-
-pub lowest_is_there : (j : Joining) (h : ℕ) → choice j ≡ next.Hart h → h < length j.lanes
-lowest_is_there j h e =
-    let f = found j.records j.lanes 0 j.lanes false h e in
-    omega (arith, below j.lanes f.place f.lane f.at, f.number)
+-- the lowest ready hart is ready, and there
+pub use Rattle.joint_replay.proofs.Telling.{chosen_ready as lowest_is_ready, chosen_there as lowest_is_there}
 
 -- ---- a step lowers what is left by one
 
 same_pair : (x y : Item × Lane) → ◌≡◌ {A = Result (Item × Lane) ReplayError} (Ok x) (Ok y) → x ≡ y
 same_pair x y e = cc
-
-some_pair : (x y : Result (Item × Lane) ReplayError) → ◌≡◌ {A = Option (Result (Item × Lane) ReplayError)} (Some x) (Some y) → x ≡ y
-some_pair x y e = cc
 
 -- an interval's step, by what is left of it
 abbrev step_by : Program → Cursor → List Cursor → List Row → Outcome → Result (Item × Lane) ReplayError
@@ -77,10 +33,10 @@ cursor_fewer i c cs (r ∷ rs) o x e = subst (λ (y : Item × Lane). lane_steps 
 lane_fewer : (i : Program) (points : List ℕ) (cursors : List Cursor) (x : Item × Lane) → lane_step i (record { points = points; cursors = cursors }) ≡ Some (Ok x) → lane_steps x.1 + 1 ≡ length points + cursors_steps cursors
 lane_fewer i [] [] x e = absurd cc
 lane_fewer i [] (c ∷ cs) x e =
-    let low = cursor_fewer i c cs c.left.rows c.left.outcome x (some_pair (step_by i c cs c.left.rows c.left.outcome) (Ok x) e) in
+    let low = cursor_fewer i c cs c.left.rows c.left.outcome x (same_Some (step_by i c cs c.left.rows c.left.outcome) (Ok x) e) in
     omega (arith, low)
 lane_fewer i (p ∷ ps) cursors x e =
-    subst (λ (y : Item × Lane). lane_steps y.1 + 1 ≡ length (p ∷ ps) + cursors_steps cursors) (same_pair _ x (some_pair _ (Ok x) e)) (omega arith)
+    subst (λ (y : Item × Lane). lane_steps y.1 + 1 ≡ length (p ∷ ps) + cursors_steps cursors) (same_pair _ x (same_Some _ (Ok x) e)) (omega arith)
 
 set_fewer : (ls : List Lane) (h : ℕ) (lane new : Lane) → slice_get ls h ≡ Some lane → lane_steps new + 1 ≡ lane_steps lane → steps_left (slice_set ls h new) + 1 ≡ steps_left ls
 set_fewer [] h lane new e low = absurd cc
