@@ -24,7 +24,7 @@ pub use Rattle.rv_meaning.specs.declared.asks.Want.TheVariants.{Amo, Cut, Faulte
 pub use Rattle.hart_replay.specs.Coming.{Begins, Replaying, Stepped, a_word_comes, after_row, outcome_only, reply_in, to_come, with_rows, without_rows}
 pub use Rattle.hart_replay.specs.Cursors.{CursorDoes, DoneAndKept, answered, cursor_to_come, interval_of_cursor, next_of, position_of, side_of}
 pub use Rattle.hart_replay.specs.DecodeCaches.{AreLookups, CacheOf, IsLookup}
-pub use Rattle.hart_replay.specs.Directories.{Branch, and_page, has_part, is_of, listed, page_at, page_in, place_for, place_in, stands_at}
+pub use Rattle.hart_replay.specs.Directories.{and_page, is_of, listed, page_at, page_in, place_for, place_in, stands_at}
 unfoldable pub use Rattle.hart_replay.specs.Directories.{page_count, pages_of}
 pub use Rattle.hart_replay.specs.Pages.{Frame, Known, cleared, marked, word_at, word_in, word_of}
 pub use Rattle.hart_replay.specs.Replay.{Done, Interval, Logged, Next, On, Outcome, Position, Refused, Replayed, Stop, after_ask, after_sc, ask_step, call_reason, ended, fault_end, finish, first, found, interval_from, interval_of, left_over, logged, logged_from, missing, nothing, one_step, onto, or_else, put, puts, replayed_in, slot, steps, taken_from, word_for}

@@ -1,13 +1,9 @@
 -- An instruction that a replay did is the one that the definition gives.
-use Rattle.hart_replay.proofs.Common.{◌≡◌, ℕ, suc, ◌+◌, ◌-◌, ◌/◌, ◌^◌, ◌<◌, Bool, true, false, Option, Some, None, List, [], ◌∷◌, length, if◌then◌else◌, refl, sym, subst, ◌∙◌, ap, arith, inl, inr, add-zero, ◌==◌, ◌||◌, is_some, Result, Ok, Err, OnOk, IfErr, Program, EndMark, Row, HartState, stored_word, absorbed, after, count_up, aligned, Want, Store, StoreConditional, Reply, Word, Stored, row_of, at_address, known, IntervalCursor, ReplayError, LoadMissing, ScMissing, OutOfMemory, Refused, Next, Stop, logged, taken_from, slot, or_else, word_for, missing, after_ask, after_sc, ask_step, Pending, due, met, IsWaiting, first_of, rest_of, Frame, word_at, Side, Alike, Goes, word_count, rows_below, side, interval_at, position_at, word_due, Keeps, KeepsWord, Does, side_of, DoneAndKept}
+use Rattle.hart_replay.proofs.Common.{◌≡◌, ℕ, suc, ◌+◌, ◌-◌, ◌/◌, ◌^◌, ◌<◌, Bool, true, false, Option, Some, None, List, [], ◌∷◌, length, refl, sym, subst, ◌∙◌, ap, arith, inl, inr, add-zero, ◌==◌, ◌||◌, is_some, Result, Ok, Err, OnOk, IfErr, Program, EndMark, Row, HartState, stored_word, absorbed, after, count_up, aligned, Want, Store, StoreConditional, Reply, Stored, row_of, at_address, known, IntervalCursor, ReplayError, LoadMissing, ScMissing, OutOfMemory, Refused, Next, Stop, logged, taken_from, slot, or_else, word_for, missing, after_ask, after_sc, ask_step, Pending, due, met, IsWaiting, first_of, rest_of, Frame, word_at, Side, Alike, Goes, word_count, rows_below, side, interval_at, position_at, word_due, Keeps, KeepsWord, Does, side_of, DoneAndKept}
 use Rattle.rv_meaning.specs.declared.asks.Reply.TheVariants as replies
 use Rattle.hart_replay.proofs.Places.{logged-due, logged-met, left-met, slot-first, slot-rest, length-rest}
 use Rattle.hart_replay.proofs.KnownRows.{known_word, known_put}
 use Rattle.hart_replay.proofs.Alike.{moved, tried_once}
-
--- a put of word x at address a
-abbrev pub Puts : List (ℕ × Frame) → ℕ → ℕ → List (ℕ × Frame) → Type 0
-Puts old a x new = (k : ℕ) → word_at new k ≡ (if k == a / 4 then Some x else word_at old k)
 
 -- of two accesses at one address the later counts
 pub twice : (a x y w : ℕ) (o : Option ℕ) → at_address (aligned w) (Some (a, y)) (at_address (aligned w) (Some (a, x)) o) ≡ at_address (aligned w) (Some (a, y)) o

@@ -1,8 +1,5 @@
 -- The words of pages, as rows tell them.
-use Rattle.hart_replay.proofs.Common.{◌≡◌, ℕ, zero, suc, ◌*◌, ◌/◌, ◌^◌, ◌<◌, ◌≤◌, Bool, true, false, Option, Some, None, List, ◌∷◌, if◌then◌else◌, refl, sym, ◌∙◌, ap, arith, inl, inr, ◌==◌, ◌≢◌, ◌⊎◌, eq-eqb, cases_lt, eqb_tells, Row, aligned, at_address, known, or_else, Frame, word_at, word_count, word_row, rows_below}
-
-unequal : (a b : ℕ) → a ≢ b → (a == b) ≡ false
-unequal a b h = elim (eqb_tells a b) [ inl p ↦ absurd (h p.1) | inr p ↦ p.0 ]
+use Rattle.hart_replay.proofs.Common.{◌≡◌, ℕ, zero, suc, ◌*◌, ◌/◌, ◌^◌, ◌<◌, ◌≤◌, Bool, true, false, Option, Some, None, List, ◌∷◌, if◌then◌else◌, refl, sym, ◌∙◌, ap, arith, inl, inr, ◌==◌, ◌≢◌, ◌⊎◌, eq-eqb, cases_lt, eqb_tells, Row, aligned, at_address, known, or_else, Frame, word_at, word_count, word_row, rows_below, ne_eqb}
 
 or_none : (o : Option ℕ) → or_else o None ≡ o
 or_none None = refl
@@ -16,7 +13,7 @@ here n w (Some x) rest e =
 there : (n w : ℕ) (o : Option ℕ) (rest : List Row) → w / 4 ≢ n → known (aligned w) (word_row n o ∷ rest) ≡ known (aligned w) rest
 there n w None rest e = refl
 there n w (Some x) rest e =
-    ap (λ b. elim b as (λ y. Option ℕ) [ true ↦ Some x | false ↦ known (aligned w) rest ]) (unequal (aligned (4 * n)) (aligned w) (λ q. e (omega (arith, q))))
+    ap (λ b. elim b as (λ y. Option ℕ) [ true ↦ Some x | false ↦ known (aligned w) rest ]) (ne_eqb (aligned (4 * n)) (aligned w) (λ q. e (omega (arith, q))))
 
 above : (pages : List (ℕ × Frame)) (n w : ℕ) → n ≤ w / 4 → known (aligned w) (rows_below pages n) ≡ None
 above pages zero w h = refl
@@ -61,5 +58,5 @@ known_put old new a x w h put = elim (eqb_tells (w / 4) (a / 4)) [ inl p ↦ sam
 
     other : (w / 4 == a / 4) ≡ false → w / 4 ≢ a / 4 → at_address (aligned w) (Some (a, x)) (known (aligned w) (rows_below old word_count)) ≡ known (aligned w) (rows_below new word_count)
     other t e =
-        ap (λ b. elim b as (λ y. Option ℕ) [ true ↦ Some x | false ↦ known (aligned w) (rows_below old word_count) ]) (unequal (aligned a) (aligned w) (λ q. e (omega (arith, q))))
+        ap (λ b. elim b as (λ y. Option ℕ) [ true ↦ Some x | false ↦ known (aligned w) (rows_below old word_count) ]) (ne_eqb (aligned a) (aligned w) (λ q. e (omega (arith, q))))
         ∙ by_order t (cases_lt (w / 4) word_count)

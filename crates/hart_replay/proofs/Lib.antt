@@ -1,9 +1,7 @@
 mod Common
 mod Exits
-pub mod Levels
 pub mod Listed
 pub mod Lookups
-pub mod Codes
 pub mod Marks
 pub mod Puts
 pub mod Places

@@ -1,15 +1,12 @@
 -- Pages that are found by places, as a list by their numbers.
-use Rattle.hart_replay.proofs.Common.{◌≡◌, ◌≢◌, ℕ, zero, suc, ◌/◌, ◌%◌, ◌^◌, ◌<◌, ◌≤◌, ◌==◌, ◌⊎◌, cond, if◌then◌else◌, Bool, true, false, List, [], ◌∷◌, ◌++◌, length, Option, Some, None, slice_get, slice_set, refl, sym, ap, ◌∙◌, inl, inr, arith, nat_eq, cases_eq, cases_lt, eq-eqb, eqb_tells, Frame, word_of, word_in, word_at, and_page, listed, page_count, pages_of, page_in, page_at, is_of, stands_at, TaggedPage}
+use Rattle.hart_replay.proofs.Common.{◌≡◌, ◌≢◌, ℕ, zero, suc, ◌/◌, ◌%◌, ◌^◌, ◌<◌, ◌≤◌, ◌==◌, ◌⊎◌, cond, if◌then◌else◌, Bool, true, false, List, [], ◌∷◌, ◌++◌, length, Option, Some, None, slice_get, slice_set, refl, sym, ap, ◌∙◌, inl, inr, arith, nat_eq, cases_eq, cases_lt, eq-eqb, eqb_tells, Frame, word_of, word_in, word_at, and_page, listed, page_count, pages_of, page_in, page_at, is_of, stands_at, TaggedPage, false≢true, ne_eqb}
 use Rattle.std.specs.Map.{lookup}
-
-unequal : (a b : ℕ) → a ≢ b → (a == b) ≡ false
-unequal a b h = elim (eqb_tells a b) [ inl p ↦ absurd (h p.1) | inr p ↦ p.0 ]
 
 -- ---- the list
 
 other_page : (o : Option Frame) (n m : ℕ) (rest : List (ℕ × Frame)) → n ≢ m → lookup (nat_eq n) (and_page o m rest) ≡ lookup (nat_eq n) rest
 other_page None n m rest apart = refl
-other_page (Some f) n m rest apart = ap (λ (x : Bool). cond x (Some f) (lookup (nat_eq n) rest)) (unequal n m apart)
+other_page (Some f) n m rest apart = ap (λ (x : Bool). cond x (Some f) (lookup (nat_eq n) rest)) (ne_eqb n m apart)
 
 own_page : (o : Option Frame) (n : ℕ) (rest : List (ℕ × Frame)) → lookup (nat_eq n) rest ≡ None → lookup (nat_eq n) (and_page o n rest) ≡ o
 own_page None n rest none = none
@@ -40,7 +37,7 @@ none_past f k past = unfold pages_of in ap (λ (o : Option Frame). word_of o (k 
 same_place : (a k : ℕ) → k / 64 ≡ a / 64 → (k % 64 == a % 64) ≡ (k == a)
 same_place a k e = elim (eqb_tells k a) [
   | inl p ↦ eq-eqb (k % 64) (a % 64) (ap (λ n. n % 64) p.1) ∙ sym p.0
-  | inr p ↦ unequal (k % 64) (a % 64) (λ q. p.1 (omega (arith, e, q))) ∙ sym p.0
+  | inr p ↦ ne_eqb (k % 64) (a % 64) (λ q. p.1 (omega (arith, e, q))) ∙ sym p.0
 ]
 
 pub word_changed : (f g : ℕ → Option Frame) (a : ℕ) (o : Option ℕ) → a / 64 < 2 ^ 24
@@ -50,7 +47,7 @@ pub word_changed : (f g : ℕ → Option Frame) (a : ℕ) (o : Option ℕ) → a
 word_changed f g a o low others own k = by_count (cases_lt (k / 64) (2 ^ 24))
   where
     apart : k / 64 ≢ a / 64 → (k == a) ≡ false
-    apart h = unequal k a (λ e. h (ap (λ n. n / 64) e))
+    apart h = ne_eqb k a (λ e. h (ap (λ n. n / 64) e))
 
     by_page : k / 64 < 2 ^ 24 → (k / 64 ≡ a / 64) ⊎ (k / 64 ≢ a / 64) → word_at (pages_of g) k ≡ (if k == a then o else word_at (pages_of f) k)
     by_page within (inl e) =
@@ -100,7 +97,7 @@ pub own_number : (p : TaggedPage) (n : ℕ) → p.number ≡ n → page_in (Some
 own_number p n e = ap (λ (x : Bool). elim x as (λ y. Option Frame) [ true ↦ Some p.page | false ↦ None ]) (eq-eqb p.number n e)
 
 pub other_number : (p : TaggedPage) (n : ℕ) → p.number ≢ n → page_in (Some p) n ≡ None
-other_number p n h = ap (λ (x : Bool). elim x as (λ y. Option Frame) [ true ↦ Some p.page | false ↦ None ]) (unequal p.number n h)
+other_number p n h = ap (λ (x : Bool). elim x as (λ y. Option Frame) [ true ↦ Some p.page | false ↦ None ]) (ne_eqb p.number n h)
 
 -- if there is no page of a number, none is found
 pub not_standing : (o : Option TaggedPage) (n : ℕ) → is_of o n ≡ false → page_in o n ≡ None
@@ -108,14 +105,8 @@ not_standing None n h = refl
 not_standing (Some p) n h = ap (λ (x : Bool). elim x as (λ y. Option Frame) [ true ↦ Some p.page | false ↦ None ]) h
 
 pub standing : (o : Option TaggedPage) (n : ℕ) → is_of o n ≡ true → (p : TaggedPage) × (o ≡ Some p) × (p.number ≡ n)
-standing None n h = absurd (no h)
-  where
-    no : false ≡ true → ⊥
-    no e = cc
-standing (Some p) n h = (p, refl, elim (eqb_tells p.number n) [ inl t ↦ t.1 | inr t ↦ absurd (no (sym t.0 ∙ h)) ])
-  where
-    no : false ≡ true → ⊥
-    no e = cc
+standing None n h = absurd (false≢true h)
+standing (Some p) n h = (p, refl, elim (eqb_tells p.number n) [ inl t ↦ t.1 | inr t ↦ absurd (false≢true (sym t.0 ∙ h)) ])
 
 -- ---- a page in the place of one
 
@@ -186,7 +177,7 @@ word_more place later pages q at a end w low is stands last number places own =
     here = ap (λ i. page_in (slice_get (pages ++ q ∷ []) i) (a / 64)) placed ∙ ap (λ (o : Option TaggedPage). page_in o (a / 64)) (get_last pages q) ∙ own_number q (a / 64) number
 
     others : (m : ℕ) → m < 2 ^ 24 → m ≢ a / 64 → page_at later (pages ++ q ∷ []) m ≡ page_at place pages m
-    others m below apart = ap (λ i. page_in (slice_get (pages ++ q ∷ []) i) m) (places m below ∙ ap (λ (x : Bool). if x then end else place m) (unequal m (a / 64) apart)) ∙ by_place (cases_eq (place m) (length pages))
+    others m below apart = ap (λ i. page_in (slice_get (pages ++ q ∷ []) i) m) (places m below ∙ ap (λ (x : Bool). if x then end else place m) (ne_eqb m (a / 64) apart)) ∙ by_place (cases_eq (place m) (length pages))
       where
         by_place : (place m ≡ length pages) ⊎ (place m ≢ length pages) → page_in (slice_get (pages ++ q ∷ []) (place m)) m ≡ page_at place pages m
         by_place (inl e) =

@@ -1,20 +1,17 @@
 -- First loads from one that is met on.
-use Rattle.hart_replay.proofs.Common.{◌≡◌, ℕ, suc, ◌+◌, ◌-◌, ◌<◌, Bool, true, false, List, [], ◌∷◌, length, Option, Some, None, refl, sym, ◌∙◌, ap, arith, inl, inr, ◌==◌, ◌≢◌, nat_lt, eq-eqb, eqb_tells, nat_tests, logged, logged_from, taken_from, slot, Pending, due, met, IsWaiting, first_of, rest_of}
-
-unequal : (a b : ℕ) → a ≢ b → (a == b) ≡ false
-unequal a b h = elim (eqb_tells a b) [ inl p ↦ absurd (h p.1) | inr p ↦ p.0 ]
+use Rattle.hart_replay.proofs.Common.{◌≡◌, ℕ, suc, ◌+◌, ◌-◌, ◌<◌, Bool, true, false, List, [], ◌∷◌, length, Option, Some, None, refl, sym, ◌∙◌, ap, arith, inl, inr, ◌==◌, ◌≢◌, nat_lt, eq-eqb, eqb_tells, nat_tests, logged, logged_from, taken_from, slot, Pending, due, met, IsWaiting, first_of, rest_of, ne_eqb}
 
 -- a first load doesn't come before its place
 logged_later : (rs : List (ℕ × ℕ)) (b k : ℕ) → k < b → logged_from b rs k ≡ None
 logged_later [] b k h = refl
 logged_later (r ∷ rs) b k h =
-    let e : (k == b + r.0) ≡ false = unequal k (b + r.0) (λ q. absurd (omega arith)) in
+    let e : (k == b + r.0) ≡ false = ne_eqb k (b + r.0) (λ q. absurd (omega arith)) in
     ap (λ x. elim x as (λ y. Option ℕ) [ true ↦ Some r.1 | false ↦ logged_from (b + r.0 + 1) rs k ]) e ∙ logged_later rs (b + r.0 + 1) k (omega arith)
 
 same_test : (d a b : ℕ) → (d + a == d + b) ≡ (a == b)
 same_test d a b = elim (eqb_tells a b) [
   | inl p ↦ eq-eqb (d + a) (d + b) (ap (λ n. d + n) p.1) ∙ sym p.0
-  | inr p ↦ unequal (d + a) (d + b) (λ q. p.1 (omega (arith, q))) ∙ sym p.0
+  | inr p ↦ ne_eqb (d + a) (d + b) (λ q. p.1 (omega (arith, q))) ∙ sym p.0
 ]
 
 same_order : (d a b : ℕ) → nat_lt (d + a) (d + b) ≡ nat_lt a b
@@ -54,16 +51,9 @@ logged-due skipped (r ∷ rs) w = elim (eqb_tells skipped r.0) [
 
     there : (skipped == r.0) ≡ false → skipped ≢ r.0 → logged (r ∷ rs) skipped ≡ due skipped (r ∷ rs)
     there t e =
-        ap (λ x. elim x as (λ y. Option ℕ) [ true ↦ Some r.1 | false ↦ logged_from (0 + r.0 + 1) rs skipped ]) (unequal skipped (0 + r.0) (λ q. e (omega (arith, q))))
+        ap (λ x. elim x as (λ y. Option ℕ) [ true ↦ Some r.1 | false ↦ logged_from (0 + r.0 + 1) rs skipped ]) (ne_eqb skipped (0 + r.0) (λ q. e (omega (arith, q))))
         ∙ logged_later rs (0 + r.0 + 1) skipped (omega (arith, w))
         ∙ sym (ap (λ x. elim x as (λ y. Option ℕ) [ true ↦ Some r.1 | false ↦ None ]) t)
-
--- none is taken
-pub taken-waiting : (skipped : ℕ) (rs : List (ℕ × ℕ)) → IsWaiting skipped rs → taken_from 0 rs skipped ≡ 0
-taken-waiting skipped [] w = refl
-taken-waiting skipped (r ∷ rs) w =
-    let e : nat_lt (0 + r.0) skipped ≡ false = grind (arith, nat_tests) in
-    ap (λ (x : Bool). elim x as (λ y. ℕ) [ true ↦ 1 + taken_from (0 + r.0 + 1) rs skipped | false ↦ 0 ]) e
 
 -- what is still to be met, by whether the first one was
 abbrev pub met_by : ℕ → (ℕ × ℕ) → List (ℕ × ℕ) → Bool → Pending
@@ -80,7 +70,7 @@ logged-met skipped (r ∷ rs) k = elim (eqb_tells skipped r.0) [
     here : (skipped == r.0) ≡ true → skipped ≡ r.0 → logged (r ∷ rs) (skipped + 1 + k) ≡ logged (met skipped (r ∷ rs)).loads ((met skipped (r ∷ rs)).skipped + k)
     here t e =
         let base : 0 + r.0 + 1 ≡ skipped + 1 + 0 = omega (arith, e) in
-        let past : (skipped + 1 + k == 0 + r.0) ≡ false = unequal (skipped + 1 + k) (0 + r.0) (λ q. absurd (omega (arith, q, e))) in
+        let past : (skipped + 1 + k == 0 + r.0) ≡ false = ne_eqb (skipped + 1 + k) (0 + r.0) (λ q. absurd (omega (arith, q, e))) in
         let none : k ≡ 0 + k = omega arith in
         ap (λ x. elim x as (λ y. Option ℕ) [ true ↦ Some r.1 | false ↦ logged_from (0 + r.0 + 1) rs (skipped + 1 + k) ]) past
         ∙ ap (λ x. logged_from x rs (skipped + 1 + k)) base

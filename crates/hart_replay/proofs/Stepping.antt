@@ -1,5 +1,5 @@
 -- What is to come before and after a step, and the state by the rows.
-use Rattle.hart_replay.proofs.Common.{◌≡◌, ℕ, zero, suc, ◌+◌, ◌-◌, ◌^◌, ◌<◌, ◌≤◌, Bool, true, false, cond, Option, Some, None, List, [], ◌∷◌, ◌++◌, take, slice_index, refl, sym, subst, ◌∙◌, ap, arith, ◌==◌, ◌&&◌, ◌||◌, not, nat_lt, fault_number, Fault, Program, EndMark, Row, HartState, stored_word, amo_result, Step, Quiet, Asks, step, absorbed, count_up, Want, Load, Store, LoadReserved, StoreConditional, Amo, System, Cut, Faulted, Reply, Word, Stored, Answer, Over, row_of, call_row, fault_row, EndDiffers, ScMissing, Outcome, Refused, Replayed, Interval, Position, Next, On, Stop, missing, after_ask, after_sc, ask_step, one_step, found, call_reason, steps, finish, onto, left_over, fault_end, ended, first, interval_from, Logged, puts, nothing, interval_of, replayed_in, CacheOf, after_row, reply_in, with_rows, without_rows, to_come, outcome_only, Replaying, Begins, a_word_comes, Side, Goes, interval_at, position_at, later, side, side_to_come, left_by, KeepsWord, Does, Result, Ok, Err, drop, ◌⊎◌, inl, inr, Record, IntervalCursor, ReplayError, OutOfMemory, Pending, loads_in, conditionals_in, mark_in, Frame, word_at, side_of}
+use Rattle.hart_replay.proofs.Common.{◌≡◌, ℕ, zero, suc, ◌+◌, ◌-◌, ◌^◌, ◌<◌, Bool, true, false, cond, Option, Some, None, List, [], ◌∷◌, ◌++◌, take, slice_index, refl, sym, subst, ◌∙◌, ap, arith, ◌==◌, ◌&&◌, ◌||◌, not, nat_lt, fault_number, Fault, Program, EndMark, Row, HartState, stored_word, amo_result, Step, Quiet, Asks, step, absorbed, count_up, Want, Load, Store, LoadReserved, StoreConditional, Amo, System, Cut, Faulted, Reply, Word, Stored, Answer, Over, row_of, call_row, fault_row, EndDiffers, ScMissing, Outcome, Refused, Replayed, Interval, Position, Next, On, Stop, missing, after_ask, after_sc, ask_step, one_step, found, call_reason, steps, finish, onto, left_over, fault_end, ended, first, interval_from, Logged, puts, nothing, interval_of, replayed_in, CacheOf, after_row, reply_in, with_rows, without_rows, to_come, outcome_only, Replaying, Begins, a_word_comes, Side, Goes, interval_at, position_at, later, side, side_to_come, left_by, KeepsWord, Does, Result, Ok, Err, drop, ◌⊎◌, inl, inr, Record, IntervalCursor, ReplayError, OutOfMemory, Pending, loads_in, conditionals_in, mark_in, Frame, word_at, side_of}
 use Rattle.rv_meaning.specs.declared.asks.Reply.TheVariants as replies
 use Rattle.hart_replay.specs.declared.header.IntervalStart.{IntervalStart}
 use Rattle.hart_replay.proofs.Alike.{coming_alike}
@@ -51,12 +51,6 @@ pub kept_first : (i : Program) (h : ℕ) (m : EndMark) (s : HartState) (c : Bool
 kept_first i h m s c a lt tells =
     let count : m.ic - s.ic ≡ suc (m.ic - s.ic - 1) = omega (arith, lt) in
     ap (λ n. a_word_comes (to_come i h (interval_at s m a) n (position_at s c a)).rows) count ∙ keeps_first i h (m.ic - s.ic - 1) (interval_at s m a) _ tells
-
--- at the mark's count the end is to come
-pub at_end : (i : Program) (h : ℕ) (m : EndMark) (s : HartState) (c : Bool) (a : Side) → m.ic ≤ s.ic → side_to_come i h m s c a ≡ to_come i h (interval_at s m a) 0 (position_at s c a)
-at_end i h m s c a le =
-    let count : m.ic - s.ic ≡ 0 = omega (arith, le) in
-    ap (λ n. to_come i h (interval_at s m a) n (position_at s c a)) count
 
 -- ---- the state by the rows
 

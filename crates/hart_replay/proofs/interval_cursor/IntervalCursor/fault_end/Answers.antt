@@ -1,7 +1,9 @@
-use Rattle.hart_replay.proofs.Common.{ap, ◌∙◌, EndDiffers, without_rows, outcome_of, interval_of_cursor, position_of, Program, fetched}
-use Rattle.hart_replay.proofs.Codes.{run_of}
+use Rattle.hart_replay.proofs.Common.{ap, ◌∙◌, EndDiffers, without_rows, outcome_of, interval_of_cursor, position_of, Program, fetched, ◌≡◌, HartState, ask_of, Ask}
 use Rattle.hart_replay.proofs.Asked.{end_missed, end_met, end_other}
 use Rattle.hart_replay.proofs.interval_cursor.IntervalCursor.fault_end.Goals as goal
+
+run_of : (i j : Program) (s : HartState) (a : Ask) → i ≡ j → a ≡ ask_of i 1 s → a ≡ ask_of j 1 s
+run_of i j s a same e = e ∙ ap (λ (p : Program). ask_of p 1 s) same
 
 pub returns-then-is_fault : goal.returns-then-is_fault
 returns-then-is_fault c =
