@@ -21,50 +21,33 @@ fn bend_all(bytes: &mut [u8], words: &[&str]) {
     }
 }
 
-// A file with the words of a line at the places of that line.
-fn bent(alloc: Global, file: &[u8], words: &[&str]) -> Result<Vec<u8>, AllocError> {
-    let mut bytes = file.to_vec(alloc)?;
-    bend_all(&mut bytes, words.get(1..).unwrap_or(&[]));
-    Ok(bytes)
-}
-
-// The first bytes of a file.
-fn first(alloc: Global, file: &[u8], length: usize) -> Result<Vec<u8>, AllocError> {
-    let mut bytes = file.to_vec(alloc)?;
-    bytes.truncate(length);
-    Ok(bytes)
-}
-
-// The file that a line has loaded.
-fn wanted(alloc: Global, file: &[u8], verb: &str, words: &[&str]) -> Result<Vec<u8>, AllocError> {
+// Changes a file as a line has it loaded: it has words at places, or only its first bytes.
+fn change(file: &mut Vec<u8>, verb: &str, words: &[&str]) {
     match verb {
-        "load" => bent(alloc, file, words),
-        _ => first(alloc, file, low(words, 1) as usize),
+        "load" => bend_all(file, words.get(1..).unwrap_or(&[])),
+        _ => file.truncate(low(words, 1) as usize),
     }
 }
 
-/// Loads the file that a line wants to be loaded.
+/// Loads a file with the change that a line says.
 pub fn loaded(
     alloc: Global,
     file: &[u8],
     verb: &str,
     words: &[&str],
 ) -> Result<Result<Image, ElfError>, AllocError> {
-    let bytes = wanted(alloc, file, verb, words)?;
+    let mut bytes = file.to_vec(alloc)?;
+    change(&mut bytes, verb, words);
     Ok(load(alloc, &bytes, &Settings::default()))
 }
 
-// The bytes of a file, and others after them.
-fn joined(alloc: Global, file: &[u8], others: &[u8]) -> Result<Vec<u8>, AllocError> {
-    let mut bytes = file.to_vec(alloc)?;
-    bytes.extend_from_slice(others)?;
-    Ok(bytes)
-}
-
-// The bytes of a file, and those that a text says after them.
-fn extended(alloc: Global, file: &[u8], text: &str) -> anyhow::Result<Vec<u8>> {
+// Makes of a file's bytes those of a text, or its own and these after them.
+fn spell(alloc: Global, file: &mut Vec<u8>, verb: &str, text: &str) -> anyhow::Result<()> {
     let others = hex::decode(alloc, text)?;
-    Ok(joined(alloc, file, &others)?)
+    if verb == "file" {
+        file.clear();
+    }
+    Ok(file.extend_from_slice(&others)?)
 }
 
 // The end of a generated program.
@@ -75,12 +58,11 @@ fn kind_of(name: &str) -> Kind {
     }
 }
 
-/// The file that a line makes of another.
-pub fn made(alloc: Global, file: &[u8], verb: &str, words: &[&str]) -> anyhow::Result<Vec<u8>> {
-    let text = word(words, 1);
-    match verb {
-        "file" => Ok(hex::decode(alloc, text)?),
-        "more" => extended(alloc, file, text),
-        _ => Ok(guest(alloc, number_or(words, 1, 0), kind_of(word(words, 2)))?),
+/// Makes of a file's bytes what a line says.
+pub fn make(alloc: Global, file: &mut Vec<u8>, verb: &str, words: &[&str]) -> anyhow::Result<()> {
+    if verb != "guest" {
+        return spell(alloc, file, verb, word(words, 1));
     }
+    *file = guest(alloc, number_or(words, 1, 0), kind_of(word(words, 2)))?;
+    Ok(())
 }

@@ -4,6 +4,7 @@ use crate::words::{low, number_or, word};
 use bn_base::{Fault, HartState, Image, Registers, Segment, Settings};
 use rv_meaning::{Ask, Want};
 use std::alloc::{AllocError, Global};
+use std::io;
 
 /// The program of these words at 0x10000.
 pub fn program(alloc: Global, mut words: Vec<u32>) -> Result<Image, AllocError> {
@@ -34,20 +35,18 @@ pub fn two_segments(
 }
 
 // Prints what stands at an address.
-fn print_at<R: Print>(rt: &R, image: &Image, addr: u32) -> anyhow::Result<()> {
+fn print_at<R: Print>(rt: &R, image: &Image, addr: u32) -> io::Result<()> {
     let (first, store) = (image.first(addr), image.may_store(addr));
     match image.code(addr) {
-        Some(word) => println!(rt; "{first:08x} code {word:08x} store {store}")?,
-        None => println!(rt; "{first:08x} no code store {store}")?,
+        Some(word) => println!(rt; "{first:08x} code {word:08x} store {store}"),
+        None => println!(rt; "{first:08x} no code store {store}"),
     }
-    Ok(())
 }
 
 // Prints the first addresses of a program and of its heap.
-fn print_begins<R: Print>(rt: &R, image: &Image) -> anyhow::Result<()> {
+fn print_begins<R: Print>(rt: &R, image: &Image) -> io::Result<()> {
     let (entry, heap) = (image.entry(), image.heap_start());
-    println!(rt; "entry {entry:08x} heap {heap:08x}")?;
-    Ok(())
+    println!(rt; "entry {entry:08x} heap {heap:08x}")
 }
 
 // What a line has an ask want.
@@ -79,9 +78,8 @@ fn is_orderly(image: &Image, words: &[&str]) -> bool {
 }
 
 // Prints whether an ask that a line says is orderly.
-fn print_orderly<R: Print>(rt: &R, image: &Image, words: &[&str]) -> anyhow::Result<()> {
-    println!(rt; "orderly {}", is_orderly(image, words))?;
-    Ok(())
+fn print_orderly<R: Print>(rt: &R, image: &Image, words: &[&str]) -> io::Result<()> {
+    println!(rt; "orderly {}", is_orderly(image, words))
 }
 
 /// Prints what a line wants to know of a program.
@@ -93,9 +91,9 @@ pub fn tell<R: Print>(
     words: &[&str],
 ) -> anyhow::Result<()> {
     match verb {
-        "at" => print_at(rt, image, low(words, 1)),
-        "begins" => print_begins(rt, image),
-        "orderly" => print_orderly(rt, image, words),
+        "at" => Ok(print_at(rt, image, low(words, 1))?),
+        "begins" => Ok(print_begins(rt, image)?),
+        "orderly" => Ok(print_orderly(rt, image, words)?),
         _ => rows::print_fetched(rt, alloc, image, verb, words),
     }
 }

@@ -3,6 +3,7 @@ use crate::harts::print_state;
 use crate::words::low;
 use bn_base::HartState;
 use rv_meaning::{Ask, Reply, Want, absorb, absorb_in_place, is_aligned, stored_word};
+use std::io;
 
 // The state after a word, if the ask is one that loads.
 fn loaded(ask: &Ask, word: u32) -> Option<HartState> {
@@ -63,19 +64,18 @@ fn left(ask: &Ask, word: u32) -> Option<u32> {
 }
 
 // Prints the word that an ask leaves in place of one.
-fn print_left<R: Print>(rt: &R, ask: &Ask, word: u32) -> anyhow::Result<()> {
+fn print_left<R: Print>(rt: &R, ask: &Ask, word: u32) -> io::Result<()> {
     match left(ask, word) {
-        Some(word) => println!(rt; "leaves {word:08x}")?,
-        None => println!(rt; "leaves it")?,
+        Some(word) => println!(rt; "leaves {word:08x}"),
+        None => println!(rt; "leaves it"),
     }
-    Ok(())
 }
 
 /// Prints the word that the last ask leaves, or the state after the reply that a line says.
 pub fn tell<R: Print>(rt: &R, ask: &Ask, verb: &str, words: &[&str]) -> anyhow::Result<()> {
     let value = low(words, 1);
     if verb == "leaves" {
-        return print_left(rt, ask, value);
+        return Ok(print_left(rt, ask, value)?);
     }
     match after(ask, verb, value) {
         Some(state) => Ok(print_state(rt, &state)?),

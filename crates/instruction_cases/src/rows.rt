@@ -60,7 +60,7 @@ pub fn part_row(words: &[&str]) -> Row {
 pub fn print_row<R: Print>(rt: &R, alloc: Global, row: &Row) -> anyhow::Result<()> {
     let mut text = Text::new(alloc);
     write_row(row, &mut text)?;
-    print_text(rt, &text)
+    Ok(print_text(rt, &text)?)
 }
 
 // Registers that hold ten times their number.

@@ -1,5 +1,5 @@
 // The lines of a script of cases.
-use crate::files::{loaded, made};
+use crate::files::{loaded, make};
 use crate::harts::{asked, hart_of, print_ask};
 use crate::programs::{program, two_segments};
 use crate::rows::{part_row, print_row};
@@ -11,54 +11,6 @@ use rv_meaning::{Ask, Want};
 use rv_text::Text;
 use std::alloc::Global;
 use std::io;
-
-// What a line is about.
-#[derive(Clone, Copy, Drop)]
-enum Topic {
-    Code,
-    Segment,
-    File,
-    Loading,
-    Hart,
-    Reply,
-    Program,
-    Text,
-}
-
-// What lines that begin with these words are about; all others are about texts.
-const TOPICS: [(&str, Topic); 21] = [
-    ("code", Topic::Code),
-    ("second", Topic::Segment),
-    ("file", Topic::File),
-    ("more", Topic::File),
-    ("guest", Topic::File),
-    ("load", Topic::Loading),
-    ("load-first", Topic::Loading),
-    ("run", Topic::Hart),
-    ("ahead", Topic::Hart),
-    ("leaves", Topic::Reply),
-    ("word", Topic::Reply),
-    ("answer", Topic::Reply),
-    ("sc-ok", Topic::Reply),
-    ("sc-failed", Topic::Reply),
-    ("over", Topic::Reply),
-    ("at", Topic::Program),
-    ("begins", Topic::Program),
-    ("orderly", Topic::Program),
-    ("done", Topic::Program),
-    ("called", Topic::Program),
-    ("faulted", Topic::Program),
-];
-
-// What a line that begins with this word is about.
-fn topic_of(verb: &str) -> Topic {
-    for (name, topic) in &TOPICS {
-        if *name == verb {
-            return *topic;
-        }
-    }
-    Topic::Text
-}
 
 /// What the lines so far have made.
 #[derive(Drop)]
@@ -106,18 +58,16 @@ impl Case {
         match loaded(self.alloc, &self.file, verb, words)? {
             Ok(image) => {
                 self.image = Some(image);
-                println!(rt; "loaded")?;
+                Ok(println!(rt; "loaded")?)
             }
-            Err(error) => println!(rt; "{error:?}: {error}")?,
+            Err(error) => Ok(println!(rt; "{error:?}: {error}")?),
         }
-        Ok(())
     }
 
     // Makes the file that a line says.
     fn make<R: Print>(&mut self, rt: &R, verb: &str, words: &[&str]) -> anyhow::Result<()> {
-        self.file = made(self.alloc, &self.file, verb, words)?;
-        println!(rt; "length {}", self.file.len())?;
-        Ok(())
+        make(self.alloc, &mut self.file, verb, words)?;
+        Ok(println!(rt; "length {}", self.file.len())?)
     }
 
     // Has a hart run the program, and prints what it asks.
@@ -141,7 +91,7 @@ impl Case {
     fn write<R: Print>(&mut self, rt: &R, verb: &str, words: &[&str]) -> anyhow::Result<()> {
         let (first, second) = (low(words, 1), low(words, 2));
         match verb {
-            "decode" => print_decoded(rt, first),
+            "decode" => Ok(print_decoded(rt, first)?),
             "text" => print_instr(rt, self.alloc, first, second),
             "row" => print_row(rt, self.alloc, &part_row(words)),
             _ => change(rt, &mut self.text, verb, words),
@@ -150,23 +100,26 @@ impl Case {
 
     // Does what a line says of files, of the program, of harts or of texts.
     fn act<R: Print>(&mut self, rt: &R, verb: &str, words: &[&str]) -> anyhow::Result<()> {
-        match topic_of(verb) {
-            Topic::Code => self.make_program(words),
-            Topic::Segment => self.add_segment(words),
-            Topic::File => self.make(rt, verb, words),
-            Topic::Loading => self.load(rt, verb, words),
-            Topic::Hart => self.run(rt, verb, words),
-            Topic::Reply => replies::tell(rt, &self.ask, verb, words),
-            Topic::Program => self.tell(rt, verb, words),
-            Topic::Text => self.write(rt, verb, words),
+        match verb {
+            "code" => self.make_program(words),
+            "second" => self.add_segment(words),
+            "file" | "more" | "guest" => self.make(rt, verb, words),
+            "load" | "load-first" => self.load(rt, verb, words),
+            "run" | "ahead" => self.run(rt, verb, words),
+            "leaves" | "word" | "answer" | "sc-ok" | "sc-failed" | "over" => {
+                replies::tell(rt, &self.ask, verb, words)
+            }
+            "at" | "begins" | "orderly" | "done" | "called" | "faulted" => {
+                self.tell(rt, verb, words)
+            }
+            _ => self.write(rt, verb, words),
         }
     }
 
     // Begins a case, and prints its line.
     fn begin<R: Print>(&mut self, rt: &R, line: &str) -> anyhow::Result<()> {
         self.text.clear();
-        println!(rt; "{line}")?;
-        Ok(())
+        Ok(println!(rt; "{line}")?)
     }
 
     // Does what the words of a line say.
