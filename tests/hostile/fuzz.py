@@ -250,11 +250,10 @@ class Cases(Calls):
             self.tell(words, f"ended with {self.process.wait()}")
             self.begin()
             return None, ""
-        _, status, counted, text = printed.split(b"\n", 3)
-        status, size = int(status.split()[1]), int(counted.split()[1])
-        at = size if text.startswith(b"err ", size) else text.rindex(b"\nerr ") + 1
-        self.out, line = text[:at], text[at:].split(b"\n", 1)[1].decode()
-        line = line.rpartition("left ")[0] if words[0] == "debug" and self.files["keys"] else line
+        _, counted, text = printed.split(b"\n", 2)
+        status, _, size = map(int, re.findall(rb"\d+", counted)[:3])
+        at = len(text) - size
+        self.out, line = text[:at], text[at:].decode()
         self.statuses[words[0], status] += 1
         self.look(words, status, line)
         seconds, most = self.took()

@@ -28,8 +28,8 @@ def defined():
 def printed():
     """Returns the texts that the program prints."""
     cases = re.split(r"^# joined as the definition has it: .*\n", read("program_cases/stdout"), flags=re.M)[1:]
-    joined = [case.split("run joint LOG ELF\n", 1)[1] for case in cases]
-    return [re.match(r"status 0\nout \d+\n(.*?)err 0\n", text, re.S)[1].replace("\n", "") for text in joined]
+    joined = [re.split(r"run joint LOG ELF\nstatus 0, out (\d+), err 0\n", case)[1:3] for case in cases]
+    return [text[: int(size)].replace("\n", "") for size, text in joined]
 
 
 one, other = defined(), printed()

@@ -1,7 +1,13 @@
-//! Runs the cases on standard input, and prints what comes of each. Some call the program on files in
-//! memory: what is printed is its status, its texts and the files that a case asks to see. Others are
-//! runs below it, of the plain machine, of the bus and whole ones: what is printed is what they hand
-//! over, with a hart's End as its count, reason and value.
+//! Runs the cases on standard input, and prints what comes of each. A number that is left out, or a word that
+//! is none, is 0.
+//!
+//! Some cases call the program on files in memory. First a line is printed: the status, and how many bytes the
+//! program wrote to out and to err. Behind it stands what it wrote to out, then what it wrote to err. A text
+//! that isn't UTF-8 is printed as its bytes, in hexadecimal. Before `status` may stand whether the call's
+//! harts `met` or `kept` the order of their turns, and after `err` how much of its input it `left`.
+//!
+//! Others are runs below the program, of the plain machine, of the bus and whole ones. What is printed is what
+//! they hand over, with a hart's End as its count, reason and value.
 //!
 //! | line | what it does |
 //! |---|---|
@@ -17,7 +23,7 @@
 //! | `type TEXT` | the next call can read this line, after what it could before |
 //! | `keys HEX`, `keys HEX COUNT` | the same of these bytes, or of a byte so many times |
 //! | `failing-keys CALL ..` | the next call's reads of these numbers fail |
-//! | `run WORD ..` | the program with these words; if it could read, how much it left |
+//! | `run WORD ..` | the program with these words |
 //! | `run-meet HARTS WORD ..` | the same, but the harts meet before their first turns |
 //! | `run-meet-status HARTS WORD ..` | the same, but only the status and whether they met are printed: the rest may depend on the order of their turns |
 //! | `run-listed HEX WORD ..` | the same, but the harts take their turns in this order, a byte for each |

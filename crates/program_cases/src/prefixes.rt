@@ -6,14 +6,6 @@ use std::alloc::Global;
 use std::sync::Wait;
 use std::thread::Threads;
 
-// A copy of a file.
-fn copy_file(alloc: Global, machine: &Surroundings, name: &str) -> anyhow::Result<Vec<u8>> {
-    match machine.files.bytes(name) {
-        Some(bytes) => Ok(bytes.to_vec(alloc)?),
-        None => Err(anyhow::anyhow!("run-prefixes: the file is not there")),
-    }
-}
-
 // Prints how long a prefix is, the status, how many bytes the program wrote to out and to err, and the
 // text of err.
 fn print_prefix<R: Print>(
@@ -22,10 +14,13 @@ fn print_prefix<R: Print>(
     status: u8,
     machine: &Surroundings,
 ) -> anyhow::Result<()> {
-    let (out, err) = (machine.out.written().len(), machine.err.written());
-    print!(rt; "{length} status {status} out {out} err {}", err.len())?;
-    println!(rt; " {}", std::str::from_utf8(err)?.trim_end())?;
-    Ok(())
+    let (out, err) = (machine.out.written(), machine.err.written());
+    print!(rt;
+        "{length} status {status}, out {}, err {}",
+        out.len(),
+        err.len()
+    )?;
+    Ok(println!(rt; " {}", std::str::from_utf8(err)?.trim_end())?)
 }
 
 // Runs the program on a prefix of a file, and prints a line of what comes of it.
@@ -66,15 +61,11 @@ fn run_each<R: Print + Threads + Wait + Sync>(
 fn run_on<R: Print + Threads + Wait + Sync>(
     rt: &R,
     machine: &mut Surroundings,
-    line: &str,
     words: &[&str],
     bytes: &[u8],
 ) -> anyhow::Result<()> {
-    let (name, call) = (word(words, 1), rest(words, 4));
-    let first = number(words.get(2))?;
-    let last = number(words.get(3))?;
-    println!(rt; "{line}")?;
-    run_each(rt, machine, name, bytes, first, last, call)?;
+    let (name, first, last) = (word(words, 1), number(words, 2), number(words, 3));
+    run_each(rt, machine, name, bytes, first, last, rest(words, 4))?;
     Ok(machine.files.put(name, bytes)?)
 }
 
@@ -83,9 +74,8 @@ pub fn run_prefixes<R: Print + Threads + Wait + Sync>(
     rt: &R,
     alloc: Global,
     machine: &mut Surroundings,
-    line: &str,
     words: &[&str],
 ) -> anyhow::Result<()> {
-    let bytes = copy_file(alloc, machine, word(words, 1))?;
-    run_on(rt, machine, line, words, &bytes)
+    let bytes = machine.bytes(word(words, 1)).to_vec(alloc)?;
+    run_on(rt, machine, words, &bytes)
 }

@@ -19,7 +19,7 @@ fn run_seed<R: Print>(
     verb: &str,
     words: &[&str],
 ) -> anyhow::Result<Vec<u8>> {
-    let seed = number(words.first())? as u64;
+    let seed = number(words, 0) as u64;
     match verb {
         "seed" => by_number(rt, alloc, start, seed),
         _ => with_list(rt, alloc, start, seed),
@@ -121,7 +121,7 @@ impl Runs {
 
     // Changes a setting as a line says.
     fn set(&mut self, words: &[&str]) -> anyhow::Result<()> {
-        let value = number(words.get(1))? as u64;
+        let value = number(words, 1) as u64;
         match word(words, 0) {
             "harts" => self.raw.harts = value,
             "interval" => self.raw.interval = value,
@@ -145,18 +145,15 @@ impl Runs {
 
     // Prints bytes of the last run's records, from a place up to another.
     fn show<R: Print>(&self, rt: &R, words: &[&str]) -> anyhow::Result<()> {
-        let first = number(words.first())?;
-        let end = number(words.get(1))?;
-        match self.last.get(first..end) {
-            Some(bytes) => print_bytes(rt, bytes),
+        match self.last.get(number(words, 0)..number(words, 1)) {
+            Some(bytes) => Ok(print_bytes(rt, bytes)?),
             None => Err(anyhow::anyhow!("no such records")),
         }
     }
 
     // Prints whether the last two runs have the same records.
     fn compare<R: Print>(&self, rt: &R) -> anyhow::Result<()> {
-        println!(rt; "same {}", self.last == self.before)?;
-        Ok(())
+        Ok(println!(rt; "same {}", self.last == self.before)?)
     }
 
     /// Does what a line says that is about runs.

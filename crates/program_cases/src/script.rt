@@ -5,7 +5,7 @@ use crate::prefixes::run_prefixes;
 use crate::runs::Runs;
 use crate::telling::print_bytes;
 use crate::words::{code, number, numbers, rest, word, words_of};
-use bn_outside::{Gate, ListGate, MeetGate, OpenGate};
+use bn_outside::{ListGate, MeetGate, OpenGate};
 use guest_gen::{Kind, guest};
 use std::alloc::{AllocError, Global};
 use std::io;
@@ -13,21 +13,9 @@ use std::sync::Wait;
 use std::thread::Threads;
 
 // The program file of a line's code words.
-fn program_of(alloc: Global, rest: &[&str]) -> anyhow::Result<Vec<u8>> {
+fn program_of(alloc: Global, rest: &[&str]) -> Result<Vec<u8>, AllocError> {
     let words = code(alloc, rest)?;
-    Ok(files::program(alloc, &words)?)
-}
-
-// The program file that a line's number generates.
-fn guest_of(alloc: Global, rest: &[&str]) -> anyhow::Result<Vec<u8>> {
-    let seed = number(rest.first())?;
-    Ok(guest(alloc, seed as u64, Kind::Crash)?)
-}
-
-// Adds the bytes of a text to a file.
-fn add_bytes(alloc: Global, file: &mut Vec<u8>, text: &str) -> anyhow::Result<()> {
-    let bytes = hex::decode(alloc, text)?;
-    Ok(file.extend_from_slice(&bytes)?)
+    files::program(alloc, &words)
 }
 
 // Puts bytes in place of a file's own from a place on.
@@ -37,34 +25,28 @@ fn patch(file: &mut Vec<u8>, place: usize, bytes: &[u8]) {
     }
 }
 
-// Puts the bytes of a text in place of a file's own from the place that a line says on.
-fn put_bytes(alloc: Global, file: &mut Vec<u8>, rest: &[&str], text: &str) -> anyhow::Result<()> {
-    let place = number(rest.first())?;
-    let bytes = hex::decode(alloc, text)?;
-    patch(file, place, &bytes);
+// Adds the bytes of a text to a file, or puts them in place of its own from the place that a line says on.
+fn add_bytes(alloc: Global, file: &mut Vec<u8>, verb: &str, rest: &[&str]) -> anyhow::Result<()> {
+    let bytes = hex::decode(alloc, rest.last().copied().unwrap_or(""))?;
+    match verb {
+        "put" => patch(file, number(rest, 0), &bytes),
+        _ => file.extend_from_slice(&bytes)?,
+    }
     Ok(())
-}
-
-// Leaves so many first bytes of a file alone.
-fn cut(file: &mut Vec<u8>, rest: &[&str]) -> anyhow::Result<()> {
-    file.truncate(number(rest.first())?);
-    Ok(())
-}
-
-// Makes a file one of so many bytes 0.
-fn fill(file: &mut Vec<u8>, rest: &[&str]) -> anyhow::Result<()> {
-    file.clear();
-    Ok(file.resize(number(rest.first())?, 0)?)
 }
 
 // Changes a file as a line says.
 fn change(alloc: Global, file: &mut Vec<u8>, verb: &str, rest: &[&str]) -> anyhow::Result<()> {
-    let text = rest.last().copied().unwrap_or("");
     match verb {
-        "bytes" => add_bytes(alloc, file, text),
-        "put" => put_bytes(alloc, file, rest, text),
-        "cut" => cut(file, rest),
-        _ => fill(file, rest),
+        "cut" => {
+            file.truncate(number(rest, 0));
+            Ok(())
+        }
+        "zeros" => {
+            file.clear();
+            Ok(file.resize(number(rest, 0), 0)?)
+        }
+        _ => add_bytes(alloc, file, verb, rest),
     }
 }
 
@@ -78,104 +60,74 @@ fn with_change(alloc: Global, old: &[u8], verb: &str, rest: &[&str]) -> anyhow::
 // The new bytes of a file.
 fn changed(alloc: Global, old: &[u8], verb: &str, rest: &[&str]) -> anyhow::Result<Vec<u8>> {
     match verb {
-        "program" => program_of(alloc, rest),
-        "guest" => guest_of(alloc, rest),
+        "program" => Ok(program_of(alloc, rest)?),
+        "guest" => Ok(guest(alloc, number(rest, 0) as u64, Kind::Crash)?),
         _ => with_change(alloc, old, verb, rest),
     }
 }
 
-// Prints how long a text is, and the text, or the bytes that are none.
-fn print_text<R: Print>(rt: &R, what: &str, text: &[u8]) -> anyhow::Result<()> {
-    println!(rt; "{what} {}", text.len())?;
+// Prints a text, or the bytes that are none.
+fn print_text<R: Print>(rt: &R, text: &[u8]) -> io::Result<()> {
     match std::str::from_utf8(text) {
-        Ok(text) => Ok(print!(rt; "{text}")?),
+        Ok(text) => print!(rt; "{text}"),
         Err(_) => print_bytes(rt, text),
     }
 }
 
-// Prints a line of the script and the status that came of it.
-fn print_status<R: Print>(rt: &R, line: &str, status: u8) -> anyhow::Result<()> {
-    println!(rt; "{line}\nstatus {status}")?;
-    Ok(())
+// Prints what is left of the input, if there was any, and ends the line.
+fn print_left<R: Print>(rt: &R, left: Option<usize>) -> io::Result<()> {
+    match left {
+        Some(left) => println!(rt; ", left {left}"),
+        None => println!(rt; ""),
+    }
 }
 
-// Prints what the program wrote, and what is left of its input.
-fn print_outcome<R: Print>(rt: &R, machine: &Surroundings) -> anyhow::Result<()> {
-    print_text(rt, "out", machine.out.written())?;
-    print_text(rt, "err", machine.err.written())?;
-    match machine.left {
-        Some(left) => Ok(println!(rt; "left {left}")?),
-        None => Ok(()),
-    }
+// Prints a line of the status and of how many bytes the program wrote to out and to err, and then both texts.
+fn print_outcome<R: Print>(rt: &R, machine: &Surroundings, status: u8) -> io::Result<()> {
+    let (out, err) = (machine.out.written(), machine.err.written());
+    print!(rt; "status {status}, out {}, err {}", out.len(), err.len())?;
+    print_left(rt, machine.left)?;
+    print_text(rt, out)?;
+    print_text(rt, err)
 }
 
 // Runs the program, and prints what came of it.
-fn run<G: Gate, R: Print + Threads + Wait + Sync>(
+fn run<R: Print + Threads + Wait + Sync>(
     rt: &R,
     machine: &mut Surroundings,
-    line: &str,
     words: &[&str],
-    gate: &G,
 ) -> anyhow::Result<()> {
-    let status = machine.run(rt, words, gate)?;
-    print_status(rt, line, status)?;
-    print_outcome(rt, machine)
+    let status = machine.run(rt, words, &OpenGate)?;
+    Ok(print_outcome(rt, machine, status)?)
 }
 
-// Runs the program with a gate at which harts meet, and prints how many met.
+// Runs the program with a gate at which harts meet, and prints whether they met and what came of it: the
+// status alone, if the rest may depend on the order of their turns.
 fn run_meet<R: Print + Threads + Wait + Sync>(
     rt: &R,
     machine: &mut Surroundings,
-    line: &str,
     words: &[&str],
     gate: &MeetGate,
 ) -> anyhow::Result<()> {
-    run(rt, machine, line, words, gate)?;
-    println!(rt; "met {}", gate.met())?;
-    Ok(())
+    let status = machine.run(rt, rest(words, 2), gate)?;
+    print!(rt; "met {}, ", gate.met())?;
+    match word(words, 0) {
+        "run-meet" => Ok(print_outcome(rt, machine, status)?),
+        _ => Ok(println!(rt; "status {status}")?),
+    }
 }
 
-// Runs the program with a gate at which harts meet, and prints its status and whether they met. The rest
-// is not printed, since it may depend on the order of the harts' turns.
-fn run_meet_status<R: Print + Threads + Wait + Sync>(
-    rt: &R,
-    machine: &mut Surroundings,
-    line: &str,
-    words: &[&str],
-    gate: &MeetGate,
-) -> anyhow::Result<()> {
-    let status = machine.run(rt, words, gate)?;
-    print_status(rt, line, status)?;
-    println!(rt; "met {}", gate.met())?;
-    Ok(())
-}
-
-// Runs the program with a gate that gives the order of the harts' turns, and prints whether they kept
-// it.
+// Runs the program with a gate that gives the order of the harts' turns, and prints whether they kept it
+// and what came of it.
 fn run_listed<R: Print + Threads + Wait + Sync>(
     rt: &R,
     machine: &mut Surroundings,
-    line: &str,
     words: &[&str],
     gate: &ListGate,
 ) -> anyhow::Result<()> {
-    run(rt, machine, line, words, gate)?;
-    println!(rt; "kept {}", gate.kept())?;
-    Ok(())
-}
-
-// Runs the program with a gate at which as many harts meet as a line says.
-fn run_meeting<R: Print + Threads + Wait + Sync>(
-    rt: &R,
-    machine: &mut Surroundings,
-    line: &str,
-    words: &[&str],
-) -> anyhow::Result<()> {
-    let gate = MeetGate::new(word(words, 1).parse::<u8>()?);
-    match word(words, 0) {
-        "run-meet" => run_meet(rt, machine, line, rest(words, 2), &gate),
-        _ => run_meet_status(rt, machine, line, rest(words, 2), &gate),
-    }
+    let status = machine.run(rt, words, gate)?;
+    print!(rt; "kept {}, ", gate.kept())?;
+    Ok(print_outcome(rt, machine, status)?)
 }
 
 // The gate that gives the order of a text.
@@ -189,14 +141,13 @@ fn run_in_order<R: Print + Threads + Wait + Sync>(
     rt: &R,
     alloc: Global,
     machine: &mut Surroundings,
-    line: &str,
     words: &[&str],
 ) -> anyhow::Result<()> {
     let gate = list_gate(alloc, word(words, 1))?;
-    run_listed(rt, machine, line, rest(words, 2), &gate)
+    run_listed(rt, machine, rest(words, 2), &gate)
 }
 
-// Runs the program as a line says.
+// Prints a line of the script, and runs the program as it says.
 fn call<R: Print + Threads + Wait + Sync>(
     rt: &R,
     alloc: Global,
@@ -204,12 +155,18 @@ fn call<R: Print + Threads + Wait + Sync>(
     line: &str,
     words: &[&str],
 ) -> anyhow::Result<()> {
+    println!(rt; "{line}")?;
     match word(words, 0) {
-        "run" => run(rt, machine, line, rest(words, 1), &OpenGate),
-        "run-listed" => run_in_order(rt, alloc, machine, line, words),
-        "run-prefixes" => run_prefixes(rt, alloc, machine, line, words),
-        "run-last" => run_last(rt, machine, line, words),
-        _ => run_meeting(rt, machine, line, words),
+        "run" => run(rt, machine, rest(words, 1)),
+        "run-listed" => run_in_order(rt, alloc, machine, words),
+        "run-prefixes" => run_prefixes(rt, alloc, machine, words),
+        "run-last" => run_last(rt, machine, words),
+        _ => run_meet(
+            rt,
+            machine,
+            words,
+            &MeetGate::new((number(words, 1) % 256) as u8),
+        ),
     }
 }
 
@@ -227,7 +184,7 @@ fn keys_of(alloc: Global, words: &[&str]) -> anyhow::Result<Vec<u8>> {
         return Ok(keys);
     }
     let byte = keys.first().copied().unwrap_or(0);
-    Ok(repeated(alloc, byte, number(words.get(2))?)?)
+    Ok(repeated(alloc, byte, number(words, 2))?)
 }
 
 // The line of text that a line of the script says.
@@ -259,102 +216,41 @@ fn print_last<R: Print>(rt: &R, machine: &Surroundings, count: usize) -> anyhow:
 fn run_last<R: Print + Threads + Wait + Sync>(
     rt: &R,
     machine: &mut Surroundings,
-    line: &str,
     words: &[&str],
 ) -> anyhow::Result<()> {
-    let count = number(words.get(1))?;
     let status = machine.run(rt, rest(words, 2), &OpenGate)?;
-    print_status(rt, line, status)?;
-    print_last(rt, machine, count)
+    println!(rt; "status {status}")?;
+    print_last(rt, machine, number(words, 1))
 }
 
 // Prints whether two files have the same bytes.
-fn compare<R: Print>(
-    rt: &R,
-    machine: &Surroundings,
-    name: &str,
-    other: &str,
-) -> anyhow::Result<()> {
+fn compare<R: Print>(rt: &R, machine: &Surroundings, name: &str, other: &str) -> io::Result<()> {
     let same = machine.bytes(name) == machine.bytes(other);
-    println!(rt; "{name} is {other}: {same}")?;
-    Ok(())
+    println!(rt; "{name} is {other}: {same}")
 }
 
 // Prints how long a file is.
-fn print_size<R: Print>(rt: &R, machine: &Surroundings, name: &str) -> anyhow::Result<()> {
+fn print_size<R: Print>(rt: &R, machine: &Surroundings, name: &str) -> io::Result<()> {
     match machine.files.bytes(name) {
-        Some(bytes) => println!(rt; "{name} {}", bytes.len())?,
-        None => println!(rt; "{name} is not there")?,
+        Some(bytes) => println!(rt; "{name} {}", bytes.len()),
+        None => println!(rt; "{name} is not there"),
     }
-    Ok(())
 }
 
 // Prints how long a file is, and its bytes.
-fn show<R: Print>(rt: &R, machine: &Surroundings, name: &str) -> anyhow::Result<()> {
+fn show<R: Print>(rt: &R, machine: &Surroundings, name: &str) -> io::Result<()> {
     print_size(rt, machine, name)?;
     print_bytes(rt, machine.bytes(name))
 }
 
 // Prints what a line wants to see of files.
-fn look<R: Print>(rt: &R, machine: &Surroundings, words: &[&str]) -> anyhow::Result<()> {
+fn look<R: Print>(rt: &R, machine: &Surroundings, words: &[&str]) -> io::Result<()> {
     let name = word(words, 1);
     match word(words, 0) {
         "size" => print_size(rt, machine, name),
         "show" => show(rt, machine, name),
         _ => compare(rt, machine, name, word(words, 2)),
     }
-}
-
-// What a line is about.
-#[derive(Clone, Copy, Drop)]
-enum Topic {
-    Failing,
-    Typing,
-    Call,
-    Look,
-    Run,
-    File,
-}
-
-// What lines that begin with these words are about; all others change files.
-const TOPICS: [(&str, Topic); 27] = [
-    ("failing-store", Topic::Failing),
-    ("failing-out", Topic::Failing),
-    ("failing-err", Topic::Failing),
-    ("failing-keys", Topic::Failing),
-    ("type", Topic::Typing),
-    ("keys", Topic::Typing),
-    ("run", Topic::Call),
-    ("run-meet", Topic::Call),
-    ("run-meet-status", Topic::Call),
-    ("run-listed", Topic::Call),
-    ("run-prefixes", Topic::Call),
-    ("run-last", Topic::Call),
-    ("size", Topic::Look),
-    ("show", Topic::Look),
-    ("alike", Topic::Look),
-    ("code", Topic::Run),
-    ("input", Topic::Run),
-    ("set", Topic::Run),
-    ("plain", Topic::Run),
-    ("serve", Topic::Run),
-    ("serve-lean", Topic::Run),
-    ("turns", Topic::Run),
-    ("turns-lean", Topic::Run),
-    ("seed", Topic::Run),
-    ("seed-listed", Topic::Run),
-    ("records", Topic::Run),
-    ("same", Topic::Run),
-];
-
-// What a line that begins with this word is about.
-fn topic_of(verb: &str) -> Topic {
-    for (name, topic) in &TOPICS {
-        if *name == verb {
-            return *topic;
-        }
-    }
-    Topic::File
 }
 
 /// What a case has made so far.
@@ -415,13 +311,18 @@ impl Case {
         verb: &str,
         words: &[&str],
     ) -> anyhow::Result<()> {
-        match topic_of(verb) {
-            Topic::Failing => self.fail(verb, rest(words, 1)),
-            Topic::Typing => self.type_keys(line, words),
-            Topic::Call => call(rt, self.alloc, &mut self.machine, line, words),
-            Topic::Look => look(rt, &self.machine, words),
-            Topic::Run => self.runs.step(rt, verb, rest(words, 1)),
-            Topic::File => self.put_file(verb, word(words, 1), rest(words, 2)),
+        match verb {
+            "failing-store" | "failing-out" | "failing-err" | "failing-keys" => {
+                self.fail(verb, rest(words, 1))
+            }
+            "type" | "keys" => self.type_keys(line, words),
+            "run" | "run-meet" | "run-meet-status" | "run-listed" | "run-prefixes" | "run-last" =>
+                call(rt, self.alloc, &mut self.machine, line, words),
+            "size" | "show" | "alike" => Ok(look(rt, &self.machine, words)?),
+            "program" | "guest" | "bytes" | "put" | "cut" | "zeros" => {
+                self.put_file(verb, word(words, 1), rest(words, 2))
+            }
+            _ => self.runs.step(rt, verb, rest(words, 1)),
         }
     }
 

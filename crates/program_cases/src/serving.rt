@@ -6,17 +6,17 @@ use bus_core::{Bus, Closed};
 use run_model::{Plain, Start};
 use rv_meaning::{Ask, Want, quiet_run};
 use std::alloc::Global;
+use std::io;
 
 // Prints the harts that are live.
-fn print_live<R: Print, B: Book>(rt: &R, bus: &Bus<B>) -> anyhow::Result<()> {
+fn print_live<R: Print, B: Book>(rt: &R, bus: &Bus<B>) -> io::Result<()> {
     print!(rt; "live")?;
     for hart in 0..HARTS as HartId {
         if bus.live(hart) {
             print!(rt; " {hart}")?;
         }
     }
-    println!(rt; "")?;
-    Ok(())
+    println!(rt; "")
 }
 
 // The ask of a hart that did its quiet instructions, or what it asks in a step that strays.
@@ -45,13 +45,12 @@ fn turn<R: Print, B: Book>(
     }
     let quiet = quiet_run(image, *bus.state(hart), bus.budget(hart));
     match name {
-        "ahead" => println!(rt; "{word} {}", quiet.state.ic)?,
+        "ahead" => Ok(println!(rt; "{word} {}", quiet.state.ic)?),
         _ => {
             let (reply, _guarded) = bus.serve(hart, &asked(name, quiet))?;
-            println!(rt; "{word} {reply:?}")?;
+            Ok(println!(rt; "{word} {reply:?}")?)
         }
     }
-    Ok(())
 }
 
 // Does a step on a bus, and prints the reply, or how many instructions a hart did by itself.
@@ -81,7 +80,7 @@ fn do_steps<R: Print, B: Book>(
         step(rt, bus, image, word)?;
         print_live(rt, bus)?;
     }
-    print_rows(rt, bus.rows())
+    Ok(print_rows(rt, bus.rows())?)
 }
 
 // Does steps on a bus, prints what comes of each, and closes it.

@@ -15,7 +15,7 @@ fn print_line<R: Print>(rt: &R, bytes: &[u8]) -> io::Result<()> {
 }
 
 /// Prints bytes in hexadecimal, 32 a line.
-pub fn print_bytes<R: Print>(rt: &R, bytes: &[u8]) -> anyhow::Result<()> {
+pub fn print_bytes<R: Print>(rt: &R, bytes: &[u8]) -> io::Result<()> {
     for line in bytes.chunks(32) {
         print_line(rt, line)?;
     }
@@ -23,65 +23,48 @@ pub fn print_bytes<R: Print>(rt: &R, bytes: &[u8]) -> anyhow::Result<()> {
 }
 
 /// Prints a line of a name and numbers.
-pub fn print_numbers<R: Print>(rt: &R, name: &str, numbers: &[HartId]) -> anyhow::Result<()> {
+pub fn print_numbers<R: Print>(rt: &R, name: &str, numbers: &[HartId]) -> io::Result<()> {
     print!(rt; "{name}")?;
     for number in numbers {
         print!(rt; " {number}")?;
     }
-    println!(rt; "")?;
-    Ok(())
+    println!(rt; "")
 }
 
 /// Prints how many bytes records have, and the first byte of each, which tells its kind.
-pub fn print_records<R: Print>(rt: &R, bytes: &[u8]) -> anyhow::Result<()> {
-    println!(rt; "size {}", bytes.len())?;
-    print!(rt; "kinds")?;
+pub fn print_records<R: Print>(rt: &R, bytes: &[u8]) -> io::Result<()> {
+    print!(rt; "size {} kinds", bytes.len())?;
     let mut at = 0usize;
     for _ in 0..bytes.len() {
         let Some(tag) = bytes.get(at) else { break };
         print!(rt; " {tag}")?;
-        match size(*tag) {
-            Some(size) => at = at.saturating_add(size),
-            None => anyhow::bail!("no record"),
-        }
+        at = at.saturating_add(size(*tag).unwrap_or(bytes.len()));
     }
-    println!(rt; "")?;
-    Ok(())
+    println!(rt; "")
 }
 
 /// Prints a hart's last mark.
-pub fn print_end<R: Print>(rt: &R, hart: HartId, mark: Option<EndMark>) -> anyhow::Result<()> {
+pub fn print_end<R: Print>(rt: &R, hart: HartId, mark: Option<EndMark>) -> io::Result<()> {
     match mark {
-        Some(EndMark { ic, reason, value }) => {
-            println!(rt; "end {hart} {ic} {reason} {value}")?;
-        }
-        None => println!(rt; "end {hart} none")?,
+        Some(EndMark { ic, reason, value }) => println!(rt; "end {hart} {ic} {reason} {value}"),
+        None => println!(rt; "end {hart} none"),
     }
-    Ok(())
 }
 
 /// Prints the harts of rows, if a book tells them.
-pub fn print_rows<R: Print>(rt: &R, rows: Option<&[TurnRow]>) -> anyhow::Result<()> {
+pub fn print_rows<R: Print>(rt: &R, rows: Option<&[TurnRow]>) -> io::Result<()> {
     let Some(rows) = rows else {
-        println!(rt; "book of no rows")?;
-        return Ok(());
+        return println!(rt; "book of no rows");
     };
     print!(rt; "book")?;
     for row in rows {
         print!(rt; " {}", row.hart)?;
     }
-    println!(rt; "")?;
-    Ok(())
-}
-
-// Prints a text and how long it is.
-fn print_stream<R: Print>(rt: &R, name: &str, text: &[u8]) -> anyhow::Result<()> {
-    println!(rt; "{name} {}", text.len())?;
-    print_bytes(rt, text)
+    println!(rt; "")
 }
 
 // Prints the last marks of harts, by their numbers.
-fn print_ends<R: Print>(rt: &R, marks: &[Option<EndMark>]) -> anyhow::Result<()> {
+fn print_ends<R: Print>(rt: &R, marks: &[Option<EndMark>]) -> io::Result<()> {
     let mut hart: HartId = 0;
     for mark in marks {
         print_end(rt, hart, *mark)?;
@@ -90,24 +73,22 @@ fn print_ends<R: Print>(rt: &R, marks: &[Option<EndMark>]) -> anyhow::Result<()>
     Ok(())
 }
 
-// Prints how many turns were taken, and whether they ended the run.
-fn print_turns<R: Print>(rt: &R, turns: u64, finished: bool) -> anyhow::Result<()> {
-    println!(rt; "turns {turns}\nfinished {finished}")?;
-    Ok(())
+// Prints a line of how many turns were taken, whether they ended the run, and how many bytes it wrote to out
+// and to err, and then these bytes.
+fn print_turns<R: Print, B: Book>(rt: &R, closed: &Closed<B>) -> io::Result<()> {
+    let (turns, finished) = (closed.turns, closed.finished);
+    print!(rt; "turns {turns}, finished {finished}")?;
+    println!(rt; ", out {}, err {}", closed.out.len(), closed.err.len())?;
+    print_bytes(rt, &closed.out)?;
+    print_bytes(rt, &closed.err)
 }
 
 // Prints what was handed over after a run, with these records.
-fn print_parts<R: Print, B: Book>(
-    rt: &R,
-    closed: &Closed<B>,
-    records: &[u8],
-) -> anyhow::Result<()> {
+fn print_parts<R: Print, B: Book>(rt: &R, closed: &Closed<B>, records: &[u8]) -> io::Result<()> {
     print_records(rt, records)?;
     print_ends(rt, &closed.ends)?;
     print_rows(rt, closed.book.rows())?;
-    print_turns(rt, closed.turns, closed.finished)?;
-    print_stream(rt, "out", &closed.out)?;
-    print_stream(rt, "err", &closed.err)
+    print_turns(rt, closed)
 }
 
 /// Prints what was handed over after a run, and gives its records.

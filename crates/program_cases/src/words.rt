@@ -17,37 +17,34 @@ pub fn rest<'a>(words: &'a [&'a str], place: usize) -> &'a [&'a str] {
     words.get(place..).unwrap_or(&[])
 }
 
-/// A word as a number.
-pub fn number(word: Option<&&str>) -> anyhow::Result<usize> {
-    match word {
-        Some(word) => Ok(word.parse::<usize>()?),
-        None => Err(anyhow::anyhow!("a number is wanted")),
-    }
+/// A word as a decimal number; one that is none is 0.
+pub fn number(words: &[&str], place: usize) -> usize {
+    word(words, place).parse::<usize>().unwrap_or(0)
 }
 
 /// The numbers that a line's words say in decimal.
-pub fn numbers(alloc: Global, words: &[&str]) -> anyhow::Result<Vec<u64>> {
+pub fn numbers(alloc: Global, words: &[&str]) -> Result<Vec<u64>, AllocError> {
     let mut numbers = Vec::new(alloc);
     for word in words {
-        numbers.push(word.parse::<u64>()?)?;
+        numbers.push(word.parse::<u64>().unwrap_or(0))?;
     }
     Ok(numbers)
 }
 
 /// Harts from words.
-pub fn harts(alloc: Global, words: &[&str]) -> anyhow::Result<Vec<HartId>> {
+pub fn harts(alloc: Global, words: &[&str]) -> Result<Vec<HartId>, AllocError> {
     let mut harts = Vec::new(alloc);
     for word in words {
-        harts.push(word.parse::<HartId>()?)?;
+        harts.push(word.parse::<HartId>().unwrap_or(0))?;
     }
     Ok(harts)
 }
 
 /// Code words from their digits, the most significant first.
-pub fn code(alloc: Global, words: &[&str]) -> anyhow::Result<Vec<u32>> {
+pub fn code(alloc: Global, words: &[&str]) -> Result<Vec<u32>, AllocError> {
     let mut code = Vec::new(alloc);
     for word in words {
-        code.push(u32::from_str_radix(word, 16)?)?;
+        code.push(u32::from_str_radix(word, 16).unwrap_or(0))?;
     }
     Ok(code)
 }
