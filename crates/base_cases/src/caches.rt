@@ -5,6 +5,7 @@ use crate::words::low;
 use bn_base::{RawSettings, Settings};
 use first_load_bits::{Cache, Warm};
 use std::alloc::Global;
+use std::io;
 
 /// An event of caches.
 #[derive(Clone, Copy, Drop)]
@@ -56,11 +57,11 @@ fn answer(cache: &mut Cache, event: Option<&Event>) -> Option<(u32, Warm)>
 }
 
 // Prints what an access found.
-fn print_answer<R: Print>(rt: &R, answer: Option<(u32, Warm)>) -> anyhow::Result<()> {
-    if let Some((addr, found)) = answer {
-        println!(rt; "{addr:08x} {found:?}")?;
+fn print_answer<R: Print>(rt: &R, answer: Option<(u32, Warm)>) -> io::Result<()> {
+    match answer {
+        Some((addr, found)) => println!(rt; "{addr:08x} {found:?}"),
+        None => Ok(()),
     }
-    Ok(())
 }
 
 /// Prints what each access finds in the cache of a line, of the first 1,000 events.

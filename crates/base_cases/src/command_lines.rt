@@ -1,6 +1,7 @@
 //! The words of a command line.
 use command_words::read_words;
 use std::alloc::{AllocError, Global};
+use std::io;
 
 // The words of a text, between whose bars they stand.
 fn words_in(alloc: Global, text: &str) -> Result<Vec<String>, AllocError> {
@@ -20,16 +21,15 @@ fn words_of(alloc: Global, line: &str) -> Result<Vec<String>, AllocError> {
 }
 
 // Prints what words ask for.
-fn print_read<R: Print>(rt: &R, alloc: Global, words: &[String]) -> anyhow::Result<()> {
+fn print_read<R: Print>(rt: &R, alloc: Global, words: &[String]) -> io::Result<()> {
     match read_words(alloc, words) {
-        Ok(command) => println!(rt; "{command:?}")?,
-        Err(error) => println!(rt; "{error:?}")?,
+        Ok(command) => println!(rt; "{command:?}"),
+        Err(error) => println!(rt; "{error:?}"),
     }
-    Ok(())
 }
 
 /// Prints what the words of a line ask for.
 pub fn tell<R: Print>(rt: &R, alloc: Global, line: &str) -> anyhow::Result<()> {
     let words = words_of(alloc, line)?;
-    print_read(rt, alloc, &words)
+    Ok(print_read(rt, alloc, &words)?)
 }

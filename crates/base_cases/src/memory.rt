@@ -5,6 +5,7 @@ use crate::words::low;
 use bn_base::Image;
 use bus_memory::Memory;
 use std::alloc::{AllocError, Global};
+use std::io;
 
 /// A step of memory.
 #[derive(Clone, Copy, Drop)]
@@ -53,20 +54,18 @@ fn after(alloc: Global, image: &Image, steps: &[Step]) -> Result<Memory, AllocEr
 }
 
 // Prints whether the page of an address is made.
-fn print_page<R: Print>(rt: &R, memory: &Memory, addr: u32) -> anyhow::Result<()> {
-    println!(rt; "page {}", memory.has_page(addr))?;
-    Ok(())
+fn print_page<R: Print>(rt: &R, memory: &Memory, addr: u32) -> io::Result<()> {
+    println!(rt; "page {}", memory.has_page(addr))
 }
 
 // Prints the word at an address of a memory of this size.
-fn print_word<R: Print>(rt: &R, memory: &Memory, size: u32, addr: u32) -> anyhow::Result<()>
+fn print_word<R: Print>(rt: &R, memory: &Memory, size: u32, addr: u32) -> io::Result<()>
     requires { 4 * length memory.now.words ≡ size }
 {
     if addr % 4 != 0 || addr >= size {
-        anyhow::bail!("no word of memory");
+        return println!(rt; "no word of memory");
     }
-    println!(rt; "word {:08x}", memory.word(addr))?;
-    Ok(())
+    println!(rt; "word {:08x}", memory.word(addr))
 }
 
 /// Prints what a line wants to know of the memory after steps.
@@ -80,7 +79,7 @@ pub fn tell<R: Print>(
 ) -> anyhow::Result<()> {
     let memory = after(alloc, image, steps)?;
     match verb {
-        "page" => print_page(rt, &memory, low(words, 1)),
-        _ => print_word(rt, &memory, image.memory(), low(words, 1)),
+        "page" => Ok(print_page(rt, &memory, low(words, 1))?),
+        _ => Ok(print_word(rt, &memory, image.memory(), low(words, 1))?),
     }
 }

@@ -2,12 +2,13 @@
 use crate::words::{low, wide, word};
 use le_numbers::{push_u32, push_u64, read_u16, read_u32, read_u64, write_u32, write_u64};
 use std::alloc::{AllocError, Global};
+use std::io;
 
 // Prints the numbers at a place, if the bytes are there.
-fn print_read<R: Print>(rt: &R, bytes: &[u8], at: usize) -> anyhow::Result<()> {
+fn print_read<R: Print>(rt: &R, bytes: &[u8], at: usize) -> io::Result<()> {
     if at < bytes.len() && bytes.len() - at >= 8 {
         let (narrow, middle) = (read_u16(bytes, at), read_u32(bytes, at));
-        println!(rt; "{narrow:x} {middle:x} {:x}", read_u64(bytes, at))?;
+        return println!(rt; "{narrow:x} {middle:x} {:x}", read_u64(bytes, at));
     }
     Ok(())
 }
@@ -52,24 +53,23 @@ fn made(alloc: Global, verb: &str, words: &[&str]) -> anyhow::Result<Vec<u8>> {
 }
 
 // Prints bytes.
-fn print_bytes<R: Print>(rt: &R, bytes: &[u8]) -> anyhow::Result<()> {
+fn print_bytes<R: Print>(rt: &R, bytes: &[u8]) -> io::Result<()> {
     for byte in bytes {
         print!(rt; "{byte:02x}")?;
     }
-    println!(rt; "")?;
-    Ok(())
+    println!(rt; "")
 }
 
 // Prints the numbers at the place of a line's bytes that it says.
 fn print_reading<R: Print>(rt: &R, alloc: Global, words: &[&str]) -> anyhow::Result<()> {
     let bytes = hex::decode(alloc, word(words, 2))?;
-    print_read(rt, &bytes, low(words, 1) as usize)
+    Ok(print_read(rt, &bytes, low(words, 1) as usize)?)
 }
 
 /// Prints what a line wants to know of numbers.
 pub fn tell<R: Print>(rt: &R, alloc: Global, verb: &str, words: &[&str]) -> anyhow::Result<()> {
     match verb {
         "read" => print_reading(rt, alloc, words),
-        _ => print_bytes(rt, &made(alloc, verb, words)?),
+        _ => Ok(print_bytes(rt, &made(alloc, verb, words)?)?),
     }
 }

@@ -1,64 +1,12 @@
 // The lines of a script of cases.
 use crate::caches::{Event, event_of, print_answers};
 use crate::memory::{Step, step_of};
-use crate::programs::{loaded, made};
+use crate::programs::{loaded, make};
 use crate::words::{word, words_of};
 use crate::{command_lines, memory, numbers, programs, settings, streams};
 use bn_base::Image;
 use std::alloc::Global;
 use std::io;
-
-// What a line is about.
-#[derive(Clone, Copy, Drop)]
-enum Topic {
-    Step,
-    Event,
-    File,
-    Loading,
-    Program,
-    Memory,
-    Cache,
-    Setting,
-    Number,
-    Stream,
-}
-
-// What lines that begin with these words are about; all others are about stores and streams.
-const TOPICS: [(&str, Topic); 23] = [
-    ("room", Topic::Step),
-    ("put", Topic::Step),
-    ("touch", Topic::Event),
-    ("drop", Topic::Event),
-    ("clear", Topic::Event),
-    ("file", Topic::File),
-    ("more", Topic::File),
-    ("load", Topic::Loading),
-    ("at", Topic::Program),
-    ("bounds", Topic::Program),
-    ("mapped", Topic::Program),
-    ("call", Topic::Program),
-    ("page", Topic::Memory),
-    ("word", Topic::Memory),
-    ("cache", Topic::Cache),
-    ("settings", Topic::Setting),
-    ("mark", Topic::Setting),
-    ("fault-mark", Topic::Setting),
-    ("list", Topic::Setting),
-    ("read", Topic::Number),
-    ("write4", Topic::Number),
-    ("write8", Topic::Number),
-    ("push", Topic::Number),
-];
-
-// What a line that begins with this word is about.
-fn topic_of(verb: &str) -> Topic {
-    for (name, topic) in &TOPICS {
-        if *name == verb {
-            return *topic;
-        }
-    }
-    Topic::Stream
-}
 
 /// What the lines so far have made.
 #[derive(Drop)]
@@ -84,20 +32,12 @@ impl Case {
 
     // Notes the step of memory that a line says.
     fn note_step(&mut self, verb: &str, words: &[&str]) -> anyhow::Result<()> {
-        self.steps.push(step_of(verb, words))?;
-        Ok(())
+        Ok(self.steps.push(step_of(verb, words))?)
     }
 
     // Notes the event of caches that a line says.
     fn note_event(&mut self, verb: &str, words: &[&str]) -> anyhow::Result<()> {
-        self.events.push(event_of(verb, words))?;
-        Ok(())
-    }
-
-    // Makes the file that a line says.
-    fn make(&mut self, verb: &str, words: &[&str]) -> anyhow::Result<()> {
-        self.file = made(self.alloc, &self.file, verb, words)?;
-        Ok(())
+        Ok(self.events.push(event_of(verb, words))?)
     }
 
     // Loads the program of the file, as a line says.
@@ -109,7 +49,7 @@ impl Case {
     // Prints what a line wants to know of the program.
     fn tell_program<R: Print>(&self, rt: &R, verb: &str, words: &[&str]) -> anyhow::Result<()> {
         match &self.image {
-            Some(image) => programs::tell(rt, image, verb, words),
+            Some(image) => Ok(programs::tell(rt, image, verb, words)?),
             None => Err(anyhow::anyhow!("no program")),
         }
     }
@@ -124,17 +64,19 @@ impl Case {
 
     // Does what a line says, by what it is about.
     fn act<R: Print>(&mut self, rt: &R, verb: &str, words: &[&str]) -> anyhow::Result<()> {
-        match topic_of(verb) {
-            Topic::Step => self.note_step(verb, words),
-            Topic::Event => self.note_event(verb, words),
-            Topic::File => self.make(verb, words),
-            Topic::Loading => self.load(words),
-            Topic::Program => self.tell_program(rt, verb, words),
-            Topic::Memory => self.tell_memory(rt, verb, words),
-            Topic::Cache => print_answers(rt, self.alloc, &self.events, words),
-            Topic::Setting => settings::tell(rt, self.alloc, verb, words),
-            Topic::Number => numbers::tell(rt, self.alloc, verb, words),
-            Topic::Stream => streams::tell(rt, self.alloc, verb, words),
+        match verb {
+            "room" | "put" => self.note_step(verb, words),
+            "touch" | "drop" | "clear" => self.note_event(verb, words),
+            "file" | "more" => make(self.alloc, &mut self.file, verb, words),
+            "load" => self.load(words),
+            "at" | "bounds" | "mapped" | "call" => self.tell_program(rt, verb, words),
+            "page" | "word" => self.tell_memory(rt, verb, words),
+            "cache" => print_answers(rt, self.alloc, &self.events, words),
+            "settings" | "mark" | "fault-mark" | "list" => {
+                settings::tell(rt, self.alloc, verb, words)
+            }
+            "read" | "write4" | "write8" | "push" => numbers::tell(rt, self.alloc, verb, words),
+            _ => streams::tell(rt, self.alloc, verb, words),
         }
     }
 
@@ -142,8 +84,7 @@ impl Case {
     fn begin<R: Print>(&mut self, rt: &R, line: &str) -> anyhow::Result<()> {
         self.steps.clear();
         self.events.clear();
-        println!(rt; "{line}")?;
-        Ok(())
+        Ok(println!(rt; "{line}")?)
     }
 
     // Does what the words of a line say.

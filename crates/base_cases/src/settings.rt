@@ -37,12 +37,11 @@ pub fn checked(words: &[&str]) -> Result<Settings, BadSetting> {
 }
 
 // Prints whether the settings of a line are in range.
-fn print_checked<R: Print>(rt: &R, words: &[&str]) -> anyhow::Result<()> {
+fn print_checked<R: Print>(rt: &R, words: &[&str]) -> io::Result<()> {
     match checked(words) {
-        Ok(_) => println!(rt; "in range")?,
-        Err(bad) => println!(rt; "{bad:?} {}", bad.name())?,
+        Ok(_) => println!(rt; "in range"),
+        Err(bad) => println!(rt; "{bad:?} {}", bad.name()),
     }
-    Ok(())
 }
 
 // The mark of a fault.
@@ -78,34 +77,33 @@ fn print_items<R: Print>(rt: &R, items: &[u8]) -> io::Result<()> {
 }
 
 // Prints a list's items, and how many it gives back.
-fn print_list<R: Print>(rt: &R, items: Vec<u8>) -> anyhow::Result<()> {
+fn print_list<R: Print>(rt: &R, items: Vec<u8>) -> io::Result<()> {
     let list = List::from_vec(items);
     print_items(rt, list.as_slice())?;
-    println!(rt; "of {}", list.into_vec().len())?;
-    Ok(())
-}
-
-// Prints the word of the mark that a line says.
-fn print_mark<R: Print>(rt: &R, words: &[&str]) -> anyhow::Result<()> {
-    println!(rt; "{}", mark(words).word())?;
-    Ok(())
+    println!(rt; "of {}", list.into_vec().len())
 }
 
 // Prints the mark of the fault that a line says, and its word.
-fn print_fault_mark<R: Print>(rt: &R, words: &[&str]) -> anyhow::Result<()> {
+fn print_fault_mark<R: Print>(rt: &R, words: &[&str]) -> io::Result<()> {
     match fault_mark(words) {
-        Some(mark) => println!(rt; "{mark:?} {}", mark.word())?,
-        None => println!(rt; "no fault")?,
+        Some(mark) => println!(rt; "{mark:?} {}", mark.word()),
+        None => println!(rt; "no fault"),
     }
-    Ok(())
+}
+
+// Prints what a line wants to know of settings and marks.
+fn tell_setting<R: Print>(rt: &R, verb: &str, words: &[&str]) -> io::Result<()> {
+    match verb {
+        "settings" => print_checked(rt, words),
+        "mark" => println!(rt; "{}", mark(words).word()),
+        _ => print_fault_mark(rt, words),
+    }
 }
 
 /// Prints what a line wants to know of settings, marks and lists.
 pub fn tell<R: Print>(rt: &R, alloc: Global, verb: &str, words: &[&str]) -> anyhow::Result<()> {
     match verb {
-        "settings" => print_checked(rt, words),
-        "mark" => print_mark(rt, words),
-        "fault-mark" => print_fault_mark(rt, words),
-        _ => print_list(rt, bytes(alloc, words)?),
+        "list" => Ok(print_list(rt, bytes(alloc, words)?)?),
+        _ => Ok(tell_setting(rt, verb, words)?),
     }
 }

@@ -4,6 +4,7 @@ use bn_outside::{
     MemorySink, MemorySource, MemoryStore, NoSink, Sink, Source, Store, read_to_end, send_all,
 };
 use std::alloc::{AllocError, Global};
+use std::io;
 use std::str::from_utf8;
 
 // The numbers of the calls that fail, between commas; a word that is no number is none.
@@ -18,15 +19,14 @@ fn failing(alloc: Global, text: &str) -> Result<Vec<u64>, AllocError> {
 }
 
 // Prints a text after what it is.
-fn print_text<R: Print>(rt: &R, what: &str, bytes: &[u8]) -> anyhow::Result<()> {
-    println!(rt; "{what} {}", from_utf8(bytes)?)?;
-    Ok(())
+fn print_text<R: Print>(rt: &R, what: &str, bytes: &[u8]) -> io::Result<()> {
+    println!(rt; "{what} {}", from_utf8(bytes).unwrap_or("no text"))
 }
 
 // Prints the text that a store has under a name, after how it was found.
-fn print_file<R: Print>(rt: &R, how: &str, name: &str, bytes: &[u8]) -> anyhow::Result<()> {
-    println!(rt; "{how} {name} {}", from_utf8(bytes)?)?;
-    Ok(())
+fn print_file<R: Print>(rt: &R, how: &str, name: &str, bytes: &[u8]) -> io::Result<()> {
+    print!(rt; "{how} ")?;
+    print_text(rt, name, bytes)
 }
 
 // Prints what a load gives.
@@ -36,60 +36,64 @@ fn print_load<R: Print, S: Store>(
     files: &mut S,
     name: &str,
     limit: usize,
-) -> anyhow::Result<()> {
+) -> io::Result<()> {
     match files.load(alloc, name, limit) {
         Ok(bytes) => print_file(rt, "load", name, &bytes),
-        Err(error) => Ok(println!(rt; "load {name} {error:?}")?),
+        Err(error) => println!(rt; "load {name} {error:?}"),
     }
 }
 
 // Prints what comes of a save.
-fn print_save<R: Print, S: Store>(
-    rt: &R,
-    files: &mut S,
-    name: &str,
-    text: &str,
-) -> anyhow::Result<()> {
-    println!(rt; "save {name} {:?}", files.save(name, text.as_bytes()))?;
-    Ok(())
+fn print_save<R: Print, S: Store>(rt: &R, files: &mut S, name: &str, text: &str) -> io::Result<()> {
+    println!(rt; "save {name} {:?}", files.save(name, text.as_bytes()))
 }
 
 // Prints what a store has under a name, without a call of it.
-fn print_held<R: Print>(rt: &R, files: &MemoryStore, name: &str) -> anyhow::Result<()> {
+fn print_held<R: Print>(rt: &R, files: &MemoryStore, name: &str) -> io::Result<()> {
     match files.bytes(name) {
         Some(bytes) => print_file(rt, "held", name, bytes),
-        None => Ok(println!(rt; "held {name} nothing")?),
+        None => println!(rt; "held {name} nothing"),
     }
 }
 
-// Does what three words of a line say with a store, the first two words of it left aside.
+// Prints what comes of a call of a store.
+fn print_act<R: Print>(
+    rt: &R,
+    alloc: Global,
+    files: &mut MemoryStore,
+    words: &[&str],
+) -> io::Result<()> {
+    let name = word(words, 1);
+    match word(words, 0) {
+        "save" => print_save(rt, files, name, word(words, 2)),
+        "load" => print_load(rt, alloc, files, name, wide(words, 2) as usize),
+        "held" => print_held(rt, files, name),
+        verb => println!(rt; "no call of a store: {verb}"),
+    }
+}
+
+// Does what three words of a line say with a store.
 fn act<R: Print>(
     rt: &R,
     alloc: Global,
     files: &mut MemoryStore,
     words: &[&str],
-    place: usize,
 ) -> anyhow::Result<()> {
-    let name = word(words, place.saturating_add(3));
-    let rest = place.saturating_add(4);
-    match word(words, place.saturating_add(2)) {
-        "save" => print_save(rt, files, name, word(words, rest)),
-        "load" => print_load(rt, alloc, files, name, wide(words, rest) as usize),
-        "held" => print_held(rt, files, name),
-        "put" => Ok(files.put(name, word(words, rest).as_bytes())?),
-        verb => Err(anyhow::anyhow!("no call of a store: {verb}")),
+    match word(words, 0) {
+        "put" => Ok(files.put(word(words, 1), word(words, 2).as_bytes())?),
+        _ => Ok(print_act(rt, alloc, files, words)?),
     }
 }
 
-// Does what the words of a line say with a store, three words at a time.
+// Does what words say with a store, three words at a time.
 fn act_all<R: Print>(
     rt: &R,
     alloc: Global,
     files: &mut MemoryStore,
     words: &[&str],
 ) -> anyhow::Result<()> {
-    for call in 0..words.len() / 3 {
-        act(rt, alloc, files, words, call.saturating_mul(3))?;
+    for call in words.chunks(3) {
+        act(rt, alloc, files, call)?;
     }
     Ok(())
 }
@@ -97,7 +101,8 @@ fn act_all<R: Print>(
 // Does what a line says with a new store.
 fn print_store<R: Print>(rt: &R, alloc: Global, words: &[&str]) -> anyhow::Result<()> {
     let failing = failing(alloc, word(words, 1))?;
-    act_all(rt, alloc, &mut MemoryStore::new(alloc, failing), words)
+    let mut files = MemoryStore::new(alloc, failing);
+    act_all(rt, alloc, &mut files, words.get(2..).unwrap_or(&[]))
 }
 
 // A sink that takes at most so many bytes a write, or with 0 as many as it is given.
@@ -110,13 +115,12 @@ fn sink_of(alloc: Global, most: usize, failing: Vec<u64>) -> MemorySink {
 }
 
 // Prints what comes of a text that is sent.
-fn print_sent<R: Print, K: Sink>(rt: &R, sink: &mut K, text: &str) -> anyhow::Result<()> {
-    println!(rt; "send {text} {:?}", send_all(sink, text.as_bytes()))?;
-    Ok(())
+fn print_sent<R: Print, K: Sink>(rt: &R, sink: &mut K, text: &str) -> io::Result<()> {
+    println!(rt; "send {text} {:?}", send_all(sink, text.as_bytes()))
 }
 
 // Sends texts, and prints what was written.
-fn send_texts<R: Print>(rt: &R, sink: &mut MemorySink, texts: &[&str]) -> anyhow::Result<()> {
+fn send_texts<R: Print>(rt: &R, sink: &mut MemorySink, texts: &[&str]) -> io::Result<()> {
     for text in texts {
         print_sent(rt, sink, text)?;
     }
@@ -127,7 +131,7 @@ fn send_texts<R: Print>(rt: &R, sink: &mut MemorySink, texts: &[&str]) -> anyhow
 fn print_sink<R: Print>(rt: &R, alloc: Global, words: &[&str]) -> anyhow::Result<()> {
     let failing = failing(alloc, word(words, 2))?;
     let mut sink = sink_of(alloc, wide(words, 1) as usize, failing);
-    send_texts(rt, &mut sink, words.get(3..).unwrap_or(&[]))
+    Ok(send_texts(rt, &mut sink, words.get(3..).unwrap_or(&[]))?)
 }
 
 // A source of a text that gives at most so many bytes a read, or with 0 as many as there is room for.
@@ -146,9 +150,8 @@ fn source_of(
 }
 
 // Prints what a read of one byte gives.
-fn print_byte<R: Print, I: Source<NoSink>>(rt: &R, source: &mut I) -> anyhow::Result<()> {
-    println!(rt; "read {:?}", source.read(&NoSink, &mut [0u8]))?;
-    Ok(())
+fn print_byte<R: Print, I: Source<NoSink>>(rt: &R, source: &mut I) -> io::Result<()> {
+    println!(rt; "read {:?}", source.read(&NoSink, &mut [0u8]))
 }
 
 // A source of a text, of whose reads those of these numbers fail.
@@ -162,7 +165,7 @@ fn failing_source(
 }
 
 // Reads so many single bytes of a source, and prints what is left.
-fn read_bytes<R: Print>(rt: &R, source: &mut MemorySource, count: u64) -> anyhow::Result<()> {
+fn read_bytes<R: Print>(rt: &R, source: &mut MemorySource, count: u64) -> io::Result<()> {
     for _ in 0..count {
         print_byte(rt, source)?;
     }
@@ -172,7 +175,7 @@ fn read_bytes<R: Print>(rt: &R, source: &mut MemorySource, count: u64) -> anyhow
 // Reads so many single bytes of a line's source, and prints what is left.
 fn print_reads<R: Print>(rt: &R, alloc: Global, words: &[&str]) -> anyhow::Result<()> {
     let mut source = failing_source(alloc, 0, word(words, 1), word(words, 2))?;
-    read_bytes(rt, &mut source, wide(words, 3))
+    Ok(read_bytes(rt, &mut source, wide(words, 3))?)
 }
 
 // Reads a source to its end or the limit, and prints what it gives.
@@ -182,10 +185,10 @@ fn read_all<R: Print>(
     source: &mut MemorySource,
     expected: usize,
     limit: usize,
-) -> anyhow::Result<()> {
+) -> io::Result<()> {
     match read_to_end(alloc, source, expected, limit) {
         Ok(bytes) => print_text(rt, "all", &bytes),
-        Err(error) => Ok(println!(rt; "all {error:?}")?),
+        Err(error) => println!(rt; "all {error:?}"),
     }
 }
 
@@ -194,7 +197,7 @@ fn print_source<R: Print>(rt: &R, alloc: Global, words: &[&str]) -> anyhow::Resu
     let most = wide(words, 1) as usize;
     let (expected, limit) = (wide(words, 4) as usize, wide(words, 5) as usize);
     let mut source = failing_source(alloc, most, word(words, 2), word(words, 3))?;
-    read_all(rt, alloc, &mut source, expected, limit)
+    Ok(read_all(rt, alloc, &mut source, expected, limit)?)
 }
 
 /// Prints what a line wants to know of stores and streams.
