@@ -1,17 +1,18 @@
-//! Bytes that are put after those of a file.
+//! What lines make of a file's bytes: more of them, other ones, or damaged ones.
 use crate::files::Files;
-use crate::words::{number, numbers, rest, word};
+use crate::logs::written;
+use crate::words::{number, rest, word};
 use log_file::head::digest_of;
 use std::alloc::{AllocError, Global};
 
-/// The bytes from a place up to another; none if some of them aren't there.
-pub fn part(bytes: &[u8], from: usize, end: usize) -> &[u8] {
+// The bytes from a place up to another; none if some of them aren't there.
+fn part(bytes: &[u8], from: usize, end: usize) -> &[u8] {
     bytes.get(from..end).unwrap_or(&[])
 }
 
-/// Appends the lowest bytes of a number, the lowest first.
-pub fn push_number(bytes: &mut Vec<u8>, width: usize, number: u64) -> Result<(), AllocError> {
-    bytes.extend_from_slice(part(&number.to_le_bytes(), 0, width))
+// Appends the lowest bytes of a number, the lowest first.
+fn push_number(file: &mut Vec<u8>, width: usize, number: u64) -> Result<(), AllocError> {
+    file.extend_from_slice(part(&number.to_le_bytes(), 0, width))
 }
 
 // The tag of a kind of records.
@@ -44,124 +45,159 @@ fn width_of(tag: u8, place: usize) -> usize {
 }
 
 // Appends the numbers of a record after its tag.
-fn push_numbers(bytes: &mut Vec<u8>, tag: u8, numbers: &[u64]) -> Result<(), AllocError> {
-    for (place, number) in numbers.iter().enumerate() {
-        push_number(bytes, width_of(tag, place), *number)?;
+fn push_numbers(file: &mut Vec<u8>, tag: u8, numbers: &[&str]) -> Result<(), AllocError> {
+    for place in 0..numbers.len() {
+        push_number(file, width_of(tag, place), number(numbers, place))?;
     }
     Ok(())
 }
 
-// Appends the bytes of a record; a Header's last registers may be left out.
-fn push_record(bytes: &mut Vec<u8>, tag: u8, numbers: &[u64]) -> Result<(), AllocError> {
-    bytes.push(tag)?;
-    push_numbers(bytes, tag, numbers)?;
+// Appends a record of these numbers; a Header's last registers may be left out.
+fn push_record(file: &mut Vec<u8>, tag: u8, numbers: &[&str]) -> Result<(), AllocError> {
+    let end = file.len().saturating_add(146);
+    file.push(tag)?;
+    push_numbers(file, tag, numbers)?;
     if tag == 1 {
-        return bytes.resize(146, 0);
+        return file.resize(end, 0);
     }
     Ok(())
 }
 
-// The record of a tag that a line says.
-fn record_of(alloc: Global, tag: u8, words: &[&str]) -> anyhow::Result<Vec<u8>> {
-    let numbers = numbers(alloc, words, 2)?;
-    let mut bytes = Vec::new(alloc);
-    push_record(&mut bytes, tag, &numbers)?;
-    Ok(bytes)
-}
-
-// The bytes that a line spells.
-fn spelled(alloc: Global, words: &[&str]) -> anyhow::Result<Vec<u8>> {
-    Ok(hex::decode(alloc, word(words, 2))?)
-}
-
-// Appends what follows the records of a block: its first two numbers, and the records' length.
-fn push_counts(bytes: &mut Vec<u8>, before: u64, left: u64, length: u64) -> Result<(), AllocError> {
-    push_number(bytes, 8, before)?;
-    push_number(bytes, 4, left)?;
-    push_number(bytes, 4, length)
-}
-
-// Appends the seal of a block after a head, whose bytes are these.
-fn push_seal(alloc: Global, head: &[u8], bytes: &mut Vec<u8>) -> Result<(), AllocError> {
-    let mut signed = part(head, 104, 136).to_vec(alloc)?;
-    signed.extend_from_slice(bytes)?;
-    bytes.extend_from_slice(&digest_of(&signed))
-}
-
-// A block after a head, sealed: its records' bytes, and the two numbers after them.
-fn block(
+// Appends the seal of a block after a head. The block's bytes are those of the file from a place on.
+fn push_seal(
     alloc: Global,
+    file: &mut Vec<u8>,
+    head: &[u8],
+    start: usize,
+) -> Result<(), AllocError> {
+    let mut signed = part(head, 104, 136).to_vec(alloc)?;
+    signed.extend_from_slice(file.get(start..).unwrap_or(&[]))?;
+    file.extend_from_slice(&digest_of(&signed))
+}
+
+// Appends a block after a head, sealed: its records' bytes, the two numbers after them, and their length.
+fn push_block(
+    alloc: Global,
+    file: &mut Vec<u8>,
     head: &[u8],
     records: &[u8],
-    before: u64,
-    left: u64,
-) -> Result<Vec<u8>, AllocError> {
-    let mut bytes = records.to_vec(alloc)?;
-    push_counts(&mut bytes, before, left, records.len() as u64)?;
-    push_seal(alloc, head, &mut bytes)?;
-    Ok(bytes)
+    words: &[&str],
+) -> Result<(), AllocError> {
+    let start = file.len();
+    file.extend_from_slice(records)?;
+    push_number(file, 8, number(words, 6))?;
+    push_number(file, 4, number(words, 7))?;
+    push_number(file, 4, records.len() as u64)?;
+    push_seal(alloc, file, head, start)
 }
 
-// The bytes of a file from a number up to the next.
-fn range<'a>(file: &'a [u8], numbers: &[u64]) -> &'a [u8] {
-    part(
-        file,
-        number(numbers, 0) as usize,
-        number(numbers, 1) as usize,
-    )
-}
-
-// The block that a line says.
-fn block_of(alloc: Global, files: &Files, words: &[&str]) -> anyhow::Result<Vec<u8>> {
-    let numbers = numbers(alloc, words, 4)?;
-    let records = range(files.bytes(word(words, 3)), &numbers);
-    let head = files.bytes(word(words, 2));
-    let before = number(&numbers, 2);
-    Ok(block(alloc, head, records, before, number(&numbers, 3))?)
+// The bytes of a file from a number up to another.
+fn range<'a>(files: &'a Files, name: &str, from: u64, end: u64) -> &'a [u8] {
+    part(files.bytes(name), from as usize, end as usize)
 }
 
 // Appends all bytes of files.
-fn push_files(bytes: &mut Vec<u8>, files: &Files, names: &[&str]) -> Result<(), AllocError> {
+fn push_files(file: &mut Vec<u8>, files: &Files, names: &[&str]) -> Result<(), AllocError> {
     for name in names {
-        bytes.extend_from_slice(files.bytes(name))?;
+        file.extend_from_slice(files.bytes(name))?;
     }
     Ok(())
 }
 
-// All bytes of the files that a line names from its third word on.
-fn joined(alloc: Global, files: &Files, words: &[&str]) -> anyhow::Result<Vec<u8>> {
-    let mut bytes = Vec::new(alloc);
-    push_files(&mut bytes, files, rest(words, 2))?;
-    Ok(bytes)
-}
-
-// The part of a file that a line says.
-fn part_of(alloc: Global, files: &Files, words: &[&str]) -> anyhow::Result<Vec<u8>> {
-    let numbers = numbers(alloc, words, 3)?;
-    Ok(range(files.bytes(word(words, 2)), &numbers).to_vec(alloc)?)
-}
-
-// The digest of the file that a line names.
-fn digest(alloc: Global, files: &Files, words: &[&str]) -> anyhow::Result<Vec<u8>> {
-    Ok(digest_of(files.bytes(word(words, 2))).to_vec(alloc)?)
-}
-
-/// The bytes that a line adds to those of a file; none if it adds none.
-pub fn built(
+// Appends the bytes of others, or a block, as a line says.
+fn push_others(
     alloc: Global,
     files: &Files,
+    file: &mut Vec<u8>,
     verb: &str,
     words: &[&str],
-) -> Option<anyhow::Result<Vec<u8>>> {
+) -> Result<(), AllocError> {
+    let other = files.bytes(word(words, 2));
+    match verb {
+        "part" => {
+            let bytes = range(files, word(words, 2), number(words, 3), number(words, 4));
+            file.extend_from_slice(bytes)
+        }
+        "join" => push_files(file, files, rest(words, 2)),
+        "digest" => file.extend_from_slice(&digest_of(other)),
+        "take" => {
+            file.clear();
+            file.extend_from_slice(other)
+        }
+        _ => {
+            let records = range(files, word(words, 3), number(words, 4), number(words, 5));
+            push_block(alloc, file, other, records, words)
+        }
+    }
+}
+
+// Puts bytes in place of a file's own from a place on.
+fn patch(file: &mut [u8], place: u64, bytes: &[u8]) {
+    for (byte, new) in file.iter_mut().skip(place as usize).zip(bytes) {
+        *byte = *new;
+    }
+}
+
+// Puts a number in place of so many bytes of a file from a place on.
+fn set(file: &mut [u8], place: u64, width: usize, number: u64) {
+    patch(file, place, part(&number.to_le_bytes(), 0, width));
+}
+
+// Gives the byte at a place the other lowest bit.
+fn flip(file: &mut [u8], place: usize) {
+    if let Some(byte) = file.get_mut(place) {
+        *byte ^= 1;
+    }
+}
+
+// Changes a file's bytes in place, as a line says.
+fn change(file: &mut Vec<u8>, verb: &str, words: &[&str]) {
+    let place = number(words, 2);
+    match verb {
+        "set" => set(file, place, number(words, 3) as usize, number(words, 4)),
+        "flip" => flip(file, place as usize),
+        _ => file.truncate(place as usize),
+    }
+}
+
+// Appends the bytes that a line spells, or puts them in place of a file's own.
+fn spell(alloc: Global, file: &mut Vec<u8>, verb: &str, words: &[&str]) -> anyhow::Result<()> {
+    match verb {
+        "bytes" => {
+            let bytes = hex::decode(alloc, word(words, 2))?;
+            Ok(file.extend_from_slice(&bytes)?)
+        }
+        _ => {
+            let bytes = hex::decode(alloc, word(words, 3))?;
+            patch(file, number(words, 2), &bytes);
+            Ok(())
+        }
+    }
+}
+
+/// Makes of a file's bytes what a line says.
+pub fn make(
+    alloc: Global,
+    files: &Files,
+    file: &mut Vec<u8>,
+    verb: &str,
+    words: &[&str],
+) -> anyhow::Result<()> {
     if let Some(tag) = tag_of(verb) {
-        return Some(record_of(alloc, tag, words));
+        return Ok(push_record(file, tag, rest(words, 2))?);
     }
     match verb {
-        "bytes" => Some(spelled(alloc, words)),
-        "part" => Some(part_of(alloc, files, words)),
-        "join" => Some(joined(alloc, files, words)),
-        "digest" => Some(digest(alloc, files, words)),
-        "block" => Some(block_of(alloc, files, words)),
-        _ => None,
+        "bytes" | "put" => spell(alloc, file, verb, words),
+        "set" | "flip" | "cut" => {
+            change(file, verb, words);
+            Ok(())
+        }
+        "part" | "join" | "digest" | "take" | "block" => {
+            Ok(push_others(alloc, files, file, verb, words)?)
+        }
+        _ => {
+            *file = written(alloc, files, verb, words)?;
+            Ok(())
+        }
     }
 }

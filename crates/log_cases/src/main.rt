@@ -1,5 +1,6 @@
 //! Makes logs of bytes as standard input says, and prints what reading, salvaging and replaying say of
 //! them. Nothing is said of a log but by its bytes, so damaged and forged ones are made like good ones.
+//! A number that is left out, or a word that is none, is 0.
 //!
 //! | line | what it does |
 //! |---|---|
@@ -32,7 +33,6 @@
 #![tactic(auto)]
 
 mod building;
-mod changing;
 mod files;
 mod logs;
 mod replays;

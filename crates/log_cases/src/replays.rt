@@ -5,6 +5,7 @@ use hart_replay::{ReplayError, Replayer};
 use log_order::KeptLog;
 use rv_text::{Text, write_row};
 use std::alloc::{AllocError, Global};
+use std::io;
 
 /// The program of these words, from 0x10054 on.
 pub fn program(alloc: Global, code: &[u32]) -> Result<Image, AllocError> {
@@ -17,16 +18,18 @@ pub fn program(alloc: Global, code: &[u32]) -> Result<Image, AllocError> {
 }
 
 /// Prints a text as it stands.
-pub fn print_text<R: Print>(rt: &R, text: &Text) -> anyhow::Result<()> {
-    print!(rt; "{}", std::str::from_utf8(text.as_bytes())?)?;
-    Ok(())
+pub fn print_text<R: Print>(rt: &R, text: &Text) -> io::Result<()> {
+    print!(rt;
+        "{}",
+        std::str::from_utf8(text.as_bytes()).unwrap_or("no text")
+    )
 }
 
 // Prints a row.
 fn print_row<R: Print>(rt: &R, alloc: Global, row: &Row) -> anyhow::Result<()> {
     let mut text = Text::new(alloc);
     write_row(row, &mut text)?;
-    print_text(rt, &text)
+    Ok(print_text(rt, &text)?)
 }
 
 // Prints the rows of a replay; how it ends.
@@ -50,32 +53,26 @@ fn print_end<R: Print>(
     rt: &R,
     outcome: Result<(), ReplayError>,
     further: Result<Option<Row>, ReplayError>,
-) -> anyhow::Result<()> {
-    println!(rt; "{outcome:?}")?;
-    Ok(println!(rt; "{further:?}")?)
+) -> io::Result<()> {
+    println!(rt; "{outcome:?}\n{further:?}")
 }
 
 // Prints the rows of a replay, how it ends, and what a further step says.
 fn print_replay<R: Print>(rt: &R, alloc: Global, replayer: &mut Replayer) -> anyhow::Result<()> {
     let outcome = print_rows(rt, alloc, replayer)?;
-    print_end(rt, outcome, replayer.step())
+    Ok(print_end(rt, outcome, replayer.step())?)
 }
 
-// Prints why a replay can't begin. The text is compared with the case's expected output.
-fn print_refusal<R: Print>(rt: &R, error: ReplayError) -> anyhow::Result<()> {
-    Ok(println!(rt; "{error:?}")?)
-}
-
-/// Prints an interval's rows, how it ends, and what a further step says.
+/// Prints an interval's rows, how it ends, and what a further step says, or why it can't be replayed.
 pub fn print_interval<R: Print>(
     rt: &R,
     alloc: Global,
     image: &Image,
     log: &KeptLog,
-    numbers: &[u64],
+    words: &[&str],
 ) -> anyhow::Result<()> {
-    match Replayer::begin(alloc, image, log, number(numbers, 0), number(numbers, 1)) {
+    match Replayer::begin(alloc, image, log, number(words, 2), number(words, 3)) {
         Ok(mut replayer) => print_replay(rt, alloc, &mut replayer),
-        Err(error) => print_refusal(rt, error),
+        Err(error) => Ok(println!(rt; "{error:?}")?),
     }
 }

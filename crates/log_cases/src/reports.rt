@@ -1,23 +1,14 @@
 //! Replays, slices and race reports of logs.
 use crate::files::Files;
 use crate::replays::{print_interval, print_text, program};
-use crate::words::{number, numbers, word};
+use crate::words::{number, word};
 use bn_base::Image;
-use log_blocks::{Damage, read_file};
+use log_blocks::read_file;
 use log_order::KeptLog;
-use race_report::{RaceError, races_text};
+use race_report::races_text;
 use slice_back::slice_text;
 use std::alloc::Global;
-
-// Prints why there is no log.
-fn print_damage<R: Print>(rt: &R, damage: Damage) -> anyhow::Result<()> {
-    Ok(println!(rt; "no log: {damage}")?)
-}
-
-// Prints why there is no race report.
-fn print_refusal<R: Print>(rt: &R, error: &RaceError) -> anyhow::Result<()> {
-    Ok(println!(rt; "{error:?}")?)
-}
+use std::io;
 
 // Prints the slice of a row, or why there is none.
 fn print_slice<R: Print>(
@@ -25,19 +16,12 @@ fn print_slice<R: Print>(
     alloc: Global,
     image: &Image,
     log: &KeptLog,
-    numbers: &[u64],
-) -> anyhow::Result<()> {
-    let interval = number(numbers, 1);
-    match slice_text(
-        alloc,
-        image,
-        log,
-        number(numbers, 0),
-        interval,
-        number(numbers, 2),
-    ) {
+    words: &[&str],
+) -> io::Result<()> {
+    let (hart, interval, count) = (number(words, 2), number(words, 3), number(words, 4));
+    match slice_text(alloc, image, log, hart, interval, count) {
         Ok(text) => print_text(rt, &text),
-        Err(error) => Ok(println!(rt; "{error:?}")?),
+        Err(error) => println!(rt; "{error:?}"),
     }
 }
 
@@ -48,10 +32,10 @@ fn print_races<R: Print>(
     image: &Image,
     log: &KeptLog,
     max: u64,
-) -> anyhow::Result<()> {
+) -> io::Result<()> {
     match races_text(alloc, image, log, max) {
         Ok(text) => print_text(rt, &text),
-        Err(error) => print_refusal(rt, &error),
+        Err(error) => println!(rt; "{error:?}"),
     }
 }
 
@@ -61,13 +45,12 @@ fn report_log<R: Print>(
     alloc: Global,
     image: &Image,
     log: &KeptLog,
-    verb: &str,
-    numbers: &[u64],
+    words: &[&str],
 ) -> anyhow::Result<()> {
-    match verb {
-        "replay" => print_interval(rt, alloc, image, log, numbers),
-        "slice" => print_slice(rt, alloc, image, log, numbers),
-        _ => print_races(rt, alloc, image, log, number(numbers, 0)),
+    match word(words, 0) {
+        "replay" => print_interval(rt, alloc, image, log, words),
+        "slice" => Ok(print_slice(rt, alloc, image, log, words)?),
+        _ => Ok(print_races(rt, alloc, image, log, number(words, 2))?),
     }
 }
 
@@ -77,25 +60,22 @@ fn report_bytes<R: Print>(
     alloc: Global,
     image: &Image,
     bytes: &[u8],
-    verb: &str,
-    numbers: &[u64],
+    words: &[&str],
 ) -> anyhow::Result<()> {
     match read_file(alloc, bytes) {
-        Ok(log) => report_log(rt, alloc, image, &log, verb, numbers),
-        Err(damage) => print_damage(rt, damage),
+        Ok(log) => report_log(rt, alloc, image, &log, words),
+        Err(damage) => Ok(println!(rt; "no log: {damage}")?),
     }
 }
 
 /// Prints the replay, the slice or else the races of a log, as a line says.
-pub fn reported<R: Print>(
+pub fn report<R: Print>(
     rt: &R,
     alloc: Global,
     files: &Files,
     code: &[u32],
     words: &[&str],
 ) -> anyhow::Result<()> {
-    let numbers = numbers(alloc, words, 2)?;
     let image = program(alloc, code)?;
-    let bytes = files.bytes(word(words, 1));
-    report_bytes(rt, alloc, &image, bytes, word(words, 0), &numbers)
+    report_bytes(rt, alloc, &image, files.bytes(word(words, 1)), words)
 }

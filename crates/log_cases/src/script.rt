@@ -1,11 +1,10 @@
 // The lines of a script of cases.
-use crate::building::built;
-use crate::changing::changed;
+use crate::building::make;
 use crate::files::Files;
-use crate::logs::{told, written};
-use crate::reports::reported;
-use crate::words::{code, word, words_of};
-use std::alloc::{AllocError, Global};
+use crate::logs::tell;
+use crate::reports::report;
+use crate::words::{code, rest, word, words_of};
+use std::alloc::Global;
 use std::io;
 
 /// What a case has made so far.
@@ -26,60 +25,22 @@ impl Case {
         }
     }
 
-    // Puts bytes after those of a file.
-    fn extend(&mut self, name: &str, bytes: &[u8]) -> Result<(), AllocError> {
-        let mut file = self.files.bytes(name).to_vec(self.alloc)?;
-        file.extend_from_slice(bytes)?;
-        self.files.put(name, &file)
-    }
-
-    // Puts the bytes that were made after those of the file that a line names.
-    fn append(&mut self, made: anyhow::Result<Vec<u8>>, words: &[&str]) -> anyhow::Result<()> {
-        let bytes = made?;
-        Ok(self.extend(word(words, 1), &bytes)?)
-    }
-
-    // The file that a line makes in place of one.
-    fn changed(&self, verb: &str, words: &[&str]) -> anyhow::Result<Vec<u8>> {
-        match written(self.alloc, &self.files, verb, words) {
-            Some(file) => file,
-            None => changed(self.alloc, &self.files, verb, words),
-        }
-    }
-
-    // Makes the file that a line says in place of one.
-    fn change(&mut self, verb: &str, words: &[&str]) -> anyhow::Result<()> {
-        let file = self.changed(verb, words)?;
-        Ok(self.files.put(word(words, 1), &file)?)
-    }
-
-    // Makes the file that a line says.
+    // Makes of a file what a line says.
     fn make(&mut self, verb: &str, words: &[&str]) -> anyhow::Result<()> {
-        match built(self.alloc, &self.files, verb, words) {
-            Some(made) => self.append(made, words),
-            None => self.change(verb, words),
-        }
-    }
-
-    // Prints what a line wants to know; else none.
-    fn tell<R: Print>(&self, rt: &R, verb: &str, words: &[&str]) -> Option<anyhow::Result<()>> {
-        match verb {
-            "replay" | "slice" | "races" => Some(reported(
-                rt,
-                self.alloc,
-                &self.files,
-                &self.code,
-                words,
-            )),
-            _ => told(rt, self.alloc, &self.files, verb, words),
-        }
+        let name = word(words, 1);
+        let mut file = self.files.bytes(name).to_vec(self.alloc)?;
+        make(self.alloc, &self.files, &mut file, verb, words)?;
+        Ok(self.files.put(name, &file)?)
     }
 
     // Prints what a line wants to know, or makes the file that it says.
     fn act<R: Print>(&mut self, rt: &R, verb: &str, words: &[&str]) -> anyhow::Result<()> {
-        match self.tell(rt, verb, words) {
-            Some(told) => told,
-            None => self.make(verb, words),
+        match verb {
+            "replay" | "slice" | "races" => report(rt, self.alloc, &self.files, &self.code, words),
+            "read" | "salvage" | "tell" | "count" | "show" => {
+                Ok(tell(rt, self.alloc, self.files.bytes(word(words, 1)), verb)?)
+            }
+            _ => self.make(verb, words),
         }
     }
 
@@ -92,7 +53,7 @@ impl Case {
 
     // Takes the program of a line.
     fn load(&mut self, words: &[&str]) -> anyhow::Result<()> {
-        self.code = code(self.alloc, words)?;
+        self.code = code(self.alloc, rest(words, 1))?;
         Ok(())
     }
 
