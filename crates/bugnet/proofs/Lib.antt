@@ -1,5 +1,4 @@
 mod Common
-mod Asks
 mod Single
 mod Suffices
 mod Jointly
@@ -7,13 +6,11 @@ mod Traces
 mod Sums
 mod Recorded
 mod Tested
-mod Sizes
 mod Leaves
 mod Scheduled
 mod Books
 mod Agrees
 mod Complete
-mod SessionReads
 mod Sessions
 mod Whole
 mod Debugs

@@ -1,12 +1,38 @@
 -- What a command does by its answer, or by its refusal once that is told.
-use Rattle.bugnet.proofs.Common.{◌≡◌, ◌≤◌, ◌∙◌, ℕ, Option, Some, None, subst, sym, refl, arith, inl, inr, Result, Ok, Err, Files, Stored, ReadNote, Stream, Supply, Line, RecordLine, WordsError, Call, IsByWords, World, world, between, Note, FileNames, no_names, told_of, Refuses, Answer, Refusal, WordsRefused, OutOfMemory, Status, none-fell, by-words, caused, memory-words, refusal-causes, refusal-words, answer-words, Causes, appends-nothing, none-saved, memory-saves, told-apart, tells-from, memory-names, with-any, from, names_in, names_by, refusal_in, refusal_by, words_refusal, IsNoSession, IsNoRecording, AnswersLine, RepliesTo, Does, TellsAnswer, ByWords, LeavesRun, CallsOnly, TellsDemo, LineSaves, reading, with_err, ActsTo}
+use Rattle.bugnet.proofs.Common.{◌≡◌, ◌≤◌, ◌∙◌, ℕ, Option, Some, None, subst, sym, refl, arith, inl, inr, Result, Ok, Err, Files, Stored, ReadNote, Stream, Supply, Line, RecordLine, WordsError, Call, IsByWords, World, world, between, Note, FileNames, no_names, told_of, Refuses, Answer, Refusal, WordsRefused, OutOfMemory, Status, none-fell, by-words, caused, memory-words, refusal-causes, refusal-words, answer-words, Causes, appends-nothing, none-saved, memory-saves, told-apart, tells-from, memory-names, with-any, from, names_in, names_by, refusal_in, refusal_by, words_refusal, IsNoSession, IsNoRecording, AnswersLine, RepliesTo, Does, TellsAnswer, ByWords, LeavesRun, CallsOnly, TellsDemo, LineSaves, reading, with_err, ActsTo, Bool, true, ConvertLine, SalvageLine, SavedAll, SavesEach, AnswerSaves, IsRenewed, is_lean, FitsLine, IsReadOnly, IsPrinted, Recorded, Renewed, no-saves}
 use Rattle.command_words.specs.declared.error.WordsError.TheVariants as words_error
-use Rattle.bugnet.proofs.Asks.{line-none, line-acts}
 use Rattle.bugnet.proofs.Leaves.{leaves-none}
 use Rattle.bugnet.proofs.Debugs.{debugs-early}
 use Rattle.bugnet.proofs.LineCalls.{words-calls, unread-calls, refusal-calls, answer-calls, demo-unread, demo-refused, demo-answers}
 use Rattle.bugnet.proofs.LineTells.{refusal-answers, answer-answers, acted, is_counted}
 use Rattle.bugnet.specs.DebugSessions.{Debugs}
+
+-- How often a line asks its store to save.
+-- a line that is refused before anything is saved
+pub line-none : (line : Option Line) (status before after : ℕ) → (SavedAll status → ⊥) → after ≡ before → LineSaves line status before after
+line-none (Some (RecordLine r)) status before after never same = record { few = no-saves r.lean before after same; all = λ is. absurd (never is) }
+line-none (Some (ConvertLine log copy)) status before after never same = record { few = inl same; all = λ is. absurd (never is) }
+line-none (Some (SalvageLine log copy)) status before after never same = record { few = inl same; all = λ is. absurd (never is) }
+line-none line status before after never same = same
+
+printed : (answer : Answer) (status before mid after : ℕ) → IsPrinted answer → mid ≡ before → AnswerSaves answer status mid after → after ≡ before
+printed (Recorded r) status before mid after p same saves = absurd p
+printed (Renewed n) status before mid after p same saves = absurd p
+printed answer status before mid after p same saves = saves ∙ same
+
+-- a log that was made of another
+renewed : (answer : Answer) (status before mid after : ℕ) → IsRenewed answer → mid ≡ before → AnswerSaves answer status mid after → SavesEach true status before after
+renewed (Renewed n) status before mid after is same saves = subst (λ (m : ℕ). SavesEach true status m after) same saves
+renewed answer status before mid after is same saves = absurd is
+
+-- a line whose answer was acted on
+pub line-acts : (line : Line) (answer : Answer) (status before mid after : ℕ) → FitsLine line answer → (IsReadOnly (Some line) → IsPrinted answer) → mid ≡ before
+    → AnswerSaves answer status mid after → LineSaves (Some line) status before after
+line-acts (RecordLine r) (Recorded x) status before mid after records prints same saves = subst (λ (lean : Bool). SavesEach lean status before after) records (subst (λ (n : ℕ). SavesEach (is_lean x) status n after) same saves)
+line-acts (RecordLine r) answer status before mid after records prints same saves = absurd records
+line-acts (ConvertLine log copy) answer status before mid after records prints same saves = renewed answer status before mid after records same saves
+line-acts (SalvageLine log copy) answer status before mid after records prints same saves = renewed answer status before mid after records same saves
+line-acts line answer status before mid after records prints same saves = printed answer status before mid after (prints tt) same saves
 
 -- a line that records nothing leaves no recording
 pub leaves-other : (line : Line) (status : ℕ) (old new : Option Files) → IsNoRecording (Some line) → LeavesRun (Some line) status old new

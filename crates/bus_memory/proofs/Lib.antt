@@ -1,5 +1,4 @@
 mod Common
-mod Zeros
 mod Laws
 mod Ranges
 mod Touched

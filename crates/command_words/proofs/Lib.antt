@@ -1,3 +1,2 @@
 mod Common
 mod Values
-mod Whole

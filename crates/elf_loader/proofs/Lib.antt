@@ -1,5 +1,4 @@
 mod Common
-pub mod Found
 pub mod Laid
 pub mod Memory
 pub mod Order

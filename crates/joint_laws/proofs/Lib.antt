@@ -1,6 +1,5 @@
 mod Common
 pub mod ByCount
-pub mod RaceOrder
 pub mod Times
 pub mod Filled
 pub mod Moves
@@ -12,5 +11,4 @@ pub mod Once
 pub mod Memory
 pub mod Said
 pub mod Worked
-pub mod Shown
 pub mod Texts

@@ -3,7 +3,6 @@ mod Worked
 pub mod Waiting
 pub mod Ascents
 pub mod MetSources
-pub mod Taking
 pub mod JointMoves
 pub mod Beginning
 pub mod Choosing

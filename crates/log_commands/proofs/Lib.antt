@@ -1,5 +1,4 @@
 mod Common
-pub mod Counts
 pub mod Prints
 pub mod Rows
 pub mod Loads
@@ -7,12 +6,9 @@ pub mod Tells
 pub mod Causes
 pub mod Acts
 pub mod Shows
-pub mod Races
-pub mod Slices
 pub mod Joins
 pub mod Renewals
 pub mod Fetched
-pub mod SameAudit
 pub mod SamePair
 pub mod FileCalls
 pub mod Answering

@@ -1,4 +1,3 @@
 mod Common
 pub mod Cuts
 pub mod Fitting
-pub mod Appends

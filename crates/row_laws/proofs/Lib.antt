@@ -13,5 +13,4 @@ pub mod Places
 pub mod Codes
 pub mod Intervals
 pub mod Whole
-pub mod Registers
 pub mod Worked

@@ -1,4 +1,3 @@
 pub mod Parted
 mod Joined
-mod Counted
 mod HexDigits

@@ -12,4 +12,3 @@ pub mod Whole
 pub mod Own
 pub mod OwnTurns
 pub mod Answered
-pub mod Lone

@@ -1,6 +1,33 @@
-use Rattle.log_commands.proofs.Common.{inr, run_all, joined}
-use Rattle.log_commands.proofs.Races.{races-listed, races-refused, races-halted, own-joint}
+use Rattle.log_commands.proofs.Common.{inr, run_all, joined, ◌≡◌, ℕ, Bool, List, Option, ◌∙◌, ap, sym, Ok, Err, Counts, JointError, Ran, FileNames, joint_refusal, refused, printed, races_listed, races_unless, races_in, RefusalCause, TooManyRaces}
+use Rattle.joint_replay.specs.declared.error.JointError.TheVariants as joint
+use Rattle.race_report.specs.Races.{race_count, races_of}
+use Rattle.race_report.specs.Reports.{points_in}
+use Rattle.race_report.specs.Texts.{IsReportText}
+use Rattle.race_report.specs.declared.error.RaceError.TheVariants.{Joint, TooMany}
+use Rattle.log_commands.proofs.Loads.{passes, fits}
 use Rattle.log_commands.proofs.commands.races.races_of.Goals as goal
+
+-- The races of a log.
+-- they are listed
+races-listed : (names : FileNames) (most harts : ℕ) (r : Ran) (text : List ℕ) → IsReportText harts most r (Ok text) → printed text ≡ races_in names most harts r
+races-listed names most harts r text is =
+    let few = ap (λ (b : Bool). races_listed b names most (races_of harts (points_in r))) (fits most (race_count (points_in r)) is.1) in
+    ap printed is.2 ∙ sym few ∙ sym (ap (λ (o : Option JointError). races_unless o names most harts r) is.0)
+
+-- there are too many
+races-refused : (names : FileNames) (most harts max : ℕ) (r : Ran) → IsReportText harts most r (Err (TooMany max)) → refused names (TooManyRaces max) ≡ races_in names most harts r
+races-refused names most harts max r is =
+    let many = ap (λ (b : Bool). races_listed b names most (races_of harts (points_in r))) (passes most (race_count (points_in r)) is.1) in
+    ap (λ (n : ℕ). refused names (TooManyRaces n)) is.2 ∙ sym many ∙ sym (ap (λ (o : Option JointError). races_unless o names most harts r) is.0)
+
+-- the joint replay stopped
+races-halted : (names : FileNames) (most harts : ℕ) (r : Ran) (e : JointError) → IsReportText harts most r (Err (Joint e)) → refused names (joint_refusal e) ≡ races_in names most harts r
+races-halted names most harts r e is = sym (ap (λ (o : Option JointError). races_unless o names most harts r) is.0)
+
+-- it is no refusal by a store
+own-joint : (e : JointError) (before now : Counts) → RefusalCause before now (joint_refusal e)
+own-joint (joint.Replay e) before now = tt
+own-joint e before now = tt
 
 pub returns-in-Ok : goal.returns-in-Ok
 returns-in-Ok c =
