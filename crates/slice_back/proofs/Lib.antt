@@ -6,6 +6,7 @@ mod Least
 mod LeastSteps
 mod LeastLaws
 mod Meanings
+mod Fields
 mod Turns
 mod Places
 mod Facts
