@@ -1,5 +1,5 @@
 -- What a level of a cache keeps and lists when one of its ways is written, or all are cleared.
-use Rattle.first_load_bits.proofs.Common.{◌≡◌, ◌≢◌, ℕ, zero, suc, ◌+◌, ◌-◌, ◌*◌, ◌^◌, ◌<◌, ◌≤◌, true, false, List, [], ◌∷◌, length, length-take-le, length-drop, get_or-take, get_or-drop, get_or, set, take, drop, map, All, AllPairs, IsTrue, is_some, refl, sym, ◌∙◌, ap, arith, subst, pow-add, pow_mono, pow_pos, drop-set-lt, inl, inr, eq-eqb, ne_eqb, cases_eq, cases_lt, cases_order, eqb-true, row_fits, ones_cat, zero_from_ones, is_power_of_two, drop-set-add, take-set-le, get_or_default, All-set, All-take, All-drop, All-weaker, All-get_or, Way, set_of, Line, put, lost, put_in, taken_out, cleared, bits_of, in_front, line_in, known_bits, given_up, latest_first, has_line, AreApart, HasLine, IsPlaceFor, Level, ways_of, lines_of, AreKept}
+use Rattle.first_load_bits.proofs.Common.{◌≡◌, ◌≢◌, ℕ, zero, suc, ◌+◌, ◌-◌, ◌*◌, ◌^◌, ◌<◌, ◌≤◌, true, false, List, [], ◌∷◌, length, length-take-le, length-drop, get_or-take, get_or-drop, get_or, set, take, drop, map, All, AllPairs, IsTrue, is_some, refl, sym, ◌∙◌, ap, arith, subst, pow-add, pow_mono, pow_pos, drop-set-lt, inl, inr, eq-eqb, ne_eqb, cases_eq, cases_lt, cases_order, eqb-true, and_parts, not, ◌==◌, row_fits, ones_cat, zero_from_ones, is_power_of_two, drop-set-add, take-set-le, get_or_default, All-set, All-take, All-drop, All-weaker, All-get_or, Way, set_of, Line, put, lost, put_in, taken_out, cleared, bits_of, in_front, line_in, known_bits, given_up, latest_first, has_line, AreApart, HasLine, IsPlaceFor, Level, ways_of, lines_of, AreKept}
 use Rattle.std.specs.Int.RustNames.{count_ones}
 use lib.Count.{ones}
 use Rattle.first_load_bits.proofs.Latest.{others_of, All-others, latest_next, but_none, cleared_latest}
@@ -240,6 +240,12 @@ pub known_read : (c : Level) (l first i others : ℕ) (ws : List Way) (w : Way) 
 known_read c l first i others ws w r at e =
     let has : has_line l w ≡ true = subst (λ (v : Way). has_line l v ≡ true) (way_read c l first i ws w w r (line_inside c l first i ws r at) e) ((has_there c l first i ws r at).1 w) in
     sym (ap (λ b. elim b as (λ x. ℕ) [ true ↦ (line_in c.generation w).bits | false ↦ others ]) has)
+
+-- the way that has a line has its number
+pub line_read : (c : Level) (l first i : ℕ) (ws : List Way) (w : Way) → IsRead c l first ws → HasLine l i ws → w ≡ get_or c.ways (first + i) w → w.line ≡ l
+line_read c l first i ws w r at e =
+    let has : has_line l w ≡ true = subst (λ (v : Way). has_line l v ≡ true) (way_read c l first i ws w w r (line_inside c l first i ws r at) e) ((has_there c l first i ws r at).1 w) in
+    eqb-true w.line l (and_parts (not (w.age == 0)) (w.line == l) has).1
 
 pub bits_absent : (c : Level) (l first : ℕ) (ws : List Way) → IsRead c l first ws → All (λ w. has_line l w ≡ false) ws → 0 ≡ bits_of l (lines_of c (set_of c.geometry l))
 bits_absent c l first ws r none =

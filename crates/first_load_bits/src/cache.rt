@@ -189,31 +189,59 @@ impl Cache {
         if self.width_below != 0 {
             return self.touch_anew(addr);
         }
+        // Four ways, as most sets have, apart: so their places need no multiplication, and no loop compares them.
+        if self.width == 4 {
+            self.touch_among(addr, 4)
+        } else {
+            self.touch_other(addr)
+        }
+    }
+
+    // Touches a word if there is no second level, whatever number of ways a set has.
+    #[inline(never)]
+    fn touch_other(&mut self, addr: Addr) -> Warm
+        requires steps { self.old.steps < 2 ^ 42 }
+        requires alone { self.old.geometry.ways2 ≡ 0 }
+        ensures { IsTouch self.old addr result self.new }
+    {
+        self.touch_among(addr, self.width)
+    }
+
+    // The same of sets of so many ways.
+    #[inline(always)]
+    fn touch_among(&mut self, addr: Addr, width: usize) -> Warm
+        requires steps { self.old.steps < 2 ^ 42 }
+        requires alone { self.old.geometry.ways2 ≡ 0 }
+        requires width { width ≡ self.old.geometry.ways }
+        ensures { IsTouch self.old addr result self.new }
+    {
         let line = self.line_of(addr);
         let first = self.first_way(line);
-        match find(&self.ways[first..first + self.width], line) {
+        match find(&self.ways[first..first + width], line) {
             Some(at) => self.touch_listed(addr, first, at),
             None => self.touch_anew(addr),
         }
     }
 
-    // Touches a word whose line a way has, at this place in its set, if there is no second level.
+    // Touches a word whose line a way has, at this place in its set, if there is no second level. Its line stays, and nearly
+    // always its mask is of the present generation: then mask and age are all that is written.
     #[inline(always)]
     fn touch_listed(&mut self, addr: Addr, first: usize, at: usize) -> Warm
         requires steps { self.old.steps < 2 ^ 42 }
         requires listed { IsListed self.old addr first at }
         ensures { IsTouch self.old addr result self.new }
     {
-        let line = self.line_of(addr);
+        let _line = self.line_of(addr);
         let place = self.place_of(addr);
         let way = &mut self.ways[first + at];
-        let bits = bits(way, self.generation);
-        self.steps += 1;
-        way.line = line;
-        way.mask = bits | (1 << place);
-        way.age = self.steps;
-        way.generation = self.generation;
-        answer(bits, place)
+        if way.generation == self.generation {
+            let bits = way.mask;
+            self.steps += 1;
+            way.mask = bits | (1 << place);
+            way.age = self.steps;
+            return answer(bits, place);
+        }
+        self.touch_anew(addr)
     }
 
     // Touches a word whatever the levels have of its line.

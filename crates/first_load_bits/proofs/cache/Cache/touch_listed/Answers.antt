@@ -1,6 +1,6 @@
-use Rattle.first_load_bits.proofs.Common.{ℕ, ◌≡◌, ◌+◌, List, ◌==◌, if◌then◌else◌, ◌-◌, ◌*◌, ◌%◌, ◌^◌, ◌∙◌, take, drop, ap, subst, sym, refl, arith, bit_or, pow_pos, inl, bit_at, Way, line_of, set_of, place_of, known_bits, HasLine, IsListed, IsTouch, Contents, first_level, second_level, contents}
+use Rattle.first_load_bits.proofs.Common.{ℕ, ◌≡◌, ◌+◌, List, ◌==◌, if◌then◌else◌, ◌-◌, ◌*◌, ◌%◌, ◌^◌, ◌∙◌, take, drop, ap, subst, sym, refl, arith, bit_or, pow_pos, inl, bit_at, eq-eqb, line_in, Way, line_of, set_of, place_of, known_bits, HasLine, IsListed, IsTouch, Contents, first_level, second_level, contents}
 use Rattle.first_load_bits.specs.declared.warm.Warm.TheVariants as Answer
-use Rattle.first_load_bits.proofs.Standing.{IsRead, put_keeps, kept_later, known_read}
+use Rattle.first_load_bits.proofs.Standing.{IsRead, put_keeps, kept_later, known_read, line_read}
 use Rattle.first_load_bits.proofs.Both.{listed_is, mask_is, read_first, touched_cache}
 use Rattle.first_load_bits.proofs.Inside.{no_sets}
 use Rattle.first_load_bits.proofs.cache.Cache.touch_listed.Goals as goal
@@ -30,6 +30,25 @@ read c =
 has : (c : goal.After-answer) → HasLine c.line_of-line.result c.args.at (ways c)
 has c = subst (λ k. HasLine k c.args.at (ways c)) (sym (line_is c)) (listed c).has
 
+-- the way as it was: it has the line, and its mask is of the present generation
+abbrev was : goal.After-answer → Way
+was c = c.index_mut-way.result.now
+
+line_same : (c : goal.After-answer) → (was c).line ≡ c.line_of-line.result
+line_same c = line_read (first_level (contents c.self.inside)) c.line_of-line.result c.args.first c.args.at (ways c) c.index_mut-way.result.now (read c) (has c) c.index_mut-way.ensures.value
+
+mask_in : (g : ℕ) (w : Way) → w.generation ≡ g → w.mask ≡ (line_in g w).bits
+mask_in g w e = rw (eq-eqb w.generation g e, line_in) refl
+
+-- so the way that is written is that of an access
+abbrev written : goal.After-answer → (mask : ℕ) → Way
+written c mask = record { line = c.index_mut-way.result.now.line; mask = mask; age = c.self.inside.steps + 1; generation = c.index_mut-way.result.now.generation }
+
+same : (c : goal.After-answer) (mask : ℕ) → written c mask ≡ record { line = c.line_of-line.result; mask = mask; age = c.self.inside.steps + 1; generation = c.self.inside.generation }
+same c mask =
+    ap (λ (l : ℕ). record { line = l; mask = mask; age = c.self.inside.steps + 1; generation = c.index_mut-way.result.now.generation }) (line_same c)
+    ∙ ap (λ (g : ℕ). record { line = c.line_of-line.result; mask = mask; age = c.self.inside.steps + 1; generation = g }) c.if-way-self.true
+
 pub invariant_of-self : goal.invariant_of-self
 invariant_of-self c = record {
   some = c.self.invariant.some;
@@ -38,22 +57,25 @@ invariant_of-self c = record {
   words = c.self.invariant.words;
   count = c.self.invariant.count;
   count_below = c.self.invariant.count_below;
-  kept = put_keeps (first_level (contents c.self.inside)) c.line_of-line.result _ c.args.at _ (record { line = c.line_of-line.result; mask = bit_or c.bits-bits.result (1 * 2 ^ c.place_of-place.result % 2 ^ 16); age = c.self.inside.steps + 1; generation = c.self.inside.generation })
-      c.self.invariant.kept (read c) (inl (has c)) refl refl (omega arith);
+  kept = put_keeps (first_level (contents c.self.inside)) c.line_of-line.result _ c.args.at _ (written c (bit_or c.index_mut-way.result.now.mask (1 * 2 ^ c.place_of-place.result % 2 ^ 16)))
+      c.self.invariant.kept (read c) (inl (has c)) (line_same c) refl (omega (arith, c.if-way-self.true));
   kept_below = kept_later (second_level (contents c.self.inside)) c.self.invariant.kept_below;
 }
 
-pub returns : goal.returns
-returns c =
+pub returns-then-way-self : goal.returns-then-way-self
+returns-then-way-self c =
     let x : Contents = contents c.self.inside in
     let line = c.line_of-line.result in
-    let w = c.index_mut-way.result.now in
+    let w : Way = c.index_mut-way.result.now in
+    let raw : ℕ = bit_or w.mask (1 * 2 ^ c.place_of-place.result % 2 ^ 16) in
     let alone = (listed c).alone in
     let place_is = c.place_of-place.ensures.value ∙ ap (λ (y : Contents). place_of y.geometry c.args.addr) (sym c.self.view_is) in
-    let known = c.bits-bits.ensures ∙ known_read (first_level x) line c.args.first c.args.at 0 (ways c) w (read c) (has c) c.index_mut-way.ensures.value in
-    let mask = mask_is c.bits-bits.result (known_bits x.generation line 0 w) c.place_of-place.result c.place_of-place.ensures.within known in
-    let told = c.answer.ensures ∙ ap (λ m. if bit_at m c.place_of-place.result == 1 then Answer.Warm else Answer.Cold) c.bits-bits.ensures in
-    subst (λ (y : Contents). IsTouch y c.args.addr c.answer.result (after c (bit_or c.bits-bits.result (1 * 2 ^ c.place_of-place.result % 2 ^ 16)))) c.self.view_is
+    let bits = mask_in x.generation w c.if-way-self.true in
+    let known = bits ∙ known_read (first_level x) line c.args.first c.args.at 0 (ways c) w (read c) (has c) c.index_mut-way.ensures.value in
+    let mask = mask_is w.mask (known_bits x.generation line 0 w) c.place_of-place.result c.place_of-place.ensures.within known in
+    let told = c.answer.ensures ∙ ap (λ m. if bit_at m c.place_of-place.result == 1 then Answer.Warm else Answer.Cold) bits in
+    subst (λ (y : Contents). IsTouch y c.args.addr c.answer.result (touched_cache x (c.args.first + c.args.at) (written c raw) x.ways_below)) c.self.view_is
+    (subst (λ (v : Way). IsTouch x c.args.addr c.answer.result (touched_cache x (c.args.first + c.args.at) v x.ways_below)) (sym (same c raw))
     (subst (λ m. IsTouch x c.args.addr c.answer.result (after c m)) (sym mask)
     (listed_is x c.args.addr line c.args.first c.args.at c.place_of-place.result w c.answer.result c.self.invariant.some (pow_pos c.self.inside.set_bits.bits) (no_sets c.self.inside alone)
-    c.self.invariant.kept c.self.invariant.kept_below (listed c) (line_is c) place_is c.index_mut-way.ensures.value told))
+    c.self.invariant.kept c.self.invariant.kept_below (listed c) (line_is c) place_is c.index_mut-way.ensures.value told)))
