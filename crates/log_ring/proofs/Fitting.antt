@@ -1,5 +1,5 @@
 -- The longest suffix that fits.
-use Rattle.log_ring.proofs.Common.{◌≡◌, ◌∙◌, ◌+◌, ◌<◌, ◌≤◌, ℕ, List, [], ◌∷◌, ◌++◌, length, refl, sym, ap, arith, inl, inr, length-append, flat_map, le-leb, append-nil, Record, bytes_of, total, kept}
+use Rattle.log_ring.proofs.Common.{append_assoc, ◌≡◌, ◌∙◌, ◌+◌, ◌<◌, ◌≤◌, ℕ, List, [], ◌∷◌, ◌++◌, length, refl, sym, ap, arith, inl, inr, length-append, flat_map, le-leb, append-nil, Record, bytes_of, total, kept}
 use Rattle.std.proofs.lemmas.Bool.{lt-leb}
 use Rattle.std.proofs.lemmas.Bool.Decides.{leb_tells}
 
@@ -72,3 +72,20 @@ kept-append room size (x ∷ rs) r e =
       | inl h ↦ kept-all size (x ∷ (rs ++ r ∷ [])) (omega (arith, h.1)) ∙ ap (λ (xs : List Record). xs ++ r ∷ []) (sym (kept-all room (x ∷ rs) h.1))
       | inr h ↦ kept-over size x (rs ++ r ∷ []) (omega (arith, h.1)) ∙ kept-append room size rs r e ∙ ap (λ (xs : List Record). xs ++ r ∷ []) (sym (kept-over room x rs h.1))
     ]
+
+-- ---- and for several more
+
+pub kept-kepts : (size : ℕ) (rs more : List Record) → kept size (kept size rs ++ more) ≡ kept size (rs ++ more)
+kept-kepts size rs [] = kept-all size (kept size rs ++ []) (omega (arith, total-append (kept size rs) [], kept-small size rs)) ∙ append-nil (kept size rs) ∙ ap (kept size) (sym (append-nil rs))
+kept-kepts size rs (r ∷ more) =
+    ap (kept size) (sym (append_assoc (kept size rs) (r ∷ []) more)) ∙ sym (kept-kepts size (kept size rs ++ r ∷ []) more)
+    ∙ ap (λ (xs : List Record). kept size (xs ++ more)) (kept-kept size rs r) ∙ kept-kepts size (rs ++ r ∷ []) more ∙ ap (kept size) (append_assoc rs (r ∷ []) more)
+
+pub kept-appends : (room size : ℕ) (rs more : List Record) → room + total more ≡ size → kept size (rs ++ more) ≡ kept room rs ++ more
+kept-appends room size rs [] e =
+    let same : size ≡ room = omega (arith, e) in
+    ap (kept size) (append-nil rs) ∙ ap (λ (n : ℕ). kept n rs) same ∙ sym (append-nil (kept room rs))
+kept-appends room size rs (r ∷ more) e =
+    let n : ℕ = room + length (bytes_of r) in
+    ap (kept size) (sym (append_assoc rs (r ∷ []) more)) ∙ kept-appends n size (rs ++ r ∷ []) more (omega (arith, e, total-cons r more))
+    ∙ ap (λ (xs : List Record). xs ++ more) (kept-append room n rs r refl) ∙ append_assoc (kept room rs) (r ∷ []) more

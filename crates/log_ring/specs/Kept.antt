@@ -38,3 +38,10 @@ pub record Appends (old : Held) (r : Record) (new : Held) : Type 0 where
   pub given_up : GivesUp old r new
   pub size : new.size ≡ old.size
   pub holds : (appended : List Record) → HoldsLog old appended → HoldsLog new (appended ++ r ∷ [])
+
+-- what one append of several records does to a ring
+pub record AppendsAll (old : Held) (rs : List Record) (new : Held) : Type 0 where
+  pub latest : new.records ≡ kept old.size (old.records ++ rs)
+  pub counted : new.dropped + length new.records ≡ old.dropped + length old.records + length rs
+  pub size : new.size ≡ old.size
+  pub holds : (appended : List Record) → HoldsLog old appended → HoldsLog new (appended ++ rs)

@@ -5,7 +5,7 @@ ghost use Rattle.log_record.specs.declared.record.Record.{Record};
 ghost use Rattle.log_record.specs.Spelling.{bytes_of, total, is_marked, Fits};
 ghost use Rattle.log_ring.specs.Whole.{records_in, IsWhole, Oldest};
 ghost use Rattle.log_record.specs.declared.record.Record.TheVariants.{Edge, FirstLoad};
-ghost use Rattle.log_ring.specs.Kept.{kept, held, HoldsLog, GivesUp, Appends};
+ghost use Rattle.log_ring.specs.Kept.{kept, held, HoldsLog, GivesUp, Appends, AppendsAll};
 
 use bn_base::{HartId, Ic};
 use circular_buffer::HeapCircularBuffer;
@@ -72,14 +72,15 @@ fn drop_oldest(bytes: &mut HeapCircularBuffer<u8>)
 // Gives up the fewest oldest records, so that at most `room` bytes stay, and says how many went.
 fn make_room(bytes: &mut HeapCircularBuffer<u8>, room: usize) -> u64
     requires whole { IsWhole bytes.old.items }
-    requires close { length bytes.old.items ≤ room + 146 }
     ensures records { records_in bytes.new.items ≡ kept room (records_in bytes.old.items) }
     ensures whole { IsWhole bytes.new.items }
     ensures capacity { bytes.new.capacity ≡ bytes.old.capacity }
     ensures room { length bytes.new.items ≤ room }
     ensures count { result + length (records_in bytes.new.items) ≡ length (records_in bytes.old.items) }
-    ensures few { result ≤ 73 }
+    ensures most { result ≤ length (records_in bytes.old.items) }
+    ensures few { length bytes.old.items ≤ room + 146 → result ≤ 73 }
 {
+    let _most = bytes.len();
     let mut count = 0;
     'oldest: while bytes.len() > room {
         drop_oldest(bytes);
@@ -176,6 +177,22 @@ impl Ring {
         ensures holds { (appended : List Record) → HoldsLog self.old appended → HoldsLog self.new (appended ++ Edge hart ic from from_ic ∷ []) }
     {
         self.append_bytes(&write_edge(hart, ic, from, from_ic));
+    }
+
+    /// Appends records whose bytes are given, one after another, as so many calls of [`append`](Ring::append) do. They fit
+    /// together, and fewer than 2^60 have been appended before. It takes no memory.
+    #[inline(never)]
+    pub fn append_all(&mut self, more: &[u8])
+        requires records { (rs : List Record) × AllByRecursion (Fits 2) rs × (more.now ≡ flat_map bytes_of rs) }
+        requires size { length more.now ≤ self.old.size }
+        requires count { self.old.dropped + length self.old.records < 2 ^ 60 }
+        ensures { (rs : List Record) → AllByRecursion (Fits 2) rs → more.now ≡ flat_map bytes_of rs → AppendsAll self.old rs self.new }
+    {
+        tags_tell_sizes();
+        written_records_are_read();
+        let room = self.bytes.capacity() - more.len();
+        self.dropped += make_room(&mut self.bytes, room);
+        self.bytes.extend_from_slice(more);
     }
 
     // Appends the bytes of a record.

@@ -16,7 +16,7 @@ oldest-preserved c =
       records = sym (kept-over c.args.room gone.0 (records_in next) (omega arith)) ∙ ap (kept c.args.room) (sym gone.1) ∙ c.oldest.invariant.records;
       count = omega (arith, ap length gone.1, c.oldest.invariant.count);
       spent = omega (arith, c.oldest.invariant.spent, c.drop_oldest.ensures.shorter);
-      few = omega (arith, c.oldest.invariant.spent, c.requires.close);
+      few = λ close. omega (arith, c.oldest.invariant.spent, close, over);
     }
 
 pub returns-clause-records : goal.returns-clause-records

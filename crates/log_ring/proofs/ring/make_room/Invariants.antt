@@ -8,7 +8,7 @@ invariant-oldest l = record {
   records : kept l.room (records_in l.bytes.items) ≡ kept l.room (records_in l.initial.bytes.items);
   count : l.count + length (records_in l.bytes.items) ≡ length (records_in l.initial.bytes.items);
   spent : 2 * l.count + length l.bytes.items ≤ length l.initial.bytes.items;
-  few : l.count ≤ 73;
+  few : length l.initial.bytes.items ≤ l.room + 146 → l.count ≤ 73;
 }
 
 abbrev pub decreases-oldest : goal.decreases-oldest

@@ -96,7 +96,7 @@ returns c r fits bytes =
     let dropped = ap (λ (h : Held). h.dropped + c.make_room.result) c.self.view_is in
     record {
       latest = p.latest;
-      given_up = gives_up c.args.self.now _ r c.make_room.result p.latest dropped p.count c.make_room.ensures.few;
+      given_up = gives_up c.args.self.now _ r c.make_room.result p.latest dropped p.count (c.make_room.ensures.few (omega (arith, longest c.tags_tell_sizes.ensures.front r fits, ap length bytes, c.capacity.ensures.capacity, c.capacity.ensures.within.0)));
       size = p.capacity;
       holds = still_holds c.args.self.now _ r c.make_room.result p.latest dropped p.count p.capacity;
     }
