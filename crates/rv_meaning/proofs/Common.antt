@@ -17,7 +17,7 @@ pub use Rattle.rv_decode.specs.declared.name.Name.TheVariants.{Add, Addi, Amoadd
 pub use Rattle.rv_meaning.specs.Ahead.{LeadsTo, Walking}
 pub use Rattle.rv_meaning.specs.Execute.{Asks, Quiet, Step, amo, ask_of, branch, count_up, executed, fetched, imm, jump, load_or, meaning, near, src1, src2, step, store_or, there}
 pub use Rattle.rv_meaning.specs.Held.{IsCode}
-pub use Rattle.rv_meaning.specs.Ops.{Asking, Done, IsAhead, IsBelowEnd, IsOp, Quietly, Says, is_known, pc_of}
+pub use Rattle.rv_meaning.specs.Ops.{Asking, Done, IsAhead, IsBelowEnd, IsOp, Quietly, Says, is_done, is_known, is_on, pc_of}
 pub use Rattle.rv_meaning.specs.Orderly.{is_aligned, is_counted, is_cut, orderly, passes}
 pub use Rattle.rv_meaning.specs.Rows.{instruction_at, instruction_in}
 pub use Rattle.rv_meaning.specs.Told.{Told}

@@ -99,6 +99,12 @@ leads_more i b more pc c p q x y z leads within some quiet =
     let less : c + more - 1 ≡ c - 1 + more = omega (arith, some) in
     subst (λ (n : ℕ). LeadsTo i (b + more) pc x n q z) less (leads_on i (b + more) pc (c + more) p q x y z leads (omega (arith, within)) (omega (arith, some)) quiet)
 
+-- and so it is if what is left then is said otherwise
+pub leads_next : (i : Program) (b more pc c d p q : ℕ) (x y z : List ℕ) → LeadsTo i (b + more) pc x (c + more) p y → c ≤ b → 0 < c → d ≡ c - 1
+    → Quietly true i (instruction_in (code_at i p)) p y q z → LeadsTo i (b + more) pc x (d + more) q z
+leads_next i b more pc c d p q x y z leads within some e quiet =
+    subst (λ (n : ℕ). LeadsTo i (b + more) pc x (n + more) q z) (sym e) (leads_more i b more pc c p q x y z leads within some quiet)
+
 pub leads_plain : (i : Program) (b pc c p : ℕ) (x y : List ℕ) → LeadsTo i (b + 0) pc x (c + 0) p y → LeadsTo i b pc x c p y
 leads_plain i b pc c p x y leads =
     let eb : b + 0 ≡ b = omega arith in

@@ -6,6 +6,8 @@ use Rattle.rv_meaning.specs.Rows.{instruction_in}
 use Rattle.rv_meaning.specs.Words.{add, mul, bits_of}
 use Rattle.rv_meaning.specs.declared.asks.Want.{Want}
 use Rattle.rv_meaning.specs.declared.ops.Op.{Op}
+use Rattle.rv_meaning.specs.declared.ops.Went.{Went}
+use Rattle.rv_meaning.specs.declared.ops.Went.TheVariants.{On, Jumped, Stopped}
 
 -- an op has of an instruction all that the instruction's meaning reads
 pub record IsOp (op : Op) (d : Instruction) : Type 0 where
@@ -33,6 +35,18 @@ IsAhead i a (op ∷ ops) = Says op (instruction_in (code_at i a)) × IsAhead i (
 -- the last word of such a list has an address below 2 ^ 32
 abbrev pub IsBelowEnd : ℕ → List Op → Type 0
 IsBelowEnd a ops = a + 4 * length ops < 2 ^ 32 + 4
+
+-- whether an op was done
+abbrev pub is_done : Went → Bool
+is_done On = true
+is_done Jumped = true
+is_done Stopped = false
+
+-- whether the next op follows
+abbrev pub is_on : Went → Bool
+is_on On = true
+is_on Jumped = false
+is_on Stopped = false
 
 -- the address of a place in a list that begins at an address
 abbrev pub pc_of : ℕ → ℕ → ℕ

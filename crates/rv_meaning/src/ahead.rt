@@ -3,7 +3,7 @@
 //! Decoding a word takes longer than doing its instruction. What runs a program for long makes a
 //! [`DecodedImage`] of it once; what does single instructions or short runs calls
 //! [`quiet_run_in_place`], which needs no memory.
-ghost use Rattle.std.specs.Prelude.{◌≡◌, ◌≤◌, ◌<◌, ◌+◌, ◌%◌, ◌^◌, true, false, is_some, length, IfOk, IfSome, OnErr, ℕ, List};
+ghost use Rattle.std.specs.Prelude.{◌≡◌, ◌≤◌, ◌<◌, ◌+◌, ◌-◌, ◌%◌, ◌^◌, min, true, false, is_some, length, IfOk, IfSome, OnErr, ℕ, List};
 ghost use Rattle.bn_base.specs.Programs.{Program, code_at, part_at};
 ghost use Rattle.rv_meaning.specs.Ahead.{start_of, starts_in_code, LeadsTo};
 ghost use Rattle.rv_meaning.specs.Execute.{ask_of};
@@ -12,7 +12,7 @@ ghost use Rattle.rv_meaning.specs.Rows.{instruction_in, instruction_at};
 
 use crate::asks::Want;
 use crate::interpreter::quiet_run_in_place;
-use crate::ops::{Op, ask_memory, do_quiet, pc_of};
+use crate::ops::{Op, Went, ask_memory, do_quiet};
 use crate::walk::Walk;
 use bn_base::{Addr, HartState, Image, Registers};
 use rv_decode::decode;
@@ -90,14 +90,15 @@ fn start_of(image: &Image) -> Addr
 /// The place of a pc among the ops, if it has one.
 #[inline(always)]
 #[tactic(auto, using(crate::proofs::DecodedAhead::entered))]
-pub(crate) fn place_in(ops: &[Op], first: Addr, pc: Addr) -> Option<u32>
+pub(crate) fn place_in(ops: &[Op], first: Addr, pc: Addr) -> Option<usize>
     requires { IsBelowEnd first ops.now }
-    ensures { IfSome result (λ place. pc_of first place ≡ pc) }
+    ensures place { IfSome result (λ place. pc_of first place ≡ pc) }
+    ensures within { IfSome result (λ place. place < length ops.now) }
 {
     // One test is enough: the rotation moves the lowest two bits of the distance to the top, so a pc
     // below `first` or between two words gets a place past the end.
-    let place = pc.wrapping_sub(first).rotate_right(2);
-    if place as usize >= ops.len() {
+    let place = pc.wrapping_sub(first).rotate_right(2) as usize;
+    if place >= ops.len() {
         return None;
     }
     Some(place)
@@ -105,39 +106,59 @@ pub(crate) fn place_in(ops: &[Op], first: Addr, pc: Addr) -> Option<u32>
 
 /// Does quiet instructions from a place on, while there are ops and some of the budget is left. It gives the op that
 /// isn't quiet, if it stops at one.
+///
+/// `end` is the place at which the budget would end if nothing jumped, and `stop` the place at which it or the list ends.
+/// So an instruction that doesn't jump has its place alone to count, and one test serves both.
 #[inline(always)]
 pub(crate) fn run_quiet<'a>(
     ops: &'a [Op],
     first: Addr,
     x: &mut Registers,
-    place: &mut u32,
-    left: &mut u64,
+    place: &mut usize,
+    end: &mut usize,
+    stop: &mut usize,
 ) -> Option<&'a Op>
     requires below { IsBelowEnd first ops.now }
     requires aligned { 0 < length ops.now → first % 4 ≡ 0 }
-    ensures left { left.new ≤ left.old }
+    requires end { place.old ≤ end.old }
+    requires few { end.old ≤ place.old + 2 ^ 62 }
+    requires low { end.old ≤ 2 ^ 62 + 2 ^ 30 }
+    requires stop { stop.old ≡ min end.old (length ops.now) }
+    ensures end { place.new ≤ end.new }
+    ensures few { end.new ≤ place.new + 2 ^ 62 }
+    ensures low { end.new ≤ 2 ^ 62 + 2 ^ 30 }
+    ensures stop { stop.new ≡ min end.new (length ops.now) }
+    ensures left { end.new - place.new ≤ end.old - place.old }
     ensures runs { (i : Program) (more : ℕ) → IsAhead i first ops.now →
-        LeadsTo i (left.old + more) (pc_of first place.old) x.old (left.new + more) (pc_of first place.new) x.new }
-    ensures some { is_some result ≡ true → 0 < left.new }
+        LeadsTo i (end.old - place.old + more) (pc_of first place.old) x.old (end.new - place.new + more) (pc_of first place.new) x.new }
+    ensures some { is_some result ≡ true → place.new < end.new }
     ensures found { (i : Program) → IsAhead i first ops.now →
         IfSome result (λ op. Says op.now (instruction_in (code_at i (pc_of first place.new)))) }
 {
-    // In variables, which the compiler keeps in registers: `place` and `left` would be written each time.
+    // In variables, which the compiler keeps in registers: what is behind a reference would be written each time.
     let mut here = *place;
-    let mut rest = *left;
+    let mut over = *end;
+    let mut past = *stop;
     let mut found = None;
-    'quiet: while rest > 0 {
-        let Some(op) = ops.get(here as usize) else {
-            break 'quiet;
-        };
-        if !do_quiet(op, first, &mut here, x) {
-            found = Some(op);
-            break 'quiet;
+    'quiet: while here < past {
+        let op = &ops[here];
+        let mut to = here;
+        match do_quiet(op, first, &mut to, x) {
+            Went::On => here = to,
+            Went::Jumped => {
+                over = over - (here + 1) + to;
+                past = over.min(ops.len());
+                here = to;
+            }
+            Went::Stopped => {
+                found = Some(op);
+                break 'quiet;
+            }
         }
-        rest -= 1;
     }
     *place = here;
-    *left = rest;
+    *end = over;
+    *stop = past;
     found
 }
 
@@ -176,17 +197,16 @@ impl<'a> DecodedImage<'a> {
         ensures some { is_some result.0 ≡ true → 0 < result.1 }
         ensures found { IfSome result.0 (λ op. Says op.now (instruction_at self.now state.new)) }
     {
-        let ops = self.ops.as_slice();
-        let Some(mut place) = place_in(ops, self.first, state.pc) else {
-            return (None, budget);
-        };
         // The count at the budget's end: by it the loop has one number to count, what is left.
         let Some(end) = state.ic.checked_add(budget) else {
             return (None, budget);
         };
-        let mut left = budget;
-        let found = run_quiet(ops, self.first, &mut state.x, &mut place, &mut left);
-        state.pc = pc_of(self.first, place);
+        let Some(mut walk) = self.walk(state.pc, budget) else {
+            return (None, budget);
+        };
+        let found = walk.run(&mut state.x);
+        let left = walk.left();
+        state.pc = walk.pc();
         state.ic = end - left;
         (found, left)
     }

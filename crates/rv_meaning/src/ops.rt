@@ -1,8 +1,8 @@
 //! Decoded instructions in the form in which the loop of quiet instructions reads them: eight bytes each.
-ghost use Rattle.std.specs.Prelude.{◌≡◌, ◌%◌, ◌<◌, ◌^◌, ℕ, true, false, List, Option, option_map, slice_index, IfSome};
+ghost use Rattle.std.specs.Prelude.{◌≡◌, ◌%◌, ◌<◌, ◌≤◌, ◌+◌, ◌^◌, ℕ, true, false, List, Option, option_map, slice_index, IfSome};
 ghost use Rattle.rv_meaning.specs.Common.{Program, put_reg, seen, Instruction};
 ghost use Rattle.rv_meaning.specs.Execute.{branch, jump};
-ghost use Rattle.rv_meaning.specs.Ops.{Says, Done, Quietly, Asking, pc_of};
+ghost use Rattle.rv_meaning.specs.Ops.{Says, Done, Quietly, Asking, is_done, is_on, pc_of};
 ghost use Rattle.rv_meaning.specs.declared.asks.Want.{Want};
 ghost use Rattle.rv_meaning.specs.declared.asks.Want.TheVariants.{Load, Store};
 ghost use Rattle.rv_meaning.specs.Words.{add};
@@ -52,12 +52,23 @@ impl Op {
     }
 }
 
+/// What became of an op.
+#[derive(Clone, Copy, Drop)]
+pub(crate) enum Went {
+    /// It was done, and the next one follows.
+    On,
+    /// It was done, and another may follow.
+    Jumped,
+    /// It isn't quiet, and all is as it was.
+    Stopped,
+}
+
 /// The address of a place in a list of ops.
 #[inline(always)]
-pub fn pc_of(first: Addr, place: u32) -> Addr
+pub fn pc_of(first: Addr, place: usize) -> Addr
     ensures { result ≡ pc_of first place }
 {
-    first.wrapping_add(place.wrapping_mul(4))
+    first.wrapping_add(((place % (1 << 32)) as u32).wrapping_mul(4))
 }
 
 #[inline(always)]
@@ -84,7 +95,7 @@ fn there(op: &Op, x: &Registers) -> Addr
 
 // The address that an offset from an op's own leads to.
 #[inline(always)]
-fn near(op: &Op, first: Addr, place: u32) -> Addr
+fn near(op: &Op, first: Addr, place: usize) -> Addr
     ensures { result ≡ add (pc_of first place) op.now.imm }
 {
     pc_of(first, place).wrapping_add(op.imm)
@@ -92,70 +103,81 @@ fn near(op: &Op, first: Addr, place: u32) -> Addr
 
 // Writes `value` to rd, as an instruction that computes it.
 #[inline(always)]
-fn gives(value: u32, op: &Op, place: &mut u32, x: &mut Registers) -> bool
-    ensures place { place.new ≡ add place.old 1 }
+fn gives(value: u32, op: &Op, place: &mut usize, x: &mut Registers) -> Went
+    requires { place.old < 2 ^ 30 }
+    ensures place { place.new ≡ place.old + 1 }
     ensures x { x.new ≡ put_reg op.now.rd value x.old }
-    ensures quiet { result ≡ true }
+    ensures went { result ≡ Went.On }
 {
     x.put(op.rd, value);
-    *place = place.wrapping_add(1);
-    true
+    *place += 1;
+    Went::On
 }
 
-// Does nothing: all accesses of all harts are in one order anyway. Like each of these functions it answers whether the
-// instruction asks for nothing outside of the hart, so that the loop continues.
+// Does nothing: all accesses of all harts are in one order anyway. Like each of these functions it answers what became of
+// the instruction.
 #[inline(always)]
-fn fence(place: &mut u32) -> bool
-    ensures place { place.new ≡ add place.old 1 }
-    ensures quiet { result ≡ true }
+fn fence(place: &mut usize) -> Went
+    requires { place.old < 2 ^ 30 }
+    ensures place { place.new ≡ place.old + 1 }
+    ensures went { result ≡ Went.On }
 {
-    *place = place.wrapping_add(1);
-    true
+    *place += 1;
+    Went::On
 }
 
 // Jumps, unless the target is no multiple of 4: that faults, and nothing is written. `place` counts instructions from
 // the address `first` on.
 #[inline(always)]
-fn jump(target: Addr, op: &Op, first: Addr, place: &mut u32, x: &mut Registers) -> bool
-    requires { first % 4 ≡ 0 }
-    ensures { (d : Instruction) → op.now.rd ≡ d.rd →
-        Done result (pc_of first place.old) x.old (pc_of first place.new) x.new (jump d target) }
+fn jump(target: Addr, op: &Op, first: Addr, place: &mut usize, x: &mut Registers) -> Went
+    requires first { first % 4 ≡ 0 }
+    requires place { place.old < 2 ^ 30 }
+    ensures within { place.new ≤ 2 ^ 30 }
+    ensures on { is_on result ≡ false }
+    ensures done { (d : Instruction) → op.now.rd ≡ d.rd →
+        Done (is_done result) (pc_of first place.old) x.old (pc_of first place.new) x.new (jump d target) }
 {
     if target % 4 != 0 {
-        return false;
+        return Went::Stopped;
     }
-    x.put(op.rd, pc_of(first, place.wrapping_add(1)));
-    *place = target.wrapping_sub(first) / 4;
-    true
+    x.put(op.rd, pc_of(first, *place + 1));
+    *place = (target.wrapping_sub(first) / 4) as usize;
+    Went::Jumped
 }
 
 // Goes to the op's target if the branch is taken, unless that is no multiple of 4: that faults.
 #[inline(always)]
-fn branch(taken: bool, op: &Op, first: Addr, place: &mut u32) -> bool
-    requires { first % 4 ≡ 0 }
-    ensures { (x : List ℕ) →
-        Done result (pc_of first place.old) x (pc_of first place.new) x (branch taken (add (pc_of first place.old) op.now.imm)) }
+fn branch(taken: bool, op: &Op, first: Addr, place: &mut usize) -> Went
+    requires first { first % 4 ≡ 0 }
+    requires place { place.old < 2 ^ 30 }
+    ensures within { place.new ≤ 2 ^ 30 }
+    ensures next { is_on result ≡ true → place.new ≡ place.old + 1 }
+    ensures done { (x : List ℕ) →
+        Done (is_done result) (pc_of first place.old) x (pc_of first place.new) x (branch taken (add (pc_of first place.old) op.now.imm)) }
 {
     if !taken {
-        *place = place.wrapping_add(1);
-        return true;
+        *place += 1;
+        return Went::On;
     }
     let target = near(op, first, *place);
     if target % 4 != 0 {
-        return false;
+        return Went::Stopped;
     }
-    *place = target.wrapping_sub(first) / 4;
-    true
+    *place = (target.wrapping_sub(first) / 4) as usize;
+    Went::Jumped
 }
 
 /// Does an instruction, if it is quiet: `place` is then that of the next one. Else all stays as it is.
 // Each arm reads the operands that it needs. What is read before the match is read for every instruction.
 #[inline(always)]
 #[tactic(auto, using(crate::proofs::QuietOps::done_says))]
-pub(crate) fn do_quiet(op: &Op, first: Addr, place: &mut u32, x: &mut Registers) -> bool
-    requires { first % 4 ≡ 0 }
-    ensures { (i : Program) (o : Option Instruction) → Says op.now o →
-        Quietly result i o (pc_of first place.old) x.old (pc_of first place.new) x.new }
+pub(crate) fn do_quiet(op: &Op, first: Addr, place: &mut usize, x: &mut Registers) -> Went
+    requires first { first % 4 ≡ 0 }
+    requires place { place.old < 2 ^ 30 }
+    ensures within { place.new ≤ 2 ^ 30 }
+    ensures next { is_on result ≡ true → place.new ≡ place.old + 1 }
+    ensures done { (i : Program) (o : Option Instruction) → Says op.now o →
+        Quietly (is_done result) i o (pc_of first place.old) x.old (pc_of first place.new) x.new }
 {
     match op.name {
         Name::Addi => gives(src1(op, x).wrapping_add(op.imm), op, place, x),
@@ -202,7 +224,7 @@ pub(crate) fn do_quiet(op: &Op, first: Addr, place: &mut u32, x: &mut Registers)
             x,
         ),
         Name::Fence => fence(place),
-        _ => false,
+        _ => Went::Stopped,
     }
 }
 

@@ -1,5 +1,5 @@
 //! A hart's way through code that is decoded ahead, over many of its turns.
-ghost use Rattle.std.specs.Prelude.{◌≡◌, ◌≤◌, ◌<◌, ◌+◌, ◌-◌, ◌%◌, ℕ, false, length, slice_index, IfSome};
+ghost use Rattle.std.specs.Prelude.{◌≡◌, ◌≤◌, ◌<◌, ◌+◌, ◌-◌, ◌%◌, ℕ, true, false, is_some, length, slice_index, IfSome};
 ghost use Rattle.bn_base.specs.Programs.{code_at};
 ghost use Rattle.rv_meaning.specs.Ahead.{LeadsTo, AsksThere};
 ghost use Rattle.rv_meaning.specs.Ops.{IsAhead, IsBelowEnd, Says};
@@ -13,6 +13,9 @@ use crate::ops::{Op, ask_memory, pc_of, word_load, word_store};
 use bn_base::{Addr, Image, Registers};
 use std::marker::Model;
 
+// No budget is greater: so each place is in range.
+const MOST: u64 = 1 << 62;
+
 /// A hart's way through code that is decoded ahead: its place, and how many instructions it may still do. The hart
 /// has the registers. Contracts see the program, the pc and that number.
 #[derive(Drop)]
@@ -20,20 +23,23 @@ pub struct Walk<'a> {
     image: &'a Image,
     ops: &'a [Op],
     first: Addr,
-    place: u32,
-    left: u64,
+    place: usize,
+    // The place at which its budget would end if nothing jumped, and the one at which that or the ops end.
+    end: usize,
+    stop: usize,
 }
 
 impl<'a> Model for Walk<'a> {
-    ghost use Rattle.std.specs.Prelude.{◌≡◌, ◌<◌, ◌%◌, length};
+    ghost use Rattle.std.specs.Prelude.{◌≡◌, ◌<◌, ◌≤◌, ◌+◌, ◌-◌, ◌%◌, ◌^◌, min, length};
     ghost use Rattle.rv_meaning.specs.Ahead.{Walking};
     ghost use Rattle.rv_meaning.specs.Ops.{IsAhead, IsBelowEnd, pc_of};
 
     ghost Value = { Walking };
 
-    ghost view = { λ w. record { program = w.image.now; pc = pc_of w.first w.place; left = w.left } };
+    ghost view = { λ w. record { program = w.image.now; pc = pc_of w.first w.place; left = w.end - w.place } };
 
-    ghost invariant = { λ w. IsAhead w.image.now w.first w.ops.now × IsBelowEnd w.first w.ops.now × (0 < length w.ops.now → w.first % 4 ≡ 0) };
+    ghost invariant = { λ w. IsAhead w.image.now w.first w.ops.now × IsBelowEnd w.first w.ops.now × (0 < length w.ops.now → w.first % 4 ≡ 0)
+        × (w.place ≤ w.end) × (w.end ≤ w.place + 2 ^ 62) × (w.end ≤ 2 ^ 62 + 2 ^ 30) × (w.stop ≡ min w.end (length w.ops.now)) };
 }
 
 impl<'a> Walk<'a> {
@@ -51,26 +57,43 @@ impl<'a> Walk<'a> {
         requires aligned { 0 < length ops.now → first % 4 ≡ 0 }
         ensures { IfSome result (λ walk. walk ≡ record { program = image.now; pc = pc; left = left }) }
     {
+        if left > MOST {
+            return None;
+        }
         match place_in(ops, first, pc) {
             None => None,
-            Some(place) => Some(Walk {
-                image,
-                ops,
-                first,
-                place,
-                left,
-            }),
+            Some(place) => {
+                let end = place + left as usize;
+                Some(Walk {
+                    image,
+                    ops,
+                    first,
+                    place,
+                    end,
+                    stop: end.min(ops.len()),
+                })
+            }
         }
     }
 
-    /// Does quiet instructions, while there are any and some of the budget is left.
+    /// Does quiet instructions, while there are any and some of the budget is left. It gives the op that isn't quiet, if it
+    /// stops at one.
     #[inline(always)]
-    pub fn run(&mut self, x: &mut Registers)
+    pub fn run(&mut self, x: &mut Registers) -> Option<&'a Op>
         ensures program { self.new.program ≡ self.old.program }
         ensures left { self.new.left ≤ self.old.left }
         ensures leads { (more : ℕ) → LeadsTo self.old.program (self.old.left + more) self.old.pc x.old (self.new.left + more) self.new.pc x.new }
+        ensures some { is_some result ≡ true → 0 < self.new.left }
+        ensures found { IfSome result (λ op. Says op.now (instruction_in (code_at self.new.program self.new.pc))) }
     {
-        let _found = run_quiet(self.ops, self.first, x, &mut self.place, &mut self.left);
+        run_quiet(
+            self.ops,
+            self.first,
+            x,
+            &mut self.place,
+            &mut self.end,
+            &mut self.stop,
+        )
     }
 
     /// Its pc.
@@ -86,19 +109,7 @@ impl<'a> Walk<'a> {
     pub fn left(&self) -> u64
         ensures { result ≡ self.now.left }
     {
-        self.left
-    }
-
-    /// The op that it is at, if there is one.
-    #[inline(always)]
-    #[tactic(auto, using(crate::proofs::DecodedAhead::says_here))]
-    pub fn op(&self) -> Option<&'a Op>
-        ensures { IfSome result (λ op. Says op.now (instruction_in (code_at self.now.program self.now.pc))) }
-    {
-        match self.ops.get(self.place as usize) {
-            None => None,
-            Some(op) => Some(op),
-        }
+        (self.end - self.place) as u64
     }
 
     /// Moves to the next instruction.
@@ -107,8 +118,7 @@ impl<'a> Walk<'a> {
         requires { 0 < self.old.left }
         ensures { self.new ≡ record self.old { pc = add self.old.pc 4; left = self.old.left - 1 } }
     {
-        self.place = self.place.wrapping_add(1);
-        self.left -= 1;
+        self.place += 1;
     }
 
     /// The address from which the op that it is at loads a whole word, if it is such a load.
