@@ -2,7 +2,7 @@
 //! instructions are, as long as its interval continues and no memory is needed.
 //!
 //! The hart's way through its code, and so its pc, its count and its budget, stays in variables from turn to turn.
-ghost use Rattle.std.specs.Prelude.{◌≡◌, ◌≤◌, ◌<◌, ◌+◌, ℕ, List, [], length, IsTrue, true, false, is_some, Option, Some, None, OnOk, OnErr, ◌&&◌, ◌==◌, nat_lt, ◌*◌, ◌^◌};
+ghost use Rattle.std.specs.Prelude.{◌≡◌, ◌≤◌, ◌<◌, ◌+◌, ℕ, List, [], length, IsTrue, true, false, is_some, Option, Some, None, IfSome, OnOk, OnErr, ◌&&◌, ◌==◌, nat_lt, ◌*◌, ◌^◌};
 ghost use Rattle.run_model.specs.Common.{code_at, RawSettings, AsksThere, ask_of, count_up, is_aligned, instruction_in, aligned, Want, Load, Store, Event, Record, Point, Write, RepresentsAccesses};
 ghost use Rattle.rv_meaning.specs.Ops.{Says};
 ghost use Rattle.rv_meaning.specs.declared.asks.Reply.TheVariants as replies;
@@ -99,9 +99,10 @@ impl Trace {
         load
     }
 
-    // The one hart does its quiet instructions, in its own place, up to its way's end at the most.
+    // The one hart does its quiet instructions, in its own place, up to its way's end at the most. It gives the op that
+    // isn't quiet, if it stops at one.
     #[inline(always)]
-    fn move_alone(&mut self, walk: &mut Walk, end: Ic)
+    fn move_alone<'a>(&mut self, walk: &mut Walk<'a>, end: Ic) -> Option<&'a Op>
         requires hart { 0 < length self.old.harts.items }
         requires pc { walk.old.pc ≡ (hart_in self.old.harts.items 0).state.pc }
         requires end { end ≡ (hart_in self.old.harts.items 0).state.ic + walk.old.left }
@@ -111,11 +112,14 @@ impl Trace {
         ensures left { walk.new.left ≤ walk.old.left }
         ensures program { walk.new.program ≡ walk.old.program }
         ensures asks { ask_of walk.old.program (walk.new.left + 1) (hart_in self.new.harts.items 0).state ≡ ask_of walk.old.program (walk.old.left + 1) (hart_in self.old.harts.items 0).state }
+        ensures some { is_some result ≡ true → 0 < walk.new.left }
+        ensures found { IfSome result (λ op. Says op.now (instruction_in (code_at walk.new.program walk.new.pc))) }
     {
         let own = &mut self.harts[0].state;
-        walk.run(&mut own.x);
+        let found = walk.run(&mut own.x);
         own.pc = walk.pc();
         own.ic = end - walk.left();
+        found
     }
 }
 
@@ -305,14 +309,11 @@ impl Plain {
         ensures code { walk.new.program ≡ walk.old.program }
     {
         each_ask_is_orderly();
-        self.trace.move_alone(walk, end);
-        if walk.left() == 0 {
-            return false;
-        }
+        let found = self.trace.move_alone(walk, end);
         if self.may_guard(limit) {
             return false;
         }
-        match walk.op() {
+        match found {
             None => false,
             Some(op) => {
                 if self.access_alone(walk, op) {
