@@ -76,6 +76,25 @@ impl Trace {
         own.absorb_here(want, reply);
     }
 
+    // The same after a load, whose word was warm or cold: each has its own way, so that nothing is chosen by that later.
+    #[inline(always)]
+    fn finish_load(&mut self, settings: &Settings, want: &Want, reply: Reply, warm: Warm)
+        requires can { CanFinish settings.now None self.old 0 (ask_here (hart_in self.old.harts.items 0) want.now) reply }
+        requires on { next_by settings.now None self.old.harts.items 0 (ask_here (hart_in self.old.harts.items 0) want.now) reply ≡ GoesOn }
+        ensures harts { (f : ℕ → Hart) → AreHarts self.old.harts.items f →
+            AreHarts self.new.harts.items (harts_by settings.now None self.old.harts.items 0 (ask_here (hart_in self.old.harts.items 0) want.now) reply (Some warm) self.new.log.bytes f) }
+        ensures holds { (f : ℕ → Hart) (rs : List Record) → AreHarts self.old.harts.items f → IsLog self.old.log rs →
+            IsLog self.new.log (with_ends settings.now None self.old.harts.items 0 (ask_here (hart_in self.old.harts.items 0) want.now) reply f rs) }
+        ensures caches { (c : RawSettings) (span : Option Span) (events : ℕ → List Event) →
+            CachesGoOn c (next_by settings.now None self.old.harts.items 0 (ask_here (hart_in self.old.harts.items 0) want.now) reply) 0 None span events self.old.caches self.new.caches }
+        ensures finished { EndsTurn self.old self.new 0 (next_by settings.now None self.old.harts.items 0 (ask_here (hart_in self.old.harts.items 0) want.now) reply) }
+    {
+        match warm {
+            Warm::Warm => self.finish_on(settings, want, reply, Some(Warm::Warm)),
+            Warm::Cold => self.finish_on(settings, want, reply, Some(Warm::Cold)),
+        }
+    }
+
     // As `access_store`, of the one hart.
     #[inline(always)]
     fn store_word_alone(
@@ -153,7 +172,7 @@ impl Plain {
         };
         let warm = self.trace.load_word_alone(self.turns, ic, words, word);
         self.trace
-            .finish_on(&self.start.settings, &want, reply, Some(warm));
+            .finish_load(&self.start.settings, &want, reply, warm);
         self.turns += 1;
     }
 
