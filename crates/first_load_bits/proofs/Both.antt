@@ -1,5 +1,6 @@
 -- Which history a cache of two levels represents after an event.
-use Rattle.first_load_bits.proofs.Common.{◌≡◌, ◌≢◌, ℕ, ◌%◌, ◌+◌, ◌*◌, ◌^◌, ◌<◌, ◌≤◌, Bool, true, false, List, [], ◌∷◌, length, length-take, All, ◌-◌, get_or, set, take, drop, map, bit_or, is_some, ◌==◌, ◌↔◌, if◌then◌else◌, refl, sym, ◌∙◌, ap, ap₂, arith, subst, inl, inr, eq-eqb, eqb_tells, mod_below, one_shl, bit_at, Way, Geometry, Event, line_of, set_of, second_of, Touch, Drop, Clear, warm, Line, put, lost, put_in, put_lost, taken_out, all_but, cleared, bits_of, bits_known, touched_line, levels, lines_below, in_front, place_of, line_in, known_bits, given_up, has_line, latest_first, HasLine, IsPlaceFor, Level, Contents, RepresentsEvents, lines_of, first_level, second_level, AreKept, IsListed, IsTouch, IsBitsBelow, IsTakenBelow, IsTakenListed, IsFallen, with_ways, with_ways_below}
+use Rattle.first_load_bits.proofs.Common.{◌≡◌, ◌≢◌, ℕ, ◌%◌, ◌+◌, ◌*◌, ◌^◌, ◌<◌, ◌≤◌, Bool, true, false, List, [], ◌∷◌, length, length-take, All, ◌-◌, get_or, set, take, drop, map, bit_or, is_some, ◌==◌, ◌↔◌, if◌then◌else◌, refl, sym, ◌∙◌, ap, ap₂, arith, subst, inl, inr, eqb_tells, mod_below, one_shl, bit_at, Way, Geometry, Event, line_of, set_of, second_of, Touch, Drop, Clear, warm, Line, put, lost, put_in, put_lost, taken_out, all_but, cleared, bits_of, bits_known, touched_line, levels, lines_below, in_front, place_of, line_in, known_bits, given_up, has_line, latest_first, HasLine, IsPlaceFor, Level, Contents, RepresentsEvents, lines_of, first_level, second_level, AreKept, IsListed, IsTouch, IsBitsBelow, IsTakenBelow, IsTakenListed, IsFallen, with_ways, with_ways_below}
+use Rattle.std.proofs.lemmas.Bool.{lt-ltb}
 use Rattle.first_load_bits.specs.declared.warm.Warm.{Warm}
 use Rattle.first_load_bits.proofs.Warmth.{warm_is}
 use Rattle.first_load_bits.proofs.Order.{length-lines_below, but_here, but_there}
@@ -68,7 +69,7 @@ answer_says false r e = (λ h. cc, λ h. cc)
 
 -- the way that an access writes
 abbrev pub touched_way : Contents → (l place below : ℕ) → Way → Way
-touched_way c l place below w = record { line = l; mask = bit_or (known_bits c.generation l below w) (2 ^ place); age = c.steps + 1; generation = c.generation }
+touched_way c l place below w = record { line = l; mask = bit_or (known_bits c.generation l below w) (2 ^ place); age = c.steps + 1 }
 
 -- the cache when it is written, with these ways below
 abbrev pub touched_cache : Contents → (at : ℕ) → Way → List Way → Contents
@@ -77,11 +78,11 @@ touched_cache c at v below = record { geometry = c.geometry; steps = c.steps + 1
 touched_is : (c : Contents) (a l first i place below : ℕ) (ws : List Way) (w : Way) (es : List Event) → IsFound c a l first i place below ws w → RepresentsEvents c es
     → line_in c.generation (touched_way c l place below w) ≡ touched_line c.geometry a (levels c.geometry es)
 touched_is c a l first i place below ws w es f h =
-    counted c.generation (touched_way c l place below w) refl
+    counted c.generation (touched_way c l place below w) (omega (arith, f.kept.cleared))
     ∙ ap₂ (λ k m. record { number = k; bits = m }) f.line_is (ap₂ (λ m p. bit_or m (2 ^ p)) (known_now c a l first i place below ws w es f h) f.place_is)
   where
-    counted : (g : ℕ) (v : Way) → v.generation ≡ g → line_in g v ≡ record { number = v.line; bits = v.mask }
-    counted g v e = rw (eq-eqb v.generation g e, line_in) refl
+    counted : (g : ℕ) (v : Way) → g < v.age → line_in g v ≡ record { number = v.line; bits = v.mask }
+    counted g v e = rw (lt-ltb g v.age e, line_in) refl
 
 pub touch_stands : (c : Contents) (a l first i place below : ℕ) (ws : List Way) (w : Way) (out fallen : List Way) (es : List Event) → IsFound c a l first i place below ws w
     → AreKept (second_level (with_ways_below c out))
@@ -255,11 +256,11 @@ bits_absent_below c l first ws sets r none = elim (eqb_tells c.geometry.ways2 0)
 
 -- a line that falls to the second level at the touch number n + 1
 pub put_below_keeps : (c : Contents) (n l first i : ℕ) (ws : List Way) (v : Way) → c.steps ≡ n + 1 → AreKept (record { geometry = second_of c.geometry; steps = n; generation = c.generation; ways = c.ways_below })
-    → IsRead (second_level c) l first ws → IsPlaceFor l i ws → v.line ≡ l → v.age ≡ c.steps → v.generation ≤ c.generation → AreKept (changed (second_level c) c.steps (first + i) v)
-put_below_keeps c n l first i ws v e k r at line age gen =
+    → IsRead (second_level c) l first ws → IsPlaceFor l i ws → v.line ≡ l → v.age ≡ c.steps → AreKept (changed (second_level c) c.steps (first + i) v)
+put_below_keeps c n l first i ws v e k r at line age =
     subst (λ m. AreKept (changed (second_level c) m (first + i) v)) (sym e)
     (put_keeps (record { geometry = second_of c.geometry; steps = n; generation = c.generation; ways = c.ways_below }) l first i ws v k
-    (record { first_is = r.first_is; within = r.within; below = r.below; ways_are = r.ways_are }) at line (age ∙ e) gen)
+    (record { first_is = r.first_is; within = r.within; below = r.below; ways_are = r.ways_are }) at line (age ∙ e))
 
 pub put_below_goes : (c : Contents) (n l first i k : ℕ) (ws : List Way) (v : Way) → c.steps ≡ n + 1 → AreKept (record { geometry = second_of c.geometry; steps = n; generation = c.generation; ways = c.ways_below })
     → IsRead (second_level c) l first ws → IsPlaceFor l i ws → v.line ≡ l → v.age ≡ c.steps

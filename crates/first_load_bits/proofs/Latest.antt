@@ -1,4 +1,6 @@
 -- The lines that the ways of a set list, the one touched latest first, and what a change of one way does to them.
+use Rattle.std.specs.Prelude.{nat_lt}
+use Rattle.std.proofs.lemmas.Bool.{le-ltb}
 use Rattle.first_load_bits.proofs.Common.{is_some, ◌||◌, ◌≡◌, ◌≢◌, ℕ, zero, suc, ◌+◌, ◌<◌, ◌≤◌, true, false, ◌==◌, List, [], ◌∷◌, ◌++◌, length, set, length-append, append_assoc, add-one, map, All, refl, sym, ◌∙◌, ap, ap₂, arith, inl, inr, eq-eqb, ne_eqb, cases_lt, or_left, or_right, eqb_tells, nat_tests, map-append, All-cons, All-head, All-tail, All-weaker, Way, Line, bits_of, all_but, cleared, in_front, has_line, line_in, of_age, latest_first}
 use Rattle.first_load_bits.proofs.Order.{front_here, front_there, but_here, but_there}
 use Rattle.first_load_bits.proofs.Below.{is_some-behind}
@@ -235,19 +237,19 @@ front_only g (suc n) l v ws i k e p q = front_append l (of_age g (suc n) (set ws
   | inr a ↦ or_right _ _ (front_only g n l v ws i k e p (let d : v.age ≢ suc n = a.1 in omega (arith, q, d)))
 ]
 
--- ---- a generation that is later than all masks
+-- ---- a clear that is later than all touches
 
-cleared_line : (g next : ℕ) (w : Way) → w.generation ≤ g → g < next → line_in next w ≡ cleared (line_in g w)
-cleared_line g next w h k = let old : (w.generation == next) ≡ false = ne_eqb w.generation next (λ e. omega arith) in rw (old, line_in) refl
+cleared_line : (g next m : ℕ) (w : Way) → w.age ≤ m → m < next → line_in next w ≡ cleared (line_in g w)
+cleared_line g next m w h k = let old : nat_lt next w.age ≡ false = le-ltb next w.age (omega (arith, h, k)) in rw (old, line_in) refl
 
-cleared_of : (g next n : ℕ) (ws : List Way) → All (λ w. w.generation ≤ g) ws → g < next → of_age next n ws ≡ map cleared (of_age g n ws)
-cleared_of g next n [] h k = refl
-cleared_of g next n (w ∷ ws) h k = let rest = cleared_of g next n ws (All-tail (λ w. w.generation ≤ g) w ws h) k in elim (eqb_tells w.age n) [
-  | inl p ↦ of_here next n w ws p.1 ∙ (ap₂ (λ x xs. x ∷ xs) (cleared_line g next w (All-head (λ w. w.generation ≤ g) w ws h) k) rest ∙ ap (map cleared) (sym (of_here g n w ws p.1)))
+cleared_of : (g next m n : ℕ) (ws : List Way) → All (λ w. w.age ≤ m) ws → m < next → of_age next n ws ≡ map cleared (of_age g n ws)
+cleared_of g next m n [] h k = refl
+cleared_of g next m n (w ∷ ws) h k = let rest = cleared_of g next m n ws (All-tail (λ w. w.age ≤ m) w ws h) k in elim (eqb_tells w.age n) [
+  | inl p ↦ of_here next n w ws p.1 ∙ (ap₂ (λ x xs. x ∷ xs) (cleared_line g next m w (All-head (λ w. w.age ≤ m) w ws h) k) rest ∙ ap (map cleared) (sym (of_here g n w ws p.1)))
   | inr p ↦ of_there next n w ws p.0 ∙ (rest ∙ ap (map cleared) (sym (of_there g n w ws p.0)))
 ]
 
-pub cleared_latest : (g next n : ℕ) (ws : List Way) → All (λ w. w.generation ≤ g) ws → g < next → latest_first next n ws ≡ map cleared (latest_first g n ws)
-cleared_latest g next zero ws h k = refl
-cleared_latest g next (suc n) ws h k =
-    ap₂ (λ xs ys. xs ++ ys) (cleared_of g next (suc n) ws h k) (cleared_latest g next n ws h k) ∙ sym (map-append cleared (of_age g (suc n) ws) (latest_first g n ws))
+pub cleared_latest : (g next m n : ℕ) (ws : List Way) → All (λ w. w.age ≤ m) ws → m < next → latest_first next n ws ≡ map cleared (latest_first g n ws)
+cleared_latest g next m zero ws h k = refl
+cleared_latest g next m (suc n) ws h k =
+    ap₂ (λ xs ys. xs ++ ys) (cleared_of g next m (suc n) ws h k) (cleared_latest g next m n ws h k) ∙ sym (map-append cleared (of_age g (suc n) ws) (latest_first g n ws))

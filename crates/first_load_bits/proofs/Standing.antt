@@ -1,5 +1,5 @@
 -- What a level of a cache keeps and lists when one of its ways is written, or all are cleared.
-use Rattle.first_load_bits.proofs.Common.{◌≡◌, ◌≢◌, ℕ, zero, suc, ◌+◌, ◌-◌, ◌*◌, ◌^◌, ◌<◌, ◌≤◌, true, false, List, [], ◌∷◌, length, length-take-le, length-drop, get_or-take, get_or-drop, get_or, set, take, drop, map, All, AllPairs, IsTrue, is_some, refl, sym, ◌∙◌, ap, arith, subst, pow-add, pow_mono, pow_pos, drop-set-lt, inl, inr, eq-eqb, ne_eqb, cases_eq, cases_lt, cases_order, eqb-true, and_parts, not, ◌==◌, row_fits, ones_cat, zero_from_ones, is_power_of_two, drop-set-add, take-set-le, get_or_default, All-set, All-take, All-drop, All-weaker, All-get_or, Way, set_of, Line, put, lost, put_in, taken_out, cleared, bits_of, in_front, line_in, known_bits, given_up, latest_first, has_line, AreApart, HasLine, IsPlaceFor, Level, ways_of, lines_of, AreKept}
+use Rattle.first_load_bits.proofs.Common.{◌≡◌, ◌≢◌, ℕ, zero, suc, ◌+◌, ◌-◌, ◌*◌, ◌^◌, ◌<◌, ◌≤◌, true, false, List, [], ◌∷◌, length, length-take-le, length-drop, get_or-take, get_or-drop, get_or, set, take, drop, map, All, AllPairs, IsTrue, is_some, refl, sym, ◌∙◌, ap, arith, subst, pow-add, pow_mono, pow_pos, drop-set-lt, inl, inr, eq-eqb, ne_eqb, cases_eq, cases_lt, cases_order, eqb-true, and_parts, not, ◌==◌, row_fits, ones_cat, zero_from_ones, is_power_of_two, drop-set-add, take-set-le, get_or_default, All-set, All-take, All-drop, All-weaker, Way, set_of, Line, put, lost, put_in, taken_out, cleared, bits_of, in_front, line_in, known_bits, given_up, latest_first, has_line, AreApart, HasLine, IsPlaceFor, Level, ways_of, lines_of, AreKept}
 use Rattle.std.specs.Int.RustNames.{count_ones}
 use lib.Count.{ones}
 use Rattle.first_load_bits.proofs.Latest.{others_of, All-others, latest_next, but_none, cleared_latest}
@@ -61,11 +61,10 @@ old_enough : (c : Level) (k : ℕ) → AreKept c → All (λ w. w.age ≤ c.step
 old_enough c k h = All-of_set (λ w. w.age ≤ c.steps) c k h.ages
 
 kept_written : (c : Level) (n s i : ℕ) (v : Way) → AreKept c → c.steps ≤ n → i < length (ways_of c s) → i < c.geometry.ways → s < c.geometry.sets
-    → v.age ≤ n → v.generation ≤ c.generation → All (AreApart v) (others_of (ways_of c s) i) → AreKept (written c n s i v)
-kept_written c n s i v w m within inside below age gen apart = record {
+    → v.age ≤ n → All (AreApart v) (others_of (ways_of c s) i) → AreKept (written c n s i v)
+kept_written c n s i v w m within inside below age apart = record {
   cleared = omega (arith, w.cleared, m);
   ages = All-set (λ w. w.age ≤ n) c.ways (s * c.geometry.ways + i) v age (All-weaker (λ w. w.age ≤ c.steps) (λ w. w.age ≤ n) (λ w l. omega arith) c.ways w.ages);
-  generations = All-set (λ w. w.generation ≤ c.generation) c.ways (s * c.geometry.ways + i) v gen w.generations;
   apart = λ k l. elim (cases_eq k s) [
     | inl e ↦ subst (λ j. AllPairs AreApart (ways_of (written c n s i v) j)) (sym e) (subst (λ (x : List Way). AllPairs AreApart x) (sym (written_here c n s i v)) (set_apart v (ways_of c s) i within (w.apart s below) apart))
     | inr d ↦ subst (λ (x : List Way). AllPairs AreApart x) (sym (written_there c n s i k v inside d)) (w.apart k l)
@@ -80,7 +79,6 @@ pub kept_later : (c : Level) → AreKept c → AreKept (later c)
 kept_later c h = record {
   cleared = omega (arith, h.cleared);
   ages = All-weaker (λ w. w.age ≤ c.steps) (λ w. w.age ≤ c.steps + 1) (λ w l. omega arith) c.ways h.ages;
-  generations = h.generations;
   apart = h.apart;
 }
 
@@ -123,12 +121,6 @@ place_in c l first i ws r at = let n = place_within _ i _ (place_there c l first
 has_there : (c : Level) (l first i : ℕ) (ws : List Way) → IsRead c l first ws → HasLine l i ws → HasLine l i (ways_of c (set_of c.geometry l))
 has_there c l first i ws r at = subst (λ (x : List Way). HasLine l i x) (set_read c l first ws r) at
 
--- the way that is read was put there at a generation so far
-pub way_made : (c : Level) (l first i : ℕ) (ws : List Way) (w : Way) → IsRead c l first ws → i < c.geometry.ways → w ≡ get_or c.ways (first + i) w → AreKept c → w.generation ≤ c.generation
-way_made c l first i ws w r h e k =
-    let inside : first + i < length c.ways = let m = r.within in omega (arith, m, h) in
-    subst (λ (v : Way). v.generation ≤ c.generation) (sym e) (All-get_or (λ v. v.generation ≤ c.generation) c.ways (first + i) w inside k.generations)
-
 pub line_inside : (c : Level) (l first i : ℕ) (ws : List Way) → IsRead c l first ws → HasLine l i ws → i < c.geometry.ways
 line_inside c l first i ws r at = let n = (has_there c l first i ws r at).0 in omega (arith, n, set_whole c l first ws r)
 
@@ -138,14 +130,14 @@ line_inside c l first i ws r at = let n = (has_there c l first i ws r at).0 in o
 abbrev pub changed : Level → (n at : ℕ) → Way → Level
 changed c n at v = record { geometry = c.geometry; steps = n; generation = c.generation; ways = set c.ways at v }
 
-pub put_keeps : (c : Level) (l first i : ℕ) (ws : List Way) (v : Way) → AreKept c → IsRead c l first ws → IsPlaceFor l i ws → v.line ≡ l → v.age ≡ c.steps + 1 → v.generation ≤ c.generation
+pub put_keeps : (c : Level) (l first i : ℕ) (ws : List Way) (v : Way) → AreKept c → IsRead c l first ws → IsPlaceFor l i ws → v.line ≡ l → v.age ≡ c.steps + 1
     → AreKept (changed c (c.steps + 1) (first + i) v)
-put_keeps c l first i ws v k r at e age gen =
+put_keeps c l first i ws v k r at e age =
     let s = set_of c.geometry l in
     let us = ways_of c s in
     let there = place_there c l first i ws r at in
     subst (λ f. AreKept (changed c (c.steps + 1) (f + i) v)) (sym r.first_is)
-    (kept_written c (c.steps + 1) s i v k (omega arith) (place_within us i l there) (place_in c l first i ws r at) r.below (omega (arith, age)) gen
+    (kept_written c (c.steps + 1) s i v k (omega arith) (place_within us i l there) (place_in c l first i ws r at) r.below (omega (arith, age))
     (newest_apart c.steps l v (others_of us i) (omega (arith, age)) e (All-others (λ w. w.age ≤ c.steps) us i (old_enough c s k)) (none_beside v us i l (k.apart s r.below) there)))
 
 pub put_goes : (c : Level) (l first i k : ℕ) (ws : List Way) (v : Way) → AreKept c → IsRead c l first ws → IsPlaceFor l i ws → v.line ≡ l → v.age ≡ c.steps + 1
@@ -193,11 +185,11 @@ put_knows c l first i others ws w h r at e =
 empty_apart : (v : Way) (ws : List Way) → v.age ≡ 0 → All (AreApart v) ws
 empty_apart v ws e = λ k d l p q. absurd (omega (arith, e, p))
 
-pub out_keeps : (c : Level) (l first i : ℕ) (ws : List Way) (v : Way) → AreKept c → IsRead c l first ws → HasLine l i ws → v.age ≡ 0 → v.generation ≤ c.generation → AreKept (changed c c.steps (first + i) v)
-out_keeps c l first i ws v k r at age gen =
+pub out_keeps : (c : Level) (l first i : ℕ) (ws : List Way) (v : Way) → AreKept c → IsRead c l first ws → HasLine l i ws → v.age ≡ 0 → AreKept (changed c c.steps (first + i) v)
+out_keeps c l first i ws v k r at age =
     let s = set_of c.geometry l in
     subst (λ f. AreKept (changed c c.steps (f + i) v)) (sym r.first_is)
-    (kept_written c c.steps s i v k (omega arith) (has_there c l first i ws r at).0 (line_inside c l first i ws r at) r.below (omega (arith, age)) gen (empty_apart v (others_of (ways_of c s) i) age))
+    (kept_written c c.steps s i v k (omega arith) (has_there c l first i ws r at).0 (line_inside c l first i ws r at) r.below (omega (arith, age)) (empty_apart v (others_of (ways_of c s) i) age))
 
 pub out_goes : (c : Level) (l first i k : ℕ) (ws : List Way) (v : Way) → AreKept c → IsRead c l first ws → HasLine l i ws → v.age ≡ 0
     → lines_of (changed c c.steps (first + i) v) k ≡ taken_out c.geometry l (lines_of c) k
@@ -261,16 +253,15 @@ cleared_level c = record { geometry = c.geometry; steps = c.steps + 1; generatio
 pub clear_goes : (c : Level) (k : ℕ) → AreKept c → lines_of (cleared_level c) k ≡ map cleared (lines_of c k)
 clear_goes c k w =
     latest_next (c.steps + 1) c.steps (ways_of c k) (old_enough c k w)
-    ∙ cleared_latest c.generation (c.steps + 1) c.steps (ways_of c k) (All-of_set (λ w. w.generation ≤ c.generation) c k w.generations) (omega (arith, w.cleared))
+    ∙ cleared_latest c.generation (c.steps + 1) c.steps c.steps (ways_of c k) (old_enough c k w) (omega arith)
 
 -- ---- a new level
 
-pub new_kept : (c : Level) → c.generation ≡ 0 → All (λ w. (w.age ≡ 0) × (w.generation ≡ 0)) c.ways → AreKept c
+pub new_kept : (c : Level) → c.generation ≡ 0 → All (λ w. w.age ≡ 0) c.ways → AreKept c
 new_kept c gen h = record {
   cleared = omega (arith, gen);
-  ages = All-weaker (λ w. (w.age ≡ 0) × (w.generation ≡ 0)) (λ w. w.age ≤ c.steps) (λ w p. omega (arith, p.0)) c.ways h;
-  generations = All-weaker (λ w. (w.age ≡ 0) × (w.generation ≡ 0)) (λ w. w.generation ≤ c.generation) (λ w p. omega (arith, p.1)) c.ways h;
-  apart = λ k l i j d m q. λ x y. absurd (omega (arith, (All-of_set (λ w. (w.age ≡ 0) × (w.generation ≡ 0)) c k h i d (omega (arith, m, q))).0, x));
+  ages = All-weaker (λ w. w.age ≡ 0) (λ w. w.age ≤ c.steps) (λ w p. omega (arith, p)) c.ways h;
+  apart = λ k l i j d m q. λ x y. absurd (omega (arith, (All-of_set (λ w. w.age ≡ 0) c k h i d (omega (arith, m, q))), x));
 }
 
 -- ---- powers of two

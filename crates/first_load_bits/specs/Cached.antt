@@ -18,12 +18,11 @@ contents c = record {
   ways_below = c.ways_below.items;
 }
 
--- Ages are numbers of touches so far, and generations those of clears; within a set, ways that aren't empty have ages and
+-- Ages are numbers of touches so far; within a set, ways that aren't empty have ages and
 -- lines of their own.
 pub record AreKept (v : Level) : Type 0 where
   pub cleared : v.generation ≤ v.steps
   pub ages : All (λ w. w.age ≤ v.steps) v.ways
-  pub generations : All (λ w. w.generation ≤ v.generation) v.ways
   pub apart : (k : ℕ) → k < v.geometry.sets → AllPairs AreApart (ways_of v k)
 
 -- there are at most 1,024 sets, 4,096 of the second level, and 16 words in a line, and ways for each set

@@ -1,5 +1,5 @@
 -- The ways of a set: which lines they list, in which order, and which of them a line is put into.
-use Rattle.std.specs.Prelude.{ℕ, zero, suc, ◌==◌, ◌≡◌, ◌≢◌, ◌<◌, ◌≤◌, ◌⊎◌, Bool, true, false, not, ◌&&◌, List, [], ◌∷◌, ◌++◌, length, All, HoldsAt}
+use Rattle.std.specs.Prelude.{ℕ, zero, suc, nat_lt, ◌==◌, ◌≡◌, ◌≢◌, ◌<◌, ◌≤◌, ◌⊎◌, Bool, true, false, not, ◌&&◌, List, [], ◌∷◌, ◌++◌, length, All, HoldsAt}
 use Rattle.first_load_bits.specs.declared.way.Way.{Way}
 use Rattle.first_load_bits.specs.Lines.{Line}
 
@@ -7,9 +7,9 @@ use Rattle.first_load_bits.specs.Lines.{Line}
 abbrev pub has_line : ℕ → Way → Bool
 has_line l w = not (w.age == 0) && (w.line == l)
 
--- the line of a way. Its mask counts only if it is of the present generation
+-- the line of a way. Its mask counts only if the way was touched after the latest clear
 abbrev pub line_in : ℕ → Way → Line
-line_in generation w = record { number = w.line; bits = elim (w.generation == generation) [ true ↦ w.mask | false ↦ 0 ] }
+line_in generation w = record { number = w.line; bits = elim (nat_lt generation w.age) [ true ↦ w.mask | false ↦ 0 ] }
 
 -- whether a way has another line than l
 abbrev pub has_other : ℕ → Way → Bool
@@ -25,7 +25,7 @@ known_bits generation l others w = elim (has_line l w) [ true ↦ (line_in gener
 
 -- a way that no line was put into
 abbrev pub empty_way : Way
-empty_way = record { line = 0; mask = 0; age = 0; generation = 0 }
+empty_way = record { line = 0; mask = 0; age = 0 }
 
 -- the lines of the ways of one age
 abbrev pub of_age : ℕ → ℕ → List Way → List Line

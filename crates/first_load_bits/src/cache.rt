@@ -66,7 +66,6 @@ fn empty_ways(alloc: Global, set_bits: u32, width: usize) -> Result<Vec<Way>, Al
         line: 0,
         mask: 0,
         age: 0,
-        generation: 0,
     };
     vec![in alloc; empty; (1 << set_bits) * width]
 }
@@ -164,7 +163,6 @@ impl Cache {
         requires uncleared { self.old.generation < self.old.steps }
         requires later { All (λ w. w.age < self.old.steps) self.old.ways_below }
         requires fallen { way.age ≡ self.old.steps }
-        requires made { way.generation ≤ self.old.generation }
         ensures { IsPutBelow self.old way self.new }
     {
         if self.width_below != 0 {
@@ -224,7 +222,7 @@ impl Cache {
     }
 
     // Touches a word whose line a way has, at this place in its set, if there is no second level. Its line stays, and nearly
-    // always its mask is of the present generation: then mask and age are all that is written.
+    // always its mask counts: then mask and age are all that is written.
     #[inline(always)]
     fn touch_listed(&mut self, addr: Addr, first: usize, at: usize) -> Warm
         requires steps { self.old.steps < 2 ^ 42 }
@@ -234,7 +232,7 @@ impl Cache {
         let _line = self.line_of(addr);
         let place = self.place_of(addr);
         let way = &mut self.ways[first + at];
-        if way.generation == self.generation {
+        if way.age > self.generation {
             let bits = way.mask;
             self.steps += 1;
             way.mask = bits | (1 << place);
@@ -262,7 +260,6 @@ impl Cache {
             line,
             mask: bits | (1 << place),
             age: self.steps,
-            generation: self.generation,
         };
         self.let_fall(old, line);
         answer(bits, place)
@@ -272,13 +269,13 @@ impl Cache {
     fn let_fall(&mut self, old: Way, line: u32)
         requires uncleared { self.old.generation < self.old.steps }
         requires later { All (λ w. w.age < self.old.steps) self.old.ways_below }
-        requires made { old.generation ≤ self.old.generation }
         ensures { IsFallen self.old line old self.new }
     {
         if has_other(&old, line) {
             self.put_below(Way {
+                line: old.line,
+                mask: bits(&old, self.generation),
                 age: self.steps,
-                ..old
             });
         }
     }

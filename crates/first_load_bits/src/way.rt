@@ -7,12 +7,11 @@ ghost use Rattle.first_load_bits.specs.Ways.{HasLine, IsOldest, IsPlaceFor, has_
 pub struct Way {
     /// The number of its line: an address in it, divided by the number of bytes in a line.
     pub line: u32,
-    /// One bit for each of the line's words, at most 16, the lowest bit for the first word.
+    /// One bit for each of the line's words, at most 16, the lowest bit for the first word. It counts only if the way was
+    /// touched after the latest clear.
     pub mask: u16,
     /// The number of the touch that put the line here last, among touches and clears; 0 if the way is empty.
     pub age: u64,
-    /// Which clear came before the mask was made: it counts only until the next.
-    pub generation: u64,
 }
 
 // Whether a way has a line.
@@ -30,15 +29,11 @@ pub(crate) fn has_other(way: &Way, line: u32) -> bool
     way.age != 0 && way.line != line
 }
 
-// The bits of a way's line, none set if its mask is of an older generation.
+// The bits of a way's line, none set if it wasn't touched after the clear of this number.
 pub(crate) fn bits(way: &Way, generation: u64) -> u16
     ensures { result ≡ (line_in generation way.now).bits }
 {
-    if way.generation == generation {
-        way.mask
-    } else {
-        0
-    }
+    if way.age > generation { way.mask } else { 0 }
 }
 
 // The bits that are known of a line: those of the way, if it has the line, or else those from below.

@@ -45,8 +45,8 @@ invariant_of-result c =
       words = omega (arith, short, c.of-3.ensures);
       count = c.in_ok-ways.ensures.count ∙ ap (λ (n : ℕ). 2 ^ n * c.ways-width.result) (sym c.of.ensures);
       count_below = c.in_ok-ways_below.ensures.count ∙ ap (λ (n : ℕ). 2 ^ n * c.second_ways-width_below.result) (sym c.of-2.ensures);
-      kept = new_kept _ refl (All-same (λ w. (w.age ≡ 0) × (w.generation ≡ 0)) _ _ c.in_ok-ways.ensures.items (All-replicate (λ w. (w.age ≡ 0) × (w.generation ≡ 0)) _ _ (refl, refl)));
-      kept_below = new_kept _ refl (All-same (λ w. (w.age ≡ 0) × (w.generation ≡ 0)) _ _ c.in_ok-ways_below.ensures.items (All-replicate (λ w. (w.age ≡ 0) × (w.generation ≡ 0)) _ _ (refl, refl)));
+      kept = new_kept _ refl (All-same (λ w. w.age ≡ 0) _ _ c.in_ok-ways.ensures.items (All-replicate (λ w. w.age ≡ 0) _ _ refl));
+      kept_below = new_kept _ refl (All-same (λ w. w.age ≡ 0) _ _ c.in_ok-ways_below.ensures.items (All-replicate (λ w. w.age ≡ 0) _ _ refl));
     }
 
 -- the geometry of numbers that are equal

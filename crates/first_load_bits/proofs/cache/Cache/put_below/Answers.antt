@@ -21,7 +21,6 @@ kept c =
     record {
       cleared = let u = uncleared c in omega (arith, u);
       ages = All-weaker (λ v. v.age < c.self.inside.steps) (λ v. v.age ≤ c.self.inside.steps - 1) (λ v l. omega arith) c.self.inside.ways_below.items later;
-      generations = c.self.invariant.kept_below.generations;
       apart = c.self.invariant.kept_below.apart;
     }
 
@@ -33,7 +32,6 @@ age c = c.requires.fallen ∙ ap (λ (x : Contents). x.steps) (sym c.self.view_i
 
 pub invariant_of-self : goal.invariant_of-self
 invariant_of-self c =
-    let made : c.args.way.generation ≤ c.self.inside.generation = subst (λ (x : Contents). c.args.way.generation ≤ x.generation) (sym c.self.view_is) c.requires.made in
     record {
       some = c.self.invariant.some;
       sets = c.self.invariant.sets;
@@ -42,7 +40,7 @@ invariant_of-self c =
       count = c.self.invariant.count;
       count_below = c.self.invariant.count_below;
       kept = c.self.invariant.kept;
-      kept_below = put_below_keeps (contents c.self.inside) (c.self.inside.steps - 1) c.args.way.line _ c.place_for.result _ c.args.way (step c) (kept c) (read c) c.place_for.ensures refl (age c) made;
+      kept_below = put_below_keeps (contents c.self.inside) (c.self.inside.steps - 1) c.args.way.line _ c.place_for.result _ c.args.way (step c) (kept c) (read c) c.place_for.ensures refl (age c);
     }
 
 pub returns-then-self-ne0 : goal.returns-then-self-ne0

@@ -1,5 +1,5 @@
-use Rattle.first_load_bits.proofs.Common.{◌<◌, ◌≤◌, ◌+◌, ◌-◌, ◌∙◌, take, drop, set, subst, refl, arith, Way, Contents, second_level, contents, IsTakenBelow, IsBitsBelow, with_ways_below}
-use Rattle.first_load_bits.proofs.Standing.{IsRead, out_keeps, out_goes, out_absent, way_made, line_inside, bits_read}
+use Rattle.first_load_bits.proofs.Common.{◌<◌, ◌+◌, ◌-◌, ◌∙◌, take, drop, set, subst, refl, arith, Way, Contents, second_level, contents, IsTakenBelow, IsBitsBelow, with_ways_below}
+use Rattle.first_load_bits.proofs.Standing.{IsRead, out_keeps, out_goes, out_absent, bits_read}
 use Rattle.first_load_bits.proofs.Both.{read_second, some_ways, bits_absent_below}
 use Rattle.first_load_bits.proofs.Inside.{has_sets}
 use Rattle.first_load_bits.proofs.cache.Cache.take_below.Goals as goal
@@ -11,14 +11,12 @@ read c =
 
 -- the way that is written
 abbrev emptied : Way → Way
-emptied w = record { line = w.line; mask = w.mask; age = 0; generation = w.generation }
+emptied w = record { line = w.line; mask = w.mask; age = 0 }
 
 pub invariant_of-self : goal.invariant_of-self
 invariant_of-self c =
     let level = second_level (contents c.self.inside) in
     let w = c.index_mut.result.now in
-    let made : w.generation ≤ c.self.inside.generation =
-    way_made level c.args.line _ c.in-Some.at _ w (read c) (line_inside level c.args.line _ c.in-Some.at _ (read c) c.in-Some.ensures.found) c.index_mut.ensures.value c.self.invariant.kept_below in
     record {
       some = c.self.invariant.some;
       sets = c.self.invariant.sets;
@@ -27,7 +25,7 @@ invariant_of-self c =
       count = c.self.invariant.count;
       count_below = c.self.invariant.count_below;
       kept = c.self.invariant.kept;
-      kept_below = out_keeps level c.args.line _ c.in-Some.at _ (emptied w) c.self.invariant.kept_below (read c) c.in-Some.ensures.found refl made;
+      kept_below = out_keeps level c.args.line _ c.in-Some.at _ (emptied w) c.self.invariant.kept_below (read c) c.in-Some.ensures.found refl;
     }
 
 pub returns-in-Some-clause-bits : goal.returns-in-Some-clause-bits

@@ -1,5 +1,5 @@
-use Rattle.first_load_bits.proofs.Common.{◌≤◌, ◌+◌, ◌-◌, take, drop, set, subst, pow_pos, refl, Way, Contents, first_level, contents, IsTakenListed, with_ways}
-use Rattle.first_load_bits.proofs.Standing.{IsRead, out_keeps, out_goes, out_absent, way_made, line_inside}
+use Rattle.first_load_bits.proofs.Common.{◌+◌, ◌-◌, take, drop, set, subst, pow_pos, refl, Way, Contents, first_level, contents, IsTakenListed, with_ways}
+use Rattle.first_load_bits.proofs.Standing.{IsRead, out_keeps, out_goes, out_absent}
 use Rattle.first_load_bits.proofs.Both.{read_first}
 use Rattle.first_load_bits.proofs.cache.Cache.take_listed.Goals as goal
 
@@ -8,14 +8,12 @@ read c = read_first (contents c.self.inside) c.args.self.now c.args.line _ c.der
 
 -- the way that is written
 abbrev emptied : Way → Way
-emptied w = record { line = w.line; mask = w.mask; age = 0; generation = w.generation }
+emptied w = record { line = w.line; mask = w.mask; age = 0 }
 
 pub invariant_of-self : goal.invariant_of-self
 invariant_of-self c =
     let level = first_level (contents c.self.inside) in
     let w = c.index_mut.result.now in
-    let made : w.generation ≤ c.self.inside.generation =
-    way_made level c.args.line _ c.in-Some.at _ w (read c) (line_inside level c.args.line _ c.in-Some.at _ (read c) c.in-Some.ensures.found) c.index_mut.ensures.value c.self.invariant.kept in
     record {
       some = c.self.invariant.some;
       sets = c.self.invariant.sets;
@@ -23,7 +21,7 @@ invariant_of-self c =
       words = c.self.invariant.words;
       count = c.self.invariant.count;
       count_below = c.self.invariant.count_below;
-      kept = out_keeps level c.args.line _ c.in-Some.at _ (emptied w) c.self.invariant.kept (read c) c.in-Some.ensures.found refl made;
+      kept = out_keeps level c.args.line _ c.in-Some.at _ (emptied w) c.self.invariant.kept (read c) c.in-Some.ensures.found refl;
       kept_below = c.self.invariant.kept_below;
     }
 

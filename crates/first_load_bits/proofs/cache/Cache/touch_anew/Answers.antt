@@ -1,4 +1,4 @@
-use Rattle.first_load_bits.proofs.Common.{◌≡◌, ◌<◌, ◌+◌, ◌-◌, ◌*◌, ◌%◌, ◌^◌, ◌∙◌, take, drop, ap, ◌==◌, sym, subst, arith, bit_or, pow_pos, refl, if◌then◌else◌, bit_at, known_bits, IsFallen, IsTakenBelow, Contents, first_level, second_level, contents}
+use Rattle.first_load_bits.proofs.Common.{◌≡◌, ◌<◌, ◌+◌, ◌-◌, ◌*◌, ◌%◌, ◌^◌, ◌∙◌, take, drop, ap, ◌==◌, sym, subst, bit_or, pow_pos, refl, if◌then◌else◌, bit_at, known_bits, IsFallen, IsTakenBelow, Contents, first_level, second_level, contents}
 use Rattle.first_load_bits.specs.declared.warm.Warm.TheVariants as Answer
 use Rattle.first_load_bits.proofs.Standing.{put_keeps, kept_later}
 use Rattle.first_load_bits.proofs.Both.{IsTouched, touched_cache, touch_is, mask_is, read_first}
@@ -16,8 +16,8 @@ invariant_of-self c =
       words = c.self.invariant.words;
       count = c.self.invariant.count;
       count_below = c.self.invariant.count_below;
-      kept = put_keeps level c.line_of-line.result _ c.place_for.result _ (record { line = c.line_of-line.result; mask = bit_or c.known_bits-bits.result (1 * 2 ^ c.place_of-place.result % 2 ^ 16); age = c.self.inside.steps + 1; generation = c.self.inside.generation })
-          c.self.invariant.kept read c.place_for.ensures refl refl (omega arith);
+      kept = put_keeps level c.line_of-line.result _ c.place_for.result _ (record { line = c.line_of-line.result; mask = bit_or c.known_bits-bits.result (1 * 2 ^ c.place_of-place.result % 2 ^ 16); age = c.self.inside.steps + 1 })
+          c.self.invariant.kept read c.place_for.ensures refl refl;
       kept_below = kept_later (second_level (contents c.self.inside)) c.self.invariant.kept_below;
     }
 
@@ -38,7 +38,7 @@ touched c =
       line_is = c.line_of-line.ensures;
       place_is = c.place_of-place.ensures.value;
       below_is = c.take_below-below.ensures.bits;
-      fallen = subst (λ m. IsFallen (touched_cache x (c.first_way-first.result + c.place_for.result) (record { line = line; mask = m; age = x.steps + 1; generation = x.generation }) x.ways_below) line c.index.result.now c.let_fall.new.self) mask c.let_fall.ensures;
+      fallen = subst (λ m. IsFallen (touched_cache x (c.first_way-first.result + c.place_for.result) (record { line = line; mask = m; age = x.steps + 1 }) x.ways_below) line c.index.result.now c.let_fall.new.self) mask c.let_fall.ensures;
     }
 
 some : (c : goal.After-answer) → 0 < c.args.self.now.geometry.ways

@@ -1,4 +1,5 @@
-use Rattle.first_load_bits.proofs.Common.{ℕ, ◌≡◌, ◌+◌, List, ◌==◌, if◌then◌else◌, ◌-◌, ◌*◌, ◌%◌, ◌^◌, ◌∙◌, take, drop, ap, subst, sym, refl, arith, bit_or, pow_pos, inl, bit_at, eq-eqb, line_in, Way, line_of, set_of, place_of, known_bits, HasLine, IsListed, IsTouch, Contents, first_level, second_level, contents}
+use Rattle.first_load_bits.proofs.Common.{ℕ, ◌≡◌, ◌<◌, ◌+◌, List, ◌==◌, if◌then◌else◌, ◌-◌, ◌*◌, ◌%◌, ◌^◌, ◌∙◌, take, drop, ap, subst, sym, refl, bit_or, pow_pos, inl, bit_at, line_in, Way, line_of, set_of, place_of, known_bits, HasLine, IsListed, IsTouch, Contents, first_level, second_level, contents}
+use Rattle.std.proofs.lemmas.Bool.{lt-ltb}
 use Rattle.first_load_bits.specs.declared.warm.Warm.TheVariants as Answer
 use Rattle.first_load_bits.proofs.Standing.{IsRead, put_keeps, kept_later, known_read, line_read}
 use Rattle.first_load_bits.proofs.Both.{listed_is, mask_is, read_first, touched_cache}
@@ -9,7 +10,7 @@ use Rattle.first_load_bits.proofs.cache.Cache.touch_listed.Goals as goal
 abbrev after : goal.After-answer → (mask : ℕ) → Contents
 after c mask =
     let x : Contents = contents c.self.inside in
-    touched_cache x (c.args.first + c.args.at) (record { line = c.line_of-line.result; mask = mask; age = x.steps + 1; generation = x.generation }) x.ways_below
+    touched_cache x (c.args.first + c.args.at) (record { line = c.line_of-line.result; mask = mask; age = x.steps + 1 }) x.ways_below
 
 -- the ways of the set
 abbrev ways : (c : goal.After-answer) → List Way
@@ -30,24 +31,22 @@ read c =
 has : (c : goal.After-answer) → HasLine c.line_of-line.result c.args.at (ways c)
 has c = subst (λ k. HasLine k c.args.at (ways c)) (sym (line_is c)) (listed c).has
 
--- the way as it was: it has the line, and its mask is of the present generation
+-- the way as it was: it has the line, and its mask counts
 abbrev was : goal.After-answer → Way
 was c = c.index_mut-way.result.now
 
 line_same : (c : goal.After-answer) → (was c).line ≡ c.line_of-line.result
 line_same c = line_read (first_level (contents c.self.inside)) c.line_of-line.result c.args.first c.args.at (ways c) c.index_mut-way.result.now (read c) (has c) c.index_mut-way.ensures.value
 
-mask_in : (g : ℕ) (w : Way) → w.generation ≡ g → w.mask ≡ (line_in g w).bits
-mask_in g w e = rw (eq-eqb w.generation g e, line_in) refl
+mask_in : (g : ℕ) (w : Way) → g < w.age → w.mask ≡ (line_in g w).bits
+mask_in g w e = rw (lt-ltb g w.age e, line_in) refl
 
 -- so the way that is written is that of an access
 abbrev written : goal.After-answer → (mask : ℕ) → Way
-written c mask = record { line = c.index_mut-way.result.now.line; mask = mask; age = c.self.inside.steps + 1; generation = c.index_mut-way.result.now.generation }
+written c mask = record { line = c.index_mut-way.result.now.line; mask = mask; age = c.self.inside.steps + 1 }
 
-same : (c : goal.After-answer) (mask : ℕ) → written c mask ≡ record { line = c.line_of-line.result; mask = mask; age = c.self.inside.steps + 1; generation = c.self.inside.generation }
-same c mask =
-    ap (λ (l : ℕ). record { line = l; mask = mask; age = c.self.inside.steps + 1; generation = c.index_mut-way.result.now.generation }) (line_same c)
-    ∙ ap (λ (g : ℕ). record { line = c.line_of-line.result; mask = mask; age = c.self.inside.steps + 1; generation = g }) c.if-way-self.true
+same : (c : goal.After-answer) (mask : ℕ) → written c mask ≡ record { line = c.line_of-line.result; mask = mask; age = c.self.inside.steps + 1 }
+same c mask = ap (λ (l : ℕ). record { line = l; mask = mask; age = c.self.inside.steps + 1 }) (line_same c)
 
 pub invariant_of-self : goal.invariant_of-self
 invariant_of-self c = record {
@@ -58,7 +57,7 @@ invariant_of-self c = record {
   count = c.self.invariant.count;
   count_below = c.self.invariant.count_below;
   kept = put_keeps (first_level (contents c.self.inside)) c.line_of-line.result _ c.args.at _ (written c (bit_or c.index_mut-way.result.now.mask (1 * 2 ^ c.place_of-place.result % 2 ^ 16)))
-      c.self.invariant.kept (read c) (inl (has c)) (line_same c) refl (omega (arith, c.if-way-self.true));
+      c.self.invariant.kept (read c) (inl (has c)) (line_same c) refl;
   kept_below = kept_later (second_level (contents c.self.inside)) c.self.invariant.kept_below;
 }
 
