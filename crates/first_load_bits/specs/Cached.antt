@@ -1,5 +1,5 @@
 -- How the fields of a cache are seen, and what is true of them.
-use Rattle.std.specs.Prelude.{ℕ, ◌<◌, ◌≤◌, ◌≡◌, ◌*◌, ◌^◌, ◌==◌, true, false, All, AllPairs, vec_len}
+use Rattle.std.specs.Prelude.{ℕ, ◌<◌, ◌≤◌, ◌≡◌, ◌+◌, ◌*◌, ◌^◌, ◌==◌, true, false, All, AllPairs, vec_len}
 use Rattle.first_load_bits.specs.declared.cache.Cache.TheInside.{Inside}
 use Rattle.first_load_bits.specs.Represents.{Level, Contents, ways_of, first_level, second_level}
 use Rattle.first_load_bits.specs.Ways.{AreApart}
@@ -31,6 +31,8 @@ pub record IsCache (c : Inside) : Type 0 where
   pub sets : c.set_bits.bits ≤ 10
   pub sets_below : c.set_bits_below.bits ≤ 12
   pub words : c.word_bits.bits ≤ 4
+  pub shift : c.shift ≡ c.word_bits.bits + 2
+  pub usual : c.usual ≡ true → (c.width ≡ 4) × (c.width_below ≡ 0)
   pub count : vec_len c.ways ≡ 2 ^ c.set_bits.bits * c.width
   pub count_below : vec_len c.ways_below ≡ 2 ^ c.set_bits_below.bits * c.width_below
   pub kept : AreKept (first_level (contents c))

@@ -1,6 +1,6 @@
 //! A hart's cache, as a recorder runs it: `touch` decides whether a load is logged. The definitions of `specs/History.antt`
 //! pin its answers, so how it keeps its lines may change.
-ghost use Rattle.std.specs.Prelude.{◌≡◌, ◌<◌, ◌≤◌, ◌+◌, ◌*◌, ◌^◌, ◌↔◌, ◌∷◌, [], List, IfOk, IsTrue, All, length, replicate, vec_len, if◌then◌else◌};
+ghost use Rattle.std.specs.Prelude.{true, ◌≡◌, ◌<◌, ◌≤◌, ◌+◌, ◌*◌, ◌^◌, ◌↔◌, ◌∷◌, [], List, IfOk, IsTrue, All, length, replicate, vec_len, if◌then◌else◌};
 ghost use Rattle.std.specs.Int.{is_power_of_two};
 ghost use Rattle.first_load_bits.specs.Events.{Event, Touch, Drop, Clear, line_of, set_of, second_of};
 ghost use Rattle.first_load_bits.specs.History.{IsWarm};
@@ -37,6 +37,10 @@ pub struct Cache {
     set_bits: Power,
     set_bits_below: Power,
     word_bits: Power,
+    // By how many bits an address is shifted for the number of its line.
+    shift: u32,
+    // Whether a set has four ways, as most have, and there is no second level.
+    usual: bool,
     // How many touches and clears there were.
     steps: u64,
     // The number of the latest clear among them, 0 before the first.
@@ -82,6 +86,13 @@ fn power_of(sets: u64) -> u32
     }
 }
 
+// Whether sets have four ways, and there is no second level.
+fn is_usual(width: usize, width_below: usize) -> bool
+    ensures { result ≡ true → (width ≡ 4) × (width_below ≡ 0) }
+{
+    width == 4 && width_below == 0
+}
+
 impl Cache {
     /// A cache that lists no line, of the sets, ways and words per line that the settings give. It takes all the memory
     /// that the cache will ever need, and the only error is want of it.
@@ -105,6 +116,8 @@ impl Cache {
             set_bits: Power::of(set_bits),
             set_bits_below: Power::of(set_bits_below),
             word_bits: Power::of(word_bits),
+            shift: word_bits + 2,
+            usual: is_usual(width, width_below),
             steps: 0,
             generation: 0,
         })
@@ -114,7 +127,7 @@ impl Cache {
     pub fn line_of(&self, addr: Addr) -> u32
         ensures { result ≡ line_of self.now.geometry addr }
     {
-        addr >> (self.word_bits.bits + 2)
+        addr >> self.shift
     }
 
     // The place of an address's word in its line.
@@ -130,7 +143,17 @@ impl Cache {
         ensures value { result ≡ set_of self.now.geometry line * self.now.geometry.ways }
         ensures within { result + self.now.geometry.ways ≤ length self.now.ways }
     {
-        self.set_bits.rest(line) as usize * self.width
+        self.first_among(line, self.width)
+    }
+
+    // The same of sets of so many ways.
+    #[inline(always)]
+    fn first_among(&self, line: u32, width: usize) -> usize
+        requires { width ≡ self.now.geometry.ways }
+        ensures value { result ≡ set_of self.now.geometry line * self.now.geometry.ways }
+        ensures within { result + self.now.geometry.ways ≤ length self.now.ways }
+    {
+        self.set_bits.rest(line) as usize * width
     }
 
     // The place of the first way of a line's second set.
@@ -184,28 +207,27 @@ impl Cache {
         ensures geometry { self.new.geometry ≡ self.old.geometry }
         ensures steps { self.new.steps ≡ self.old.steps + 1 }
     {
-        if self.width_below != 0 {
-            return self.touch_anew(addr);
-        }
-        // Four ways, as most sets have, apart: so their places need no multiplication, and no loop compares them.
-        if self.width == 4 {
+        // Four ways apart: so their places need no multiplication, and no loop compares them.
+        if self.usual {
             self.touch_among(addr, 4)
         } else {
             self.touch_other(addr)
         }
     }
 
-    // Touches a word if there is no second level, whatever number of ways a set has.
+    // Touches a word whatever number of ways a set has, and whether or not there is a second level.
     #[inline(never)]
     fn touch_other(&mut self, addr: Addr) -> Warm
-        requires steps { self.old.steps < 2 ^ 42 }
-        requires alone { self.old.geometry.ways2 ≡ 0 }
+        requires { self.old.steps < 2 ^ 42 }
         ensures { IsTouch self.old addr result self.new }
     {
+        if self.width_below != 0 {
+            return self.touch_anew(addr);
+        }
         self.touch_among(addr, self.width)
     }
 
-    // The same of sets of so many ways.
+    // Touches a word if there is no second level, and a set has so many ways.
     #[inline(always)]
     fn touch_among(&mut self, addr: Addr, width: usize) -> Warm
         requires steps { self.old.steps < 2 ^ 42 }
@@ -214,7 +236,7 @@ impl Cache {
         ensures { IsTouch self.old addr result self.new }
     {
         let line = self.line_of(addr);
-        let first = self.first_way(line);
+        let first = self.first_among(line, width);
         match find(&self.ways[first..first + width], line) {
             Some(at) => self.touch_listed(addr, first, at),
             None => self.touch_anew(addr),

@@ -14,6 +14,8 @@ invariant_of-self c =
       sets = c.self.invariant.sets;
       sets_below = c.self.invariant.sets_below;
       words = c.self.invariant.words;
+      shift = c.self.invariant.shift;
+      usual = c.self.invariant.usual;
       count = c.self.invariant.count;
       count_below = c.self.invariant.count_below;
       kept = put_keeps level c.line_of-line.result _ c.place_for.result _ (record { line = c.line_of-line.result; mask = bit_or c.known_bits-bits.result (1 * 2 ^ c.place_of-place.result % 2 ^ 16); age = c.self.inside.steps + 1 })
