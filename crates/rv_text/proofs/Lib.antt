@@ -1,3 +1,4 @@
 pub mod Parted
 mod Joined
 mod HexDigits
+mod Counted

@@ -1,7 +1,7 @@
-//! The text of a hart and its count, kept but for its last digit: ten rows in a row share it.
-ghost use Rattle.std.specs.Prelude.{◌≡◌, ◌+◌, ◌<◌, ◌≤◌, ◌^◌, ◌++◌, ◌∷◌, [], OnOk, codes, decimal};
+//! The text of a hart and its count, kept but for its last two digits: a hundred rows in a row share it.
+ghost use Rattle.std.specs.Prelude.{◌≡◌, ◌<◌, ◌≤◌, ◌/◌, ◌^◌, ◌++◌, OnOk};
 ghost use Rattle.rv_text.specs.Texts.{BeginsWith};
-ghost use Rattle.rv_text.specs.Lines.{count_text, NoneOrCount};
+ghost use Rattle.rv_text.specs.Lines.{count_text, NoneOrCount, HasDigits};
 
 use crate::Text;
 use crate::piece::Piece;
@@ -9,11 +9,14 @@ use bn_base::{HartId, Ic};
 use std::alloc::AllocError;
 use std::marker::Model;
 
-/// The text of a hart and of a count without its last digit. It is empty until one is kept.
+/// The text of a hart and of its latest count without its last two digits, and these digits. It is empty until one is kept.
 #[derive(Drop)]
 pub struct CountText {
     hart: HartId,
-    tens: Ic,
+    hundreds: Ic,
+    latest: Ic,
+    tens: u8,
+    ones: u8,
     piece: Piece,
 }
 
@@ -22,7 +25,7 @@ impl Model for CountText {
 
     ghost view = { λ _. tt };
 
-    ghost invariant = { λ k. NoneOrCount k.hart k.tens k.piece };
+    ghost invariant = { λ k. NoneOrCount k.hart k.hundreds k.piece × HasDigits k.hundreds k.latest k.tens k.ones };
 }
 
 // The hart and its count. An error may leave a part of it.
@@ -41,76 +44,78 @@ impl CountText {
     pub fn none() -> CountText {
         CountText {
             hart: 0,
-            tens: 0,
+            hundreds: 0,
+            latest: 0,
+            tens: 48,
+            ones: 48,
             piece: Piece::none(),
         }
     }
 
-    // Appends a hart and a count, and keeps the text in place of the other. An error may leave a part of it.
-    #[cold]
-    #[inline(never)]
-    fn renew(&mut self, hart: HartId, tens: Ic, text: &mut Text) -> Result<(), AllocError>
-        ensures ok { OnOk result (text.new ≡ text.old ++ count_text hart tens) }
+    // Appends a hart and a count but for its last two digits, and keeps the text in place of the other. An error may leave a
+    // part of it.
+    fn renew(&mut self, hart: HartId, ic: Ic, text: &mut Text) -> Result<(), AllocError>
+        ensures ok { OnOk result (text.new ≡ text.old ++ count_text hart (ic / 100)) }
         ensures begins { BeginsWith text.old text.new }
     {
         let mark = text.len();
-        write_count(hart, tens, text)?;
+        write_count(hart, ic / 100, text)?;
+        let rest = (ic % 100) as u8;
         *self = CountText {
             hart,
-            tens,
+            hundreds: ic / 100,
+            latest: ic,
+            tens: 48 + rest / 10,
+            ones: 48 + rest % 10,
             piece: Piece::of(&text.as_bytes()[mark..]),
         };
         Ok(())
     }
 
-    // A hart and a count, by the text that is kept. An error may leave a part of it.
-    #[inline(always)]
-    fn write_kept(&mut self, hart: HartId, tens: Ic, text: &mut Text) -> Result<(), AllocError>
-        ensures ok { OnOk result (text.new ≡ text.old ++ count_text hart tens) }
-        ensures begins { BeginsWith text.old text.new }
-    {
-        if self.hart == hart && self.tens == tens && !self.piece.is_empty() {
-            return self.piece.append_to(text);
-        }
-        self.renew(hart, tens, text)
-    }
-
-    // The text of a hart and a count, by its last digit and what comes before that, which is kept. An
-    // error may leave a part of it.
-    #[inline(always)]
-    fn write_tens(
-        &mut self,
-        hart: HartId,
-        tens: Ic,
-        digit: u64,
-        text: &mut Text,
-    ) -> Result<(), AllocError>
-        requires { digit < 10 }
-        ensures ok { OnOk result (text.new ≡ text.old ++ (count_text hart tens ++ ((48 + digit) ∷ []))) }
-        ensures begins { BeginsWith text.old text.new }
-    {
-        self.write_kept(hart, tens, text)?;
-        text.push_bytes(&[48 + digit as u8])
-    }
-
-    // The text of a hart and a count of two digits or more. An error may leave a part of it.
-    #[inline(always)]
-    fn write_long(&mut self, hart: HartId, ic: Ic, text: &mut Text) -> Result<(), AllocError>
-        requires { (10 ≤ ic) × (ic < 2 ^ 64) }
+    // Appends a hart and a count of three digits or more, whatever text is kept. An error may leave a part of it.
+    #[cold]
+    #[inline(never)]
+    fn write_anew(&mut self, hart: HartId, ic: Ic, text: &mut Text) -> Result<(), AllocError>
+        requires { (100 ≤ ic) × (ic < 2 ^ 64) }
         ensures ok { OnOk result (text.new ≡ text.old ++ count_text hart ic) }
         ensures begins { BeginsWith text.old text.new }
     {
-        self.write_tens(hart, ic / 10, ic % 10, text)
+        let rest = (ic % 100) as u8;
+        let digits = [48 + rest / 10, 48 + rest % 10];
+        if self.hart == hart && self.hundreds == ic / 100 && !self.piece.is_empty() {
+            self.latest = ic;
+            self.tens = 48 + rest / 10;
+            self.ones = 48 + rest % 10;
+            return self.piece.append_with(digits, text);
+        }
+        self.renew(hart, ic, text)?;
+        text.push_bytes(&digits)
     }
 
-    /// Appends a hart and its count, and keeps what comes before the last digit. An error may leave a
+    // Appends a hart and a count of three digits or more. Mostly it is the count after the latest, and one digit changes. An
+    // error may leave a part of it.
+    #[inline(always)]
+    fn write_long(&mut self, hart: HartId, ic: Ic, text: &mut Text) -> Result<(), AllocError>
+        requires { (100 ≤ ic) × (ic < 2 ^ 64) }
+        ensures ok { OnOk result (text.new ≡ text.old ++ count_text hart ic) }
+        ensures begins { BeginsWith text.old text.new }
+    {
+        if self.hart == hart && self.latest == ic - 1 && self.ones < 57 && !self.piece.is_empty() {
+            self.latest = ic;
+            self.ones += 1;
+            return self.piece.append_with([self.tens, self.ones], text);
+        }
+        self.write_anew(hart, ic, text)
+    }
+
+    /// Appends a hart and its count, and keeps what comes before the last two digits. An error may leave a
     /// part of it.
     #[inline(always)]
     pub fn write(&mut self, hart: HartId, ic: Ic, text: &mut Text) -> Result<(), AllocError>
         ensures ok { OnOk result (text.new ≡ text.old ++ count_text hart ic) }
         ensures begins { BeginsWith text.old text.new }
     {
-        if ic < 10 {
+        if ic < 100 {
             return write_count(hart, ic, text);
         }
         self.write_long(hart, ic, text)

@@ -2,11 +2,11 @@
 ghost use Rattle.std.specs.Prelude.{◌≡◌, ◌<◌, ◌++◌, ◌/◌, ◌%◌, Some, None, OnOk, OnErr, codes};
 ghost use Rattle.rv_text.specs.Rows.{row_text};
 ghost use Rattle.rv_text.specs.Texts.{BeginsWith};
-ghost use Rattle.rv_text.specs.Lines.{count_text, place_text, label_text, joined_text};
+ghost use Rattle.rv_text.specs.Lines.{count_text, place_text, label_text, contents_text, accesses_text, joined_text};
 
 use crate::code::{CodeText, write_labelled};
 use crate::counts::CountText;
-use crate::effects::{register_of, write_accesses, write_contents};
+use crate::effects::{end_with_contents, register_of, write_accesses, write_contents};
 use crate::{Text, write_row};
 use bn_base::{Addr, Row};
 use std::alloc::{AllocError, Global};
@@ -15,7 +15,7 @@ use std::alloc::{AllocError, Global};
 const KEPT: usize = 1024;
 
 /// Writes lines of rows, and keeps the texts of their code: of the pcs that have the same place in a
-/// table of 1,024, the latest with its word. Of the last hart and count it keeps all but a digit.
+/// table of 1,024, the latest with its word. Of the last hart and count it keeps all but two digits.
 ///
 /// The table takes some 90 KiB. When out of memory, it keeps less or nothing.
 #[derive(Drop)]
@@ -71,6 +71,49 @@ impl RowLines {
         write_labelled(pc, word, register, text)
     }
 
+    // The line from its pc on of a row that accesses no word, by the table. An error may leave a part of it.
+    #[inline(always)]
+    fn write_plain(
+        &mut self,
+        row: &Row,
+        word: u32,
+        register: u8,
+        text: &mut Text,
+    ) -> Result<(), AllocError>
+        requires { register < 33 }
+        ensures ok { OnOk result (text.new ≡ text.old ++ (place_text row.now.pc word ++ label_text register ++ (contents_text row.now.reg ++ codes "\n"))) }
+        ensures begins { BeginsWith text.old text.new }
+    {
+        let place = place_of(row.pc);
+        if place < self.kept.len() {
+            return self.kept[place].write_line(row, word, register, text);
+        }
+        write_labelled(row.pc, word, register, text)?;
+        end_with_contents(row, text)
+    }
+
+    // The line from its pc on of a row with this word, by the table. An error may leave a part of it.
+    #[inline(always)]
+    fn write_rest(
+        &mut self,
+        row: &Row,
+        word: u32,
+        register: u8,
+        text: &mut Text,
+    ) -> Result<(), AllocError>
+        requires { register < 33 }
+        ensures ok { OnOk result (text.new ≡ text.old ++ (place_text row.now.pc word ++ label_text register ++ (contents_text row.now.reg ++ (accesses_text row.now ++ codes "\n")))) }
+        ensures begins { BeginsWith text.old text.new }
+    {
+        if row.load.is_none() && row.store.is_none() {
+            return self.write_plain(row, word, register, text);
+        }
+        self.write_code(row.pc, word, register, text)?;
+        write_contents(row.reg, text)?;
+        write_accesses(row, text)?;
+        text.push_str("\n")
+    }
+
     // The line of a row with this word, in its parts. An error may leave a part of it.
     #[inline(always)]
     #[tactic(auto, unfolding(crate::specs::Lines::joined_text, crate::specs::Rows::changes_text))]
@@ -79,10 +122,7 @@ impl RowLines {
         ensures begins { BeginsWith text.old text.new }
     {
         self.count.write(row.hart, row.ic, text)?;
-        self.write_code(row.pc, word, register_of(row.reg), text)?;
-        write_contents(row.reg, text)?;
-        write_accesses(row, text)?;
-        text.push_str("\n")
+        self.write_rest(row, word, register_of(row.reg), text)
     }
 
     // The line of a row that has this word and no fault. An error may leave a part of it.

@@ -1,5 +1,5 @@
 //! Text that grows: replays, reports and the debugger gather their output in it. A failed append changes nothing.
-ghost use Rattle.std.specs.Prelude.{false, ◌≡◌, ◌<◌, ◌++◌, [], ◌==◌, List, ℕ, length, take, OnOk, OnErr, decimal};
+ghost use Rattle.std.specs.Prelude.{false, ◌≡◌, ◌<◌, ◌++◌, [], ◌==◌, List, ℕ, ◌+◌, ◌≤◌, length, take, codes, OnOk, OnErr, decimal};
 ghost use Rattle.std.specs.Fmt.{signed_decimal, digits};
 ghost use Rattle.rv_text.specs.Instructions.{hex8};
 
@@ -106,6 +106,37 @@ impl Text {
         ensures err { OnErr result (self.new ≡ self.old) }
     {
         self.push_bytes(&eight_digits(n))
+    }
+
+    /// Puts two bytes at a place, and keeps no byte after them.
+    #[inline(always)]
+    pub(crate) fn end_with(&mut self, at: usize, tail: [u8; 2])
+        requires { at + 2 ≤ length self.old }
+        ensures { self.new ≡ take at self.old ++ tail }
+    {
+        self.bytes[at] = tail[0];
+        self.bytes[at + 1] = tail[1];
+        self.bytes.truncate(at + 2);
+    }
+
+    /// Puts the end of a line at a place, and keeps no byte after it.
+    #[inline(always)]
+    pub(crate) fn end_line(&mut self, at: usize)
+        requires { at < length self.old }
+        ensures { self.new ≡ take at self.old ++ codes "\n" }
+    {
+        self.bytes[at] = 10;
+        self.bytes.truncate(at + 1);
+    }
+
+    /// Puts eight hexadecimal digits and the end of a line at a place, and keeps no byte after them.
+    #[inline(always)]
+    pub(crate) fn end_line_with(&mut self, at: usize, n: u32)
+        requires { at + 9 ≤ length self.old }
+        ensures { self.new ≡ take at self.old ++ (hex8 n ++ codes "\n") }
+    {
+        self.bytes[at..at + 8].copy_from_slice(&eight_digits(n));
+        self.end_line(at + 8);
     }
 
     /// Appends a number in hexadecimal without leading zeros.

@@ -1,16 +1,22 @@
-use Rattle.std.proofs.Common.{◌≡◌, ℕ, List, ◌++◌, subst, sym, ◌+◌, ◌/◌, ◌%◌, ◌^◌, ◌<◌, ◌≤◌, [], ◌∷◌, ◌∙◌, ap, append_assoc}
-use Rattle.std.specs.Prelude.{OnOk, codes, decimal}
-use Rattle.std.proofs.lemmas.Fmt.{decimal_step}
-use Rattle.rv_text.specs.Lines.{count_text}
+use Rattle.std.proofs.Common.{◌≡◌, ◌+◌, ◌∙◌, ◌++◌, [], ◌∷◌, ℕ, List, subst, sym, ap, arith}
+use Rattle.std.specs.Prelude.{OnOk}
+use Rattle.rv_text.specs.Lines.{count_text, HasDigits}
+use Rattle.rv_text.proofs.Counted.{counted, not_zero}
 use Rattle.rv_text.proofs.counts.CountText.write_long.Goals as goal
 
--- A count and its last digit.
-count-step : (hart ic : ℕ) → 10 ≤ ic → ic < 2 ^ 64 → count_text hart ic ≡ count_text hart (ic / 10) ++ ((48 + ic % 10) ∷ [])
-unfolding count_text
-count-step hart ic low high =
-    ap (λ (t : List ℕ). decimal hart ++ codes " " ++ t) (decimal_step ic low high)
-    ∙ sym (append_assoc (decimal hart ++ codes " ") (decimal (ic / 10)) ((48 + ic % 10) ∷ []))
-
-pub returns-clause-ok : goal.returns-clause-ok
-returns-clause-ok c =
-    subst (λ (t : List ℕ). OnOk c.write_tens.result (c.write_tens.new.text ≡ c.args.text.now ++ t)) (sym (count-step c.args.hart c.args.ic c.requires.0 c.requires.1)) c.write_tens.ensures.ok
+pub returns-then-not-is_empty-clause-ok : goal.returns-then-not-is_empty-clause-ok
+returns-then-not-is_empty-clause-ok c =
+    let k = c.self.inside in
+    let hart = c.args.hart in
+    let piece : k.piece ≡ count_text hart k.hundreds =
+    c.self.invariant.0 (not_zero _ (sym c.is_empty.ensures ∙ c.if-not-is_empty.true)) ∙ ap (λ (h : ℕ). count_text h k.hundreds) c.if-self-hart.true in
+    let d = c.self.invariant.1 in
+    let digits : HasDigits k.hundreds c.args.ic k.tens (k.ones + 1) = record {
+      is = omega (arith, d.is, d.ones_low, c.if-self-ic.true, c.requires.0);
+      tens_low = d.tens_low;
+      tens_high = d.tens_high;
+      ones_low = omega (arith, d.ones_low);
+      ones_high = omega (arith, c.if-self-lt57.true);
+    } in
+    subst (λ (t : List ℕ). OnOk c.append_with.result (c.append_with.new.text ≡ c.args.text.now ++ t))
+    (ap (λ (t : List ℕ). t ++ (k.tens ∷ (k.ones + 1) ∷ [])) piece ∙ counted hart k.hundreds c.args.ic k.tens (k.ones + 1) c.requires.0 c.requires.1 digits) c.append_with.ensures.ok
