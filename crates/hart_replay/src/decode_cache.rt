@@ -1,7 +1,7 @@
 //! The program of a replay, with what its code words decode to: a loop is not decoded again at each turn.
-ghost use Rattle.std.specs.Prelude.{◌≡◌, ◌/◌, ◌%◌, option_map};
+ghost use Rattle.std.specs.Prelude.{◌≡◌, ◌/◌, ◌%◌, option_map, IfSome, IfNone};
 ghost use Rattle.hart_replay.specs.Common.{Program, seen, ask_of, fetched, instruction_in};
-ghost use Rattle.hart_replay.specs.DecodeCaches.{IsLookup, AreLookups};
+ghost use Rattle.hart_replay.specs.DecodeCaches.{IsLookup, AreLookups, IsQuietStep};
 
 use bn_base::{Addr, HartId, HartState, Image, Register};
 use rv_decode::{Instr, decode};
@@ -15,10 +15,10 @@ const KEPT: usize = 1024;
 /// What was looked up at an address: the code word, the register that its instruction writes, and the
 /// instruction.
 #[derive(Clone, Copy, Drop)]
-struct Lookup {
-    pc: Addr,
-    word: Option<u32>,
-    rd: Option<Register>,
+pub(crate) struct Lookup {
+    pub(crate) pc: Addr,
+    pub(crate) word: Option<u32>,
+    pub(crate) rd: Option<Register>,
     instr: Option<Instr>,
 }
 
@@ -143,7 +143,26 @@ impl<'a> DecodeCache<'a> {
         }
     }
 
-    // The same for an address that isn't kept, which then is.
+    /// Does the instruction at the pc of a state, if its look-up is kept and it asks nothing, and gives what was looked up.
+    /// Else the state stays.
+    #[inline(always)]
+    pub(crate) fn do_quiet(&self, state: &mut HartState) -> Option<&Lookup>
+        ensures done { IfSome result (λ kept. IsQuietStep self.now.now kept.now state.old state.new) }
+        ensures stays { IfNone result (state.new ≡ state.old) }
+    {
+        match self.kept.get(slot_of(state.pc)) {
+            Some(kept) if kept.pc == state.pc => match &kept.instr {
+                Some(instr) => match step_in_place(instr, self.image, state) {
+                    Want::Cut => Some(kept),
+                    _ => None,
+                },
+                None => None,
+            },
+            _ => None,
+        }
+    }
+
+    // As `fetch`, for an address that isn't kept, which then is.
     #[inline(never)]
     fn look_up(&mut self, hart: HartId, state: &HartState) -> Fetched
         ensures value { result ≡ fetched hart self.old.now state.now }

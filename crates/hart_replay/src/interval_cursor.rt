@@ -1,5 +1,5 @@
 //! The instructions of an interval, one by one: here the log's records are met. `Replayer` adds the end.
-ghost use Rattle.std.specs.Prelude.{◌≡◌, ◌<◌, ◌/◌, ◌==◌, ◌&&◌, ◌||◌, ℕ, true, false, Some, None, Err, if◌then◌else◌, IsTrue, IfOk, IfErr, OnOk};
+ghost use Rattle.std.specs.Prelude.{◌≡◌, ◌<◌, ◌/◌, ◌==◌, ◌&&◌, ◌||◌, ℕ, true, false, Some, None, Ok, Err, if◌then◌else◌, IsTrue, IfOk, IfErr, OnOk};
 ghost use Rattle.hart_replay.specs.Common.{after, Load, LoadReserved, Amo, Store, StoreConditional, System, call_row, fetched};
 ghost use Rattle.rv_meaning.specs.Orderly.{is_reply_to, is_aligned, is_cut, passes};
 ghost use Rattle.hart_replay.specs.declared.error.ReplayError.{ReplayError};
@@ -427,13 +427,35 @@ impl<'a> IntervalCursor<'a> {
         self.go_on_at(&here, row)
     }
 
-    /// As `go_on`, but an error is put in `over`: an answer that could hold one would be copied for each row.
+    // Does the next instruction, if its look-up is kept and it asks nothing, and writes its row. Else all stays but the row.
+    #[inline(always)]
+    fn goes_quietly(&mut self, row: &mut Row) -> bool
+        ensures answer { result ≡ true → CursorDoes self.old (next_of self.old) (Ok tt) row.new self.new }
+        ensures same { (self.new.image ≡ self.old.image) × (self.new.hart ≡ self.old.hart) × (self.new.mark ≡ self.old.mark) }
+        ensures stays { result ≡ false → self.new ≡ self.old }
+    {
+        each_instruction_is_counted_or_asks();
+        let ic = self.state.ic;
+        match self.image.do_quiet(&mut self.state) {
+            None => false,
+            Some(kept) => {
+                let here = Fetched {
+                    hart: self.hart,
+                    ic,
+                    pc: kept.pc,
+                    word: kept.word,
+                    rd: kept.rd,
+                };
+                self.called = false;
+                write_row(&here, &self.state.x, None, None, row);
+                true
+            }
+        }
+    }
+
+    // As `go_on`, but an error is put in `over`.
     #[inline(never)]
-    pub(crate) fn goes_on(
-        &mut self,
-        over: &mut Option<Result<(), ReplayError>>,
-        row: &mut Row,
-    ) -> bool
+    fn goes_anyhow(&mut self, over: &mut Option<Result<(), ReplayError>>, row: &mut Row) -> bool
         requires { self.old.state.ic < self.old.mark.ic }
         ensures answer { CursorDoes self.old (next_of self.old) (answered result over.new) row.new self.new }
         ensures same { (self.new.image ≡ self.old.image) × (self.new.hart ≡ self.old.hart) × (self.new.mark ≡ self.old.mark) }
@@ -447,6 +469,26 @@ impl<'a> IntervalCursor<'a> {
                 false
             }
         }
+    }
+
+    /// As `go_on`, but an error is put in `over`: an answer that could hold one would be copied for each row.
+    #[inline(never)]
+    pub(crate) fn goes_on(
+        &mut self,
+        over: &mut Option<Result<(), ReplayError>>,
+        row: &mut Row,
+    ) -> bool
+        requires { self.old.state.ic < self.old.mark.ic }
+        ensures answer { CursorDoes self.old (next_of self.old) (answered result over.new) row.new self.new }
+        ensures same { (self.new.image ≡ self.old.image) × (self.new.hart ≡ self.old.hart) × (self.new.mark ≡ self.old.mark) }
+        ensures kept { IsTrue result → over.new ≡ over.old }
+        ensures refused { result ≡ false → (e : ReplayError) × (over.new ≡ Some (Err e)) }
+    {
+        // Most rows are of code in a loop that asks nothing: these go without room for what could be asked.
+        if self.goes_quietly(row) {
+            return true;
+        }
+        self.goes_anyhow(over, row)
     }
 
     // The same, for an instruction that was looked up.
