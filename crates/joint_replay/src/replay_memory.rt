@@ -11,6 +11,9 @@ use hart_replay::Words;
 use std::alloc::{AllocError, Global};
 use std::marker::Model;
 
+/// For how many pages room is made at once: to look for room in each step would cost more than the step's words.
+const PAGES: usize = 16;
+
 /// The words that a joint replay knows. Contracts see them by ascending address, and for how many
 /// pages more there is room.
 #[derive(Drop)]
@@ -18,6 +21,8 @@ pub(crate) struct ReplayMemory {
     words: Words,
     /// No word of this number or above it is known.
     end: u32,
+    /// For how many pages there is room at least.
+    spare: usize,
 }
 
 impl Model for ReplayMemory {
@@ -28,7 +33,7 @@ impl Model for ReplayMemory {
 
     ghost view = { λ m. record { words = words_of m.words.pages; room = m.words.room } };
 
-    ghost invariant = { λ m. AreBelow m.end m.words.pages × (m.end ≤ 2 ^ 30) };
+    ghost invariant = { λ m. AreBelow m.end m.words.pages × (m.end ≤ 2 ^ 30) × (m.spare ≤ m.words.room) };
 }
 
 impl ReplayMemory {
@@ -40,6 +45,7 @@ impl ReplayMemory {
         ReplayMemory {
             words: Words::new(alloc),
             end: 0,
+            spare: 0,
         }
     }
 
@@ -68,11 +74,28 @@ impl ReplayMemory {
     }
 
     /// Makes room for the words of one row. The words stay.
+    #[inline(always)]
     pub(crate) fn make_room(&mut self) -> Result<(), AllocError>
         ensures room { OnOk result (2 ≤ self.new.room) }
         ensures same { self.new.words ≡ self.old.words }
     {
-        self.words.make_room(2)
+        if self.spare >= 2 {
+            return Ok(());
+        }
+        self.make_more_room()
+    }
+
+    // Makes room for the words of many rows.
+    #[cold]
+    #[inline(never)]
+    fn make_more_room(&mut self) -> Result<(), AllocError>
+        ensures room { OnOk result (2 ≤ self.new.room) }
+        ensures same { self.new.words ≡ self.old.words }
+    {
+        self.spare = 0;
+        self.words.make_room(PAGES)?;
+        self.spare = PAGES;
+        Ok(())
     }
 
     // Makes the aligned word of an address known.
@@ -83,6 +106,7 @@ impl ReplayMemory {
         ensures room { self.old.room ≤ self.new.room + 1 }
     {
         self.end = self.end.max(addr / 4 + 1);
+        self.spare = self.spare.saturating_sub(1);
         match self.words.put(addr, word) {
             Ok(()) => (),
             Err(_) => unreachable!(),
@@ -145,6 +169,7 @@ impl ReplayMemory {
         Ok(ReplayMemory {
             words: self.words.copy()?,
             end: self.end,
+            spare: 0,
         })
     }
 }
