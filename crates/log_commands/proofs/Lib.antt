@@ -10,6 +10,7 @@ pub mod Joins
 pub mod Renewals
 pub mod Fetched
 pub mod SamePair
+mod Sealed
 pub mod FileCalls
 pub mod Answering
 pub mod Answered

@@ -52,7 +52,7 @@ both-there None elf b e = absurd cc
 both-there (Some log) elf b e = log-by (nat_lt 272629760 (length log)) log elf b refl e
 
 -- the log reads, and the program is its
-record ReadsSo (log elf : List ℕ) (p : JointReading) : Type 0 where
+pub record ReadsSo (log elf : List ℕ) (p : JointReading) : Type 0 where
   pub reads : Reads log (Ok p.log)
   pub same : bytes_eq (sha256 elf) p.log.head.digest ≡ true
   pub loaded : image_of elf p.log.head.settings ≡ Ok p.image
@@ -70,7 +70,7 @@ digest-so : (log elf : List ℕ) (p : JointReading) (d : Content) (same : Bool) 
 digest-so log elf p d true reads same is = image-so log elf p d (image_of elf d.head.settings) reads same refl is
 digest-so log elf p d false reads same is = absurd cc
 
-reads-so : (log elf : List ℕ) (p : JointReading) (says : Result Content Damage) → Reads log says → ◌≡◌ {A = Result JointReading Refusal} (Ok p) (pair_by elf says) → ReadsSo log elf p
+pub reads-so : (log elf : List ℕ) (p : JointReading) (says : Result Content Damage) → Reads log says → ◌≡◌ {A = Result JointReading Refusal} (Ok p) (pair_by elf says) → ReadsSo log elf p
 reads-so log elf p (Err e) reads is = absurd cc
 reads-so log elf p (Ok d) reads is = digest-so log elf p d (bytes_eq (sha256 elf) d.head.digest) reads refl is
 

@@ -20,4 +20,4 @@ pub use examples::{
     other_bytes_than_those_signed_are_refused,
 };
 pub use reading::{count_file, read_file};
-pub use writing::write_file;
+pub use writing::{seal, write_file, write_unsealed};

@@ -1,6 +1,7 @@
 //! Writing a file of version 1, and what both versions have in common.
 ghost use Rattle.std.specs.Prelude.{◌≡◌, ◌<◌, ◌≤◌, ◌++◌, ◌^◌, length, IfOk, OnOk};
 ghost use Rattle.le_numbers.specs.Numbers.{number_bytes};
+ghost use Rattle.log_file.specs.Common.{sha256};
 ghost use Rattle.log_file.specs.Layout.{magic, settings_bytes, signed_bytes, spelling};
 
 use crate::head::{DIGEST_SIZE, HEAD_SIZE, MAGIC, VERSION, digest_of};
@@ -77,9 +78,39 @@ fn push_rest(
     out.extend_from_slice(back)
 }
 
+/// The bytes of the file of version 1 with this head and so many dropped records, up to the last digest, for which there is
+/// room. The kept ones' bytes come in two pieces, as a ring has them.
+#[tactic(auto, unfolding(crate::specs::Layout::signed_bytes))]
+pub fn write_unsealed(
+    alloc: Global,
+    head: &Head,
+    dropped: u64,
+    front: &[u8],
+    back: &[u8],
+) -> Result<Vec<u8>, AllocError>
+    requires format { head.now.settings.format ≡ 1 }
+    requires bound { length (front.now ++ back.now) ≤ head.now.settings.log_size }
+    ensures { IfOk result (λ v. v.items ≡ signed_bytes head.now dropped (front.now ++ back.now)) }
+{
+    // Proves that the size fits.
+    let _bound = head.settings.log_size();
+    let size = front.len() + back.len();
+    let mut out = Vec::with_capacity(alloc, HEAD_SIZE + size + DIGEST_SIZE)?;
+    push_settings(&mut out, VERSION, &head.settings)?;
+    push_rest(&mut out, head, dropped, front, back)?;
+    Ok(out)
+}
+
+/// Ends a file of version 1 with the digest of the bytes before.
+pub fn seal(out: &mut Vec<u8>) -> Result<(), AllocError>
+    ensures { OnOk result (out.new.items ≡ out.old.items ++ sha256 out.old.items) }
+{
+    let digest = digest_of(out);
+    out.extend_from_slice(&digest)
+}
+
 /// The bytes of the file of version 1 with this head and so many dropped records. The kept ones' bytes come in two
 /// pieces, as a ring has them. Its room is made once.
-#[tactic(auto, unfolding(crate::specs::Layout::signed_bytes))]
 pub fn write_file(
     alloc: Global,
     head: &Head,
@@ -91,13 +122,7 @@ pub fn write_file(
     requires bound { length (front.now ++ back.now) ≤ head.now.settings.log_size }
     ensures { IfOk result (λ v. v.items ≡ spelling head.now dropped (front.now ++ back.now)) }
 {
-    // Proves that the size fits.
-    let _bound = head.settings.log_size();
-    let size = front.len() + back.len();
-    let mut out = Vec::with_capacity(alloc, HEAD_SIZE + size + DIGEST_SIZE)?;
-    push_settings(&mut out, VERSION, &head.settings)?;
-    push_rest(&mut out, head, dropped, front, back)?;
-    let digest = digest_of(&out);
-    out.extend_from_slice(&digest)?;
+    let mut out = write_unsealed(alloc, head, dropped, front, back)?;
+    seal(&mut out)?;
     Ok(out)
 }

@@ -17,4 +17,5 @@ pub use Rattle.run_model.specs.Turn.{Run, ask_at, is_orderly, served_if, turn}
 unfoldable pub use Rattle.run_model.specs.Turn.{serve}
 pub use Rattle.run_model.specs.declared.error.TurnError.TheVariants.{IllegalTurn, NotFinished, OutOfMemory}
 pub use Rattle.run_model.specs.declared.start.Start.{Start}
-pub use Rattle.run_files.specs.Audits.{BeginsWithZeros, DifferFirst, FilesNumberTheirVersion, IsVerdict, StandsBefore, VerdictsAreUnique, bytes_in, error_in, is_version2, verdict_from}
+pub use Rattle.log_file.specs.Common.{sha256}
+pub use Rattle.run_files.specs.Audits.{BeginsWithZeros, DifferFirst, FilesNumberTheirVersion, IsSealed, IsVerdict, StandsBefore, VerdictsAreUnique, bytes_in, error_in, is_version2, sealed, verdict_from}

@@ -1,6 +1,7 @@
 -- What an audit compares, and what it finds.
-use Rattle.std.specs.Prelude.{◌≡◌, ◌≢◌, ℕ, ◌+◌, ◌<◌, ◌≤◌, ◌==◌, ◌⊎◌, Bool, true, false, List, [], ◌∷◌, length, take, drop, get_or, replicate, slice_get, Option}
+use Rattle.std.specs.Prelude.{◌≡◌, ◌≢◌, ℕ, ◌+◌, ◌<◌, ◌≤◌, ◌==◌, ◌⊎◌, Bool, true, false, List, [], ◌∷◌, ◌++◌, length, take, drop, get_or, replicate, slice_get, Option}
 use Rattle.std.specs.Str.{bytes_eq}
+use Rattle.log_file.specs.Common.{sha256}
 use Rattle.bn_base.specs.Programs.{Program}
 use Rattle.bn_base.specs.declared.settings.RawSettings.{RawSettings}
 use Rattle.log_order.specs.Content.{Content}
@@ -38,6 +39,16 @@ audited_file second c i digest input b = bytes_in second (content_of c digest (r
 -- a file of version 2 has the number of version 2, and one of version 1 hasn't
 abbrev pub FilesNumberTheirVersion : Type 0
 FilesNumberTheirVersion = (d : Content) → (is_version2 (file_bytes2 d) ≡ true) × (is_version2 (file_bytes d) ≡ false)
+
+-- bytes with their digest
+abbrev pub sealed : List ℕ → List ℕ
+sealed bytes = bytes ++ sha256 bytes
+
+-- a file ends with the digest of its bytes before, which are so many
+pub record IsSealed (file : List ℕ) : Type 0 where
+  pub size : ℕ
+  pub rest : size + 32 ≡ length file
+  pub digest : drop size file ≡ sha256 (take size file)
 
 -- ---- the verdict
 

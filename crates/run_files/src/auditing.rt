@@ -1,15 +1,18 @@
 //! Audits: the run of a list of turns is made again, and its file compared with a log.
-ghost use Rattle.std.specs.Prelude.{◌≡◌, ◌⊎◌, ◌≤◌, ℕ, All, None, Some, IfOk, IfErr, OnOk};
+ghost use Rattle.std.specs.Prelude.{◌≡◌, ◌⊎◌, ◌≤◌, ◌+◌, ℕ, All, None, Some, true, false, length, take, IfOk, IfErr, OnOk};
 ghost use Rattle.run_model.specs.declared.error.TurnError.TheVariants.{OutOfMemory};
 ghost use Rattle.run_model.specs.Turn.{Run};
 ghost use Rattle.run_model.specs.Runs.{start, run_from, run_of, live_harts};
 ghost use Rattle.run_model.specs.Lists.{unfinished, error_from, list_error};
-ghost use Rattle.run_files.specs.Audits.{is_version2, audited_file, BeginsWithZeros, IsVerdict, StandsBefore, StandsWithin};
+ghost use Rattle.log_order.specs.Content.{content};
+ghost use Rattle.run_files.specs.Audits.{is_version2, bytes_in, audited_file, sealed, IsSealed, BeginsWithZeros, IsVerdict, StandsBefore, StandsWithin};
 ghost use Rattle.run_model.specs.Represents.Plain.{IsRun};
 ghost use Rattle.run_model.specs.Represents.Turning.{parts};
 
-use crate::saved::saved_file_in;
+use crate::saved::{saved_file_in, unsealed_file};
 use crate::verdict::Verdict;
+use log_file::seal;
+use log_ring::Ring;
 use run_model::{Plain, Start, TurnError};
 use rv_meaning::DecodedImage;
 use std::alloc::{AllocError, Global};
@@ -152,30 +155,6 @@ fn is_version2(log: &[u8]) -> bool
     number == &[2, 0, 0, 0][..]
 }
 
-// The file that a log is compared with, of the run of a list that leaves no hart live. All but what was recorded is
-// dropped before the file is made.
-fn audited_file(
-    alloc: Global,
-    from: &Start,
-    second: bool,
-    list: &[u8],
-) -> Result<Vec<u8>, TurnError>
-    ensures file { IfOk result (λ file. file.items ≡ audited_file second from.now.settings from.now.image from.now.digest from.now.input.items list.now) }
-    ensures whole { OnOk result (list_error from.now.settings from.now.image from.now.input.items list.now ≡ None) }
-    ensures refused { IfErr result (λ e. (e ≡ OutOfMemory) ⊎ (list_error from.now.settings from.now.image from.now.input.items list.now ≡ Some e)) }
-{
-    match whole_run(alloc, from, list) {
-        Err(error) => Err(error),
-        Ok(plain) => {
-            let recorded = plain.into_recorded();
-            match saved_file_in(alloc, from, second, &recorded.ring) {
-                Err(_) => Err(TurnError::OutOfMemory),
-                Ok(file) => Ok(file),
-            }
-        }
-    }
-}
-
 // Whether a log is this file, or the first place at which they differ.
 fn compare(file: &[u8], log: &[u8]) -> Verdict
     ensures { IsVerdict file.now log.now result }
@@ -195,6 +174,73 @@ fn compare(file: &[u8], log: &[u8]) -> Verdict
     }
 }
 
+// Whether a log begins with these bytes, and has 32 more.
+fn begins_with(log: &[u8], bytes: &[u8]) -> bool
+    ensures { result ≡ true → (length log.now ≡ length bytes.now + 32) × (take (length bytes.now) log.now ≡ bytes.now) }
+{
+    log.len() == bytes.len() + 32 && &log[..bytes.len()] == bytes
+}
+
+// The verdict on a log by a file up to its last digest. If the log is known to end with the digest of its bytes before, and the
+// two are the same up to there, so are their digests, and none is made.
+fn compare_unsealed(file: &mut Vec<u8>, log: &[u8], is_sealed: bool) -> Result<Verdict, AllocError>
+    requires { is_sealed ≡ true → IsSealed log.now }
+    ensures { IfOk result (IsVerdict (sealed file.old.items) log.now) }
+{
+    if is_sealed && begins_with(log, file) {
+        return Ok(Verdict::Agree);
+    }
+    seal(file)?;
+    Ok(compare(file, log))
+}
+
+// The verdict on a log, by what a recording's ring keeps.
+fn verdict_on(
+    alloc: Global,
+    from: &Start,
+    ring: &Ring,
+    log: &[u8],
+    is_sealed: bool,
+) -> Result<Verdict, AllocError>
+    requires size { ring.now.size ≡ from.now.settings.log_size }
+    requires sealed { is_sealed ≡ true → is_version2 log.now ≡ false → IsSealed log.now }
+    ensures { IfOk result (IsVerdict (bytes_in (is_version2 log.now) (content (record { settings = from.now.settings; digest = from.now.digest }) ring.now.dropped ring.now.records)) log.now) }
+{
+    let second = is_version2(log);
+    if second || from.settings.format() == 2 {
+        let file = saved_file_in(alloc, from, second, ring)?;
+        return Ok(compare(&file, log));
+    }
+    let mut file = unsealed_file(alloc, from, ring)?;
+    compare_unsealed(&mut file, log, is_sealed)
+}
+
+// The audit of a log that may be known to end with the digest of its bytes before, if it is of version 1.
+fn audit_known(
+    alloc: Global,
+    from: &Start,
+    list: &[u8],
+    log: &[u8],
+    is_sealed: bool,
+) -> Result<Verdict, TurnError>
+    requires { is_sealed ≡ true → is_version2 log.now ≡ false → IsSealed log.now }
+    ensures verdict { IfOk result (λ v. IsVerdict (audited_file (is_version2 log.now) from.now.settings from.now.image from.now.digest from.now.input.items list.now) log.now v) }
+    ensures whole { OnOk result (list_error from.now.settings from.now.image from.now.input.items list.now ≡ None) }
+    ensures refused { IfErr result (λ e. (e ≡ OutOfMemory) ⊎ (list_error from.now.settings from.now.image from.now.input.items list.now ≡ Some e)) }
+{
+    match whole_run(alloc, from, list) {
+        Err(error) => Err(error),
+        Ok(plain) => {
+            // All but what was recorded is dropped before the file is made.
+            let recorded = plain.into_recorded();
+            match verdict_on(alloc, from, &recorded.ring, log, is_sealed) {
+                Err(_) => Err(TurnError::OutOfMemory),
+                Ok(verdict) => Ok(verdict),
+            }
+        }
+    }
+}
+
 /// Whether a log is the file of the run of a list of turns, which has one byte for each turn, the number
 /// of its hart. If it isn't, the first place at which the two differ or one ends. A log whose bytes 8 to
 /// 11 are 2, 0, 0, 0 is of version 2: it is compared with the run's file in that version, whatever the
@@ -210,6 +256,21 @@ pub fn audit(alloc: Global, from: &Start, list: &[u8], log: &[u8]) -> Result<Ver
     ensures whole { OnOk result (list_error from.now.settings from.now.image from.now.input.items list.now ≡ None) }
     ensures refused { IfErr result (λ e. (e ≡ OutOfMemory) ⊎ (list_error from.now.settings from.now.image from.now.input.items list.now ≡ Some e)) }
 {
-    let file = audited_file(alloc, from, is_version2(log), list)?;
-    Ok(compare(&file, log))
+    audit_known(alloc, from, list, log, false)
+}
+
+/// As [`audit`], of a log that, if it is of version 1, ends with the digest of its bytes before, as each one does that was read.
+/// No other digest is made if it agrees.
+pub fn audit_sealed(
+    alloc: Global,
+    from: &Start,
+    list: &[u8],
+    log: &[u8],
+) -> Result<Verdict, TurnError>
+    requires { is_version2 log.now ≡ false → IsSealed log.now }
+    ensures verdict { IfOk result (λ v. IsVerdict (audited_file (is_version2 log.now) from.now.settings from.now.image from.now.digest from.now.input.items list.now) log.now v) }
+    ensures whole { OnOk result (list_error from.now.settings from.now.image from.now.input.items list.now ≡ None) }
+    ensures refused { IfErr result (λ e. (e ≡ OutOfMemory) ⊎ (list_error from.now.settings from.now.image from.now.input.items list.now ≡ Some e)) }
+{
+    audit_known(alloc, from, list, log, true)
 }

@@ -7,7 +7,7 @@ mod laws;
 mod saved;
 mod verdict;
 
-pub use auditing::audit;
+pub use auditing::{audit, audit_sealed};
 pub use examples::{
     a_hart_that_is_not_there_has_no_turn, a_list_can_be_too_long_or_too_short,
     files_differ_at_a_byte_or_an_end, the_lowest_live_hart_is_named,

@@ -1,28 +1,40 @@
 //! The log file that is saved of a recording, from what its ring keeps.
 ghost use Rattle.std.specs.Prelude.{◌≡◌, IfOk};
 ghost use Rattle.log_order.specs.Content.{content};
-ghost use Rattle.log_file.specs.Layout.{file_bytes, file_bytes2, saved_bytes};
+ghost use Rattle.log_file.specs.Common.{flat_map, bytes_of};
+ghost use Rattle.log_file.specs.Layout.{file_bytes, file_bytes2, saved_bytes, signed_bytes};
 ghost use Rattle.run_files.specs.Audits.{bytes_in};
 
 use log_blocks::write_file2;
-use log_file::write_file;
+use log_file::{seal, write_unsealed};
 use log_record::Head;
 use log_ring::Ring;
 use run_model::Start;
 use std::alloc::{AllocError, Global};
 
-// The file of version 1, of the two pieces in which a ring has its records' bytes.
-fn first_file(alloc: Global, from: &Start, ring: &Ring) -> Result<Vec<u8>, AllocError>
+// The file of version 1 up to its last digest, of the two pieces in which a ring has its records' bytes.
+pub(crate) fn unsealed_file(alloc: Global, from: &Start, ring: &Ring) -> Result<Vec<u8>, AllocError>
     requires size { ring.now.size ≡ from.now.settings.log_size }
     requires format { from.now.settings.format ≡ 1 }
-    ensures { IfOk result (λ log. log.items ≡ file_bytes (content (record { settings = from.now.settings; digest = from.now.digest }) ring.now.dropped ring.now.records)) }
+    ensures { IfOk result (λ log. log.items ≡ signed_bytes (record { settings = from.now.settings; digest = from.now.digest }) ring.now.dropped (flat_map bytes_of ring.now.records)) }
 {
     let (front, back) = ring.pieces();
     let head = Head {
         settings: from.settings,
         digest: from.digest,
     };
-    write_file(alloc, &head, ring.dropped(), front, back)
+    write_unsealed(alloc, &head, ring.dropped(), front, back)
+}
+
+// The file of version 1.
+fn first_file(alloc: Global, from: &Start, ring: &Ring) -> Result<Vec<u8>, AllocError>
+    requires size { ring.now.size ≡ from.now.settings.log_size }
+    requires format { from.now.settings.format ≡ 1 }
+    ensures { IfOk result (λ log. log.items ≡ file_bytes (content (record { settings = from.now.settings; digest = from.now.digest }) ring.now.dropped ring.now.records)) }
+{
+    let mut file = unsealed_file(alloc, from, ring)?;
+    seal(&mut file)?;
+    Ok(file)
 }
 
 // The file of version 2, of the records' bytes in one piece, which is cut into blocks.

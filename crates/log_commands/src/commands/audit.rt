@@ -1,5 +1,6 @@
 //! The command `audit`: whether a log is the file of the run of a list of turns.
-ghost use Rattle.std.specs.Prelude.{◌≡◌};
+ghost use Rattle.std.specs.Prelude.{◌≡◌, false};
+ghost use Rattle.run_files.specs.Audits.{is_version2, IsSealed};
 ghost use Rattle.log_commands.specs.SaveCounts.{IsMade};
 ghost use Rattle.log_commands.specs.Evaluated.{Makes};
 ghost use Rattle.log_commands.specs.Texts.{agree_text};
@@ -13,7 +14,7 @@ use crate::pairs::{JointReading, read_pair};
 use crate::refusal::Refusal;
 use crate::send::send;
 use bn_outside::Sink;
-use run_files::{Verdict, audit, verdicts_are_unique};
+use run_files::{Verdict, audit_sealed, files_number_their_version, verdicts_are_unique};
 use run_model::{Start, TurnError};
 use rv_text::Text;
 use std::alloc::Global;
@@ -38,11 +39,12 @@ fn start_of(reading: JointReading, input: Vec<u8>) -> Start
 
 // The audit of a log that was read.
 fn compare(alloc: Global, start: &Start, book: &[u8], log: &[u8]) -> Result<(), Refusal>
+    requires { is_version2 log.now ≡ false → IsSealed log.now }
     ensures is { Makes (λ result. result ≡ audit_by start.now.settings start.now.image start.now.digest start.now.input.items book.now log.now) result }
     ensures own { IsOwn result }
 {
     verdicts_are_unique();
-    match audit(alloc, start, book, log) {
+    match audit_sealed(alloc, start, book, log) {
         Ok(Verdict::Agree) => Ok(()),
         Ok(Verdict::Differ { at_byte }) => Err(Refusal::FileDiffers { at_byte }),
         Err(TurnError::OutOfMemory) => Err(Refusal::OutOfMemory),
@@ -61,6 +63,7 @@ pub fn evaluate(
 ) -> Result<Answer, Refusal>
     ensures { Answers IsMade (λ names. IsAuditOf names log.now elf.now book.now input.items) result }
 {
+    files_number_their_version();
     let pair = read_pair(alloc, log, elf)?;
     let start = start_of(pair, input);
     compare(alloc, &start, book, log)?;

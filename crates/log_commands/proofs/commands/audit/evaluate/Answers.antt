@@ -2,6 +2,7 @@ use Rattle.log_commands.proofs.Common.{Ok, Err, Answers, audited, IsByLog, pair_
 use Rattle.log_commands.proofs.Answering.{passed-on, unpaired-so, paired-so}
 use Rattle.bn_base.specs.declared.settings.RawSettings.{RawSettings}
 use Rattle.run_model.specs.declared.start.Start.{Start}
+use Rattle.log_commands.proofs.Sealed.{sealed-log}
 use Rattle.log_commands.proofs.commands.audit.evaluate.Goals as goal
 
 -- What the audit of a log and its program tells.
@@ -43,3 +44,6 @@ returns c =
       own = λ before now. tt;
       kind = tt;
     })
+
+pub compare-requires : goal.compare-requires
+compare-requires c = sealed-log c.args.log.now c.args.elf.now c.in_ok-pair.pair c.in_ok-pair.ensures.is c.files_number_their_version.ensures

@@ -1,6 +1,6 @@
-use Rattle.run_files.proofs.Common.{◌∙◌, sym, ap, subst, RawSettings, Content, Held, HoldsLog, run_of, bytes_in, ◌≡◌, ℕ, List, length, arith, kept, content, Run, content_of, kept_of, dropped_of}
+use Rattle.run_files.proofs.Common.{◌∙◌, sym, ap, subst, RawSettings, Content, Held, HoldsLog, run_of, bytes_in, is_version2, IsVerdict, ◌≡◌, ℕ, List, length, arith, kept, content, Run, content_of, kept_of, dropped_of}
 use Rattle.log_record.specs.declared.head.Head.{Head}
-use Rattle.run_files.proofs.auditing.audited_file.Goals as goal
+use Rattle.run_files.proofs.auditing.audit_known.Goals as goal
 
 -- The log file of a run.
 
@@ -14,11 +14,11 @@ content_is c digest ring run holds size =
     let dropped : ring.dropped ≡ dropped_of c run = omega (arith, holds.counted, many) in
     ap (λ (n : ℕ). content head n ring.records) dropped ∙ ap (content head (dropped_of c run)) records
 
-pub returns-clause-file : goal.returns-clause-file
-returns-clause-file c =
+pub returns-clause-verdict : goal.returns-clause-verdict
+returns-clause-verdict c =
     let from = c.args.from.now in let list = c.args.list.now in
     let run = run_of from.settings from.image from.input.items list in
     let recorded = c.into_recorded-recorded in
     let holds = subst (λ (r : Held). HoldsLog r run.stream) (sym recorded.ensures.ring) c.in-Ok.ensures.run.trace.log.holds in
     let size = recorded.ensures.size ∙ ap (λ (s : RawSettings). s.log_size) c.in-Ok.ensures.settings in
-    c.in-Ok-saved_file_in.ensures ∙ ap (λ (d : Content). bytes_in c.args.second d) (content_is from.settings from.digest recorded.result.ring run holds size)
+    subst (λ (d : Content). IsVerdict (bytes_in (is_version2 c.args.log.now) d) c.args.log.now c.in-Ok-verdict_on.verdict) (content_is from.settings from.digest recorded.result.ring run holds size) c.in-Ok-verdict_on.ensures
