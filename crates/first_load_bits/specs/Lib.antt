@@ -2,6 +2,7 @@ pub mod Cached
 pub mod Events
 pub mod History
 pub mod Lines
+pub mod Places
 pub mod Represents
 pub mod Steps
 pub mod Warm

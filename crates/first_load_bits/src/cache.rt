@@ -7,6 +7,7 @@ ghost use Rattle.first_load_bits.specs.History.{IsWarm};
 ghost use Rattle.first_load_bits.specs.Warm.{warm};
 ghost use Rattle.first_load_bits.specs.Represents.{RepresentsEvents, geometry_of};
 ghost use Rattle.first_load_bits.specs.Lines.{place_of};
+ghost use Rattle.first_load_bits.specs.Places.{line_place};
 ghost use Rattle.first_load_bits.specs.Ways.{empty_way};
 ghost use Rattle.first_load_bits.specs.Steps.{IsListed, IsTouch, IsBitsBelow, IsTakenBelow, IsPutBelow, IsFallen, IsTakenListed};
 
@@ -16,6 +17,15 @@ use crate::way::{Way, bits, find, has_other, known_bits, place_for};
 use bn_base::{Addr, Settings};
 use std::alloc::{AllocError, Global};
 use std::marker::Model;
+
+/// The place of a line in each cache of one geometry: its number, the place of the first way of its set, and whether there is no
+/// second level and a set has four ways.
+#[derive(Clone, Copy, Drop)]
+pub struct LinePlace {
+    pub line: u32,
+    pub first: usize,
+    pub usual: bool,
+}
 
 /// A hart's cache: so many ways for each of its sets, and a second level of such sets, if the settings give one. It keeps
 /// the lines' numbers and bits alone, and counts its touches and clears.
@@ -331,9 +341,73 @@ impl Cache {
         ensures { IsTakenListed self.old line self.new }
     {
         let first = self.first_way(line);
-        match find(&self.ways[first..first + self.width], line) {
+        self.take_listed_in(line, first, self.width);
+    }
+
+    // The same, of a line whose set's first way is known, and how many ways a set has.
+    #[inline(always)]
+    fn take_listed_in(&mut self, line: u32, first: usize, width: usize)
+        requires first { first ≡ set_of self.old.geometry line * self.old.geometry.ways }
+        requires within { first + self.old.geometry.ways ≤ length self.old.ways }
+        requires width { width ≡ self.old.geometry.ways }
+        ensures { IsTakenListed self.old line self.new }
+    {
+        match find(&self.ways[first..first + width], line) {
             Some(at) => self.ways[first + at].age = 0,
             None => (),
+        }
+    }
+
+    // Without a second level no line is below. This does nothing.
+    fn has_none_below(&self, line: u32)
+        requires { self.now.geometry.ways2 ≡ 0 }
+        ensures { IsTakenBelow self.now line self.now }
+    {
+        let _none = self.width_below;
+    }
+
+    // Drops a line, if there is no second level, and a set has four ways.
+    #[inline(always)]
+    #[tactic(auto, using(crate::proofs::Both::drop_goes))]
+    fn drop_usual(&mut self, addr: Addr, line: u32, first: usize)
+        requires usual { (self.old.geometry.ways ≡ 4) × (self.old.geometry.ways2 ≡ 0) }
+        requires line { line ≡ line_of self.old.geometry addr }
+        requires first { first ≡ set_of self.old.geometry line * self.old.geometry.ways }
+        ensures stands { (es : List Event) → RepresentsEvents self.old es → RepresentsEvents self.new (Drop addr ∷ es) }
+        ensures geometry { self.new.geometry ≡ self.old.geometry }
+        ensures steps { self.new.steps ≡ self.old.steps }
+    {
+        self.has_none_below(line);
+        // Proves that the set's ways are there.
+        let _first = self.first_way(line);
+        self.take_listed_in(line, first, 4);
+    }
+
+    /// The place of the line that has the byte at an address, which is the same in all caches of one geometry.
+    #[inline(always)]
+    pub fn place_line(&self, addr: Addr) -> LinePlace
+        ensures { result ≡ line_place self.now.geometry addr }
+    {
+        let line = self.line_of(addr);
+        LinePlace {
+            line,
+            first: self.first_way(line),
+            usual: self.width == 4 && self.width_below == 0,
+        }
+    }
+
+    /// As [`drop_line`](Cache::drop_line), of an address whose line's place is known.
+    #[inline(always)]
+    pub fn drop_placed(&mut self, addr: Addr, place: &LinePlace)
+        requires { place.now ≡ line_place self.old.geometry addr }
+        ensures stands { (es : List Event) → RepresentsEvents self.old es → RepresentsEvents self.new (Drop addr ∷ es) }
+        ensures geometry { self.new.geometry ≡ self.old.geometry }
+        ensures steps { self.new.steps ≡ self.old.steps }
+    {
+        if place.usual {
+            self.drop_usual(addr, place.line, place.first);
+        } else {
+            self.drop_line(addr);
         }
     }
 

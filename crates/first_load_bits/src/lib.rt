@@ -25,6 +25,6 @@ pub mod power;
 pub mod warm;
 pub mod way;
 
-pub use cache::Cache;
+pub use cache::{Cache, LinePlace};
 pub use warm::Warm;
 pub use way::Way;

@@ -7,12 +7,13 @@ ghost use Rattle.run_model.specs.declared.span.Span.{Span};
 ghost use Rattle.run_model.specs.Turn.{drops, dropped, events_after, loading, span_of, warmth};
 ghost use Rattle.run_model.specs.Represents.Parts.{AreAddresses};
 ghost use Rattle.run_model.specs.Represents.Tracing.{CachesGoOn, touched_by};
-ghost use Rattle.run_model.specs.Represents.EachCache.{AreCaches, cache_of, steps_in, touched_word, touches, where_loading, events_cleared, is_spared, IsDropped, IsSetTo};
+ghost use Rattle.run_model.specs.Represents.EachCache.{AreCaches, cache_of, steps_in, touched_word, touches, where_loading, events_cleared, is_spared, AreAlike, IsDropped, IsSetTo};
+ghost use Rattle.first_load_bits.specs.Places.{line_place};
 
 use crate::span::Span;
 use bn_base::{Addr, HartId, Settings};
 use first_load_bits::laws::a_second_drop_changes_nothing;
-use first_load_bits::{Cache, Warm};
+use first_load_bits::{Cache, LinePlace, Warm};
 use race_log::Mode;
 use std::alloc::{AllocError, Global};
 use std::marker::Model;
@@ -31,7 +32,11 @@ impl Model for Caches {
 
     ghost Value = { List Contents };
 
+    ghost use Rattle.run_model.specs.Represents.EachCache.{AreAlike};
+
     ghost view = { λ c. c.of.items };
+
+    ghost invariant = { λ c. AreAlike c.of.items };
 }
 
 // Drops the line of a word after those of the words from the first up to it, unless it is the line of the one before.
@@ -100,8 +105,7 @@ fn is_spared(spared: Option<HartId>, k: usize) -> bool
 }
 
 // Drops the lines of so many words from all caches but the one that is spared.
-#[inline(never)]
-fn drop_from_each(caches: &mut [Cache], spared: Option<HartId>, first: Addr, count: u32)
+fn drop_words_from_each(caches: &mut [Cache], spared: Option<HartId>, first: Addr, count: u32)
     requires { first + 4 * count ≤ 2 ^ 32 }
     ensures { IsDropped spared (drops first count) (length caches.old) caches.old caches.new }
 {
@@ -110,10 +114,51 @@ fn drop_from_each(caches: &mut [Cache], spared: Option<HartId>, first: Addr, cou
     }
 }
 
+// Drops the line of a word from a cache, unless it is spared.
+#[inline(always)]
+fn drop_placed_unless(cache: &mut Cache, spared: bool, first: Addr, place: &LinePlace)
+    requires { place.now ≡ line_place cache.old.geometry first }
+    ensures stands { (es : List Event) → RepresentsEvents cache.old es → RepresentsEvents cache.new (elim spared [ true ↦ es | false ↦ drops first 1 es ]) }
+    ensures geometry { cache.new.geometry ≡ cache.old.geometry }
+    ensures steps { cache.new.steps ≡ cache.old.steps }
+{
+    if !spared {
+        cache.drop_placed(first, place);
+    }
+}
+
+// Drops the line of one word from all caches but the one that is spared. They have one geometry, so it is looked for once.
+fn drop_word_from_each(caches: &mut [Cache], spared: Option<HartId>, first: Addr)
+    requires alike { AreAlike caches.old }
+    ensures { IsDropped spared (drops first 1) (length caches.old) caches.old caches.new }
+{
+    if caches.len() > 0 {
+        let place = caches[0].place_line(first);
+        for k in 0..caches.len() {
+            drop_placed_unless(&mut caches[k], is_spared(spared, k), first, &place);
+        }
+    }
+}
+
+// Drops the lines of so many words from all caches but the one that is spared; nearly always it is one word.
+#[inline(never)]
+fn drop_from_each(caches: &mut [Cache], spared: Option<HartId>, first: Addr, count: u32)
+    requires range { first + 4 * count ≤ 2 ^ 32 }
+    requires alike { AreAlike caches.old }
+    ensures { IsDropped spared (drops first count) (length caches.old) caches.old caches.new }
+{
+    if count == 1 {
+        drop_word_from_each(caches, spared, first);
+    } else {
+        drop_words_from_each(caches, spared, first, count);
+    }
+}
+
 // Drops the lines of what is written from all caches but the one that is spared.
 #[inline(always)]
 fn drop_written(caches: &mut [Cache], spared: Option<HartId>, span: Span)
-    requires { span.first + 4 * span.count ≤ 2 ^ 32 }
+    requires range { span.first + 4 * span.count ≤ 2 ^ 32 }
+    requires alike { AreAlike caches.old }
     ensures { IsDropped spared (dropped span) (length caches.old) caches.old caches.new }
 {
     match span.mode {
@@ -127,6 +172,7 @@ fn drop_written(caches: &mut [Cache], spared: Option<HartId>, span: Span)
 fn drop_from_others(caches: &mut [Cache], hart: HartId, span: Span)
     requires hart { hart < length caches.old }
     requires addresses { span.first + 4 * span.count ≤ 2 ^ 32 }
+    requires alike { AreAlike caches.old }
     ensures { IsDropped (Some hart) (dropped span) (length caches.old) caches.old caches.new }
 {
     if caches.len() > 1 {
@@ -151,6 +197,8 @@ fn access(caches: &mut [Cache], hart: HartId, span: Span) -> Warm
     requires hart { hart < length caches.old }
     requires steps { steps_in caches.old hart < 2 ^ 42 }
     requires addresses { span.first + 4 * span.count ≤ 2 ^ 32 }
+    requires alike { AreAlike caches.old }
+    ensures alike { AreAlike caches.new }
     ensures stands { (c : RawSettings) (events : ℕ → List Event) → AreCaches c caches.old events → AreCaches c caches.new (events_after GoesOn hart None (Some span) events) }
     ensures answer { (c : RawSettings) (events : ℕ → List Event) → AreCaches c caches.old events → Some result ≡ warmth c (Some span.first) (events hart) }
     ensures count { length caches.new ≡ length caches.old }

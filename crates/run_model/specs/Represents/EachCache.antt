@@ -11,6 +11,10 @@ no_cache = no_contents
 abbrev pub cache_of : List Contents → ℕ → Contents
 cache_of cs k = get_or cs k no_cache
 
+-- all caches have one geometry
+abbrev pub AreAlike : List Contents → Type 0
+AreAlike cs = (k : ℕ) → k < length cs → (cache_of cs k).geometry ≡ (cache_of cs 0).geometry
+
 -- how many touches and clears of hart k's cache there were
 abbrev pub steps_in : List Contents → ℕ → ℕ
 steps_in cs k = (cache_of cs k).steps
