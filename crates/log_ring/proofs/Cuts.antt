@@ -1,5 +1,5 @@
 -- Bytes of whole records are cut into these records.
-use Rattle.log_ring.proofs.Common.{◌≡◌, ◌∙◌, ◌≤◌, ◌<◌, ℕ, zero, suc, List, [], ◌∷◌, ◌++◌, length, drop, refl, sym, ap, ap₂, subst, arith, length-append, Option, Some, None, unwrap_or, slice_index, slice_get, Bool, IsTrue, ◌==◌, ◌↔◌, flat_map, AllByRecursion, drop_at, Record, Header, FirstLoad, ScOk, ScFailed, Edge, End, size_of, bytes_of, Fits, TellTheirSize, AreRead, cut, records_in, IsWhole, Oldest}
+use Rattle.log_ring.proofs.Common.{◌≡◌, ◌∙◌, ◌≤◌, ◌<◌, ℕ, zero, suc, List, [], ◌∷◌, ◌++◌, length, drop, refl, sym, ap, ap₂, subst, arith, length-append, append-nil, append_assoc, Option, Some, None, unwrap_or, slice_index, slice_get, Bool, IsTrue, ◌==◌, ◌↔◌, flat_map, AllByRecursion, drop_at, Record, Header, FirstLoad, ScOk, ScFailed, Edge, End, size_of, bytes_of, Fits, TellTheirSize, AreRead, cut, records_in, IsWhole, Oldest}
 use Rattle.log_record.specs.Reading.{record_in}
 
 -- no record has fewer than two bytes
@@ -118,3 +118,20 @@ empty_when bytes rs b whole view e =
     let tell : IsTrue b → length bytes ≡ 0 = λ t. grind arith in
     let back : length bytes ≡ 0 → IsTrue b = λ n. grind arith in
     (λ t. sym view ∙ no_bytes bytes (tell t), λ n. back (sym (total-records_in bytes whole) ∙ ap (λ (xs : List Record). length (flat_map bytes_of xs)) (view ∙ n)))
+
+-- ---- one record more
+
+all-push : (rs : List Record) (r : Record) → AllByRecursion (Fits 2) rs → Fits 2 r → AllByRecursion (Fits 2) (rs ++ r ∷ [])
+all-push [] r fit one = (one, tt)
+all-push (x ∷ rs) r fit one = (fit.0, all-push rs r fit.1 one)
+
+flat_map-push : (rs : List Record) (r : Record) → flat_map bytes_of (rs ++ r ∷ []) ≡ flat_map bytes_of rs ++ bytes_of r
+flat_map-push [] r = append-nil (bytes_of r)
+flat_map-push (x ∷ rs) r = ap (λ (t : List ℕ). bytes_of x ++ t) (flat_map-push rs r) ∙ sym (append_assoc (bytes_of x) (flat_map bytes_of rs) (bytes_of r))
+
+-- bytes of whole records with one record more
+pub pushed_whole : TellTheirSize → AreRead → (xs ys : List ℕ) (r : Record) → IsWhole xs → Fits 2 r → ys ≡ xs ++ bytes_of r → (IsWhole ys) × (records_in ys ≡ records_in xs ++ r ∷ [])
+pushed_whole tell read xs ys r whole fits e =
+    let fit = all-push (records_in xs) r whole.fit fits in
+    let joined : flat_map bytes_of (records_in xs ++ r ∷ []) ≡ ys = flat_map-push (records_in xs) r ∙ ap (λ (t : List ℕ). t ++ bytes_of r) whole.joined ∙ sym e in
+    (whole_of tell read ys (records_in xs ++ r ∷ []) fit joined, records_in-bytes tell read ys (records_in xs ++ r ∷ []) fit joined)

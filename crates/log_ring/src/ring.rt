@@ -4,13 +4,11 @@ ghost use Rattle.std.specs.List.{flat_map, AllByRecursion};
 ghost use Rattle.log_record.specs.declared.record.Record.{Record};
 ghost use Rattle.log_record.specs.Spelling.{bytes_of, total, is_marked, Fits};
 ghost use Rattle.log_ring.specs.Whole.{records_in, IsWhole, Oldest};
-ghost use Rattle.log_record.specs.declared.record.Record.TheVariants.{Edge, FirstLoad};
 ghost use Rattle.log_ring.specs.Kept.{kept, held, HoldsLog, GivesUp, Appends, AppendsAll};
 
-use bn_base::{HartId, Ic};
 use circular_buffer::HeapCircularBuffer;
 use log_record::laws::{tags_tell_sizes, written_records_are_read};
-use log_record::{Record, size, write, write_edge, write_first_load};
+use log_record::{Record, size, write};
 use std::alloc::{AllocError, Global};
 use std::marker::Model;
 
@@ -116,6 +114,14 @@ impl Ring {
         self.bytes.len()
     }
 
+    /// How many bytes its records may have.
+    pub fn size(&self) -> usize
+        ensures value { result ≡ self.now.size }
+        ensures least { 146 ≤ result }
+    {
+        self.bytes.capacity()
+    }
+
     /// Tells whether it holds no record.
     #[tactic(auto, using(crate::proofs::Cuts::empty_when))]
     pub fn is_empty(&self) -> bool
@@ -155,28 +161,6 @@ impl Ring {
         ensures holds { (appended : List Record) → HoldsLog self.old appended → HoldsLog self.new (appended ++ entry.now ∷ []) }
     {
         self.append_bytes(write(entry).as_slice());
-    }
-
-    /// Appends a FirstLoad, as [`append`](Ring::append) does.
-    pub fn append_first_load(&mut self, hart: HartId, skip: u32, value: u32)
-        requires { self.old.dropped + length self.old.records < 2 ^ 60 }
-        ensures latest { self.new.records ≡ kept self.old.size (self.old.records ++ FirstLoad hart skip value ∷ []) }
-        ensures given_up { GivesUp self.old (FirstLoad hart skip value) self.new }
-        ensures size { self.new.size ≡ self.old.size }
-        ensures holds { (appended : List Record) → HoldsLog self.old appended → HoldsLog self.new (appended ++ FirstLoad hart skip value ∷ []) }
-    {
-        self.append_bytes(&write_first_load(hart, skip, value));
-    }
-
-    /// Appends an Edge, as [`append`](Ring::append) does.
-    pub fn append_edge(&mut self, hart: HartId, ic: Ic, from: HartId, from_ic: Ic)
-        requires { self.old.dropped + length self.old.records < 2 ^ 60 }
-        ensures latest { self.new.records ≡ kept self.old.size (self.old.records ++ Edge hart ic from from_ic ∷ []) }
-        ensures given_up { GivesUp self.old (Edge hart ic from from_ic) self.new }
-        ensures size { self.new.size ≡ self.old.size }
-        ensures holds { (appended : List Record) → HoldsLog self.old appended → HoldsLog self.new (appended ++ Edge hart ic from from_ic ∷ []) }
-    {
-        self.append_bytes(&write_edge(hart, ic, from, from_ic));
     }
 
     /// Appends records whose bytes are given, one after another, as so many calls of [`append`](Ring::append) do. They fit

@@ -123,12 +123,12 @@ fn take_turns<R: Print>(rt: &R, plain: &mut Plain, harts: &[HartId]) -> anyhow::
 }
 
 // Prints what a plain machine has, and gives its records.
-fn print_plain<R: Print>(rt: &R, alloc: Global, plain: &Plain) -> anyhow::Result<Vec<u8>> {
+fn print_plain<R: Print>(rt: &R, alloc: Global, plain: Plain) -> anyhow::Result<Vec<u8>> {
     for hart in 0..plain.start().settings.harts() {
         print_end(rt, hart, plain.hart(hart).and_then(|hart| hart.mark))?;
     }
     println!(rt; "turns {}", plain.turns())?;
-    let records = plain.ring().copy(alloc)?;
+    let records = plain.into_recorded().ring.copy(alloc)?;
     print_records(rt, &records)?;
     Ok(records)
 }
@@ -137,10 +137,10 @@ fn print_plain<R: Print>(rt: &R, alloc: Global, plain: &Plain) -> anyhow::Result
 fn play<R: Print>(
     rt: &R,
     alloc: Global,
-    plain: &mut Plain,
+    mut plain: Plain,
     harts: &[HartId],
 ) -> anyhow::Result<Vec<u8>> {
-    take_turns(rt, plain, harts)?;
+    take_turns(rt, &mut plain, harts)?;
     print_plain(rt, alloc, plain)
 }
 
@@ -151,6 +151,6 @@ pub fn run_plain<R: Print>(
     start: &Start,
     harts: &[HartId],
 ) -> anyhow::Result<Vec<u8>> {
-    let mut plain = Plain::new(alloc, start)?;
-    play(rt, alloc, &mut plain, harts)
+    let plain = Plain::new(alloc, start)?;
+    play(rt, alloc, plain, harts)
 }

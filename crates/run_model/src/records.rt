@@ -10,7 +10,7 @@ use bn_base::{EndMark, HartId, HartState, Ic};
 use first_load_bits::Warm;
 use le_numbers::laws::numbers_have_their_width;
 use log_record::Record;
-use log_ring::Ring;
+use log_ring::{Intake, Ring};
 use race_log::Edges;
 use rv_meaning::Reply;
 use std::alloc::{AllocError, Global};
@@ -23,7 +23,7 @@ impl Log {
         ensures bytes { IfOk result (λ l. l.bytes ≡ 0) }
     {
         Ok(Log {
-            ring: Ring::new(alloc, size)?,
+            ring: Intake::new(Ring::new(alloc, size)?),
             bytes: 0,
         })
     }

@@ -1,6 +1,6 @@
 //! The steps of a turn of a plain machine, as a bus takes them: it prepares an ask, then applies it.
 ghost use Rattle.std.specs.Prelude.{◌≡◌, ◌<◌, ◌≤◌, ◌*◌, ◌^◌, ℕ, true, false, length, IsTrue, IfOk, MatchOption};
-ghost use Rattle.run_model.specs.Common.{is_cut, passes, Reply, HoldsLog};
+ghost use Rattle.run_model.specs.Common.{is_cut, passes, Reply};
 ghost use Rattle.rv_meaning.specs.declared.asks.Reply.TheVariants as replies;
 ghost use Rattle.run_model.specs.Machine.{Machine as Meant, call_of};
 ghost use Rattle.run_model.specs.Turn.{Run, span_of, is_orderly, is_guarded, bytes_since, serve_call, serve_disorderly, halted, budget};
@@ -190,14 +190,6 @@ impl Plain {
         self.trace.harts.get(usize::from(hart))
     }
 
-    /// The log: the kept records of the run.
-    pub fn ring(&self) -> &Ring
-        ensures holds { (run : Run) → IsRun (parts self.now) run → HoldsLog result.now run.stream }
-        ensures size { result.now.size ≡ self.now.start.settings.log_size }
-    {
-        &self.trace.log.ring
-    }
-
     /// The bytes of output stream 1.
     pub fn out(&self) -> &[u8]
         ensures { (run : Run) → IsRun (parts self.now) run → result.now ≡ run.machine.out }
@@ -263,7 +255,7 @@ impl Plain {
         let Streams { out, err } = machine.into_streams();
         Recorded {
             harts,
-            ring: log.ring,
+            ring: log.ring.into_ring(),
             out,
             err,
             turns,

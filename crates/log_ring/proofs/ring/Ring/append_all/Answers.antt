@@ -1,6 +1,7 @@
-use Rattle.log_ring.proofs.Common.{◌≡◌, ◌+◌, ◌-◌, ℕ, length, ap, refl, arith, Record, Fits, bytes_of, total, Held, ◌∙◌, ◌≤◌, List, [], ◌∷◌, ◌++◌, drop, sym, ap₂, append_assoc, length-append, flat_map, AllByRecursion, Buffer, buffer, keep_last, TellTheirSize, AreRead, records_in, IsWhole, kept, held, HoldsLog}
+use Rattle.log_ring.proofs.Common.{◌≡◌, ◌+◌, ◌-◌, ℕ, length, ap, refl, arith, Record, Fits, bytes_of, total, Held, ◌∙◌, ◌≤◌, List, [], ◌∷◌, ◌++◌, drop, sym, ap₂, append_assoc, length-append, flat_map, AllByRecursion, Buffer, buffer, keep_last, TellTheirSize, AreRead, records_in, IsWhole, kept, held}
 use Rattle.log_ring.proofs.Cuts.{records_in-bytes, whole_of}
-use Rattle.log_ring.proofs.Fitting.{kept-kepts, kept-appends}
+use Rattle.log_ring.proofs.Fitting.{kept-appends}
+use Rattle.log_ring.proofs.Waits.{still_holds}
 use Rattle.log_ring.proofs.ring.Ring.append_all.Goals as goal
 
 -- What a ring holds after an append of several records.
@@ -59,13 +60,6 @@ invariant_of-self c =
 -- all are counted
 counted_is : (old new : Held) (n gone : ℕ) → new.dropped ≡ old.dropped + gone → gone + length new.records ≡ length old.records + n → new.dropped + length new.records ≡ old.dropped + length old.records + n
 counted_is old new n gone dropped count = omega (arith, dropped, count)
-
-still_holds : (old new : Held) (rs : List Record) → new.records ≡ kept old.size (old.records ++ rs) → new.dropped + length new.records ≡ old.dropped + length old.records + length rs
-    → new.size ≡ old.size → (appended : List Record) → HoldsLog old appended → HoldsLog new (appended ++ rs)
-still_holds old new rs latest counted size appended holds = record {
-  latest = latest ∙ ap (λ (xs : List Record). kept old.size (xs ++ rs)) holds.latest ∙ kept-kepts old.size appended rs ∙ ap (λ (n : ℕ). kept n (appended ++ rs)) (sym size);
-  counted = omega (arith, holds.counted, counted, length-append appended rs);
-}
 
 pub returns : goal.returns
 returns c rs fits bytes =

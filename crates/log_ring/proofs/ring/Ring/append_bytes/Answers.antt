@@ -1,24 +1,9 @@
-use Rattle.log_ring.proofs.Common.{◌≡◌, ◌+◌, ◌-◌, ℕ, length, ap, refl, arith, Record, Fits, bytes_of, Held, ◌∙◌, ◌≤◌, List, [], ◌∷◌, ◌++◌, drop, sym, ap₂, append_assoc, length-append, flat_map, AllByRecursion, append-nil, Buffer, buffer, keep_last, Some, Header, FirstLoad, ScOk, ScFailed, Edge, End, TellTheirSize, AreRead, records_in, IsWhole, kept, held, HoldsLog, GivesUp}
-use Rattle.log_ring.proofs.Cuts.{records_in-bytes, whole_of}
+use Rattle.log_ring.proofs.Common.{◌≡◌, ◌+◌, ◌-◌, ℕ, length, ap, refl, arith, Record, Fits, bytes_of, Held, ◌∙◌, ◌≤◌, List, [], ◌∷◌, ◌++◌, drop, sym, ap₂, length-append, Buffer, buffer, keep_last, Some, Header, FirstLoad, ScOk, ScFailed, Edge, End, TellTheirSize, AreRead, records_in, IsWhole, kept, held, HoldsLog, GivesUp}
+use Rattle.log_ring.proofs.Cuts.{pushed_whole}
 use Rattle.log_ring.proofs.Fitting.{kept-suffix, kept-kept, kept-append}
 use Rattle.log_ring.proofs.ring.Ring.append_bytes.Goals as goal
 
 -- What a ring holds after an append.
-all-push : (rs : List Record) (r : Record) → AllByRecursion (Fits 2) rs → Fits 2 r → AllByRecursion (Fits 2) (rs ++ r ∷ [])
-all-push [] r fit one = (one, tt)
-all-push (x ∷ rs) r fit one = (fit.0, all-push rs r fit.1 one)
-
-flat_map-push : (rs : List Record) (r : Record) → flat_map bytes_of (rs ++ r ∷ []) ≡ flat_map bytes_of rs ++ bytes_of r
-flat_map-push [] r = append-nil (bytes_of r)
-flat_map-push (x ∷ rs) r = ap (λ (t : List ℕ). bytes_of x ++ t) (flat_map-push rs r) ∙ sym (append_assoc (bytes_of x) (flat_map bytes_of rs) (bytes_of r))
-
--- bytes of whole records with one record more
-pushed_whole : TellTheirSize → AreRead → (xs ys : List ℕ) (r : Record) → IsWhole xs → Fits 2 r → ys ≡ xs ++ bytes_of r → (IsWhole ys) × (records_in ys ≡ records_in xs ++ r ∷ [])
-pushed_whole tell read xs ys r whole fits e =
-    let fit = all-push (records_in xs) r whole.fit fits in
-    let joined : flat_map bytes_of (records_in xs ++ r ∷ []) ≡ ys = flat_map-push (records_in xs) r ∙ ap (λ (t : List ℕ). t ++ bytes_of r) whole.joined ∙ sym e in
-    (whole_of tell read ys (records_in xs ++ r ∷ []) fit joined, records_in-bytes tell read ys (records_in xs ++ r ∷ []) fit joined)
-
 keep_all : (n : ℕ) (xs : List ℕ) → length xs ≤ n → keep_last n xs ≡ xs
 keep_all n xs le = let none : length xs - n ≡ 0 = omega arith in ap (λ (k : ℕ). drop k xs) none
 
