@@ -34,7 +34,11 @@ fn bits_outside(width: u8) -> u32
 pub fn loaded_value(addr: Addr, width: u8, signed: bool, word: u32) -> u32
     ensures { result ≡ loaded_value addr width signed word }
 {
-    // Shifts serve every width alike: a branch on the width would often be mispredicted.
+    // Words apart: most loads are of these.
+    if width == 4 && addr % 4 == 0 {
+        return word;
+    }
+    // Shifts serve bytes and halfwords alike: a branch on the width would often be mispredicted.
     let outside = bits_outside(width);
     let top = (word >> (addr % 4 * 8)) << outside;
     if signed {
@@ -51,6 +55,10 @@ pub fn stored_word(addr: Addr, width: u8, value: u32, word: u32) -> u32
     requires { IsTrue (is_aligned addr width) }
     ensures { result ≡ stored_word addr width value word }
 {
+    // Apart, since most stores are of words: so the word before isn't even read.
+    if width == 4 {
+        return value;
+    }
     let mask = u32::MAX >> bits_outside(width);
     let place = addr % 4 * 8;
     (word & !(mask << place)) | ((value & mask) << place)
