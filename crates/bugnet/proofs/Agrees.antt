@@ -1,6 +1,5 @@
 -- What it means that an audit is done.
-use Rattle.bugnet.proofs.Common.{◌≡◌, ℕ, Bool, true, false, List, [], ◌∷◌, Option, Some, None, ◌∙◌, ap, subst, sym, refl, inl, inr, ◌⊎◌, Result, Ok, Err, is_some, bytes_eq, bytes_eq-Decides, sha256, Program, RawSettings, Files, image_of, ElfError, Content, IsContent, Reads, Damage, file_of, list_error, is_version2, version2_of, audited_file, IsVerdict, verdict_of, VerdictsAreUnique, TurnError, Verdict, Agree, Differ, Began, WholeRunsHaveNoError, Line, AuditLine, FileNames, Told, WithFile, IsByLog, by_log, IsByInput, ByPair, pair_loaded, pair_same, pair_of, names_in, names_by, IsByLine, IsAnswer, IsByFiles, by_turns, shown, audited, IsAuditOf, Agrees, told_by, input_roles, Bytes, WithFiles, Call, Tells, SomeTold, StoppedEarly, TellsAnswer, IsRecorded, ElfRefused, LogRefused, ProgramDiffers, BookRefused, FileDiffers, refused-apart, with-files, stopped-free}
-use Rattle.bugnet.specs.Agreements.{AuditsAgree, AuditsRun}
+use Rattle.bugnet.proofs.Common.{◌≡◌, ℕ, Bool, true, false, List, [], ◌∷◌, Option, Some, None, ◌∙◌, ap, subst, sym, refl, inl, inr, ◌⊎◌, Result, Ok, Err, is_some, bytes_eq, bytes_eq-Decides, sha256, Program, RawSettings, Files, image_of, ElfError, Content, IsContent, Reads, Damage, file_of, list_error, is_version2, version2_of, audited_file, IsVerdict, verdict_of, VerdictsAreUnique, TurnError, Verdict, Agree, Differ, Began, WholeRunsHaveNoError, Line, AuditLine, FileNames, Told, WithFile, IsByLog, by_log, IsByInput, ByPair, pair_loaded, pair_same, pair_of, names_in, names_by, IsByLine, IsAnswer, IsByFiles, by_turns, shown, audited, IsAuditOf, Agrees, told_by, input_roles, Bytes, WithFiles, Call, Tells, SomeTold, StoppedEarly, TellsAnswer, IsRecorded, ElfRefused, LogRefused, ProgramDiffers, BookRefused, FileDiffers, refused-apart, with-files, stopped-free, AuditsAgree, AuditsRun}
 use Rattle.log_commands.specs.declared.names.Role.TheVariants as role
 use Rattle.bugnet.proofs.Leaves.{by-file, by-input, free-apart}
 use Rattle.bugnet.proofs.LineTells.{early-free}
@@ -103,13 +102,13 @@ zero-told : (line : Line) (what : Told) (status : ℕ) (k : Call) → Tells (nam
 zero-told line what status k (inl d) done = sym d.status_is ∙ done
 zero-told line what status k (inr s) done = absurd (free-apart status (stopped-free (names_in line) what status k s) (inl done))
 
-audits-done : AuditsAgree → (line : Option Line) (files : Files) (status : ℕ) (k : Call) → SomeTold (IsAnswer line files) (λ what. Tells (names_by line) what status k) ⊎ StoppedEarly line files status k → AuditsRun line files status
+audits-done : AuditsAgree → (line : Option Line) (files : Files) (status : ℕ) (k : Call) → SomeTold (IsAnswer None line files) (λ what. Tells (names_by line) what status k) ⊎ StoppedEarly None line files status k → AuditsRun line files status
 audits-done law (Some (AuditLine log elf book input)) files status k (inl (what, is, tells)) = λ done.
     law log elf book input files what is (zero-told (AuditLine log elf book input) what status k tells done)
-audits-done law (Some (AuditLine log elf book input)) files status k (inr early) = λ done. absurd (free-apart status (early-free (Some (AuditLine log elf book input)) files status k early) (inl done))
+audits-done law (Some (AuditLine log elf book input)) files status k (inr early) = λ done. absurd (free-apart status (early-free None (Some (AuditLine log elf book input)) files status k early) (inl done))
 audits-done law line files status k a = tt
 
-pub call-audits : AuditsAgree → (line : Option Line) (status : ℕ) (k : Call) → TellsAnswer line status k → WithFiles k.old.store.files (λ files. AuditsRun line files status)
+pub call-audits : AuditsAgree → (line : Option Line) (status : ℕ) (k : Call) → TellsAnswer None line status k → WithFiles k.old.store.files (λ files. AuditsRun line files status)
 call-audits law line status k h =
-    with-files k.old.store.files (λ files. SomeTold (IsAnswer line files) (λ what. Tells (names_by line) what status k) ⊎ StoppedEarly line files status k) (λ files. AuditsRun line files status)
+    with-files k.old.store.files (λ files. SomeTold (IsAnswer None line files) (λ what. Tells (names_by line) what status k) ⊎ StoppedEarly None line files status k) (λ files. AuditsRun line files status)
     (λ files a. audits-done law line files status k a) h

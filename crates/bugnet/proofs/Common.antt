@@ -126,7 +126,8 @@ pub use Rattle.step_debugger.specs.declared.error.DebugError.{DebugError}
 pub use Rattle.step_debugger.specs.declared.session.Ending.{Ending}
 pub use Rattle.step_debugger.specs.declared.stop.Stop.{Stop}
 pub use Rattle.whole_runs.specs.Laws.{SeededListsEnd, WholeRunsHaveNoError}
-pub use Rattle.bugnet.specs.Answers.{IsAnswer, IsByLine, IsGiven, IsOn, KindOf, UnlessRefused, line_roles, names_by, names_in, refusal_by, refusal_in, scheduling_by, scheduling_of, setting_refusal, words_refusal}
+pub use Rattle.bugnet.specs.Agreements.{AuditsAgree, AuditsRun}
+pub use Rattle.bugnet.specs.Answers.{IsAnswer, IsByLine, IsOn, KindOf, UnlessRefused, line_roles, names_by, names_in, refusal_by, refusal_in, scheduling_by, setting_refusal, words_refusal}
 pub use Rattle.bugnet.specs.Asks.{FitsLine, LineSaves}
 pub use Rattle.bugnet.specs.ClosedRuns.{IsRecordingBy, IsRecordingOf}
 pub use Rattle.bugnet.specs.Command.Record.{IsByNames, IsByProgram, IsBySettings, IsRecord, is_clash}
@@ -138,11 +139,12 @@ pub use Rattle.bugnet.specs.Jointly.{DoneJointly, HasRun, IsJoined, JoinsRun, Jo
 pub use Rattle.bugnet.specs.Laws.{AreAlike, AreOfOneList, FilesKeepToTheirSize, IsNoRecording, IsNoSession, IsReadOnly, NeedsNoThreads, OneAnswer, OneSession, SeedsAreWhole, book_of}
 pub use Rattle.bugnet.specs.LineAnswers.{AnswersLine}
 pub use Rattle.bugnet.specs.LineCalls.{AnswersDemo, CallsOnly, CallsSo, HasShape, IsSaved, MaySave, RefusedAfter, TellsDemo, TellsRefusal, calls_of, is_printed, is_recorded, is_replayed, line_past, needed_of, needed_roles, past_of}
-pub use Rattle.bugnet.specs.Recordings.{AreScheduled, AreTaken, IsRun, Scheduling, began_by, book_if, end_by, instructions_of, is_fault, is_limit, marks_of, recorded}
+pub use Rattle.bugnet.specs.Recordings.{AreScheduled, AreTaken, IsRun, Scheduling, began_by, book_if, end_by, instructions_of, is_fault, is_limit, marks_of, recorded, taken_by}
 unfoldable pub use Rattle.bugnet.specs.Recordings.{told_run}
-pub use Rattle.bugnet.specs.Replies.{Does, RepliesTo}
+pub use Rattle.bugnet.specs.Program.{Runs}
+pub use Rattle.bugnet.specs.Replies.{Does, DoesTo, RepliesTo, with_end}
 pub use Rattle.bugnet.specs.Run.{ByWords, ChangesFew, IsCounted, Keeps, Obeys, StoppedEarly, TellsAnswer}
-pub use Rattle.bugnet.specs.Saves.{HasElf, HasList, HoldsBytes, KeepsSchedule, Leaves, LeavesRun, LeavesScheduled, SameButSaved, TellsEnd}
+pub use Rattle.bugnet.specs.Saves.{HasElf, HasList, HoldsBytes, KeepsSchedule, Leaves, LeavesRun, SameButSaved, TellsEnd}
 pub use Rattle.bugnet.specs.Sessions.{AreRead, CanDebug, Commands, EndsBy, EndsWithQuit, IsDebug, IsSession, IsUnread, NoQuit, NoneEnds, Reading, ReadsAll, ReadsOnce, SessionOver, SessionReads, debug_with, input_in, is_begun, reading, session_line, session_status, stop_status, whole_input}
 unfoldable pub use Rattle.bugnet.specs.Sessions.{session_told}
 pub use Rattle.bugnet.specs.Starts.{BeginsBy, LoadsStart}

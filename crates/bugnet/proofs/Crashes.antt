@@ -1,5 +1,5 @@
 -- A crash with format 2 is shown by `list` and `replay`.
-use Rattle.bugnet.proofs.Common.{◌≡◌, ℕ, ◌+◌, ◌<◌, ◌≤◌, ◌==◌, ◌&&◌, Bool, true, false, List, [], ◌∷◌, ◌++◌, nat_lt, Some, ◌∙◌, ap, subst, sym, refl, arith, inl, inr, ◌⊎◌, append_assoc, if◌then◌else◌, nat_tests, sha256, fault_number, Program, IsSetting, EndMark, RawSettings, Files, RecordingLine, ListLine, Content, IsContent, saved_bytes, Record, Header, kept_of, dropped_of, content_of, start, run_of, run_from, is_live, legal_from, Run, turn, mark, OwnAsksAreOrderly, IsGuarding, HasEnded, FaultsAreKept, names_in, IsAnswer, WithFile, IsByLog, list_of, IsCrash, mark_of_crash, HasLine, ShowsCrash, CrashesAreShown, RecordingsAreReplayed, marks_of, end_by, end_status, Leaves, RunEnd, mark_in, interval_text, record_text, list_text, Told, ReadingsAreUnique, LogsAreContents, SavedHaveTheirLimit, FilesAreRead}
+use Rattle.bugnet.proofs.Common.{◌≡◌, ℕ, ◌+◌, ◌<◌, ◌≤◌, ◌==◌, ◌&&◌, Bool, true, false, List, [], ◌∷◌, ◌++◌, nat_lt, Some, ◌∙◌, ap, subst, sym, refl, arith, inl, inr, ◌⊎◌, append_assoc, if◌then◌else◌, nat_tests, sha256, fault_number, Program, IsSetting, EndMark, RawSettings, Files, RecordingLine, ListLine, Content, IsContent, saved_bytes, Record, Header, kept_of, dropped_of, content_of, start, run_of, run_from, is_live, legal_from, Run, turn, mark, OwnAsksAreOrderly, IsGuarding, HasEnded, FaultsAreKept, names_in, IsAnswer, WithFile, IsByLog, list_of, IsCrash, mark_of_crash, HasLine, ShowsCrash, CrashesAreShown, RecordingsAreReplayed, marks_of, end_by, end_status, Leaves, RunEnd, mark_in, interval_text, record_text, list_text, Told, ReadingsAreUnique, LogsAreContents, SavedHaveTheirLimit, FilesAreRead, None}
 use Rattle.log_commands.specs.declared.answer.RunEnd.TheVariants as ends
 use Rattle.log_commands.specs.declared.names.Role.TheVariants as role
 use Rattle.bugnet.proofs.LastEnds.{Closes, closes}
@@ -67,7 +67,7 @@ line-of k m rs is =
     subst (λ (n : ℕ). HasLine (interval_text k is.number n m) (list_text rs)) (sym is.found.begins) marked
 
 -- what is answered by the log
-list-told : Grammar → FileLaws → (files : Files) (log : List ℕ) (d : Content) (what : Told) → IsContent d → files log ≡ Some (saved_bytes d) → IsAnswer (Some (ListLine log)) files what → what ≡ list_of d
+list-told : Grammar → FileLaws → (files : Files) (log : List ℕ) (d : Content) (what : Told) → IsContent d → files log ≡ Some (saved_bytes d) → IsAnswer None (Some (ListLine log)) files what → what ≡ list_of d
 unfolding WithFile
 list-told g laws files log d what is there a =
     let names = names_in (ListLine log) in

@@ -1,5 +1,5 @@
 -- What a session of the debugger tells, and what it shows.
-use Rattle.bugnet.proofs.Common.{◌≡◌, ◌≢◌, ◌⊎◌, ℕ, ◌+◌, Bool, true, false, nat_lt, List, [], ◌∷◌, ◌++◌, length, Option, Some, None, ◌∙◌, ap, subst, sym, refl, arith, inl, inr, Result, Ok, Err, Appends, Consumes, sha256, Head, Record, Content, Counts, Rose, Files, WhereTold, AppendsPart, ReadNote, Supply, Stream, Line, DebugLine, JointError, Replay, Joining, fresh, Recording, IsLogOf, begin, Trace, at_start, begin_at, Input, input_limit, is_line_feed, is_too_long, ends_in, with_line, input_from, input_of, RefusalsStay, answers, lines_in, result_by, transcript, transcript_from, Debugs, Debugged, DebugError, Ending, FileNames, status_of, joint_refusal, Told, refused, Either, joined, LoadedPair, HasPair, names_in, names_by, IsAnswer, ShowsRun, SessionsShowTheRun, session_of, DoneSession, ShowsSession, RecordingsCanBeDebugged, PrefixesCanBeDebugged, SessionIs, DebugsFiles, IsNoSession, WithFiles, SendStops, ToldRefusal, Wrote, SameFiles, IsEarly, GivesOf, RefusalCause, Call, printing_on, IsFree, SomeTold, Tells, StoppedBy, StoppedEarly, TellsAnswer, Commands, CanDebug, whole_input, input_in, IsUnread, SessionReads, SessionOver, AreRead, stop_status, session_status, session_line, session_told, debug_with, IsSession, IsDebug, is_begun, Reading, reading, ToldStop, DebugsPair, DebugsNamed, DebugsEnds, JointReading, Refusal, TooLong, Causes, caused, told-apart, appends-nothing, part-none, part-whole, with-files, refused-told, stopped-told, stopped-free, same-files, untouched, with-any, Does, Note, EndsThere, EndsAll, IsReadOnce, StopsAtLine, StopsAtEnd, StopsInLine, EndsWithLine as LineEnds, ReadsUpTo as UpTo, NoQuit, EndsWithQuit, NoneEnds, ReadsAll, EndsBy, ReadsOnce}
+use Rattle.bugnet.proofs.Common.{◌≡◌, ◌≢◌, ◌⊎◌, ℕ, ◌+◌, Bool, true, false, nat_lt, List, [], ◌∷◌, ◌++◌, length, Option, Some, None, ◌∙◌, ap, subst, sym, refl, arith, inl, inr, Result, Ok, Err, Appends, Consumes, sha256, Head, Record, Content, Counts, Rose, Files, WhereTold, AppendsPart, ReadNote, Supply, Stream, Line, DebugLine, JointError, Replay, Joining, fresh, Recording, IsLogOf, begin, Trace, at_start, begin_at, Input, input_limit, is_line_feed, is_too_long, ends_in, with_line, input_from, input_of, RefusalsStay, answers, lines_in, result_by, transcript, transcript_from, Debugs, Debugged, DebugError, Ending, FileNames, status_of, joint_refusal, Told, refused, Either, joined, LoadedPair, HasPair, names_in, names_by, IsAnswer, ShowsRun, SessionsShowTheRun, session_of, DoneSession, ShowsSession, RecordingsCanBeDebugged, PrefixesCanBeDebugged, SessionIs, DebugsFiles, IsNoSession, WithFiles, SendStops, ToldRefusal, Wrote, SameFiles, IsEarly, GivesOf, RefusalCause, Call, printing_on, IsFree, SomeTold, Tells, StoppedBy, StoppedEarly, TellsAnswer, Commands, CanDebug, whole_input, input_in, IsUnread, SessionReads, SessionOver, AreRead, stop_status, session_status, session_line, session_told, debug_with, IsSession, IsDebug, is_begun, Reading, reading, ToldStop, DebugsPair, DebugsNamed, DebugsEnds, JointReading, Refusal, TooLong, Causes, caused, told-apart, appends-nothing, part-none, part-whole, with-files, refused-told, stopped-told, stopped-free, same-files, untouched, with-any, Does, Note, EndsThere, EndsAll, IsReadOnce, StopsAtLine, StopsAtEnd, StopsInLine, EndsWithLine as LineEnds, ReadsUpTo as UpTo, NoQuit, EndsWithQuit, NoneEnds, ReadsAll, EndsBy, ReadsOnce, Schedule}
 use Rattle.std.proofs.KnownBytes.{Consumes-nil}
 use Rattle.hart_replay.specs.declared.error.ReplayError.TheVariants as replay
 use Rattle.joint_replay.specs.declared.error.JointError.TheVariants as joint
@@ -471,9 +471,9 @@ session-so : (names : FileNames) (r : Recording) (c : Commands) (d : Content) �
 session-so names r c d head = ap (λ (h : Head). session_told names (transcript (fresh r.program h.settings.harts d.records) (input_in c))) head
 
 pub shows-session : Grammar → Limits → SessionsShowTheRun → RefusalsStay → (c : Commands) (log elf : List ℕ) (files : Files) (status : ℕ) (k : Call)
-    → SomeTold (IsSession c files (names_in (DebugLine log elf))) (λ what. Tells (names_in (DebugLine log elf)) what status k) ⊎ StoppedEarly (Some (DebugLine log elf)) files status k
+    → SomeTold (IsSession c files (names_in (DebugLine log elf))) (λ what. Tells (names_in (DebugLine log elf)) what status k) ⊎ StoppedEarly None (Some (DebugLine log elf)) files status k
     → ShowsSession c log elf files status k.old.out.text k.new.out.text
-shows-session g limits show stay c log elf files status k (inr early) r h = inl (early-free (Some (DebugLine log elf)) files status k early)
+shows-session g limits show stay c log elf files status k (inr early) r h = inl (early-free None (Some (DebugLine log elf)) files status k early)
 shows-session g limits show stay c log elf files status k (inl a) r h =
     let names = names_in (DebugLine log elf) in
     let d = h.says.log in
@@ -501,7 +501,7 @@ prefixes_can_be_debugged can stay c more log elf files r h small whole none = ca
 
 -- a session for which there was no memory has no commands
 unread-done : Grammar → FileLaws → Limits → (c : Commands) (log elf : List ℕ) (files : Files) (status : ℕ) (k : Call)
-    → SomeTold (IsSession c files (names_in (DebugLine log elf))) (λ what. Tells (names_in (DebugLine log elf)) what status k) ⊎ StoppedEarly (Some (DebugLine log elf)) files status k
+    → SomeTold (IsSession c files (names_in (DebugLine log elf))) (λ what. Tells (names_in (DebugLine log elf)) what status k) ⊎ StoppedEarly None (Some (DebugLine log elf)) files status k
     → c.bytes ≡ [] → c.failed ≡ false → (all : Commands) → CanDebug all log elf files → IsFree status ⊎ (status ≡ 0)
 unread-done g laws limits c log elf files status k x none whole all can =
     let j : Joining = joined can.content can.program in
@@ -511,7 +511,7 @@ unread-done g laws limits c log elf files status k x none whole all can =
 
 -- where all that the source had left isn't stopped it is done, unless a read failed
 all-done : Grammar → FileLaws → Limits → (c : Commands) (log elf : List ℕ) (files : Files) (status : ℕ) (input now_input : Supply) (notes : ReadNote) (k : Call)
-    → SomeTold (IsSession c files (names_in (DebugLine log elf))) (λ what. Tells (names_in (DebugLine log elf)) what status k) ⊎ StoppedEarly (Some (DebugLine log elf)) files status k
+    → SomeTold (IsSession c files (names_in (DebugLine log elf))) (λ what. Tells (names_in (DebugLine log elf)) what status k) ⊎ StoppedEarly None (Some (DebugLine log elf)) files status k
     → SessionIs c log elf files status input now_input notes k → (all : List ℕ) → input.left ≡ Some all → CanDebug (whole_input all) log elf files → IsFree status ⊎ ((status ≡ 12) ⊎ (status ≡ 0))
 all-done g laws limits c log elf files status input now_input notes k x (inl none) all is can =
     elim (unread-done g laws limits c log elf files status k x none.0 none.1 (whole_input all) can) [ inl free ↦ inl free | inr zero ↦ inr (inr zero) ]
@@ -539,33 +539,33 @@ debugs-so g laws limits show stay names log elf status i k e h =
           (subst (λ (n : FileNames). WithFiles k.old.store.files (λ files. SessionIs c n.log n.elf files status i.before i.after i.notes k)) e h.3),
     )
 
-pub answers-so : (names : FileNames) (log elf : List ℕ) (status : ℕ) (input now_input : Supply) (notes : ReadNote) (k : Call) → names ≡ names_in (DebugLine log elf)
-    → DebugsNamed names status input now_input notes k → TellsAnswer (Some (DebugLine log elf)) status k
-answers-so names log elf status input now_input notes k e h =
+pub answers-so : (o : Option Schedule) (names : FileNames) (log elf : List ℕ) (status : ℕ) (input now_input : Supply) (notes : ReadNote) (k : Call) → names ≡ names_in (DebugLine log elf)
+    → DebugsNamed names status input now_input notes k → TellsAnswer o (Some (DebugLine log elf)) status k
+answers-so o names log elf status input now_input notes k e h =
     let c = h.0 in
     let own = names_in (DebugLine log elf) in
     with-files k.old.store.files (λ files. SomeTold (IsSession c files own) (λ what. Tells own what status k) ⊎ StoppedBy own (λ files. IsDebug files own) files status k)
-    (λ files. SomeTold (IsAnswer (Some (DebugLine log elf)) files) (λ what. Tells own what status k) ⊎ StoppedEarly (Some (DebugLine log elf)) files status k) (λ files x. so files x)
+    (λ files. SomeTold (IsAnswer o (Some (DebugLine log elf)) files) (λ what. Tells own what status k) ⊎ StoppedEarly o (Some (DebugLine log elf)) files status k) (λ files x. so files x)
     (subst (λ (n : FileNames). WithFiles k.old.store.files (λ files. SomeTold (IsSession c files n) (λ what. Tells n what status k) ⊎ StoppedBy n (λ files. IsDebug files n) files status k)) e h.2)
   where
-    so : (files : Files) → SomeTold (IsSession h.0 files (names_in (DebugLine log elf))) (λ what. Tells (names_in (DebugLine log elf)) what status k) ⊎ StoppedEarly (Some (DebugLine log elf)) files status k
-        → SomeTold (IsAnswer (Some (DebugLine log elf)) files) (λ what. Tells (names_in (DebugLine log elf)) what status k) ⊎ StoppedEarly (Some (DebugLine log elf)) files status k
+    so : (files : Files) → SomeTold (IsSession h.0 files (names_in (DebugLine log elf))) (λ what. Tells (names_in (DebugLine log elf)) what status k) ⊎ StoppedEarly o (Some (DebugLine log elf)) files status k
+        → SomeTold (IsAnswer o (Some (DebugLine log elf)) files) (λ what. Tells (names_in (DebugLine log elf)) what status k) ⊎ StoppedEarly o (Some (DebugLine log elf)) files status k
     so files (inl a) = inl (a.0, (h.0, a.1), a.2)
     so files (inr early) = inr early
 
 -- of a line that is a session
-pub session-does : {I : Type 0} → Grammar → FileLaws → Limits → SessionsShowTheRun → RefusalsStay → (line : Line) (names : FileNames) (status : ℕ) (note : Note) (i : Reading I) (k : Call) → (IsNoSession (Some line) → ⊥) → names ≡ names_in line
-    → DebugsEnds names status note i k → Does (Some line) status note i k
-session-does g laws limits show stay (DebugLine log elf) names status note i k is e d = record {
+pub session-does : {I : Type 0} → (o : Option Schedule) → Grammar → FileLaws → Limits → SessionsShowTheRun → RefusalsStay → (line : Line) (names : FileNames) (status : ℕ) (note : Note) (i : Reading I) (k : Call) → (IsNoSession (Some line) → ⊥) → names ≡ names_in line
+    → DebugsEnds names status note i k → Does o (Some line) status note i k
+session-does o g laws limits show stay (DebugLine log elf) names status note i k is e d = record {
   replies = record {
     obeys = record {
-      told = answers-so names log elf status i.before i.after i.notes k e d.told;
+      told = answers-so o names log elf status i.before i.after i.notes k e d.told;
       words = d.words;
       counted = d.counted;
     };
     still = λ p. d.same;
     saves = d.asks;
-    calls = session-calls log elf note names status k e d.calls;
+    calls = session-calls o log elf note names status k e d.calls;
     demo = tt;
     recorded = tt;
   };
@@ -581,15 +581,15 @@ session-does g laws limits show stay (DebugLine log elf) names status note i k i
     begins : (i.new ≡ i.old) ⊎ WithFiles k.old.store.files (λ files. HasPair names.log names.elf files) → (i.new ≡ i.old) ⊎ WithFiles k.old.store.files (λ files. HasPair log elf files)
     begins (inl same) = inl same
     begins (inr has) = inr (subst (λ (n : FileNames). WithFiles k.old.store.files (λ files. HasPair n.log n.elf files)) e has)
-session-does g laws limits show stay line names status note i k is e d = absurd (is tt)
+session-does o g laws limits show stay line names status note i k is e d = absurd (is tt)
 
 -- there was no memory for the words
 pub debugs-early : {I : Type 0} (line : Option Line) (status : ℕ) (source : I → Supply) (gives : ReadNote) (input : I) (k : Call) → Appends k.old.out.text k.new.out.text [] → k.new.store.files ≡ k.old.store.files
     → ToldRefusal (names_by line) why.OutOfMemory status k.old.err.text k.new.err.text k.old.err.faults k.new.err.faults → DebugsLine line status (reading source gives input input) k
 debugs-early (Some (DebugLine log elf)) status source gives input k out same told =
     let nine = memory-status (names_in (DebugLine log elf)) status k.old.err.text k.new.err.text k.old.err.faults k.new.err.faults told in
-    let early : (files : Files) → StoppedEarly (Some (DebugLine log elf)) files status k = λ files. record { refusal = why.OutOfMemory; early = inl refl; out = out; same = same; told = told } in
-    let free : (files : Files) → IsFree status = λ files. early-free (Some (DebugLine log elf)) files status k (early files) in (
+    let early : (files : Files) → StoppedEarly None (Some (DebugLine log elf)) files status k = λ files. record { refusal = why.OutOfMemory; early = inl refl; out = out; same = same; told = told } in
+    let free : (files : Files) → IsFree status = λ files. early-free None (Some (DebugLine log elf)) files status k (early files) in (
       no_commands,
       none-read status (source input) gives (λ f. omega (arith, f, nine)) (λ f. omega (arith, f, nine)),
       with-any k.old.store.files (λ files. DebugsFiles no_commands log elf files status (source input) (source input) gives k) (λ files. record {

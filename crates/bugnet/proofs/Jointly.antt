@@ -106,7 +106,7 @@ joins g law sizes files r line j what is =
 pub joint_headline : ReadingsAreUnique → JointReplaysSayTheRun → of_first.HaveTheirSize → of_second.HaveTheirSize → AreFew → JointHeadline
 joint_headline readings law first second few line files r j what is =
     subst (λ (l : Option Line). IsJoined l r j.says.log.records what) (sym j.command)
-    (joins (record { one_reading = readings }) law (record { first = first; second = second; few = few }) files r line j what (subst (λ (l : Option Line). IsAnswer l files what) j.command is))
+    (joins (record { one_reading = readings }) law (record { first = first; second = second; few = few }) files r line j what (subst (λ (l : Option Line). IsAnswer None l files what) j.command is))
 
 -- what a recording left
 pub joined_so : LogsAreContents → SavedHaveTheirLimit → FilesAreRead → KeptIsAnEnd → JointHeadline → RecordingsAreJoined
@@ -154,12 +154,12 @@ abbrev Prints : ℕ → Call → Recording → List Record → Type 0
 Prints status k r records = IsFree status ⊎ Either (nat_lt 67108864 (length r.elf)) (status ≡ 5) (DoneJointly r records status k.old.out.text k.new.out.text)
 
 printed-so : JointHeadline → (line : Option Line) (files : Files) (r : Recording) (j : JoinsRun line files r) (status : ℕ) (k : Call)
-    → SomeTold (IsAnswer line files) (λ what. Tells (names_by line) what status k) ⊎ StoppedEarly line files status k → Prints status k r j.says.log.records
-printed-so law line files r j status k (inr early) = inl (early-free line files status k early)
+    → SomeTold (IsAnswer None line files) (λ what. Tells (names_by line) what status k) ⊎ StoppedEarly None line files status k → Prints status k r j.says.log.records
+printed-so law line files r j status k (inr early) = inl (early-free None line files status k early)
 printed-so law line files r j status k (inl found) =
     told-so (nat_lt 67108864 (length r.elf)) (names_by line) r j.says.log.records found.0 status k (law line files r j found.0 found.1) found.2
 
-pub prints-jointly : JointHeadline → (line : Option Line) (status : ℕ) (k : Call) → TellsAnswer line status k → WithFiles k.old.store.files (λ files. PrintsJointly line files status k.old.out.text k.new.out.text)
+pub prints-jointly : JointHeadline → (line : Option Line) (status : ℕ) (k : Call) → TellsAnswer None line status k → WithFiles k.old.store.files (λ files. PrintsJointly line files status k.old.out.text k.new.out.text)
 prints-jointly law line status k h =
-    with-files k.old.store.files (λ files. SomeTold (IsAnswer line files) (λ what. Tells (names_by line) what status k) ⊎ StoppedEarly line files status k)
+    with-files k.old.store.files (λ files. SomeTold (IsAnswer None line files) (λ what. Tells (names_by line) what status k) ⊎ StoppedEarly None line files status k)
     (λ files. PrintsJointly line files status k.old.out.text k.new.out.text) (λ files found r j. printed-so law line files r j status k found) h

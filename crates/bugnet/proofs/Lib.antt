@@ -26,3 +26,4 @@ mod LineTells
 mod RecordLoads
 pub mod LineAnswers
 mod Replied
+mod Promises

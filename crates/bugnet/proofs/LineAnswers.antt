@@ -1,5 +1,5 @@
 -- What a line has to answer, by the bytes that are loaded for it.
-use Rattle.bugnet.proofs.Common.{◌≡◌, List, [], Option, Some, None, Bool, true, false, ap, subst, sym, refl, inr, Result, Ok, Err, IfOk, bytes_eq, Counts, Files, Line, RecordLine, ReplayLine, JointLine, DebugLine, ConvertLine, SalvageLine, DemoLine, IsByFiles, Answers, no_bytes, IsLoaded, FileNames, WithFiles, GivesBy, CauseBy, ResultCause, IsPrinted, told_of, name_refusal, Told, refused, Answer, Role, Refusal, SameName, loads-stop, loads-give, with-also, names_in, refusal_in, line_roles, UnlessRefused, IsByLine, IsAnswer, IsOn, KindOf, FitsLine, IsReadOnly, IsNoSession, IsNoRecording, needed_roles, AnswersDemo}
+use Rattle.bugnet.proofs.Common.{◌≡◌, List, [], Option, Some, None, Bool, true, false, ap, subst, sym, refl, inr, Result, Ok, Err, IfOk, bytes_eq, Counts, Files, Line, RecordLine, ReplayLine, JointLine, DebugLine, ConvertLine, SalvageLine, DemoLine, IsByFiles, Answers, no_bytes, IsLoaded, FileNames, WithFiles, GivesBy, CauseBy, ResultCause, IsPrinted, told_of, name_refusal, Told, refused, Answer, Role, Refusal, SameName, loads-stop, loads-give, with-also, names_in, refusal_in, line_roles, UnlessRefused, IsByLine, IsAnswer, IsOn, KindOf, FitsLine, IsReadOnly, IsNoSession, IsNoRecording, needed_roles, AnswersDemo, Schedule}
 use Rattle.log_commands.specs.Inputs.{bytes_of}
 use Rattle.log_commands.specs.declared.inputs.Inputs.{Inputs}
 use Rattle.bugnet.proofs.LineCalls.{made-printed}
@@ -7,10 +7,10 @@ use Rattle.bugnet.proofs.LineCalls.{made-printed}
 -- ---- by the files
 
 -- what a line says, if it records nothing and reads no commands
-as-line : (line : Line) (files : Files) (what : Told) → IsNoSession (Some line) → IsNoRecording (Some line) → IsByLine line files what → IsAnswer (Some line) files what
-as-line (RecordLine r) files what s n h = absurd n
-as-line (DebugLine log elf) files what s n h = absurd s
-as-line line files what s n h = h
+as-line : (o : Option Schedule) (line : Line) (files : Files) (what : Told) → IsNoSession (Some line) → IsNoRecording (Some line) → IsByLine line files what → IsAnswer o (Some line) files what
+as-line o (RecordLine r) files what s n h = absurd n
+as-line o (DebugLine log elf) files what s n h = absurd s
+as-line o line files what s n h = h
 
 unrefused : (o : Option Refusal) (names : FileNames) (Is : Told → Type 0) (what : Told) → o ≡ None → Is what → UnlessRefused o names Is what
 unrefused None names Is what e h = h
@@ -26,26 +26,26 @@ is-refused (Some x) names Is r e =
 abbrev ByFiles : Line → Files → Told → Type 0
 ByFiles line f what = IsByFiles f (names_in line) (line_roles line) no_bytes (IsOn line (names_in line)) what
 
-line-by : (line : Line) (files : Files) (what : Told) → IsNoSession (Some line) → IsNoRecording (Some line) → refusal_in line ≡ None → ByFiles line files what → IsAnswer (Some line) files what
-line-by line files what s n e h = as-line line files what s n (unrefused (refusal_in line) (names_in line) (λ what. ByFiles line files what) what e h)
+line-by : (o : Option Schedule) (line : Line) (files : Files) (what : Told) → IsNoSession (Some line) → IsNoRecording (Some line) → refusal_in line ≡ None → ByFiles line files what → IsAnswer o (Some line) files what
+line-by o line files what s n e h = as-line o line files what s n (unrefused (refusal_in line) (names_in line) (λ what. ByFiles line files what) what e h)
 
-pub stops-line : (line : Line) (known : Option Files) (names : FileNames) (roles : List Role) (r : Refusal) → names ≡ names_in line → roles ≡ line_roles line
+pub stops-line : (o : Option Schedule) (line : Line) (known : Option Files) (names : FileNames) (roles : List Role) (r : Refusal) → names ≡ names_in line → roles ≡ line_roles line
     → IsNoSession (Some line) → IsNoRecording (Some line) → refusal_in line ≡ None
-    → WithFiles known (λ files. IsLoaded names roles files (Err r)) → WithFiles known (λ files. GivesBy names (IsAnswer (Some line)) files (Err r))
-stops-line line known names roles r own same s n e h =
-    subst (λ (m : FileNames). WithFiles known (λ files. GivesBy m (IsAnswer (Some line)) files (Err r))) (sym own)
-    (with-also (told_of (names_in line)) (names_in line) (λ f what. ByFiles line f what) (λ f what. IsAnswer (Some line) f what) (λ f what. line-by line f what s n e) known (Err r)
+    → WithFiles known (λ files. IsLoaded names roles files (Err r)) → WithFiles known (λ files. GivesBy names (IsAnswer o (Some line)) files (Err r))
+stops-line o line known names roles r own same s n e h =
+    subst (λ (m : FileNames). WithFiles known (λ files. GivesBy m (IsAnswer o (Some line)) files (Err r))) (sym own)
+    (with-also (told_of (names_in line)) (names_in line) (λ f what. ByFiles line f what) (λ f what. IsAnswer o (Some line) f what) (λ f what. line-by o line f what s n e) known (Err r)
     (loads-stop (told_of (names_in line)) (IsOn line (names_in line)) (line_roles line) known (names_in line) r
     (subst (λ (m : FileNames). WithFiles known (λ files. IsLoaded m (line_roles line) files (Err r))) own
     (subst (λ (rs : List Role). WithFiles known (λ files. IsLoaded names rs files (Err r))) same h))))
 
-pub gives-line : (line : Line) (known : Option Files) (names : FileNames) (roles : List Role) (inputs : Inputs) (result : Result Answer Refusal) → names ≡ names_in line → roles ≡ line_roles line
+pub gives-line : (o : Option Schedule) (line : Line) (known : Option Files) (names : FileNames) (roles : List Role) (inputs : Inputs) (result : Result Answer Refusal) → names ≡ names_in line → roles ≡ line_roles line
     → IsNoSession (Some line) → IsNoRecording (Some line) → refusal_in line ≡ None
     → WithFiles known (λ files. IsLoaded names roles files (Ok inputs)) → Answers (KindOf line) (λ names. IsOn line names (bytes_of inputs)) result
-    → WithFiles known (λ files. GivesBy names (IsAnswer (Some line)) files result)
-gives-line line known names roles inputs result own same s n e h a =
-    subst (λ (m : FileNames). WithFiles known (λ files. GivesBy m (IsAnswer (Some line)) files result)) (sym own)
-    (with-also (told_of (names_in line)) (names_in line) (λ f what. ByFiles line f what) (λ f what. IsAnswer (Some line) f what) (λ f what. line-by line f what s n e) known result
+    → WithFiles known (λ files. GivesBy names (IsAnswer o (Some line)) files result)
+gives-line o line known names roles inputs result own same s n e h a =
+    subst (λ (m : FileNames). WithFiles known (λ files. GivesBy m (IsAnswer o (Some line)) files result)) (sym own)
+    (with-also (told_of (names_in line)) (names_in line) (λ f what. ByFiles line f what) (λ f what. IsAnswer o (Some line) f what) (λ f what. line-by o line f what s n e) known result
     (loads-give (told_of (names_in line)) (IsOn line (names_in line)) (line_roles line) known (names_in line) inputs result
     (subst (λ (m : FileNames). WithFiles known (λ files. IsLoaded m (line_roles line) files (Ok inputs))) own
     (subst (λ (rs : List Role). WithFiles known (λ files. IsLoaded names rs files (Ok inputs))) same h)) (a.gives (names_in line))))
@@ -57,12 +57,12 @@ refused-lines : (line : Line) (r : Refusal) → refusal_in line ≡ Some r → I
 refused-lines (DebugLine log elf) r e = absurd cc
 refused-lines line r e = tt
 
-pub words-line : (line : Line) (known : Option Files) (names : FileNames) (r : Refusal) → names ≡ names_in line → IsNoRecording (Some line) → refusal_in line ≡ Some r
-    → WithFiles known (λ files. GivesBy names (IsAnswer (Some line)) files (Err r))
-words-line line None names r own n e = tt
-words-line line (Some files) names r own n e =
-    inr (subst (λ (m : FileNames). IsAnswer (Some line) files (refused m r)) (sym own)
-    (as-line line files (refused (names_in line) r) (refused-lines line r e) n (is-refused (refusal_in line) (names_in line) (λ what. ByFiles line files what) r e)))
+pub words-line : (o : Option Schedule) (line : Line) (known : Option Files) (names : FileNames) (r : Refusal) → names ≡ names_in line → IsNoRecording (Some line) → refusal_in line ≡ Some r
+    → WithFiles known (λ files. GivesBy names (IsAnswer o (Some line)) files (Err r))
+words-line o line None names r own n e = tt
+words-line o line (Some files) names r own n e =
+    inr (subst (λ (m : FileNames). IsAnswer o (Some line) files (refused m r)) (sym own)
+    (as-line o line files (refused (names_in line) r) (refused-lines line r e) n (is-refused (refusal_in line) (names_in line) (λ what. ByFiles line files what) r e)))
 
 by-name : (b : Bool) (r : Refusal) (before now : Counts) → name_refusal b ≡ Some r → CauseBy {A = Answer} (name_refusal b) before now (Err r)
 by-name true r before now e =

@@ -1,5 +1,5 @@
 -- Which calls a line makes of its store.
-use Rattle.bugnet.proofs.Common.{◌≡◌, ◌≢◌, ℕ, List, [], ◌++◌, Option, Some, None, ◌∙◌, ap, subst, sym, refl, arith, true, false, Bool, inl, inr, ◌⊎◌, append_assoc, Result, Ok, Err, IfOk, is_some, option_map, Appends, append-nil, first_bad, Line, RecordLine, ReplayLine, JointLine, DebugLine, ConvertLine, SalvageLine, DemoLine, seen_recording, RecordOptions, demo_text, Outcome, Refused, interval_of, replayed, ReplayError, JointError, Replay, run_all, joint_text, Content, Program, EndMark, FileNames, no_names, names_in, names_by, scheduling_of, setting_refusal, refusal_in, refusal_by, IsAnswer, line_roles, replay_status, joint_refusal, IsRenewed, IsRecordedRun, IsMade, FitsLine, FileCall, Note, Saves, noted_after, loads_of, saves_of, has_save, input_roles, record_roles, elf_roles, saved_in, saves_in, IsOfContent, StopsAt, LoadsUpTo, CallsTo, LoadsTo, CallsBy, IsOfSave, SaveRefused, SavesTold, needed_roles, IsSaved, MaySave, calls_of, needed_of, is_printed, is_replayed, is_recorded, line_past, past_of, RefusedAfter, CallsSo, CallsOnly, TellsRefusal, HasShape, AnswersDemo, TellsDemo, is_clash, replay_found, ended, ran_told, joined, joint_with, IsReadOnly, IsNoSession, WithFiles, CauseBy, IsPrinted, ToldRefusal, told_of, pair_roles, end_status, Call, IsFree, SomeTold, Tells, is_begun, Told, Saved, refused, printed, printed_until, Answer, Recorded, Joined, Checked, Agreed, Renewed, Shown, RunEnd, Scheduling, Role, Refusal, OutOfMemory, ReplayStopped, WordsRefused, part-longer, part-whole, from, stopped-free, memory-names, memory, same-files, with-files, ends-behind, noted-append, loads-alone, Stored, not}
+use Rattle.bugnet.proofs.Common.{◌≡◌, ◌≢◌, ℕ, List, [], ◌++◌, Option, Some, None, ◌∙◌, ap, subst, sym, refl, arith, true, false, Bool, inl, inr, ◌⊎◌, append_assoc, Result, Ok, Err, IfOk, is_some, option_map, Appends, append-nil, first_bad, Line, RecordLine, ReplayLine, JointLine, DebugLine, ConvertLine, SalvageLine, DemoLine, seen_recording, RecordOptions, demo_text, Outcome, Refused, interval_of, replayed, ReplayError, JointError, Replay, run_all, joint_text, Content, Program, EndMark, FileNames, no_names, names_in, names_by, scheduling_by, setting_refusal, refusal_in, refusal_by, IsAnswer, line_roles, replay_status, joint_refusal, IsRenewed, IsRecordedRun, IsMade, FitsLine, FileCall, Note, Saves, noted_after, loads_of, saves_of, has_save, input_roles, record_roles, elf_roles, saved_in, saves_in, IsOfContent, StopsAt, LoadsUpTo, CallsTo, LoadsTo, CallsBy, IsOfSave, SaveRefused, SavesTold, needed_roles, IsSaved, MaySave, calls_of, needed_of, is_printed, is_replayed, is_recorded, line_past, past_of, RefusedAfter, CallsSo, CallsOnly, TellsRefusal, HasShape, AnswersDemo, TellsDemo, is_clash, replay_found, ended, ran_told, joined, joint_with, IsReadOnly, IsNoSession, WithFiles, CauseBy, IsPrinted, ToldRefusal, told_of, pair_roles, end_status, Call, IsFree, SomeTold, Tells, is_begun, Told, Saved, refused, printed, printed_until, Answer, Recorded, Joined, Checked, Agreed, Renewed, Shown, RunEnd, Scheduling, Role, Refusal, OutOfMemory, ReplayStopped, WordsRefused, part-longer, part-whole, from, stopped-free, memory-names, memory, same-files, with-files, ends-behind, noted-append, loads-alone, Stored, not, Schedule}
 use Rattle.log_commands.specs.declared.answer.Answer.TheVariants.{Listed}
 use Rattle.hart_replay.specs.Replay as rows
 use Rattle.hart_replay.specs.declared.error.ReplayError.TheVariants as replay
@@ -59,11 +59,11 @@ mapped A B f None = refl
 mapped A B f (Some a) = refl
 
 -- and by what a recording's line asks for
-pub record-calls : (A : Type 0) (note : Note) (names : FileNames) (r : RecordOptions) (how : Scheduling) (has : Bool) (before after : ℕ) (result : Result A Refusal) → names ≡ names_in (RecordLine (seen_recording r))
-    → how ≡ scheduling_of (seen_recording r) → has ≡ is_some r.input
+pub record-calls : (A : Type 0) (note : Note) (names : FileNames) (r : RecordOptions) (o : Option Schedule) (how : Scheduling) (has : Bool) (before after : ℕ) (result : Result A Refusal) → names ≡ names_in (RecordLine (seen_recording r))
+    → how ≡ scheduling_by (seen_recording r) o → has ≡ is_some r.input
     → CallsBy (setting_refusal (first_bad r.settings) (is_clash how.lean names.log names.book)) names (record_roles has) elf_roles note before after result
     → CallsBy (refusal_in (RecordLine (seen_recording r))) names (line_roles (RecordLine (seen_recording r))) (needed_roles (RecordLine (seen_recording r))) note before after result
-record-calls A note names r how has before after result e m input h =
+record-calls A note names r o how has before after result e m input h =
     let s = seen_recording r in
     let there : has ≡ is_some s.input = input ∙ sym (mapped _ _ _ r.input) in
     subst (λ (n : FileNames). CallsBy (setting_refusal (first_bad s.settings) (is_clash s.lean n.log n.book)) names (record_roles (is_some s.input)) elf_roles note before after result) e
@@ -255,9 +255,9 @@ abbrev SavesNone : FileNames → (calls needed : List FileCall) → Option Refus
 SavesNone names calls needed words past status note k = (so : CallsSo names calls needed words past status note k) × (has_save so.made ≡ false)
 
 -- those of a line
-none-saved : (line : Option Line) (saved : Option Saved) (status : ℕ) (note : Note) (k : Call) → MaySave line saved
-    → SavesNone (names_by line) (calls_of line saved) (needed_of line) (refusal_by line) (past_of line) status note k → CallsOnly line status note k
-none-saved line saved status note k fits (so, none) = record { saved = saved; fits = fits; so = so; own = λ some. no-save (has_save so.made) none some }
+none-saved : (o : Option Schedule) (line : Option Line) (saved : Option Saved) (status : ℕ) (note : Note) (k : Call) → MaySave line saved
+    → SavesNone (names_by line) (calls_of line saved) (needed_of line) (refusal_by line) (past_of line) status note k → CallsOnly o line status note k
+none-saved o line saved status note k fits (so, none) = record { saved = saved; fits = fits; so = so; own = λ some. no-save (has_save so.made) none some }
 
 -- it is refused before it saves
 refused-so : (A : Type 0) (note : Note) (names : FileNames) (o : Option Refusal) (roles needed : List Role) (saves : List FileCall) (past : ℕ → Bool) (r : Refusal) (status : ℕ) (k : Call)
@@ -284,12 +284,12 @@ refused-so A note names None roles needed saves past r status k h c out told = (
   loads-alone roles h.made h.left h.parts,
 )
 
-pub refusal-calls : (A : Type 0) (note : Note) (line : Line) (names : FileNames) (r : Refusal) (status : ℕ) (k : Call) → names ≡ names_in line
+pub refusal-calls : (o : Option Schedule) (A : Type 0) (note : Note) (line : Line) (names : FileNames) (r : Refusal) (status : ℕ) (k : Call) → names ≡ names_in line
     → CallsBy {A = A} (refusal_in line) names (line_roles line) (needed_roles line) note k.old.store.noted k.new.store.noted (Err r) → CauseBy {A = A} (refusal_in line) k.old.store.counts k.new.store.counts (Err r)
-    → Appends k.old.out.text k.new.out.text [] → ToldRefusal names r status k.old.err.text k.new.err.text k.old.err.faults k.new.err.faults → CallsOnly (Some line) status note k
-refusal-calls A note line names r status k e h c out told =
+    → Appends k.old.out.text k.new.out.text [] → ToldRefusal names r status k.old.err.text k.new.err.text k.old.err.faults k.new.err.faults → CallsOnly o (Some line) status note k
+refusal-calls o A note line names r status k e h c out told =
     let saved = (sample (Some line)).0 in
-    none-saved (Some line) saved status note k (sample (Some line)).1
+    none-saved o (Some line) saved status note k (sample (Some line)).1
     (subst (λ (n : FileNames). SavesNone n (calls_of (Some line) saved) (needed_of (Some line)) (refusal_in line) (line_past line) status note k) e
     (refused-so A note names (refusal_in line) (line_roles line) (needed_roles line) (saves_of saved) (line_past line) r status k h c out told))
 
@@ -319,17 +319,17 @@ answer-so A a note names None roles needed saves past status old k h c s goes = 
     by (inl (all, other)) = at_end all (goes other)
     by (inr t) = inr (record { refusal = t.refusal; at = inr (stops-save (loads_of needed) t.refusal (loads_of roles) s.made t.at); out = t.out; told = t.told })
 
-pub answer-calls : (note : Note) (line : Line) (names : FileNames) (answer : Answer) (status : ℕ) (old : Stored) (k : Call) → names ≡ names_in line
+pub answer-calls : (o : Option Schedule) (note : Note) (line : Line) (names : FileNames) (answer : Answer) (status : ℕ) (old : Stored) (k : Call) → names ≡ names_in line
     → CallsBy (refusal_in line) names (line_roles line) (needed_roles line) note old.noted k.old.store.noted (Ok answer) → CauseBy (refusal_in line) old.counts k.old.store.counts (Ok answer)
     → FitsLine line answer → (IsReadOnly (Some line) → IsPrinted answer) → IsNoSession (Some line) → SavesTold names (saves_in answer) status note k.old.store.noted k.new.store.noted k → Tells names (told_of names answer) status k
-    → WithFiles old.files (λ known. IsAnswer (Some line) known (told_of names answer)) → CallsOnly (Some line) status note (from old k)
-answer-calls note line names answer status old k e h c fits prints none s told is = record {
+    → WithFiles old.files (λ known. IsAnswer o (Some line) known (told_of names answer)) → CallsOnly o (Some line) status note (from old k)
+answer-calls o note line names answer status old k e h c fits prints none s told is = record {
   saved = saved_in answer;
   fits = answer-saves line answer fits prints;
   so = subst (λ (n : FileNames). CallsSo n (calls_of (Some line) (saved_in answer)) (needed_of (Some line)) (refusal_in line) (line_past line) status note (from old k)) e
       (answer-so Answer answer note names (refusal_in line) (line_roles line) (needed_roles line) (saves_in answer) (line_past line) status old k h c s
       (λ other. tells-past line names answer status k fits prints none told other));
-  own = λ some. with-files old.files (λ files. IsAnswer (Some line) files (told_of names answer)) (λ files. SomeTold (IsAnswer (Some line) files) (λ what. what.saved ≡ saved_in answer))
+  own = λ some. with-files old.files (λ files. IsAnswer o (Some line) files (told_of names answer)) (λ files. SomeTold (IsAnswer o (Some line) files) (λ what. what.saved ≡ saved_in answer))
       (λ files is. (told_of names answer, is, answer-told names answer)) is;
 }
 
@@ -359,31 +359,31 @@ begun-calls note names roles status k e begun = record {
 }
 
 -- by the names that its line says
-pub session-calls : (log elf : List ℕ) (note : Note) (names : FileNames) (status : ℕ) (k : Call) → names ≡ names_in (DebugLine log elf)
-    → CallsSo names (loads_of pair_roles) (loads_of pair_roles) None is_begun status note k → CallsOnly (Some (DebugLine log elf)) status note k
-session-calls log elf note names status k e h =
-    none-saved (Some (DebugLine log elf)) None status note k refl
+pub session-calls : (o : Option Schedule) (log elf : List ℕ) (note : Note) (names : FileNames) (status : ℕ) (k : Call) → names ≡ names_in (DebugLine log elf)
+    → CallsSo names (loads_of pair_roles) (loads_of pair_roles) None is_begun status note k → CallsOnly o (Some (DebugLine log elf)) status note k
+session-calls o log elf note names status k e h =
+    none-saved o (Some (DebugLine log elf)) None status note k refl
     (subst (λ (n : FileNames). SavesNone n (loads_of pair_roles) (loads_of pair_roles) None is_begun status note k) e (h, loads-alone pair_roles h.made h.left h.parts))
 
 -- ---- words
 
 -- they say no line
-pub words-calls : (note : Note) (status : ℕ) (k : Call) → k.new.store.noted ≡ k.old.store.noted → Appends k.old.out.text k.new.out.text [] → ToldRefusal no_names WordsRefused status k.old.err.text k.new.err.text k.old.err.faults k.new.err.faults
-    → CallsOnly None status note k
-words-calls note status k same out told =
-    none-saved None None status note k refl (record { made = []; left = []; parts = refl; noted = same; ends = inr (record { refusal = WordsRefused; at = inl (refl, refl); out = out; told = told }) }, refl)
+pub words-calls : (o : Option Schedule) (note : Note) (status : ℕ) (k : Call) → k.new.store.noted ≡ k.old.store.noted → Appends k.old.out.text k.new.out.text [] → ToldRefusal no_names WordsRefused status k.old.err.text k.new.err.text k.old.err.faults k.new.err.faults
+    → CallsOnly o None status note k
+words-calls o note status k same out told =
+    none-saved o None None status note k refl (record { made = []; left = []; parts = refl; noted = same; ends = inr (record { refusal = WordsRefused; at = inl (refl, refl); out = out; told = told }) }, refl)
 
 -- no memory to read them
-pub unread-calls : (note : Note) (line : Option Line) (status : ℕ) (k : Call) → k.new.store.noted ≡ k.old.store.noted → Appends k.old.out.text k.new.out.text []
-    → ToldRefusal (names_by line) OutOfMemory status k.old.err.text k.new.err.text k.old.err.faults k.new.err.faults → CallsOnly line status note k
-unread-calls note line status k same out told =
-    none-saved line (sample line).0 status note k (sample line).1
+pub unread-calls : (o : Option Schedule) (note : Note) (line : Option Line) (status : ℕ) (k : Call) → k.new.store.noted ≡ k.old.store.noted → Appends k.old.out.text k.new.out.text []
+    → ToldRefusal (names_by line) OutOfMemory status k.old.err.text k.new.err.text k.old.err.faults k.new.err.faults → CallsOnly o line status note k
+unread-calls o note line status k same out told =
+    none-saved o line (sample line).0 status note k (sample line).1
     (record { made = []; left = calls_of line (sample line).0; parts = refl; noted = same; ends = inr (record { refusal = OutOfMemory; at = inr (inl refl); out = out; told = told }) }, refl)
 
 -- ---- what is told
 
-pub call-shape : (note : Note) (line : Option Line) (status : ℕ) (k : Call) → CallsOnly line status note k → HasShape line status k
-call-shape note line status k calls other = by calls.so.ends
+pub call-shape : (o : Option Schedule) (note : Note) (line : Option Line) (status : ℕ) (k : Call) → CallsOnly o line status note k → HasShape line status k
+call-shape o note line status k calls other = by calls.so.ends
   where
     told : (r : RefusedAfter (names_by line) (needed_of line) (refusal_by line) calls.so.made status k)
         → ToldRefusal (names_by line) r.refusal status k.old.err.text k.new.err.text k.old.err.faults k.new.err.faults → TellsRefusal (names_by line) status k

@@ -1,5 +1,5 @@
 -- What a recording answers after its loads.
-use Rattle.bugnet.proofs.Common.{◌≡◌, ℕ, List, Option, Some, None, ◌∙◌, ap, subst, sym, refl, arith, Bool, inl, inr, Result, Ok, Err, IfOk, is_some, Counts, Files, Program, checked_by, first_bad, BadSetting, RawSettings, image_of, ElfError, RecordLine, seen_recording, RecordOptions, FileNames, refused, is_clash, IsByProgram, IsRecord, Scheduling, Schedule, names_in, scheduling_by, scheduling_of, IsGiven, setting_refusal, refusal_in, IsRecordedRun, FitsLine, HoldsBytes, HasElf, WithFiles, ProgramTells, GivesBy, CauseBy, Answer, Refusal, IsErrAnd}
+use Rattle.bugnet.proofs.Common.{◌≡◌, ℕ, List, Option, Some, None, ◌∙◌, ap, subst, sym, refl, arith, Bool, inl, inr, Result, Ok, Err, is_some, Counts, Files, Program, checked_by, first_bad, BadSetting, RawSettings, image_of, ElfError, RecordLine, seen_recording, RecordOptions, FileNames, refused, is_clash, IsByProgram, IsRecord, Scheduling, Schedule, names_in, scheduling_by, setting_refusal, refusal_in, IsRecordedRun, FitsLine, HoldsBytes, HasElf, WithFiles, ProgramTells, GivesBy, CauseBy, Answer, Refusal, IsAnswer, Start, RunToTell, IsRecordingBy, taken_by}
 use Rattle.bugnet.proofs.LineCalls.{mapped}
 
 -- ---- what a recording loads
@@ -29,31 +29,30 @@ none-bad (Some other) s x e = grind arith
 pub record-answers : (known : Option Files) (names : FileNames) (r : RecordOptions) (o : Option Schedule) (has : Bool) (result : Result Answer Refusal) → names ≡ names_in (RecordLine (seen_recording r))
     → has ≡ is_some r.input
     → WithFiles known (λ files. GivesBy names (λ f. IsRecord f names r.settings (scheduling_by (seen_recording r) o) has) files result)
-    → WithFiles known (λ files. GivesBy names (IsGiven (seen_recording r) o) files result)
+    → WithFiles known (λ files. GivesBy names (IsAnswer o (Some (RecordLine (seen_recording r)))) files result)
 record-answers known names r o has result e input h =
     let s = seen_recording r in
     let there : has ≡ is_some s.input = input ∙ sym (mapped _ _ _ r.input) in
     subst (λ (n : FileNames). WithFiles known (λ files. GivesBy names (λ f. IsRecord f n s.settings (scheduling_by s o) (is_some s.input)) files result)) e
     (subst (λ (b : Bool). WithFiles known (λ files. GivesBy names (λ f. IsRecord f names s.settings (scheduling_by s o) b) files result)) there h)
 
--- a refusal gives no answer
-pub none-given : (known : Option Files) (e : Refusal) (result : Result Answer Refusal) (P : Files → Answer → Type 0) → IsErrAnd result (λ y. y ≡ e) → WithFiles known (λ files. IfOk result (P files))
-none-given None e result P is = tt
-none-given (Some files) e (Ok answer) P is = absurd is
-none-given (Some files) e (Err x) P is = tt
-
 -- what the words of such a line refuse, whether it is lean, and what its program file holds
-pub record-cause : (names : FileNames) (r : RecordOptions) (how : Scheduling) (before now : Counts) (result : Result Answer Refusal) → names ≡ names_in (RecordLine (seen_recording r))
-    → how ≡ scheduling_of (seen_recording r) → CauseBy (setting_refusal (first_bad r.settings) (is_clash how.lean names.log names.book)) before now result
+pub record-cause : (names : FileNames) (r : RecordOptions) (o : Option Schedule) (how : Scheduling) (before now : Counts) (result : Result Answer Refusal) → names ≡ names_in (RecordLine (seen_recording r))
+    → how ≡ scheduling_by (seen_recording r) o → CauseBy (setting_refusal (first_bad r.settings) (is_clash how.lean names.log names.book)) before now result
     → CauseBy (refusal_in (RecordLine (seen_recording r))) before now result
-record-cause names r how before now result e m h =
+record-cause names r o how before now result e m h =
     let s = seen_recording r in
     subst (λ (n : FileNames). CauseBy (setting_refusal (first_bad s.settings) (is_clash s.lean n.log n.book)) before now result) e
     (subst (λ (x : Scheduling). CauseBy (setting_refusal (first_bad s.settings) (is_clash x.lean names.log names.book)) before now result) m h)
 
-pub record-lean : (r : RecordOptions) (how : Scheduling) (answer : Answer) → how ≡ scheduling_of (seen_recording r) → IsRecordedRun how.lean answer → FitsLine (RecordLine (seen_recording r)) answer
-record-lean r how answer m h = subst (λ (x : Scheduling). IsRecordedRun x.lean answer) m h
+pub record-lean : (r : RecordOptions) (o : Option Schedule) (how : Scheduling) (answer : Answer) → how ≡ scheduling_by (seen_recording r) o → IsRecordedRun how.lean answer → FitsLine (RecordLine (seen_recording r)) answer
+record-lean r o how answer m h = subst (λ (x : Scheduling). IsRecordedRun x.lean answer) m h
 
 pub record-bytes : (known : Option Files) (names : FileNames) (r : RecordOptions) → names ≡ names_in (RecordLine (seen_recording r))
     → WithFiles known (λ files. HoldsBytes (files names.elf)) → HasElf (RecordLine (seen_recording r)) known
 record-bytes known names r e h = subst (λ (n : FileNames). WithFiles known (λ files. HoldsBytes (files n.elf))) e h
+
+-- what is recorded by the seed of such a line, or without one, is what its line asks for
+pub recorded-as : (r : RecordOptions) (o : Option Schedule) (seed : Option ℕ) (start : Start) (run : RunToTell) → r.seed ≡ seed → IsRecordingBy start (record { seed = seed; lean = r.lean; schedule = taken_by seed o }) run
+    → IsRecordingBy start (scheduling_by (seen_recording r) o) run
+recorded-as r o seed start run e h = subst (λ (s : Option ℕ). IsRecordingBy start (record { seed = s; lean = r.lean; schedule = taken_by s o }) run) (sym e) h

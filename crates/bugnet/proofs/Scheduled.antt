@@ -1,49 +1,76 @@
--- What a recording leaves that is given a schedule.
-use Rattle.bugnet.proofs.Common.{◌≡◌, ℕ, Option, Some, None, sym, refl, subst, Result, Ok, Err, IfOk, Stored, Files, WhereTold, Stream, Schedule, Line, RecordingLine, RecordLine, World, between, world, Tells, FileNames, Told, told_of, Answer, Refusal, Status, GivesStatus, KeptFiles, WithFiles, with-files, from, tells-from, told-apart, IsRecorded, names_in, IsGiven, AnswersLine, HasElf, LeavesScheduled, LogsAreContents, SeedsAreWhole, FilesKeepToTheirSize, Note, IsSome, with_err, ActsTo, code, NeedsNoThreads}
-use Rattle.bugnet.proofs.Leaves.{so-left, done-kept}
+-- What is told of a recording with a schedule is told of it without one too.
+use Rattle.bugnet.proofs.Common.{◌≡◌, ℕ, Bool, true, false, nat_lt, List, [], length, Option, Some, None, sym, refl, subst, inl, inr, ◌⊎◌, Result, Ok, Err, is_some, sha256, Program, first_bad, BadSetting, Files, Schedule, Line, RecordingLine, RecordLine, DebugLine, image_of, ElfError, FileNames, name_of, Told, IsByProgram, IsByNames, IsBySettings, is_clash, Either, IsByFile, WithFile, IsByInput, AreScheduled, IsRun, began_by, taken_by, scheduling_by, names_in, names_by, IsAnswer, with-files, Call, Tells, SomeTold, StoppedEarly, TellsAnswer, IsEarly, Role, Refusal}
+use Rattle.log_commands.specs.declared.names.Role.TheVariants as role
 
--- a recording that has its answer is acted on
-pub act-scheduled : SeedsAreWhole → FilesKeepToTheirSize → LogsAreContents → (r : RecordingLine) (o : Option Schedule) (names : FileNames) (note : Note) (old mid : Stored) (out err : Stream) (new : World) (answer : Answer) (result : Result Status Refusal)
-    → names ≡ names_in (RecordLine r) → HasElf (RecordLine r) old.files → AnswersLine (RecordLine r) names note old mid (Ok answer)
-    → WithFiles old.files (λ files. IsGiven r o files (told_of names answer)) → ActsTo names answer note (world mid out err) new result
-    → IfOk result (λ status. LeavesScheduled o (Some (RecordLine r)) (code status) old.files new.store.files)
-act-scheduled whole sizes contents r o names note old mid out err new answer (Ok value) named elf h given acts = λ unseeded is.
-    let a = acts (code value) new.err (refl, refl) in
-    let l = between (world mid out err) (with_err new new.err) in
-    let tells = tells-from names (told_of names answer) (code value) old l h.same h.later a.acts.told in
-    so-left whole sizes contents r o (code value) old.files new.store.files elf
-    (with-files old.files (λ files. IsGiven r o files (told_of names answer))
-    (λ files. (what : Told) × IsGiven r o files what × IsRecorded what.status × (code value ≡ what.status) × WhereTold old.files new.store.files (KeptFiles what.saved r.log r.book))
-    (λ files is-given. kept files is-given is (subst (λ (n : FileNames). Tells n (told_of names answer) (code value) (from old l)) named tells)) given)
+-- without a schedule none is taken
+pub taken-none : (seed : Option ℕ) → taken_by seed None ≡ None
+taken-none None = refl
+taken-none (Some seed) = refl
+
+-- an answer by a file, if one by its bytes is also another
+also-either : (t : Bool) (x what : Told) (P Q : Type 0) → (P → Q) → Either t (what ≡ x) P → Either t (what ≡ x) Q
+also-either true x what P Q f h = h
+also-either false x what P Q f h = f h
+
+also-by : (there : Option (List ℕ)) (names : FileNames) (r : Role) (limit : ℕ) (Go Also : List ℕ → Told → Type 0) (what : Told) → ((bytes : List ℕ) → Go bytes what → Also bytes what)
+    → IsByFile there names r limit Go what → IsByFile there names r limit Also what
+also-by None names r limit Go Also what f h = h
+also-by (Some bytes) names r limit Go Also what f h = also-either (nat_lt limit (length bytes)) _ what (Go bytes what) (Also bytes what) (f bytes) h
+
+also-file : (files : Files) (names : FileNames) (r : Role) (limit : ℕ) (Go Also : List ℕ → Told → Type 0) (what : Told) → ((bytes : List ℕ) → Go bytes what → Also bytes what)
+    → WithFile files names r limit Go what → WithFile files names r limit Also what
+unfolding WithFile
+also-file files names r limit Go Also what f h = also-by (files (name_of names r)) names r limit Go Also what f h
+
+any-run : (r : RecordingLine) (o : Option Schedule) (i : Program) (digest input : List ℕ) (what : Told) → IsRun r.settings i digest (scheduling_by r o) input what → IsRun r.settings i digest (scheduling_by r None) input what
+any-run r o i digest input what run = record {
+  turns = run.turns;
+  taken = run.taken;
+  given = subst (λ (s : Option Schedule). AreScheduled s (began_by r.settings i digest input) run.turns) (sym (taken-none r.seed)) tt;
+  is = run.is;
+}
+
+any-input : (has : Bool) (files : Files) (r : RecordingLine) (o : Option Schedule) (i : Program) (digest : List ℕ) (what : Told) → IsByInput has files (names_in (RecordLine r)) (IsRun r.settings i digest (scheduling_by r o)) what
+    → IsByInput has files (names_in (RecordLine r)) (IsRun r.settings i digest (scheduling_by r None)) what
+any-input true files r o i digest what h =
+    also-file files (names_in (RecordLine r)) role.Input 16777216 (IsRun r.settings i digest (scheduling_by r o)) (IsRun r.settings i digest (scheduling_by r None)) what (λ input run. any-run r o i digest input what run) h
+any-input false files r o i digest what h = any-run r o i digest [] what h
+
+any-program : (i : Result Program ElfError) (files : Files) (r : RecordingLine) (o : Option Schedule) (digest : List ℕ) (what : Told) → IsByProgram i files (names_in (RecordLine r)) r.settings (scheduling_by r o) (is_some r.input) digest what
+    → IsByProgram i files (names_in (RecordLine r)) r.settings (scheduling_by r None) (is_some r.input) digest what
+any-program (Err e) files r o digest what h = h
+any-program (Ok i) files r o digest what h = any-input (is_some r.input) files r o i digest what h
+
+any-names : (same : Bool) (files : Files) (r : RecordingLine) (o : Option Schedule) (what : Told) → IsByNames same files (names_in (RecordLine r)) r.settings (scheduling_by r o) (is_some r.input) what
+    → IsByNames same files (names_in (RecordLine r)) r.settings (scheduling_by r None) (is_some r.input) what
+any-names true files r o what h = h
+any-names false files r o what h =
+    let names = names_in (RecordLine r) in
+    also-file files names role.Elf 67108864 (λ elf what. IsByProgram (image_of elf r.settings) files names r.settings (scheduling_by r o) (is_some r.input) (sha256 elf) what)
+    (λ elf what. IsByProgram (image_of elf r.settings) files names r.settings (scheduling_by r None) (is_some r.input) (sha256 elf) what) what (λ elf by. any-program (image_of elf r.settings) files r o (sha256 elf) what by) h
+
+any-settings : (bad : Option BadSetting) (files : Files) (r : RecordingLine) (o : Option Schedule) (what : Told) → IsBySettings bad files (names_in (RecordLine r)) r.settings (scheduling_by r o) (is_some r.input) what
+    → IsBySettings bad files (names_in (RecordLine r)) r.settings (scheduling_by r None) (is_some r.input) what
+any-settings (Some bad) files r o what h = h
+any-settings None files r o what h = any-names (is_clash r.lean r.log r.book) files r o what h
+
+-- an answer by a schedule is one by some turns
+pub any-answer : (o : Option Schedule) (line : Option Line) (files : Files) (what : Told) → IsAnswer o line files what → IsAnswer None line files what
+any-answer o None files what h = h
+any-answer o (Some (RecordLine r)) files what h = any-settings (first_bad r.settings) files r o what h
+any-answer o (Some (DebugLine log elf)) files what h = h
+any-answer o (Some line) files what h = h
+
+pub tells-any : (o : Option Schedule) (line : Option Line) (status : ℕ) (k : Call) → TellsAnswer o line status k → TellsAnswer None line status k
+tells-any o line status k h =
+    with-files k.old.store.files (λ files. SomeTold (IsAnswer o line files) (λ what. Tells (names_by line) what status k) ⊎ StoppedEarly o line files status k)
+    (λ files. SomeTold (IsAnswer None line files) (λ what. Tells (names_by line) what status k) ⊎ StoppedEarly None line files status k) so h
   where
-    kept : (files : Files) → IsGiven r o files (told_of names answer) → IsRecorded (code value) → Tells (names_in (RecordLine r)) (told_of names answer) (code value) (from old (between (world mid out err) (with_err new new.err)))
-        → (what : Told) × IsGiven r o files what × IsRecorded what.status × (code value ≡ what.status) × WhereTold old.files new.store.files (KeptFiles what.saved r.log r.book)
-    kept files given is tells =
-        let done = done-kept (names_in (RecordLine r)) (told_of names answer) (code value) (from old (between (world mid out err) (with_err new new.err))) tells is in
-        (told_of names answer, given, done.0, done.1, done.2)
-act-scheduled whole sizes contents r o names note old mid out err new answer (Err e) named elf h given acts = tt
+    early : (files : Files) (refusal : Refusal) → IsEarly (names_by line) (λ files. IsAnswer o line files) files refusal → IsEarly (names_by line) (λ files. IsAnswer None line files) files refusal
+    early files refusal (inl memory) = inl memory
+    early files refusal (inr (role, failed, is)) = inr (role, failed, any-answer o line _ _ is)
 
--- a line that wasn't recorded leaves nothing
-pub scheduled-none : (o : Option Schedule) (line : Option Line) (status : ℕ) (old new : Option Files) → (IsRecorded status → ⊥) → LeavesScheduled o line status old new
-scheduled-none o (Some (RecordLine r)) status old new never = λ unseeded is. absurd (never is)
-scheduled-none o line status old new never = tt
-
-has-seed : (seed : Option ℕ) → IsSome seed → seed ≡ None → ⊥
-has-seed (Some n) some none = absurd cc
-has-seed None some none = absurd cc
-
--- nothing is said of a line that needs no threads, whatever it does
-pub scheduled-seeded : (o : Option Schedule) (line : Line) (old new : Option Files) (result : Result Status Refusal) → NeedsNoThreads (Some line) → IfOk result (λ status. LeavesScheduled o (Some line) (code status) old new)
-scheduled-seeded o line old new (Ok value) needs = by line needs
-  where
-    by : (line : Line) → NeedsNoThreads (Some line) → LeavesScheduled o (Some line) (code value) old new
-    by (RecordLine r) some = λ unseeded is. absurd (has-seed r.seed some unseeded)
-    by line needs = tt
-scheduled-seeded o line old new (Err e) needs = tt
-
--- so it is once the refusal, if there is one, is told
-pub scheduled-closed : (o : Option Schedule) (line : Option Line) (names : FileNames) (ending : Result Status Refusal) (status : ℕ) (err end : Stream) (old new : Option Files) → GivesStatus names ending status err end
-    → IfOk ending (λ value. LeavesScheduled o line (code value) old new) → LeavesScheduled o line status old new
-scheduled-closed o line names (Ok value) status err end old new closed h = subst (λ (n : ℕ). LeavesScheduled o line n old new) (sym closed.0) h
-scheduled-closed o line names (Err e) status err end old new closed h =
-    scheduled-none o line status old new (told-apart names e status err.text end.text err.faults end.faults closed.0)
+    so : (files : Files) → SomeTold (IsAnswer o line files) (λ what. Tells (names_by line) what status k) ⊎ StoppedEarly o line files status k
+        → SomeTold (IsAnswer None line files) (λ what. Tells (names_by line) what status k) ⊎ StoppedEarly None line files status k
+    so files (inl a) = inl (a.0, any-answer o line files a.0 a.1, a.2)
+    so files (inr s) = inr (record { refusal = s.refusal; early = early files s.refusal s.early; out = s.out; same = s.same; told = s.told })

@@ -1,5 +1,5 @@
 -- The answer to the replay of a recorded interval is the text of the run's own rows.
-use Rattle.bugnet.proofs.Common.{◌≡◌, ℕ, ◌<◌, ◌≤◌, ◌^◌, Bool, true, false, List, length, nat_lt, Option, Some, ◌∙◌, ap, subst, sym, refl, arith, inl, inr, ◌⊎◌, Result, Ok, Appends, bytes_eq, bytes_eq-Decides, sha256, Program, Row, RawSettings, Files, Line, ReplayLine, image_of, ElfError, Head, Content, IsContent, file_bytes, file_bytes2, is_second, SavedHaveTheirLimit, Reads, FilesAreRead, Damage, Done, Replayed, Interval, replayed, file_of, content_of, start, run_of, KeptIsAnEnd, EndsSuffice, RowsStandTogether, IsRecording, LogsAreContents, FileNames, Told, refused, printed, Either, IsByFile, WithFile, by_log, IsByLog, replay_with, replay_found, interval_told, ended, pair_loaded, pair_same, pair_of, IsPairOf, IsPair, names_in, names_by, IsAnswer, Part, interval_rows, run_text, SaysEnd, ReplaysRun, IsReplayed, Headline, part_of, RecordingsAreReplayed, RecordingsSayEnds, PrintsRun, WithFiles, Call, IsFree, SomeTold, Tells, StoppedEarly, TellsAnswer, Role, TooLong, fits, of_false, with-files, stopped-free, ReadingsAreUnique}
+use Rattle.bugnet.proofs.Common.{◌≡◌, ℕ, ◌<◌, ◌≤◌, ◌^◌, Bool, true, false, List, length, nat_lt, Option, Some, ◌∙◌, ap, subst, sym, refl, arith, inl, inr, ◌⊎◌, Result, Ok, Appends, bytes_eq, bytes_eq-Decides, sha256, Program, Row, RawSettings, Files, Line, ReplayLine, image_of, ElfError, Head, Content, IsContent, file_bytes, file_bytes2, is_second, SavedHaveTheirLimit, Reads, FilesAreRead, Damage, Done, Replayed, Interval, replayed, file_of, content_of, start, run_of, KeptIsAnEnd, EndsSuffice, RowsStandTogether, IsRecording, LogsAreContents, FileNames, Told, refused, printed, Either, IsByFile, WithFile, by_log, IsByLog, replay_with, replay_found, interval_told, ended, pair_loaded, pair_same, pair_of, IsPairOf, IsPair, names_in, names_by, IsAnswer, Part, interval_rows, run_text, SaysEnd, ReplaysRun, IsReplayed, Headline, part_of, RecordingsAreReplayed, RecordingsSayEnds, PrintsRun, WithFiles, Call, IsFree, SomeTold, Tells, StoppedEarly, TellsAnswer, Role, TooLong, fits, of_false, with-files, stopped-free, ReadingsAreUnique, None}
 use Rattle.log_file.specs.Laws as of_first
 use Rattle.log_blocks.specs.Laws as of_second
 use Rattle.run_model.specs.Rows.{rows_in}
@@ -92,7 +92,7 @@ replays g laws sizes files p v line r what is =
 pub headline : ReadingsAreUnique → EndsSuffice → RowsStandTogether → of_first.HaveTheirSize → of_second.HaveTheirSize → of_second.AreFew → Headline
 headline readings ends rows first second few line files p v r what is =
     subst (λ (l : Option Line). IsReplayed l p v what) (sym r.command)
-    (replays (record { one_reading = readings }) (ends, rows) (record { first = first; second = second; few = few }) files p v line r what (subst (λ (l : Option Line). IsAnswer l files what) r.command is))
+    (replays (record { one_reading = readings }) (ends, rows) (record { first = first; second = second; few = few }) files p v line r what (subst (λ (l : Option Line). IsAnswer None l files what) r.command is))
 
 -- ---- which files say an end
 
@@ -148,12 +148,12 @@ told-so false names text what status k e (inl done) =
 told-so false names text what status k e (inr stopped) = inl (stopped-free names what status k stopped)
 
 printed-so : Headline → (line : Option Line) (files : Files) (p : Part) (v : Interval) (r : ReplaysRun line files p v) (status : ℕ) (k : Call)
-    → SomeTold (IsAnswer line files) (λ what. Tells (names_by line) what status k) ⊎ StoppedEarly line files status k → Prints status k p v
-printed-so law line files p v r status k (inr early) = inl (early-free line files status k early)
+    → SomeTold (IsAnswer None line files) (λ what. Tells (names_by line) what status k) ⊎ StoppedEarly None line files status k → Prints status k p v
+printed-so law line files p v r status k (inr early) = inl (early-free None line files status k early)
 printed-so law line files p v r status k (inl found) =
     told-so (nat_lt 67108864 (length p.elf)) (names_by line) (run_text p v) found.0 status k (law line files p v r found.0 found.1) found.2
 
-pub prints-run : Headline → (line : Option Line) (status : ℕ) (k : Call) → TellsAnswer line status k → WithFiles k.old.store.files (λ files. PrintsRun line files status k.old.out.text k.new.out.text)
+pub prints-run : Headline → (line : Option Line) (status : ℕ) (k : Call) → TellsAnswer None line status k → WithFiles k.old.store.files (λ files. PrintsRun line files status k.old.out.text k.new.out.text)
 prints-run law line status k h =
-    with-files k.old.store.files (λ files. SomeTold (IsAnswer line files) (λ what. Tells (names_by line) what status k) ⊎ StoppedEarly line files status k)
+    with-files k.old.store.files (λ files. SomeTold (IsAnswer None line files) (λ what. Tells (names_by line) what status k) ⊎ StoppedEarly None line files status k)
     (λ files. PrintsRun line files status k.old.out.text k.new.out.text) (λ files found p v r. printed-so law line files p v r status k found) h

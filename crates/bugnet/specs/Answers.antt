@@ -4,7 +4,7 @@ use Rattle.bugnet.specs.Common.{bytes_eq, first_bad, BadSetting, Files, Schedule
 use Rattle.command_words.specs.declared.error.WordsError.{WordsError}
 use Rattle.command_words.specs.declared.error.WordsError.TheVariants as words_error
 use Rattle.bugnet.specs.Command.Record.{is_clash, IsRecord}
-use Rattle.bugnet.specs.Recordings.{Scheduling}
+use Rattle.bugnet.specs.Recordings.{Scheduling, taken_by}
 use Rattle.bugnet.specs.Sessions.{IsDebug}
 use Rattle.log_commands.specs.NewLogs.{renewed, IsBySalvage}
 
@@ -30,11 +30,7 @@ names_by (Some line) = names_in line
 
 -- how a line records that is given a schedule, or none
 abbrev pub scheduling_by : RecordingLine → Option Schedule → Scheduling
-scheduling_by r schedule = record { seed = r.seed; lean = r.lean; schedule = schedule }
-
--- how a line records, if nothing is known of its schedule
-abbrev pub scheduling_of : RecordingLine → Scheduling
-scheduling_of r = scheduling_by r None
+scheduling_by r schedule = record { seed = r.seed; lean = r.lean; schedule = taken_by r.seed schedule }
 
 -- a setting out of range comes before two files of one name
 abbrev pub setting_refusal : Option BadSetting → Bool → Option Refusal
@@ -92,16 +88,13 @@ UnlessRefused None names Is what = Is what
 abbrev pub IsByLine : Line → Files → Told → Type 0
 IsByLine line files what = UnlessRefused (refusal_in line) (names_in line) (λ what. IsByFiles files (names_in line) (line_roles line) no_bytes (IsOn line (names_in line)) what) what
 
--- what the recording of a line has to answer by the files that are there, if it is given this schedule
-abbrev pub IsGiven : RecordingLine → Option Schedule → Files → Told → Type 0
-IsGiven r schedule files what = IsRecord files (names_in (RecordLine r)) r.settings (scheduling_by r schedule) (is_some r.input) what
-
--- what words have to answer, by the line that they say; words that say none are refused
-abbrev pub IsAnswer : Option Line → Files → Told → Type 0
-IsAnswer None files what = what ≡ refused no_names WordsRefused
-IsAnswer (Some (RecordLine r)) files what = IsRecord files (names_in (RecordLine r)) r.settings (scheduling_of r) (is_some r.input) what
-IsAnswer (Some (DebugLine log elf)) files what = IsDebug files (names_in (DebugLine log elf)) what
-IsAnswer (Some line) files what = IsByLine line files what
+-- what words have to answer, by the line that they say; words that say none are refused. A recording without a seed has its
+-- schedule too, if it is given one: then no other turns are an answer's
+abbrev pub IsAnswer : Option Schedule → Option Line → Files → Told → Type 0
+IsAnswer schedule None files what = what ≡ refused no_names WordsRefused
+IsAnswer schedule (Some (RecordLine r)) files what = IsRecord files (names_in (RecordLine r)) r.settings (scheduling_by r schedule) (is_some r.input) what
+IsAnswer schedule (Some (DebugLine log elf)) files what = IsDebug files (names_in (DebugLine log elf)) what
+IsAnswer schedule (Some line) files what = IsByLine line files what
 
 -- what kind of answer that is
 abbrev pub KindOf : Line → Answer → Type 0

@@ -24,7 +24,7 @@ HasBytes other files = Unit {0}
 
 -- then there is an answer
 abbrev pub EachHasAnAnswer : Type 0
-EachHasAnAnswer = (line : Option Line) (files : Files) → HasBytes line files → (what : Told) × IsAnswer line files what
+EachHasAnAnswer = (line : Option Line) (files : Files) → HasBytes line files → (what : Told) × IsAnswer None line files what
 
 -- ---- commands that can be done
 
@@ -71,8 +71,8 @@ CanDo (DemoLine seed) files = Unit {0}
 
 -- there is an answer, and each answer is that of a command that is done
 pub record CanBeDone (line : Line) (files : Files) : Type 0 where
-  pub answer : (what : Told) × IsAnswer (Some line) files what
-  pub done : (told : Told) → IsAnswer (Some line) files told → IsRecorded told.status
+  pub answer : (what : Told) × IsAnswer None (Some line) files what
+  pub done : (told : Told) → IsAnswer None (Some line) files told → IsRecorded told.status
 
 -- each line can be done for which words and files are as it needs them
 abbrev pub EachCanBeDone : Type 0

@@ -1,5 +1,5 @@
 -- A crash that was recorded with format 2: the log keeps its interval, which `list` shows and whose replay ends with the fault.
-use Rattle.std.specs.Prelude.{◌≡◌, ◌+◌, ℕ, List, [], ◌∷◌, ◌++◌, Some}
+use Rattle.std.specs.Prelude.{◌≡◌, ◌+◌, ℕ, List, [], ◌∷◌, ◌++◌, Some, None}
 use Rattle.bn_base.specs.Faults.{fault_number}
 use Rattle.bugnet.specs.Common.{Program, EndMark, RawSettings, Files, RecordingLine, ListLine, ReplayLine, Interval, interval_of, kept_of, run_of, ask_at, mark, interval_text, Told, printed, code}
 use Rattle.bn_base.specs.declared.fault.Fault.{Fault}
@@ -42,9 +42,9 @@ pub record ShowsCrash {r : RecordingLine} {old new : Files} (l : Leaves r old ne
   pub interval : Interval
   pub kept : interval_of k.hart number (kept_of r.settings (run_of r.settings l.program l.input l.turns)) ≡ Some interval
   pub mark_is : interval.mark ≡ mark_of_crash k
-  pub listed : (files : Files) (log : List ℕ) → files log ≡ new r.log → (what : Told) → IsAnswer (Some (ListLine log)) files what
+  pub listed : (files : Files) (log : List ℕ) → files log ≡ new r.log → (what : Told) → IsAnswer None (Some (ListLine log)) files what
       → PrintsLine (interval_text k.hart number interval.start.ic (mark_of_crash k)) what
-  pub replayed : (files : Files) (log elf : List ℕ) → files log ≡ new r.log → files elf ≡ old r.elf → (what : Told) → IsAnswer (Some (ReplayLine log elf k.hart number)) files what
+  pub replayed : (files : Files) (log elf : List ℕ) → files log ≡ new r.log → files elf ≡ old r.elf → (what : Told) → IsAnswer None (Some (ReplayLine log elf k.hart number)) files what
       → what ≡ printed (run_text (part_of l k.hart number) interval)
 
 -- With format 2, if the recording's status is 10, the run's last turn is a crash, and it is shown so. This is so whatever the

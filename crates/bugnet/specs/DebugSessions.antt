@@ -85,7 +85,7 @@ SessionIs c log elf files status input now_input notes k =
 -- answer. If they have all that it needs, it is done. It shows a recording's run
 pub record DebugsFiles (c : Commands) (log elf : List ℕ) (files : Files) (status : ℕ) (input now_input : Supply) (notes : ReadNote) (k : Call) : Type 0 where
   pub tells : SomeTold (IsSession c files (names_in (DebugLine log elf))) (λ what. Tells (names_in (DebugLine log elf)) what status k)
-      ⊎ StoppedEarly (Some (DebugLine log elf)) files status k
+      ⊎ StoppedEarly None (Some (DebugLine log elf)) files status k
   pub done : CanDebug c log elf files → IsFree status ⊎ (status ≡ code exit.Done)
   pub shows : ShowsSession c log elf files status k.old.out.text k.new.out.text
   -- what was read was read by a session with the log and the program that are there, no further than its end says

@@ -1,5 +1,5 @@
 -- The headline: a log that says an end of what was recorded gives the recorded run's rows.
-use Rattle.std.specs.Prelude.{◌≡◌, ◌⊎◌, ℕ, ◌-◌, nat_lt, List, ◌++◌, length, take, drop, Option, Some, Ok}
+use Rattle.std.specs.Prelude.{◌≡◌, ◌⊎◌, ℕ, ◌-◌, nat_lt, List, ◌++◌, length, take, drop, Option, Some, None, Ok}
 use Rattle.bugnet.specs.Common.{Appends, sha256, Program, RawSettings, Files, Line, RecordingLine, ReplayLine, Content, file_bytes2, Interval, interval_of, file_of, kept_of, content_of, IsEndOf, end_of, start, run_of, IsRecording, begin_text, rows_text, Told, refused, printed, Either, IsFree, TooLong, code}
 use Rattle.bn_base.specs.declared.row.Row.{Row}
 use Rattle.log_blocks.specs.Readings.{Reads}
@@ -57,7 +57,7 @@ IsReplayed line p v what = Either (nat_lt 67108864 (length p.elf)) (what ≡ ref
 
 -- the only answer to the replay of an interval of a recording is the text of the run's own rows
 abbrev pub Headline : Type 0
-Headline = (line : Option Line) (files : Files) (p : Part) (v : Interval) → ReplaysRun line files p v → (what : Told) → IsAnswer line files what → IsReplayed line p v what
+Headline = (line : Option Line) (files : Files) (p : Part) (v : Interval) → ReplaysRun line files p v → (what : Told) → IsAnswer None line files what → IsReplayed line p v what
 
 -- an interval of the run that a recording left
 abbrev pub part_of : {r : RecordingLine} {old new : Files} → Leaves r old new → (hart number : ℕ) → Part
@@ -69,7 +69,7 @@ abbrev pub RecordingsAreReplayed : Type 0
 RecordingsAreReplayed = (r : RecordingLine) (old new : Files) (l : Leaves r old new) (hart number : ℕ) (v : Interval)
     → interval_of hart number (kept_of r.settings (run_of r.settings l.program l.input l.turns)) ≡ Some v
     → (files : Files) (log elf : List ℕ) → files log ≡ new r.log → files elf ≡ old r.elf
-    → (what : Told) → IsAnswer (Some (ReplayLine log elf hart number)) files what → what ≡ printed (run_text (part_of l hart number) v)
+    → (what : Told) → IsAnswer None (Some (ReplayLine log elf hart number)) files what → what ≡ printed (run_text (part_of l hart number) v)
 
 -- then out gains that text, unless memory ran out, the outside failed, or the program file is too long
 abbrev pub PrintsRun : Option Line → Files → ℕ → Option (List ℕ) → Option (List ℕ) → Type 0

@@ -1,5 +1,5 @@
 -- The headline's second half: the joint replay of a log that says an end of what was recorded says the recorded run.
-use Rattle.std.specs.Prelude.{◌≡◌, ◌⊎◌, ◌≤◌, ℕ, nat_lt, List, length, Option, Some}
+use Rattle.std.specs.Prelude.{◌≡◌, ◌⊎◌, ◌≤◌, ℕ, nat_lt, List, length, Option, Some, None}
 use Rattle.bugnet.specs.Common.{Appends, Files, Line, RecordingLine, JointLine, Ran, run_all, Record, Recording, kept, begin, SaysTheRun, Told, refused, printed, Either, CanJoin, IsFree, TooLong, code}
 use Rattle.joint_replay.specs.Texts.{joint_text}
 use Rattle.joint_laws.specs.Recordings.{IsRecorded}
@@ -45,7 +45,7 @@ IsJoined line r records what = Either (nat_lt 67108864 (length r.elf)) (what ≡
 
 -- the only answer to the joint replay of a recording's log tells the run
 abbrev pub JointHeadline : Type 0
-JointHeadline = (line : Option Line) (files : Files) (r : Recording) (j : JoinsRun line files r) (what : Told) → IsAnswer line files what → IsJoined line r j.says.log.records what
+JointHeadline = (line : Option Line) (files : Files) (r : Recording) (j : JoinsRun line files r) (what : Told) → IsAnswer None line files what → IsJoined line r j.says.log.records what
 
 -- If a log file that says an end of a recording is there and its program file, which isn't too long, there is all that the
 -- command needs: their joint replay isn't stopped
@@ -60,7 +60,7 @@ recording_of {r} l = record { settings = r.settings; program = l.program; elf = 
 -- file are by then
 abbrev pub RecordingsAreJoined : Type 0
 RecordingsAreJoined = (r : RecordingLine) (old new : Files) (l : Leaves r old new) (files : Files) (log elf : List ℕ) → files log ≡ new r.log → files elf ≡ old r.elf
-    → (what : Told) → IsAnswer (Some (JointLine log elf)) files what → TellsRun (recording_of l) (kept (recording_of l)) what
+    → (what : Told) → IsAnswer None (Some (JointLine log elf)) files what → TellsRun (recording_of l) (kept (recording_of l)) what
 
 -- the command is done: out gains the text of that joint replay, and it says the run
 pub record DoneJointly (r : Recording) (records : List Record) (status : ℕ) (out_old out_new : Option (List ℕ)) : Type 0 where

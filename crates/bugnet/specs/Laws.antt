@@ -1,6 +1,6 @@
 -- Laws of answers, by their names.
 use Rattle.std.specs.Prelude.{◌≡◌, ℕ, List, Bool, true, false, Option, Some, None, IsSome, option_and_then}
-use Rattle.bugnet.specs.Common.{sha256, Program, first_bad, RawSettings, Files, Line, RecordLine, DebugLine, ConvertLine, SalvageLine, content_of, run_of, seeded, IsWhole, IsRecording, FileNames, Told, Saved}
+use Rattle.bugnet.specs.Common.{sha256, Program, first_bad, RawSettings, Files, Schedule, Line, RecordLine, DebugLine, ConvertLine, SalvageLine, content_of, run_of, seeded, IsWhole, IsRecording, FileNames, Told, Saved}
 use Rattle.bugnet.specs.Sessions.{Commands, IsSession}
 use Rattle.bugnet.specs.Answers.{IsAnswer}
 use Rattle.bugnet.specs.Saves.{IsWithin}
@@ -9,23 +9,26 @@ use Rattle.bugnet.specs.Saves.{IsWithin}
 abbrev pub book_of : Told → Option (List ℕ)
 book_of what = option_and_then (λ (s : Saved). s.book) what.saved
 
--- of recordings without a seed, two that save one list of turns; of lean ones none is said to be alike
-abbrev pub AreOfOneList : Option ℕ → (lean : Bool) → (a b : Told) → Type 0
-AreOfOneList (Some seed) lean a b = Unit {0}
-AreOfOneList None false a b = book_of a ≡ book_of b
-AreOfOneList None true a b = ⊥
+-- of recordings with neither a seed nor a schedule, two that save one list of turns; of lean ones none is said to be alike
+abbrev pub AreOfOneList : (seed : Option ℕ) → Option Schedule → (lean : Bool) → (a b : Told) → Type 0
+AreOfOneList (Some seed) schedule lean a b = Unit {0}
+AreOfOneList None (Some schedule) lean a b = Unit {0}
+AreOfOneList None None false a b = book_of a ≡ book_of b
+AreOfOneList None None true a b = ⊥
 
--- when two answers of a line are said to be one: always, but of recordings without a seed only if they save the same list of
--- turns, and never of `debug`
-abbrev pub AreAlike : Option Line → (a b : Told) → Type 0
-AreAlike (Some (RecordLine r)) a b = AreOfOneList r.seed r.lean a b
-AreAlike (Some (DebugLine log elf)) a b = ⊥
-AreAlike line a b = Unit {0}
+-- when two answers of a line are said to be one: always, but of recordings with neither a seed nor a schedule only if they save
+-- the same list of turns, and never of `debug`
+abbrev pub AreAlike : Option Schedule → Option Line → (a b : Told) → Type 0
+AreAlike schedule (Some (RecordLine r)) a b = AreOfOneList r.seed schedule r.lean a b
+AreAlike schedule (Some (DebugLine log elf)) a b = ⊥
+AreAlike schedule line a b = Unit {0}
 
--- No words have two answers. A recording without a seed may take any turns that are legal and finished; it has one answer
--- for each such list, if it saves it. A session of the debugger has one for all commands that are read
+-- No words have two answers, whatever schedule is given. With neither a seed nor a schedule a recording may take any turns that
+-- are legal and finished; it has one answer for each such list, if it saves it. A session of the debugger has one for all
+-- commands that are read
 abbrev pub OneAnswer : Type 0
-OneAnswer = (line : Option Line) (files : Files) (a b : Told) → IsAnswer line files a → IsAnswer line files b → AreAlike line a b → a ≡ b
+OneAnswer = (schedule : Option Schedule) (line : Option Line) (files : Files) (a b : Told) → IsAnswer schedule line files a → IsAnswer schedule line files b
+    → AreAlike schedule line a b → a ≡ b
 
 -- a session has one answer for all commands that are read
 abbrev pub OneSession : Type 0

@@ -4,6 +4,7 @@ pub mod Sessions
 pub mod ClosedRuns
 pub mod Answers
 pub mod Run
+pub mod Program
 pub mod Saves
 pub mod Laws
 pub mod Headline

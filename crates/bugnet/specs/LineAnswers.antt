@@ -1,14 +1,14 @@
 -- What a line is answered by the files that are loaded for it.
-use Rattle.std.specs.Prelude.{◌≡◌, Some, Result, IfOk}
-use Rattle.bugnet.specs.Common.{NoneFell, Line, Note, CallsBy, Stored, FileNames, WithFiles, GivesBy, CauseBy, IsPrinted, Answer, Refusal}
+use Rattle.std.specs.Prelude.{◌≡◌, Option, Some, Result, IfOk}
+use Rattle.bugnet.specs.Common.{NoneFell, Schedule, Line, Note, CallsBy, Stored, FileNames, WithFiles, GivesBy, CauseBy, IsPrinted, Answer, Refusal}
 use Rattle.bugnet.specs.Answers.{refusal_in, IsAnswer, line_roles}
 use Rattle.bugnet.specs.Asks.{FitsLine}
 use Rattle.bugnet.specs.Laws.{IsReadOnly}
 use Rattle.bugnet.specs.LineCalls.{needed_roles, AnswersDemo}
 
 -- a store was read only, and this is what the line has to answer, or why it was stopped
-pub record AnswersLine (line : Line) (names : FileNames) (note : Note) (old new : Stored) (result : Result Answer Refusal) : Type 0 where
-  pub told : WithFiles old.files (λ files. GivesBy names (IsAnswer (Some line)) files result)
+pub record AnswersLine (schedule : Option Schedule) (line : Line) (names : FileNames) (note : Note) (old new : Stored) (result : Result Answer Refusal) : Type 0 where
+  pub told : WithFiles old.files (λ files. GivesBy names (IsAnswer schedule (Some line)) files result)
   pub same : new.files ≡ old.files
   pub asks : new.saves ≡ old.saves
   pub later : NoneFell old.counts new.counts

@@ -1,6 +1,6 @@
 -- Which calls a line makes of its store, in which order, and what it tells if one of them or what it loaded ends it.
 use Rattle.std.specs.Prelude.{◌≡◌, ◌⊎◌, ℕ, ◌==◌, ◌||◌, Bool, true, false, List, [], ◌++◌, Option, Some, None, Result, Ok, Err, is_some, not, IsSomeAnd}
-use Rattle.bugnet.specs.Common.{Appends, demo_text, Line, RecordLine, ReplayLine, JointLine, DebugLine, ConvertLine, SalvageLine, DemoLine, FileNames, no_names, WithFiles, Wrote, ToldRefusal, told_of, status_of, line_of, Call, SomeTold, Tells, Saved, printed, Answer, Role, Refusal, FileCall, Note, StopsAt, elf_roles, has_save, loads_of, noted_after, saves_of, code}
+use Rattle.bugnet.specs.Common.{Appends, demo_text, Schedule, Line, RecordLine, ReplayLine, JointLine, DebugLine, ConvertLine, SalvageLine, DemoLine, FileNames, no_names, WithFiles, Wrote, ToldRefusal, told_of, status_of, line_of, Call, SomeTold, Tells, Saved, printed, Answer, Role, Refusal, FileCall, Note, StopsAt, elf_roles, has_save, loads_of, noted_after, saves_of, code}
 use Rattle.bugnet.specs.Answers.{names_by, refusal_by, line_roles, IsAnswer}
 use Rattle.bugnet.specs.Sessions.{is_begun}
 use Rattle.log_commands.specs.declared.refusal.Refusal.TheVariants as why
@@ -84,11 +84,11 @@ pub record CallsSo (names : FileNames) (calls needed : List FileCall) (words : O
   pub ends : ((left ≡ []) × (past status ≡ true)) ⊎ RefusedAfter names needed words made status k
 
 -- so it is with the calls of a line. Whatever its status, what it saves is what an answer to the files that are there saves
-pub record CallsOnly (line : Option Line) (status : ℕ) (note : Note) (k : Call) : Type 0 where
+pub record CallsOnly (schedule : Option Schedule) (line : Option Line) (status : ℕ) (note : Note) (k : Call) : Type 0 where
   pub saved : Option Saved
   pub fits : MaySave line saved
   pub so : CallsSo (names_by line) (calls_of line saved) (needed_of line) (refusal_by line) (past_of line) status note k
-  pub own : has_save so.made ≡ true → WithFiles k.old.store.files (λ files. SomeTold (IsAnswer line files) (λ what. what.saved ≡ saved))
+  pub own : has_save so.made ≡ true → WithFiles k.old.store.files (λ files. SomeTold (IsAnswer schedule line files) (λ what. what.saved ≡ saved))
 
 -- ---- what it tells, by any store
 

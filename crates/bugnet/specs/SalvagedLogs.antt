@@ -1,5 +1,5 @@
 -- What is salvaged of a recording's damaged file is replayed as it was recorded.
-use Rattle.std.specs.Prelude.{◌≡◌, ◌≤◌, ℕ, List, ◌∷◌, ◌++◌, length, Some}
+use Rattle.std.specs.Prelude.{◌≡◌, ◌≤◌, ℕ, List, ◌∷◌, ◌++◌, length, Some, None}
 use Rattle.bugnet.specs.Common.{sha256, Files, ReplayLine, Interval, interval_of, Block, blocks_of, file_bytes2, Content, kept_of, dropped_of, run_of, IsRecording, Told, printed}
 use Rattle.log_blocks.specs.Fields.{head_in}
 use Rattle.log_blocks.specs.File.{IsSalvaged}
@@ -27,4 +27,4 @@ SalvagedSayEnds = (p : Part) (bytes : List ℕ) (d : Content) → SalvagesRun p 
 abbrev pub SalvagedAreReplayed : Type 0
 SalvagedAreReplayed = (p : Part) (bytes : List ℕ) (d : Content) → SalvagesRun p bytes d → (v : Interval) → interval_of p.hart p.number d.records ≡ Some v → length p.elf ≤ 67108864
     → (files : Files) (log elf : List ℕ) → files log ≡ Some (file_bytes2 d) → files elf ≡ Some p.elf
-    → (what : Told) → IsAnswer (Some (ReplayLine log elf p.hart p.number)) files what → what ≡ printed (run_text p v)
+    → (what : Told) → IsAnswer None (Some (ReplayLine log elf p.hart p.number)) files what → what ≡ printed (run_text p v)

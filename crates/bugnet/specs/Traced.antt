@@ -28,7 +28,7 @@ races_kept names r records most =
 -- many
 abbrev pub RacesAreTold : Type 0
 RacesAreTold = (log elf : List ℕ) (most : ℕ) (files : Files) (r : Recording) (h : HasRun log elf files r)
-    → (what : Told) → IsAnswer (Some (RacesLine log elf most)) files what
+    → (what : Told) → IsAnswer None (Some (RacesLine log elf most)) files what
     → UnlessLong (names_in (RacesLine log elf most)) r what (what ≡ races_kept (names_in (RacesLine log elf most)) r h.says.log.records most)
 
 -- A text of races is printed: exactly the races of the run's own points of which these records retain the rows, each once. A
@@ -42,7 +42,7 @@ pub record ListsRaces (r : Recording) (records : List Record) (what : Told) : Ty
 -- what `races` prints of a recording's log are the races of the run's own points
 abbrev pub PrintedRacesSayTheRun : Type 0
 PrintedRacesSayTheRun = (log elf : List ℕ) (most : ℕ) (files : Files) (r : Recording) (h : HasRun log elf files r)
-    → (what : Told) → IsAnswer (Some (RacesLine log elf most)) files what → what.status ≡ code exit.Done → ListsRaces r h.says.log.records what
+    → (what : Told) → IsAnswer None (Some (RacesLine log elf most)) files what → what.status ≡ code exit.Done → ListsRaces r h.says.log.records what
 
 -- the slice of the row of a count among the recorded run's own rows of the interval, or that there is no such row; or that the
 -- log doesn't keep the interval
@@ -54,6 +54,6 @@ slice_kept names r hart interval ic (Some v) = slice_told names (text_of hart ic
 -- No replay is stopped
 abbrev pub SlicesAreTold : Type 0
 SlicesAreTold = (log elf : List ℕ) (hart interval ic : ℕ) (files : Files) (r : Recording) (h : HasRun log elf files r)
-    → (what : Told) → IsAnswer (Some (SliceLine log elf hart interval ic)) files what
+    → (what : Told) → IsAnswer None (Some (SliceLine log elf hart interval ic)) files what
     → let names = names_in (SliceLine log elf hart interval ic) in
     UnlessLong names r what (what ≡ slice_kept names r hart interval ic (interval_of hart interval h.says.log.records))

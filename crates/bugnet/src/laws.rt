@@ -28,8 +28,9 @@ use run_laws::{faults_are_kept, kept_records_are_an_end, own_asks_are_orderly};
 use step_debugger::laws::refusals_stay;
 use whole_runs::{seeded_lists_end, whole_lists_are_followed, whole_runs_have_no_error};
 
-/// No words have two answers, whatever the files are. But a recording without a seed has one for each list
-/// of turns. Of a lean one without a seed, which saves no list, nothing is said.
+/// No words have two answers, whatever the files are and whatever schedule is given. But a recording with
+/// neither a seed nor a schedule has one for each list of turns. Of a lean one of these, which saves no
+/// list, nothing is said.
 #[tactic(auto, using(crate::proofs::Single::one_answer))]
 pub fn one_answer()
     ensures { OneAnswer }
@@ -279,8 +280,8 @@ pub fn seeds_are_whole()
     seeded_lists_end();
 }
 
-/// Two recordings of one program, one input and the same settings that were given one schedule took the same turns, and
-/// left the same log and the same list, byte for byte.
+/// Two recordings without a seed of one program, one input and the same settings that are given one schedule have the same
+/// status and texts, lean ones too. They take the same turns, and leave the same log and the same list, byte for byte.
 #[tactic(auto, using(crate::proofs::Books::one_run))]
 pub fn schedules_give_one_run()
     ensures { SchedulesGiveOneRun }

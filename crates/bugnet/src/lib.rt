@@ -18,4 +18,4 @@ pub use laws::{
     sessions_show_the_run, slices_are_told,
 };
 pub use log_commands::status::Status;
-pub use program::{perform, run};
+pub use program::{perform, run, run_by_schedule};

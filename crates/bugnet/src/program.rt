@@ -1,22 +1,15 @@
 //! The program: it reads its words, loads, answers, saves and prints.
-//! The contract of `run` says all that is proved of the whole; code below it may change as long as that stands.
-ghost use Rattle.std.specs.Prelude.{◌≡◌, ◌≤◌, ◌⊎◌, true, Option, Some, None, IfOk, MatchOption};
-ghost use Rattle.bugnet.specs.Common.{Rose, NoneFell, Schedule, command_in, seen, seen_recording, RecordLine, bytes_eq, Answers, bytes_of, FileNames, name_refusal, code, WithFiles, call};
+//! `Runs` says all that is proved of the whole; code below `run` may change as long as that stands.
+ghost use Rattle.std.specs.Prelude.{◌≡◌, Option, Some, None, IfOk, MatchOption};
+ghost use Rattle.bugnet.specs.Common.{Schedule, command_in, seen, seen_recording, RecordLine, bytes_eq, Answers, bytes_of, FileNames, name_refusal, code, call};
 ghost use Rattle.bugnet.specs.ClosedRuns.{IsRecordingBy, MakesRecordings};
-ghost use Rattle.bugnet.specs.Answers.{scheduling_by, scheduling_of, names_in, refusal_in, words_refusal, IsOn, KindOf, line_roles};
+ghost use Rattle.bugnet.specs.Answers.{scheduling_by, names_in, refusal_in, words_refusal, IsOn, KindOf, line_roles};
 ghost use Rattle.bugnet.specs.LineAnswers.{AnswersLine};
 ghost use Rattle.bugnet.specs.Replies.{RepliesTo, Does, DoesTo};
-ghost use Rattle.bugnet.specs.Asks.{LineSaves};
-ghost use Rattle.bugnet.specs.LineCalls.{CallsOnly, HasShape, AnswersDemo, TellsDemo};
-ghost use Rattle.bugnet.specs.Laws.{NeedsNoThreads, IsReadOnly, IsNoSession, IsNoRecording};
-ghost use Rattle.bugnet.specs.Sessions.{is_begun, reading};
-ghost use Rattle.bugnet.specs.DebugSessions.{CanBegin, Debugs};
-ghost use Rattle.bugnet.specs.Agreements.{AuditsRun};
-ghost use Rattle.bugnet.specs.Complete.{IsDone};
-ghost use Rattle.bugnet.specs.Headline.{PrintsRun};
-ghost use Rattle.bugnet.specs.Jointly.{PrintsJointly};
-ghost use Rattle.bugnet.specs.Saves.{LeavesRun, LeavesScheduled};
-ghost use Rattle.bugnet.specs.Run.{TellsAnswer, ByWords, Keeps, ChangesFew};
+ghost use Rattle.bugnet.specs.LineCalls.{AnswersDemo};
+ghost use Rattle.bugnet.specs.Laws.{NeedsNoThreads, IsNoSession, IsNoRecording};
+ghost use Rattle.bugnet.specs.Sessions.{reading};
+ghost use Rattle.bugnet.specs.Program.{Runs};
 
 use crate::commands::debug::debug_files;
 use crate::commands::{demo, record};
@@ -178,7 +171,7 @@ fn answer_loaded<S: Store>(
     requires no_session { IsNoSession (Some (seen command.now)) }
     requires no_recording { IsNoRecording (Some (seen command.now)) }
     requires passes { refusal_in (seen command.now) ≡ None }
-    ensures { AnswersLine (seen command.now) names.now S.note (S.stored files.old) (S.stored files.new) result }
+    ensures { (schedule : Option Schedule) → AnswersLine schedule (seen command.now) names.now S.note (S.stored files.old) (S.stored files.new) result }
 {
     let inputs = load_inputs(alloc, names, roles_of(command), files)?;
     evaluate(alloc, command, inputs)
@@ -195,7 +188,7 @@ fn answer_to<S: Store>(
     requires named { names.now ≡ names_in (seen command.now) }
     requires no_session { IsNoSession (Some (seen command.now)) }
     requires no_recording { IsNoRecording (Some (seen command.now)) }
-    ensures { AnswersLine (seen command.now) names.now S.note (S.stored files.old) (S.stored files.new) result }
+    ensures { (schedule : Option Schedule) → AnswersLine schedule (seen command.now) names.now S.note (S.stored files.old) (S.stored files.new) result }
 {
     match refusal_of(command) {
         Some(refusal) => Err(refusal),
@@ -215,13 +208,13 @@ fn reply<S: Store, O: Sink, X: Sink>(
     requires named { names.now ≡ names_in (seen command.now) }
     requires no_session { IsNoSession (Some (seen command.now)) }
     requires no_recording { IsNoRecording (Some (seen command.now)) }
-    ensures { RepliesTo (seen command.now) names.now S.note (call S.stored O.stream X.stream files.old out.old err.old files.new out.new err.new) result }
+    ensures { (schedule : Option Schedule) → RepliesTo schedule (seen command.now) names.now S.note (call S.stored O.stream X.stream files.old out.old err.old files.new out.new err.new) result }
 {
     let answer = answer_to(alloc, command, names, files)?;
     act(alloc, names, &answer, files, out, err)
 }
 
-// Does what the words of a recording ask for. Its run is what `make` gives.
+// Does what the words of a recording ask for. Its run is what `make` gives: if that is of a schedule, so is all that is done.
 fn keep_recording<S: Store, O: Sink, X: Sink, F: FnOnce(&Start) -> Result<RunToTell, AllocError>>(
     alloc: Global,
     options: &RecordOptions,
@@ -233,10 +226,8 @@ fn keep_recording<S: Store, O: Sink, X: Sink, F: FnOnce(&Start) -> Result<RunToT
 ) -> Result<Status, Refusal>
     requires named { names.now ≡ names_in (RecordLine (seen_recording options.now)) }
     requires callable { F.IsAlwaysCallable make }
-    requires made { MakesRecordings F.FnOnce make (scheduling_of (seen_recording options.now)) }
-    ensures does { RepliesTo (RecordLine (seen_recording options.now)) names.now S.note (call S.stored O.stream X.stream files.old out.old err.old files.new out.new err.new) result }
-    ensures given { (schedule : Option Schedule) → MakesRecordings F.FnOnce make (scheduling_by (seen_recording options.now) schedule)
-        → IfOk result (λ status. LeavesScheduled schedule (Some (RecordLine (seen_recording options.now))) (code status) (S.stored files.old).files (S.stored files.new).files) }
+    ensures { (schedule : Option Schedule) → MakesRecordings F.FnOnce make (scheduling_by (seen_recording options.now) schedule)
+        → RepliesTo schedule (RecordLine (seen_recording options.now)) names.now S.note (call S.stored O.stream X.stream files.old out.old err.old files.new out.new err.new) result }
 {
     // Laws:
     seeds_are_whole();
@@ -260,7 +251,7 @@ fn unseeded<'a, 'b>(command: &'b Command<'a>) -> Option<&'b RecordOptions<'a>>
 }
 
 /// Does what a command asks for, other than a recording without a seed. It may neither wait nor start threads, and so it
-/// owes its return: each of these commands ends.
+/// owes its return: each of these commands ends. A schedule changes nothing of what they do.
 pub fn perform<S: Store, I: Source<O>, O: Sink, X: Sink>(
     alloc: Global,
     command: &Command,
@@ -272,7 +263,7 @@ pub fn perform<S: Store, I: Source<O>, O: Sink, X: Sink>(
 ) -> Result<Status, Refusal>
     requires named { names.now ≡ names_in (seen command.now) }
     requires no_threads { NeedsNoThreads (Some (seen command.now)) }
-    ensures { DoesTo (seen command.now) names.now S.note (reading I.source I.note input.old input.new)
+    ensures { (schedule : Option Schedule) → DoesTo schedule (seen command.now) names.now S.note (reading I.source I.note input.old input.new)
         (call S.stored O.stream X.stream files.old out.old err.old files.new out.new err.new) result }
 {
     // Laws:
@@ -342,8 +333,7 @@ fn keep_unseeded<S: Store, O: Sink, X: Sink, D: Given, G: Gate, R: Threads + Wai
 ) -> Result<Status, Refusal>
     requires named { names.now ≡ names_in (RecordLine (seen_recording options.now)) }
     requires unseeded { options.now.seed ≡ None }
-    ensures does { RepliesTo (RecordLine (seen_recording options.now)) names.now S.note (call S.stored O.stream X.stream files.old out.old err.old files.new out.new err.new) result }
-    ensures given { IfOk result (λ status. LeavesScheduled (D.given given.now) (Some (RecordLine (seen_recording options.now))) (code status) (S.stored files.old).files (S.stored files.new).files) }
+    ensures { RepliesTo (D.given given.now) (RecordLine (seen_recording options.now)) names.now S.note (call S.stored O.stream X.stream files.old out.old err.old files.new out.new err.new) result }
 {
     let lean = options.lean;
     keep_recording(
@@ -373,9 +363,8 @@ fn attempt<S: Store, I: Source<O>, O: Sink, X: Sink, G: Gate, R: Threads + Wait 
     schedule: Option<Schedule>,
 ) -> Result<Status, Refusal>
     requires { names.now ≡ names_in (seen command.now) }
-    ensures does { DoesTo (seen command.now) names.now S.note (reading I.source I.note input.old input.new)
+    ensures { DoesTo schedule.entry (seen command.now) names.now S.note (reading I.source I.note input.old input.new)
         (call S.stored O.stream X.stream files.old out.old err.old files.new out.new err.new) result }
-    ensures given { IfOk result (λ status. LeavesScheduled schedule.entry (Some (seen command.now)) (code status) (S.stored files.old).files (S.stored files.new).files) }
 {
     match unseeded(command) {
         Some(options) => keep_unseeded(rt, alloc, options, names, files, out, err, gate, &schedule),
@@ -405,9 +394,8 @@ fn obey<S: Store, I: Source<O>, O: Sink, X: Sink, G: Gate, R: Threads + Wait + S
     gate: &G,
     schedule: Option<Schedule>,
 ) -> Status
-    ensures does { Does (command_in words.now) (code result) S.note (reading I.source I.note input.old input.new)
+    ensures { Does schedule.entry (command_in words.now) (code result) S.note (reading I.source I.note input.old input.new)
         (call S.stored O.stream X.stream files.old out.old err.old files.new out.new err.new) }
-    ensures given { LeavesScheduled schedule.entry (command_in words.now) (code result) (S.stored files.old).files (S.stored files.new).files }
 {
     match read_words(alloc, words) {
         Err(error) => refuse(alloc, &Names::none(), &words_refusal(error), err),
@@ -447,11 +435,10 @@ fn obey<S: Store, I: Source<O>, O: Sink, X: Sink, G: Gate, R: Threads + Wait + S
 /// - it writes the program's stream 1 to out, and its stream 2 and one line to err.
 ///
 /// With a seed its number chooses the turns, on the caller's thread. One hart alone needs no seed, since
-/// its turns have one order. Without a seed a recording takes the turns of `schedule`, on the caller's
-/// thread too. If there is none, each of several harts runs in a thread of its own, and the gate is called
-/// around its turns. Which turns come then isn't determined. They are legal and finished, and the list
+/// its turns have one order. Without a seed each of several harts runs in a thread of its own, and the gate is
+/// called around its turns. Which turns come then isn't determined. They are legal and finished, and the list
 /// under BOOK is theirs. A lean recording keeps no list and saves nothing under BOOK, which then may be
-/// LOG's name.
+/// LOG's name. [`run_by_schedule`] is told which turns a recording without a seed takes.
 ///
 /// | status | comes |
 /// |---|---|
@@ -479,99 +466,39 @@ pub fn run<S: Store, I: Source<O>, O: Sink, X: Sink, G: Gate, R: Threads + Wait 
     rt: &R,
     alloc: Global,
     words: &[String],
-    files: &mut S,
+    store: &mut S,
+    input: &mut I,
+    out: &mut O,
+    err: &mut X,
+    gate: &G,
+) -> u8
+    ensures { Runs None (command_in words.now) result S.note (reading I.source I.note input.old input.new)
+        (call S.stored O.stream X.stream store.old out.old err.old store.new out.new err.new) }
+{
+    run_by_schedule(rt, alloc, words, store, input, out, err, gate, None)
+}
+
+/// The same program, which may be given a schedule. A recording without a seed then takes the turns of that, on the
+/// caller's thread, and a lean one too: so the schedule determines all that it tells and saves. Other words do as in
+/// [`run`], whatever the schedule.
+pub fn run_by_schedule<S: Store, I: Source<O>, O: Sink, X: Sink, G: Gate, R: Threads + Wait + Sync>(
+    rt: &R,
+    alloc: Global,
+    words: &[String],
+    store: &mut S,
     input: &mut I,
     out: &mut O,
     err: &mut X,
     gate: &G,
     schedule: Option<Schedule>,
 ) -> u8
-    // If the store's files are known, they and the words determine the status, the texts and the files
-    // that are left. A recording without a seed has one more input: its list of turns. By any store the
-    // words alone say whether the status is 2.
-    ensures told { TellsAnswer (command_in words.now) result (call S.stored O.stream X.stream files.old out.old err.old files.new out.new err.new) }
-    ensures words { ByWords (command_in words.now) result (call S.stored O.stream X.stream files.old out.old err.old files.new out.new err.new) }
-
-    // The log of a recording gives the recorded run: the replay of an interval from it prints that run's
-    // own rows. A program file of more than 2 ^ 26 bytes is too long, also for a recording.
-    ensures headline { WithFiles (S.stored files.old).files (λ files. PrintsRun (command_in words.now) files result (O.stream out.old).text (O.stream out.new).text) }
-
-    // Its joint replay says the run: it keeps the recorded order of conflicting accesses, and prints each
-    // hart's own rows, and words that the run had in memory.
-    ensures jointly { WithFiles (S.stored files.old).files (λ files. PrintsJointly (command_in words.now) files result (O.stream out.old).text (O.stream out.new).text) }
-
-    // If the words and the files are as the command needs them, it is done, unless it runs out of memory,
-    // or the store or a write fails.
-    ensures done { WithFiles (S.stored files.old).files (λ files. IsDone (command_in words.now) files result) }
-
-    // What was to be saved is saved, LOG before BOOK. Whatever happens, only a recording, `convert` and
-    // `salvage` change files, and of these only LOG and BOOK, or NEW. If nothing was to be saved, as at a
-    // replay, all stay as they were. Until LOG is saved BOOK does.
-    ensures kept { Keeps (command_in words.now) result (S.stored files.old).files (S.stored files.new).files }
-    ensures others { ChangesFew (command_in words.now) (S.stored files.old).files (S.stored files.new).files }
-    ensures still { IsReadOnly (command_in words.now) → (S.stored files.new).files ≡ (S.stored files.old).files }
-
-    // A recording that is done has saved each of its two files once, a lean one its log once, as have
-    // `convert` and `salvage` NEW. A refused one has saved at most so often, and no other command saves.
-    ensures saves { LineSaves (command_in words.now) result (S.stored files.old).saves (S.stored files.new).saves }
-
-    // It makes the calls of its words, in their order, and no other. Whatever its status, even out of memory, each
-    // save has the bytes of an answer to the files that are there. If the store refuses a call, that is the last,
-    // nothing is printed, and err has the line of that call's file. A recording that is done has made them all;
-    // words that are refused make none.
-    ensures calls { CallsOnly (command_in words.now) result S.note (call S.stored O.stream X.stream files.old out.old err.old files.new out.new err.new) }
-
-    // By any store a command that isn't done is refused, unless memory ran out or a write failed. Then
-    // nothing is printed, and err has the line of a refusal of this status. But what `replay`, `joint` and
-    // `debug` print may end with 15, if a replay that was begun stops. That of `debug` may end too when it
-    // can read no more commands. `demo` tells its text.
-    ensures shape { HasShape (command_in words.now) result (call S.stored O.stream X.stream files.old out.old err.old files.new out.new err.new) }
-    ensures demo { TellsDemo (command_in words.now) result (call S.stored O.stream X.stream files.old out.old err.old files.new out.new err.new) }
-
-    // A recording leaves under LOG the file of the run of a legal and finished list of turns: with a seed
-    // of the list that it chooses. The file has the version of the settings' format. Its records have at
-    // most log-size bytes. The file has 124 bytes more in version 1; in version 2 it has 136 more, and 48
-    // for each block. The status says how that run ended. BOOK has the list; only a lean recording leaves
-    // BOOK as it was.
-    ensures recorded { LeavesRun (command_in words.now) result (S.stored files.old).files (S.stored files.new).files }
-
-    // Without a seed that list is the schedule's, if one was given, also if there is one hart. A number's is what it
-    // draws; a list is followed as far as it is legal, and then seed 0 chooses. So one that is legal and finished is
-    // BOOK's own. Of a lean recording it is the list whose run's file LOG is.
-    ensures scheduled { LeavesScheduled schedule.entry (command_in words.now) result (S.stored files.old).files (S.stored files.new).files }
-
-    // Only `debug` reads commands, and only once its files are loaded and tested. What they make it tell is
-    // told: the text of its session, up to a read that failed, a line or commands that are too long, or a
-    // refusal of the replay. However it ends, each byte was read once, and none after the first `quit`. At
-    // 18 none was read after the first byte too many, at 15 none after the line that was refused. One more
-    // read finds the end of the input, or fails. At each read out has what it had before, the answers to the
-    // whole lines read so far, and nothing else. A session that isn't stopped by its whole input is stopped
-    // at no prefix of it. If the log is a recording's, all that it shows is the run's, and no replay is
-    // refused.
-    ensures session { Debugs (command_in words.now) result (reading I.source I.note input.old input.new) (call S.stored O.stream X.stream files.old out.old err.old files.new out.new err.new) }
-    ensures first { (is_begun result ≡ true) ⊎ (input.new ≡ input.old) }
-    ensures begins { (input.new ≡ input.old) ⊎ WithFiles (S.stored files.old).files (λ files. CanBegin (command_in words.now) files) }
-    ensures unread { IsNoSession (command_in words.now) → input.new ≡ input.old }
-
-    // If an audit is done, LOG is the file of the run of BOOK's turns, or that file in version 2. They are
-    // legal and finished, with settings in range, the program and the input.
-    ensures audited { WithFiles (S.stored files.old).files (λ files. AuditsRun (command_in words.now) files result) }
-
-    // A refusal by the outside comes only if its count rose, and no count falls.
-    ensures failed { result ≡ 3 → Rose (S.stored files.old).counts.faults (S.stored files.new).counts.faults }
-    ensures missing { result ≡ 4 → Rose (S.stored files.old).counts.misses (S.stored files.new).counts.misses }
-    ensures long { result ≡ 5 → Rose (S.stored files.old).counts.longs (S.stored files.new).counts.longs }
-    ensures read { result ≡ 12 → Rose (I.source input.old).faults (I.source input.new).faults }
-    ensures write { result ≡ 13 → Rose (O.stream out.old).faults (O.stream out.new).faults ⊎ Rose (X.stream err.old).faults (X.stream err.new).faults }
-    ensures later { NoneFell (S.stored files.old).counts (S.stored files.new).counts }
-    ensures out_later { (O.stream out.old).faults ≤ (O.stream out.new).faults }
-    ensures err_later { (X.stream err.old).faults ≤ (X.stream err.new).faults }
-    ensures read_later { (I.source input.old).faults ≤ (I.source input.new).faults }
+    ensures { Runs schedule.entry (command_in words.now) result S.note (reading I.source I.note input.old input.new)
+        (call S.stored O.stream X.stream store.old out.old err.old store.new out.new err.new) }
 {
     headline();
     joint_headline();
     one_answer();
     each_can_be_done();
     audits_agree();
-    obey(rt, alloc, words, files, input, out, err, gate, schedule).code()
+    obey(rt, alloc, words, store, input, out, err, gate, schedule).code()
 }

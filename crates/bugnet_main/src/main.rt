@@ -1,6 +1,6 @@
 //! Records runs and replays their logs, over the files of the system and the standard streams.
 //!
-//! All that the program does is `bugnet::run`. Here it gets its words, the real store, source and sinks,
+//! All that the program does is `bugnet::run_by_schedule`. Here it gets its words, the real store, source and sinks,
 //! and the turns that the environment names for a recording without a seed. No text waits in a buffer. So a
 //! write that fails does so in the command that made it, the two outputs keep their order, and what a
 //! command prints is seen before the next one is read.
@@ -25,7 +25,7 @@ fn main(rt: HostRuntime) -> ExitCode {
     };
     let mut input = ReaderSource::new(rt.stdin());
     let mut out = Writing::new(rt.stdout());
-    let status = bugnet::run(
+    let status = bugnet::run_by_schedule(
         &rt,
         rt.alloc(),
         &words,

@@ -96,7 +96,6 @@ impl Surroundings {
             &mut self.out,
             &mut self.err,
             gate,
-            None,
         );
         self.left = if some { Some(input.left().len()) } else { None };
         status

@@ -1,7 +1,7 @@
 //! The command `record`: settings and names are tested, the program and its input loaded, and the run recorded.
 ghost use Rattle.std.specs.Prelude.{◌≡◌, false, [], Option, Some, None, IfOk, IfErr};
-ghost use Rattle.bugnet.specs.Common.{sha256, first_bad, RecordLine, seen_recording, image_of, AreBytes, Schedule, IsByInput, elf_roles, input_roles, record_roles, WithFiles, told_of};
-ghost use Rattle.bugnet.specs.Answers.{names_in, scheduling_by, scheduling_of, setting_refusal, IsGiven};
+ghost use Rattle.bugnet.specs.Common.{sha256, first_bad, RecordLine, seen_recording, image_of, AreBytes, Schedule, IsByInput, elf_roles, input_roles, record_roles, WithFiles};
+ghost use Rattle.bugnet.specs.Answers.{names_in, scheduling_by, setting_refusal};
 ghost use Rattle.bugnet.specs.ClosedRuns.{MakesRecordings};
 ghost use Rattle.bugnet.specs.Command.Record.{is_clash, IsByProgram, IsByNames};
 ghost use Rattle.bugnet.specs.LineAnswers.{AnswersLine};
@@ -112,11 +112,9 @@ pub fn evaluate<S: Store, F: FnOnce(&Start) -> Result<RunToTell, AllocError>>(
 ) -> Result<Answer, Refusal>
     requires named { names.now ≡ names_in (RecordLine (seen_recording options.now)) }
     requires callable { F.IsAlwaysCallable make }
-    requires made { MakesRecordings F.FnOnce make (scheduling_of (seen_recording options.now)) }
     ensures bytes { IfOk result (λ _. WithFiles (S.stored files.old).files (λ files. HoldsBytes (files names.now.elf))) }
-    ensures answers { AnswersLine (RecordLine (seen_recording options.now)) names.now S.note (S.stored files.old) (S.stored files.new) result }
-    ensures given { (schedule : Option Schedule) → MakesRecordings F.FnOnce make (scheduling_by (seen_recording options.now) schedule)
-        → WithFiles (S.stored files.old).files (λ files. IfOk result (λ answer. IsGiven (seen_recording options.now) schedule files (told_of names.now answer))) }
+    ensures answers { (schedule : Option Schedule) → MakesRecordings F.FnOnce make (scheduling_by (seen_recording options.now) schedule)
+        → AnswersLine schedule (RecordLine (seen_recording options.now)) names.now S.note (S.stored files.old) (S.stored files.new) result }
 {
     let settings = tested(names, &options.settings, options.lean)?;
     let start = load_files(alloc, names, &settings, options.input.is_some(), files)?;

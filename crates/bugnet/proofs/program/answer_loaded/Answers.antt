@@ -4,7 +4,7 @@ use Rattle.bugnet.proofs.LineCalls.{words-pass}
 use Rattle.bugnet.proofs.program.answer_loaded.Goals as goal
 
 pub returns-in_err-inputs : goal.returns-in_err-inputs
-returns-in_err-inputs g c =
+returns-in_err-inputs g c = λ o.
     let line = seen c.args.command.now in
     let names = c.args.names.now in
     let old = g.S.Store.stored c.args.files.now in
@@ -14,9 +14,9 @@ returns-in_err-inputs g c =
     let e : refusal_in line ≡ None = c.requires.passes in
     let upto : LoadsUpTo names (line_roles line) (line_roles line) g.S.Store.note old.noted new.noted x =
     subst (λ (rs : List Role). LoadsUpTo names rs rs g.S.Store.note old.noted new.noted x) c.roles_of.ensures h.calls in
-    passed-on (AnswersLine line names g.S.Store.note old new) x c.from_residual.result c.from_residual.ensures.1
+    passed-on (AnswersLine o line names g.S.Store.note old new) x c.from_residual.result c.from_residual.ensures.1
     (record {
-      told = stops-line line old.files names c.roles_of.result.now x c.requires.named c.roles_of.ensures c.requires.no_session c.requires.no_recording e h.loads;
+      told = stops-line o line old.files names c.roles_of.result.now x c.requires.named c.roles_of.ensures c.requires.no_session c.requires.no_recording e h.loads;
       same = h.only.same;
       asks = h.only.asks;
       later = h.only.later;
@@ -29,7 +29,7 @@ returns-in_err-inputs g c =
     })
 
 pub returns : goal.returns
-returns g c =
+returns g c = λ o.
     let line = seen c.args.command.now in
     let names = c.args.names.now in
     let old = g.S.Store.stored c.args.files.now in
@@ -38,7 +38,7 @@ returns g c =
     let made = c.evaluate.ensures.answers in
     let e : refusal_in line ≡ None = c.requires.passes in
     record {
-      told = gives-line line old.files names c.roles_of.result.now c.in_ok-inputs.inputs c.evaluate.result c.requires.named c.roles_of.ensures c.requires.no_session c.requires.no_recording e h.loads made;
+      told = gives-line o line old.files names c.roles_of.result.now c.in_ok-inputs.inputs c.evaluate.result c.requires.named c.roles_of.ensures c.requires.no_session c.requires.no_recording e h.loads made;
       same = h.only.same;
       asks = h.only.asks;
       later = h.only.later;

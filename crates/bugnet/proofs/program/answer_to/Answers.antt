@@ -4,13 +4,13 @@ use Rattle.bugnet.proofs.LineCalls.{words-first}
 use Rattle.bugnet.proofs.program.answer_to.Goals as goal
 
 pub returns-in-Some : goal.returns-in-Some
-returns-in-Some g c =
+returns-in-Some g c = λ o.
     let line = seen c.args.command.now in
     let names = c.args.names.now in
     let old = g.S.Store.stored c.args.files.now in
     let e : refusal_in line ≡ Some c.in-Some.refusal = sym c.in-Some.ensures in
     record {
-      told = words-line line old.files names c.in-Some.refusal c.requires.named c.requires.no_recording e;
+      told = words-line o line old.files names c.in-Some.refusal c.requires.named c.requires.no_recording e;
       same = refl;
       asks = refl;
       later = none-fell old.counts;

@@ -1,7 +1,4 @@
-use Rattle.bugnet.proofs.Common.{seen}
-use Rattle.bugnet.proofs.Scheduled.{scheduled-seeded}
 use Rattle.bugnet.proofs.program.attempt.Goals as goal
 
-pub returns-in-None-clause-given : goal.returns-in-None-clause-given
-returns-in-None-clause-given g c =
-    scheduled-seeded c.args.schedule (seen c.args.command.now) (g.S.Store.stored c.args.files.now).files (g.S.Store.stored c.perform.new.files).files c.perform.result c.in-None.ensures
+pub returns-in-None : goal.returns-in-None
+returns-in-None g c = c.perform.ensures c.args.schedule
