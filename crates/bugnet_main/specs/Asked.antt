@@ -1,12 +1,19 @@
 -- Which words have turns that the environment may name.
-use Rattle.std.specs.Prelude.{◌≡◌, false, Option, Some, None, Result, Ok, Err}
+use Rattle.std.specs.Prelude.{◌≡◌, ◌≤◌, ◌<◌, ◌⊎◌, ℕ, false, List, length, Option, Some, None, Result, Ok, Err, IsSomeAnd}
 use Rattle.bn_base.specs.Ranges.{first_bad}
+use Rattle.bn_outside.specs.Counts.{Counts, NoneFell, Rose}
+use Rattle.bn_outside.specs.Files.{Stored}
+use Rattle.bn_outside.specs.StoreCalls.{LoadCall}
 use Rattle.bn_outside.specs.declared.schedule.Schedule.{Schedule}
 use Rattle.bn_outside.specs.declared.schedule.Schedule.TheVariants as schedules
 use Rattle.bugnet.specs.Command.Record.{is_clash}
 use Rattle.command_words.specs.Words.{Line, RecordLine, RecordingLine}
+use Rattle.log_commands.specs.FileCalls.{Note}
+use Rattle.log_commands.specs.Outside.{WithFiles}
 use Rattle.log_commands.specs.declared.status.Status.{Status}
-use Rattle.log_commands.specs.declared.status.Status.TheVariants.{OutOfMemory}
+use Rattle.log_commands.specs.declared.status.Status.TheVariants.{OutOfMemory, WordsRefused}
+use Rattle.log_commands.specs.declared.status.Status.TheVariants as exit
+use Rattle.log_commands.specs.Statuses.{code}
 use Rattle.bugnet_main.specs.declared.schedule.Turns.{Turns}
 use Rattle.bugnet_main.specs.declared.schedule.Turns.TheVariants.{OfThreads}
 use Rattle.bugnet_main.specs.declared.schedule.Turns.TheVariants as turns
@@ -33,3 +40,40 @@ IsFor (turns.Listed list) schedule = ⊥
 abbrev pub IsUnasked : Result Turns Status → Type 0
 IsUnasked (Ok turns) = turns ≡ OfThreads
 IsUnasked (Err status) = status ≡ OutOfMemory
+
+-- ---- what is loaded for them
+
+-- turns that no list gives, or why there are none: they weren't understood, or memory ran out
+abbrev pub NeedNoList : Result Turns Status → Type 0
+NeedNoList (Ok (turns.Listed list)) = ⊥
+NeedNoList (Ok turns) = Unit {0}
+NeedNoList (Err status) = (status ≡ WordsRefused) ⊎ (status ≡ OutOfMemory)
+
+-- the turns are those of the list under a name, or it can't be loaded: the store failed or memory ran out; else it isn't there, or
+-- has more than 2 ^ 30 bytes
+abbrev pub AreUnder : Option (List ℕ) → Result Turns Status → Type 0
+AreUnder there (Ok (turns.Listed list)) = (there ≡ Some list.items) × (length list.items ≤ 1073741824)
+AreUnder there (Ok turns) = ⊥
+AreUnder there (Err status) =
+    ((code status ≡ code exit.OutOfMemory) ⊎ (code status ≡ code exit.StoreFailed))
+    ⊎ (((there ≡ None) × (code status ≡ code exit.Missing)) ⊎ (IsSomeAnd there (λ bytes. 1073741824 < length bytes) × (code status ≡ code exit.TooLong)))
+
+-- they are those of a list, or memory ran out, or a load was refused, whose count rose
+abbrev pub AreOfLoad : Counts → Counts → Result Turns Status → Type 0
+AreOfLoad before now (Ok (turns.Listed list)) = Unit {0}
+AreOfLoad before now (Ok turns) = ⊥
+AreOfLoad before now (Err status) =
+    (code status ≡ code exit.OutOfMemory)
+    ⊎ (((code status ≡ code exit.StoreFailed) × Rose before.faults now.faults)
+    ⊎ (((code status ≡ code exit.Missing) × Rose before.misses now.misses) ⊎ ((code status ≡ code exit.TooLong) × Rose before.longs now.longs)))
+
+-- the store got one call, the load of a list with at most 2 ^ 30 bytes
+pub record LoadsList (name : List ℕ) (note : Note) (old new : Stored) (result : Result Turns Status) : Type 0 where
+  pub noted : new.noted ≡ note old.noted (LoadCall name 1073741824)
+  pub later : NoneFell old.counts new.counts
+  pub known : WithFiles old.files (λ files. AreUnder (files name) result)
+  pub cause : AreOfLoad old.counts new.counts result
+
+-- the store got no call, or that one
+abbrev pub LoadsFew : Note → (old new : Stored) → Result Turns Status → Type 0
+LoadsFew note old new result = ((new ≡ old) × NeedNoList result) ⊎ ((name : List ℕ) × LoadsList name note old new result)

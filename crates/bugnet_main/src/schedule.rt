@@ -2,7 +2,7 @@
 ghost use Rattle.std.specs.Prelude.{◌≡◌, IfOk, OnSome};
 ghost use Rattle.bugnet.specs.Command.Record.{is_clash};
 ghost use Rattle.command_words.specs.Words.{command_in, seen_recording};
-ghost use Rattle.bugnet_main.specs.Asked.{AskForTurns, TakesTurns, IsFor, IsUnasked};
+ghost use Rattle.bugnet_main.specs.Asked.{AskForTurns, TakesTurns, IsFor, IsUnasked, LoadsList, LoadsFew};
 
 use bn_base::Settings;
 use bn_outside::{Manner, Schedule, Sink, Store, send_all};
@@ -124,6 +124,7 @@ fn listed<S: Store, X: Sink>(
 ) -> Result<Turns, Status>
     ensures still { (S.stored files.new).files ≡ (S.stored files.old).files }
     ensures saves { (S.stored files.new).saves ≡ (S.stored files.old).saves }
+    ensures list { LoadsList name.now S.note (S.stored files.old) (S.stored files.new) result }
 {
     let names = Names {
         elf: "",
@@ -139,7 +140,9 @@ fn listed<S: Store, X: Sink>(
 }
 
 // Tells on err that the variable isn't understood.
-fn tell_refused<X: Sink>(err: &mut X) -> Status {
+fn tell_refused<X: Sink>(err: &mut X) -> Status
+    ensures { result ≡ Status.WordsRefused }
+{
     let _ = send_all(err, b"bugnet: ZELKUMA_SCHEDULE refused\n");
     Status::WordsRefused
 }
@@ -154,6 +157,7 @@ fn named<S: Store, X: Sink>(
 ) -> Result<Turns, Status>
     ensures still { (S.stored files.new).files ≡ (S.stored files.old).files }
     ensures saves { (S.stored files.new).saves ≡ (S.stored files.old).saves }
+    ensures loads { LoadsFew S.note (S.stored files.old) (S.stored files.new) result }
 {
     let Some(said) = said_by(text) else {
         return Err(tell_refused(err));
@@ -177,6 +181,7 @@ fn turns_for<R: Env + AllocGlobal, S: Store, X: Sink>(
 ) -> Result<Turns, Status>
     ensures still { (S.stored files.new).files ≡ (S.stored files.old).files }
     ensures saves { (S.stored files.new).saves ≡ (S.stored files.old).saves }
+    ensures loads { LoadsFew S.note (S.stored files.old) (S.stored files.new) result }
 {
     match env::var(rt, "ZELKUMA_SCHEDULE") {
         Ok(text) => {
@@ -194,7 +199,8 @@ fn turns_for<R: Env + AllocGlobal, S: Store, X: Sink>(
 /// The turns that the environment names in ZELKUMA_SCHEDULE for a recording, or those of threads if it names none.
 ///
 /// Only words that are accepted, and ask for a recording without a seed, have it looked at. What isn't understood, and a
-/// list that can't be loaded, is told on err, and gives the status.
+/// list that can't be loaded, is told on err, and gives the status. The store is called only for a list: by one load, and a
+/// list that is given is what the name has. Without a load the status is 2 or 9; else it is that of the load, or 9.
 pub fn turns_of<R: Env + AllocGlobal, S: Store, X: Sink>(
     rt: &R,
     alloc: Global,
@@ -205,6 +211,7 @@ pub fn turns_of<R: Env + AllocGlobal, S: Store, X: Sink>(
     ensures unasked { (AskForTurns (command_in words.now) → ⊥) → (files.new ≡ files.old) × IsUnasked result }
     ensures still { (S.stored files.new).files ≡ (S.stored files.old).files }
     ensures saves { (S.stored files.new).saves ≡ (S.stored files.old).saves }
+    ensures loads { LoadsFew S.note (S.stored files.old) (S.stored files.new) result }
 {
     match harts_in(alloc, words) {
         Ok(Some(harts)) => turns_for(rt, alloc, harts, files, err),
