@@ -23,7 +23,7 @@ pub use Rattle.whole_runs.specs.Closed.{IsClosed, IsOfRows}
 pub use Rattle.whole_runs.specs.Drawn.{IsDrawing, after, current, drawn, drawn_after, drawn_from, drawn_of, taker}
 pub use Rattle.whole_runs.specs.Followed.{WholeListsAreFollowed, legal_prefix, legal_prefix_from}
 pub use Rattle.whole_runs.specs.HartTurns.{AnswersAsk, IsDriven, IsLed, place_at, row_of, taken_after}
-pub use Rattle.whole_runs.specs.Laws.{RowsNameTheirHarts, SeededListsEnd, WholeRunsHaveNoError}
+pub use Rattle.whole_runs.specs.Laws.{RowsNameTheirHarts, ScheduledListsEnd, SeededListsEnd, WholeRunsHaveNoError}
 pub use Rattle.whole_runs.specs.Lists.{HasTaken, IsLiveCount, error_of, is_finished, is_legal, list_rows, list_run, live_harts_of, live_without, seeded_after, without}
 pub use Rattle.whole_runs.specs.Scheduled.{scheduled}
 pub use Rattle.whole_runs.specs.Taking.{AnswersTurn, StaysTaken, Taking}

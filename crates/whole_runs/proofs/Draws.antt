@@ -18,7 +18,7 @@ current_other m c run d e = sym (ap (λ (b : Bool). elim b as (λ z. Drawing) [ 
 
 -- ---- the turns
 
-drawn_first : (m : Manner) (c : RawSettings) (i : Program) (run : Run) (d : Drawing) (n : ℕ) → any_live c.harts run.harts ≡ true
+pub drawn_first : (m : Manner) (c : RawSettings) (i : Program) (run : Run) (d : Drawing) (n : ℕ) → any_live c.harts run.harts ≡ true
     → let now = current m c run d in let k = taker m c run now in drawn_from m c i run d (suc n) ≡ k ∷ drawn_from m c i (turn c i run k) (after m now) n
 drawn_first m c i run d n e =
     let now = current m c run d in

@@ -7,7 +7,7 @@ use Rattle.whole_runs.proofs.Seeds.{seeded_none}
 use Rattle.whole_runs.proofs.Taken.{turns_are}
 use Rattle.whole_runs.proofs.Whole.{illegal_is}
 
-prefix_live : (c : RawSettings) (i : Program) (run : Run) (k : ℕ) (ks : List ℕ) → is_live c run k ≡ true → legal_prefix_from c i run (k ∷ ks) ≡ k ∷ legal_prefix_from c i (turn c i run k) ks
+pub prefix_live : (c : RawSettings) (i : Program) (run : Run) (k : ℕ) (ks : List ℕ) → is_live c run k ≡ true → legal_prefix_from c i run (k ∷ ks) ≡ k ∷ legal_prefix_from c i (turn c i run k) ks
 prefix_live c i run k ks e = ap (λ (b : Bool). elim b as (λ z. List ℕ) [ true ↦ k ∷ legal_prefix_from c i (turn c i run k) ks | false ↦ [] ]) e
 
 pub prefix_none : (c : RawSettings) (i : Program) (run : Run) (b : List ℕ) → length b ≡ 0 → legal_prefix_from c i run b ≡ []

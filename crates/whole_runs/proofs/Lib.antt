@@ -8,6 +8,7 @@ pub mod Draws
 pub mod Chosen
 pub mod Errors
 pub mod Follows
+pub mod ScheduleEnds
 pub mod Whole
 pub mod Own
 pub mod OwnTurns

@@ -19,7 +19,7 @@ seeded_none c i run s (suc n) e =
 
 -- ---- legal
 
-seeded_legal : (c : RawSettings) (i : Program) (run : Run) (s n : ℕ) → legal_from c i run (seeded_from c i run s n) ≡ true
+pub seeded_legal : (c : RawSettings) (i : Program) (run : Run) (s n : ℕ) → legal_from c i run (seeded_from c i run s n) ≡ true
 seeded_legal c i run s zero = refl
 seeded_legal c i run s (suc n) =
     let k = chosen (draw s) (live_harts 0 c.harts run.harts) in
@@ -31,15 +31,15 @@ seeded_legal c i run s (suc n) =
 -- ---- finished
 
 -- no hart is live after the list, or it has as many turns as it may
-IsSpent : RawSettings → Program → Run → ℕ → List ℕ → Type 0
+unfoldable pub IsSpent : RawSettings → Program → Run → ℕ → List ℕ → Type 0
 IsSpent c i run n b = (any_live c.harts (run_from c i run b).harts ≡ false) ⊎ (length b ≡ n)
 
-spent_more : (c : RawSettings) (i : Program) (run : Run) (n k : ℕ) (b : List ℕ) → IsSpent c i (turn c i run k) n b → IsSpent c i run (suc n) (k ∷ b)
+pub spent_more : (c : RawSettings) (i : Program) (run : Run) (n k : ℕ) (b : List ℕ) → IsSpent c i (turn c i run k) n b → IsSpent c i run (suc n) (k ∷ b)
 unfolding IsSpent
 spent_more c i run n k b (inl p) = inl p
 spent_more c i run n k b (inr p) = inr (ap suc p)
 
-seeded_spent : (c : RawSettings) (i : Program) (run : Run) (s n : ℕ) → IsSpent c i run n (seeded_from c i run s n)
+pub seeded_spent : (c : RawSettings) (i : Program) (run : Run) (s n : ℕ) → IsSpent c i run n (seeded_from c i run s n)
 unfolding IsSpent
 seeded_spent c i run s zero = inr refl
 seeded_spent c i run s (suc n) =
@@ -52,7 +52,7 @@ seeded_spent c i run s (suc n) =
 one_too_many : (n : ℕ) (b : List ℕ) (k : ℕ) → length b ≡ n → length (b ++ k ∷ []) ≤ n → ⊥
 one_too_many n b k e h = omega (arith, e, h, length-append b (k ∷ []))
 
-over_by : RunsEnd → (c : RawSettings) (i : Program) (input : List ℕ) (b : List ℕ) → IsSetting c → legal_from c i (start c i input) b ≡ true → IsSpent c i (start c i input) (most_turns c) b → has_finished c (run_of c i input b) ≡ true
+pub over_by : RunsEnd → (c : RawSettings) (i : Program) (input : List ℕ) (b : List ℕ) → IsSetting c → legal_from c i (start c i input) b ≡ true → IsSpent c i (start c i input) (most_turns c) b → has_finished c (run_of c i input b) ≡ true
 unfolding IsSpent
 over_by ends c i input b setting legal (inl p) = over_none c (run_of c i input b) p
 over_by ends c i input b setting legal (inr p) =

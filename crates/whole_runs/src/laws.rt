@@ -1,5 +1,5 @@
 //! Laws of lists of turns. These functions do nothing: their contracts are theorems.
-ghost use Rattle.whole_runs.specs.Laws.{SeededListsEnd, RowsNameTheirHarts, WholeRunsHaveNoError};
+ghost use Rattle.whole_runs.specs.Laws.{SeededListsEnd, ScheduledListsEnd, RowsNameTheirHarts, WholeRunsHaveNoError};
 ghost use Rattle.whole_runs.specs.Followed.{WholeListsAreFollowed};
 
 use run_laws::runs_end;
@@ -8,6 +8,14 @@ use run_laws::runs_end;
 /// each turn that a run can take.
 pub fn seeded_lists_end()
     ensures { SeededListsEnd }
+{
+    runs_end();
+}
+
+/// The list of a schedule names a live hart at each turn, and leaves no hart live: one that a number draws,
+/// and one that follows a given list.
+pub fn scheduled_lists_end()
+    ensures { ScheduledListsEnd }
 {
     runs_end();
 }

@@ -21,7 +21,8 @@ mod turns;
 pub use examples::{a_list_is_followed, a_sleeper_is_drawn, bursts_are_drawn};
 pub use hart_place::HartPlace;
 pub use laws::{
-    rows_name_their_harts, seeded_lists_end, whole_lists_are_followed, whole_runs_have_no_error,
+    rows_name_their_harts, scheduled_lists_end, seeded_lists_end, whole_lists_are_followed,
+    whole_runs_have_no_error,
 };
 pub use listed::Listed;
 pub use listed_bus::{Beginning, ListedBus};
