@@ -27,3 +27,4 @@ mod RecordLoads
 pub mod LineAnswers
 mod Replied
 mod Promises
+mod Determined

@@ -1,5 +1,5 @@
 -- Settings that were tested are in range.
-use Rattle.bugnet.proofs.Common.{◌≡◌, ◌≤◌, ℕ, ◌%◌, ◌^◌, ◌==◌, ◌&&◌, Bool, true, false, nat_le, Option, None, refl, arith, nat_tests, RawSettings, BadSetting, is_between, is_small_power, is_memory_size, is_second_sets, is_second_ways, most_harts, bad_or, first_bad, IsSetting, SeededListsEnd, SeedsAreWhole}
+use Rattle.bugnet.proofs.Common.{◌≡◌, ◌≤◌, ℕ, ◌%◌, ◌^◌, ◌==◌, ◌&&◌, Bool, true, false, nat_le, Option, None, refl, arith, nat_tests, RawSettings, BadSetting, is_between, is_small_power, is_memory_size, is_second_sets, is_second_ways, most_harts, bad_or, first_bad, IsSetting, SeededListsEnd, SeedsAreWhole, ScheduledListsEnd, SchedulesAreWhole, began_by}
 use Rattle.std.specs.Int.{is_power_of_two}
 
 -- a test that wasn't failed, and those after it
@@ -72,6 +72,11 @@ in-range s e =
       second_sets = sets2.0;
       second_ways = ways2.0;
     }
+
+pub schedules_whole : ScheduledListsEnd → SchedulesAreWhole
+schedules_whole law c i digest input schedule e =
+    let ends = law schedule (began_by c i digest input) (in-range c e) in
+    record { legal = ends.0; over = ends.1 }
 
 pub seeds_whole : SeededListsEnd → SeedsAreWhole
 seeds_whole law c i input seed e =

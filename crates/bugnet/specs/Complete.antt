@@ -1,6 +1,6 @@
 -- When a command has an answer, and when it is done.
 use Rattle.std.specs.Prelude.{◌≡◌, ◌≤◌, ◌⊎◌, ℕ, List, false, length, Option, Some, None, Ok}
-use Rattle.bugnet.specs.Common.{Program, first_bad, Files, Line, RecordingLine, RecordLine, ReplayLine, JointLine, DebugLine, ListLine, CheckLine, AuditLine, RacesLine, SliceLine, ConvertLine, SalvageLine, DemoLine, bytes_eq, Content, IsContent, file_bytes2, image_of, Interval, Told, AreBytes, Agrees, HoldsLog, CanJoin, CanRace, CanSlice, IsFree, IsRecorded, input_by}
+use Rattle.bugnet.specs.Common.{Program, first_bad, Files, Schedule, Line, RecordingLine, RecordLine, ReplayLine, JointLine, DebugLine, ListLine, CheckLine, AuditLine, RacesLine, SliceLine, ConvertLine, SalvageLine, DemoLine, bytes_eq, Content, IsContent, file_bytes2, image_of, Interval, Told, AreBytes, Agrees, HoldsLog, CanJoin, CanRace, CanSlice, IsFree, IsRecorded, input_by}
 use Rattle.bugnet.specs.Command.Record.{is_clash}
 use Rattle.bugnet.specs.Answers.{IsAnswer}
 use Rattle.bugnet.specs.Headline.{Part, ReplaysRun}
@@ -22,9 +22,9 @@ HasBytes (Some (ConvertLine log copy)) files = HoldsBytes (files log)
 HasBytes (Some (SalvageLine log copy)) files = HoldsBytes (files log)
 HasBytes other files = Unit {0}
 
--- then there is an answer
+-- then there is an answer, whatever schedule is given
 abbrev pub EachHasAnAnswer : Type 0
-EachHasAnAnswer = (line : Option Line) (files : Files) → HasBytes line files → (what : Told) × IsAnswer None line files what
+EachHasAnAnswer = (schedule : Option Schedule) (line : Option Line) (files : Files) → HasBytes line files → (what : Told) × IsAnswer schedule line files what
 
 -- ---- commands that can be done
 
@@ -69,9 +69,9 @@ CanDo (ConvertLine log copy) files = (bytes_eq log copy ≡ false) × HasContent
 CanDo (SalvageLine log copy) files = (bytes_eq log copy ≡ false) × HasSecond (files log)
 CanDo (DemoLine seed) files = Unit {0}
 
--- there is an answer, and each answer is that of a command that is done
+-- there is an answer, whatever schedule is given, and each answer is that of a command that is done
 pub record CanBeDone (line : Line) (files : Files) : Type 0 where
-  pub answer : (what : Told) × IsAnswer None (Some line) files what
+  pub answer : (schedule : Option Schedule) → (what : Told) × IsAnswer schedule (Some line) files what
   pub done : (told : Told) → IsAnswer None (Some line) files told → IsRecorded told.status
 
 -- each line can be done for which words and files are as it needs them

@@ -3,6 +3,8 @@ use Rattle.std.specs.Prelude.{◌≡◌, ℕ, List, Bool, true, false, Option, S
 use Rattle.bugnet.specs.Common.{sha256, Program, first_bad, RawSettings, Files, Schedule, Line, RecordLine, DebugLine, ConvertLine, SalvageLine, content_of, run_of, seeded, IsWhole, IsRecording, FileNames, Told, Saved}
 use Rattle.bugnet.specs.Sessions.{Commands, IsSession}
 use Rattle.bugnet.specs.Answers.{IsAnswer}
+use Rattle.bugnet.specs.Recordings.{began_by}
+use Rattle.whole_runs.specs.Scheduled.{scheduled}
 use Rattle.bugnet.specs.Saves.{IsWithin}
 
 -- the list of turns that an answer saves
@@ -59,6 +61,10 @@ NeedsNoThreads line = Unit {0}
 -- the list of turns that a seed chooses is legal and finished, if the settings were tested
 abbrev pub SeedsAreWhole : Type 0
 SeedsAreWhole = (c : RawSettings) (i : Program) (input : List ℕ) (seed : ℕ) → first_bad c ≡ None → IsWhole c i input (seeded c i input seed)
+
+-- the list of a schedule is legal and finished, if the settings were tested
+abbrev pub SchedulesAreWhole : Type 0
+SchedulesAreWhole = (c : RawSettings) (i : Program) (digest input : List ℕ) (schedule : Schedule) → first_bad c ≡ None → IsWhole c i input (scheduled schedule (began_by c i digest input))
 
 -- the log of each recording, whatever its turns and its format, keeps to its size. Its records have at most log-size bytes; its
 -- file has 124 more in version 1, and in version 2 136 and 48 a block

@@ -23,3 +23,4 @@ pub mod LineCalls
 pub mod LineAnswers
 pub mod Replies
 pub mod Books
+pub mod Determined

@@ -1,11 +1,12 @@
 //! What holds of all answers: laws, each a function with an empty body.
 //! They are about definitions alone, so that code which keeps its contract may change without them.
 ghost use Rattle.bugnet.specs.DebugSessions.{ConvertedHaveTheirLimit, SessionsShowTheRun, RecordingsCanBeDebugged, PrefixesCanBeDebugged};
-ghost use Rattle.bugnet.specs.Laws.{OneAnswer, OneSession, SeedsAreWhole, FilesKeepToTheirSize};
+ghost use Rattle.bugnet.specs.Laws.{OneAnswer, OneSession, SeedsAreWhole, SchedulesAreWhole, FilesKeepToTheirSize};
 ghost use Rattle.bugnet.specs.Agreements.{AuditsAgree};
 ghost use Rattle.bugnet.specs.Books.{BooksAreFollowed, SchedulesGiveOneRun};
 ghost use Rattle.bugnet.specs.Complete.{EachHasAnAnswer, EachCanBeDone};
 ghost use Rattle.bugnet.specs.Crashes.{CrashesAreShown};
+ghost use Rattle.bugnet.specs.Determined.{AnswersAreDetermined};
 ghost use Rattle.bugnet.specs.Headline.{Headline, RecordingsAreReplayed, RecordingsSayEnds};
 ghost use Rattle.bugnet.specs.Jointly.{JointHeadline, RecordingsCanBeJoined, RecordingsAreJoined};
 ghost use Rattle.bugnet.specs.SalvagedLogs.{SalvagedSayEnds, SalvagedAreReplayed};
@@ -26,7 +27,9 @@ use report_laws::races_say_the_run;
 use run_files::{files_number_their_version, verdicts_are_unique};
 use run_laws::{faults_are_kept, kept_records_are_an_end, own_asks_are_orderly};
 use step_debugger::laws::refusals_stay;
-use whole_runs::{seeded_lists_end, whole_lists_are_followed, whole_runs_have_no_error};
+use whole_runs::{
+    scheduled_lists_end, seeded_lists_end, whole_lists_are_followed, whole_runs_have_no_error,
+};
 
 /// No words have two answers, whatever the files are and whatever schedule is given. But a recording with
 /// neither a seed nor a schedule has one for each list of turns. Of a lean one of these, which saves no
@@ -138,14 +141,25 @@ pub fn salvaged_logs_say_ends()
     files_are_read();
 }
 
-/// Words and files have an answer, if what a log file holds is bytes.
+/// Words and files have an answer, whatever schedule is given, if what a log file holds is bytes.
 #[tactic(auto, using(crate::proofs::Complete::some_answer))]
 pub fn each_has_an_answer()
     ensures { EachHasAnAnswer }
 {
     seeds_are_whole();
+    schedules_are_whole();
     files_are_read_or_refused();
     files_are_salvaged_or_refused();
+}
+
+/// Words, files and a schedule determine what is told: one answer, whatever the status of a call. But a
+/// recording with neither a seed nor a schedule depends on its turns too, and `debug` on its commands.
+#[tactic(auto, using(crate::proofs::Determined::determined))]
+pub fn answers_are_determined()
+    ensures { AnswersAreDetermined }
+{
+    one_answer();
+    each_has_an_answer();
 }
 
 /// A command has an answer, and each of its answers is that of a command that is done, under these
@@ -158,6 +172,7 @@ pub fn each_can_be_done()
     whole_runs_have_no_error();
     one_answer();
     seeds_are_whole();
+    schedules_are_whole();
     ends_suffice();
     the_rows_of_an_interval_stand_together();
     logs_are_contents();
@@ -293,6 +308,13 @@ pub fn books_are_followed()
     ensures { BooksAreFollowed }
 {
     whole_lists_are_followed();
+}
+
+/// The list of a schedule is legal and finished, if the settings were tested.
+pub fn schedules_are_whole()
+    ensures { SchedulesAreWhole }
+{
+    scheduled_lists_end();
 }
 
 /// The records that the log of a recording keeps have at most the bytes that the settings give. Its file

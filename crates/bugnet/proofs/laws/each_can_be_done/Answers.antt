@@ -9,4 +9,4 @@ returns c =
     let seconds : SecondLaws = record { numbers = c.files_number_their_version.ensures; sizes = c.files_have_their_size.ensures; few = c.blocks_are_few.ensures; whole = c.whole_files_are_salvaged.ensures } in
     let audits : AuditLaws = record { verdicts = c.verdicts_are_unique.ensures; errors = c.whole_runs_have_no_error.ensures } in
     let sizes : Sizes = record { first = c.files_have_their_size-2.ensures; second = c.files_have_their_size.ensures; few = c.blocks_are_few.ensures } in
-    can-be-done c.seeds_are_whole.ensures c.one_answer.ensures (c.ends_suffice.ensures, c.the_rows_of_an_interval_stand_together.ensures) sizes laws seconds audits
+    can-be-done c.seeds_are_whole.ensures c.schedules_are_whole.ensures c.one_answer.ensures (c.ends_suffice.ensures, c.the_rows_of_an_interval_stand_together.ensures) sizes laws seconds audits
