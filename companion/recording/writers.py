@@ -82,7 +82,8 @@ class Writers:
         return store
 
     def stores(self, load: int) -> Stores:
-        latest = self.word[load]
+        """An atomic that stored what the word held is passed: what came before it gave the bytes their value."""
+        latest = self.changed_by(self.word[load])
         if latest and self.rows.code_of(latest).width == 4:
             return Stores([latest], 0)
         need = self.rows.mask(load)
@@ -99,16 +100,20 @@ class Writers:
     def lanes_of(self, store: int) -> tuple[int, ...]:
         """Of each byte of a word the latest row up to a store that stored it, or 0. Of a long way back some are kept."""
         passed: list[int] = []
-        while store and store not in self.lanes and (not passed or self.rows.mask(passed[-1]) != 15):
+        while store and store not in self.lanes and not (passed and self.gives_all(passed[-1])):
             passed.append(store)
             store = self.word[store]
         found = self.lanes.get(store, (0, 0, 0, 0))
         for at, row in enumerate(reversed(passed), 1):
-            mask = self.rows.mask(row)
+            mask = 0 if self.rows.flags[row] & KEEPS else self.rows.mask(row)
             found = tuple(row if mask >> lane & 1 else before for lane, before in enumerate(found))
             if at % KEPT == 0 or at == len(passed):
                 self.lanes[row] = found
         return found
+
+    def gives_all(self, store: int) -> bool:
+        """Whether a row gave each byte of its word its value."""
+        return self.rows.mask(store) == 15 and not self.rows.flags[store] & KEEPS
 
     def store_before(self, address: int, before: int) -> int:
         """The row that gave a byte its value, as it was before a row, or 0."""

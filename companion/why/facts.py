@@ -124,6 +124,16 @@ class Facts:
         """The innermost calls over a row."""
         return self.stack(n, 3).frames[1:4]
 
+    @property
+    def is_part(self) -> bool:
+        """Whether the log has rows before those that are here: their records weren't read, or they weren't kept."""
+        return bool(self.log.unread or self.rows.passed)
+
+    @property
+    def no_row(self) -> str:
+        """What a statement rests on that says what no row did."""
+        return "no row that was read" if self.is_part else "no row of the log"
+
     def ends(self) -> str:
         return ", ".join(f"hart {hart} {end.reason} {end.value:08x}" for hart, end in sorted(self.log.ends.items()))
 

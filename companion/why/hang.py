@@ -8,6 +8,7 @@ from ..recording.instruction import NAMES
 from ..recording.rows import STORES
 from .facts import Facts
 from .loops import Exit, Loop, Operand
+from .origins import came_from
 
 EXITS, STOPPED, WORDS = 4, 6, 6         # how many are told
 MORE_EXITS, MORE_STOPPED = 12, 20
@@ -68,11 +69,14 @@ def operand_words(facts: Facts, operand: Operand) -> str:
     said += f", from {facts.named.data_name(told.address) or f'{told.address:08x}'}"
     if told.value != value:
         said += f" (a word of {told.value:08x})"
+    latest = writers.word[operand.load]
+    kept = f"in {moment(facts, latest)} an atomic stored it as it was" if latest != operand.store else ""
     if not operand.store:
-        return said + ", which no row of the log stored"
-    before, stored = writers.word[operand.store], f"{said}, stored last in {moment(facts, operand.store)}"
+        return f"{said}, {came_from(facts, operand.load)}" + (f"; {kept}" if kept else "")
+    said += f", stored {'' if kept else 'last '}in {moment(facts, operand.store)}"
+    before = writers.word[operand.store]
     told = rows.store_of(before) if before and facts.line(before) != facts.line(operand.store) else None
-    return stored + (f", over {told.value:08x} of {moment(facts, before)}" if told else "")
+    return said + (f", over {told.value:08x} of {moment(facts, before)}" if told else "") + (f"; later {kept}" if kept else "")
 
 
 def moment(facts: Facts, n: int) -> str:

@@ -208,9 +208,8 @@ class History:
             first, found, is_whole = self.again[key]
             return first or n, found, is_whole
         first = self.first_copied(n)
-        stores, rest = writers.stores(first)
-        found = [row for row in map(writers.changed_by, stores) if row]
-        is_whole = not rest and len(found) == len(stores)
+        found, rest = writers.stores(first)
+        is_whole = not rest
         if n - word > FAR:
             self.again[key] = 0 if first == n else first, found, is_whole
         return first, found, is_whole

@@ -1,7 +1,8 @@
 """A word that harts access while they hold a lock, and once without it.
 
-A lock is a word that a hart sets from 0 by an atomic instruction, and sets to 0 again. Nothing has to say which words it
-guards: that shows in what is held at their accesses."""
+A lock is a word that a hart sets from 0 by an atomic instruction, and sets to 0 again. One that atomics add to, or set from
+one value to another that isn't 0 either, counts something, and is none. Nothing has to say which words a lock guards: that
+shows in what is held at their accesses."""
 from __future__ import annotations
 
 from collections import Counter
@@ -34,21 +35,28 @@ class Setting(NamedTuple):
 
 def setting(rows: Rows) -> list[Setting]:
     """In the rows' order."""
-    found, free, stored = [], set(), iter(rows.stored)
+    found, free, counts, stored = [], set(), set(), iter(rows.stored)
     is_atomic = [ins.kind == AMO for ins in rows.codes]
+    adds = [ins.name.startswith("amoadd") for ins in rows.codes]
     for n, address, value in zip(rows.accesses, rows.addresses, rows.words):
         kind = rows.flags[n] & (LOADS | STORES)
         if kind == LOADS | STORES:
-            if next(stored) and not value:
+            after = next(stored)
+            if adds[rows.code[n]] or value and after and after != value:
+                counts.add(address)
+            elif after and not value:
                 found.append(Setting(n, address, True))
         elif is_atomic[rows.code[n]]:
             if kind == STORES:
                 if value and address in free:
                     found.append(Setting(n, address, True))
+                elif value:
+                    counts.add(address)
             elif value:                         # a store-conditional may follow
                 free.discard(address)
             else:
                 free.add(address)
+    found = [each for each in found if each.word not in counts]
     words, stored = {each.word for each in found}, iter(rows.stored)
     for n, address, value in zip(rows.accesses, rows.addresses, rows.words):
         kind = rows.flags[n] & (LOADS | STORES)
@@ -85,17 +93,40 @@ def unlocked(facts: Facts, history: History) -> list[Suspect]:
     for word, held in accesses(rows, set(nearest) - {each.word for each in changes}, changes).items():
         lock, times = max(Counter(lock for each in held for lock in each.locks).items(), key=lambda item: item[1],
                           default=(word, 0))
-        harts: set[int] = set()
-        bare = []
-        for each in held:                       # until a second hart comes, nothing has to be guarded
-            harts.add(rows.hart[each.row])
-            if lock not in each.locks and len(harts) > 1:
-                bare.append(each.row)
-        stores = [n for n in bare if rows.flags[n] & STORES]
+        bare = bare_of(rows, held, lock, changes)
+        stores = [each for each in bare if rows.flags[each.row] & STORES]
         if lock != word and bare and times >= LEAST and times >= RARE * len(bare):
-            found.append(suspect_of(facts, (stores or bare)[-1], bare, nearest[word]))
-            found[-1].sign(UNLOCKED, f"{times} other accesses hold a lock, {facts.named.data_name(lock) or f'{lock:08x}'}")
+            guilty = (stores or bare)[-1]
+            found.append(suspect_of(facts, guilty.row, [each.row for each in bare], nearest[word]))
+            own = ", ".join(name_of(facts, each) for each in sorted(guilty.locks)) or "none"
+            found[-1].sign(UNLOCKED, f"at {number(times)} other accesses to {name_of(facts, word)} their hart holds "
+                                     f"{name_of(facts, lock)}, here {own}")
     return found
+
+
+def bare_of(rows: Rows, held: Sequence[Held], lock: int, changes: Sequence[Setting]) -> list[Held]:
+    """The accesses to a word that have to be guarded, and aren't: until a second hart comes nothing has to be, nor once the
+    others don't come again, as after a join. Of a hart that had rows before the first, which can have taken the lock, those
+    count that come after it took or gave the lock."""
+    begun: dict[int, int] = {}
+    for row, word, _ in changes:
+        if word == lock:
+            begun.setdefault(rows.hart[row], row)
+    harts = {rows.hart[each.row]: each.row for each in held}        # their last accesses
+    came: set[int] = set()
+    bare = []
+    for each in held:
+        hart = rows.hart[each.row]
+        came.add(hart)
+        is_known = not rows.is_cut(each.row) or begun.get(hart, each.row) < each.row
+        comes_again = any(last > each.row for other, last in harts.items() if other != hart)
+        if lock not in each.locks and len(came) > 1 and is_known and comes_again:
+            bare.append(each)
+    return bare
+
+
+def name_of(facts: Facts, word: int) -> str:
+    return facts.named.data_name(word) or f"{word:08x}"
 
 
 class Wait(NamedTuple):

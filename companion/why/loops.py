@@ -173,4 +173,4 @@ def operands_of(trace: Trace, row: int) -> list[Operand]:
 
 def store_behind(trace: Trace, load: int) -> int:
     """The store that gave a load's word its value, or 0."""
-    return trace.writers.changed_by(trace.writers.store(load)) if load else 0
+    return trace.writers.store(load) if load else 0

@@ -35,21 +35,25 @@ def origins(facts: Facts, history: History) -> dict[Origin, Loads]:
 
 
 def came_from(facts: Facts, n: int) -> str:
-    told, dropped = facts.rows.load_of(n), facts.log.dropped
-    before = "stored before the rows that were read" if facts.log.unread else "stored before the log"
+    """What gave the bytes of a load their value that no row gave it."""
+    told = facts.rows.load_of(n)
     if told is None:
         return "no row tells"
-    address, value = told
+    word, rest = told.address & ~3, facts.writers.stores(n).rest
+    mine = [i for i in range(4) if rest >> i & 1]
     for call in reversed(facts.rows.reads):
-        if call.row < n and call.address <= address | 3 and address & ~3 < call.address + call.size:
+        if call.row < n and any(call.address <= word + i < call.address + call.size for i in mine):
             return f"a read call filled it (hart {call.hart}, count {number(facts.rows.count_of(call.row))})"
-    rest = facts.writers.stores(n).rest
-    mask = sum(255 << 8 * i for i in range(4) if rest >> i & 1)
-    value &= mask
-    if value == (facts.elf.word(address) or 0) & mask:
-        kind = "the program file" if value else "zero from the start: never stored"
-        return f"{kind} (or {before})" if dropped else kind
-    return before if dropped else "no row tells"
+    before = "stored before the rows that were read" if facts.is_part else "stored before the log" if facts.log.dropped else ""
+    mask = sum(255 << 8 * i for i in mine)
+    value = told.value & mask
+    if value != (facts.elf.word(word) or 0) & mask:
+        return before or "no row tells"
+    kind = "as the program file has it" if value else "zero from the start"
+    if before:
+        return f"{kind}, or {before}"
+    # A row of an atomic can have stored what was there: that is a store, too.
+    return kind if value or facts.writers.word[n] else f"{kind}: never stored"
 
 
 def advice(log: Log) -> list[str]:

@@ -29,7 +29,7 @@ def report(facts: Analysis, more: bool = False) -> list[Part]:
     parts += [Part("LAST ROWS", row_lines(facts)),
               Part(SUSPECTS_HEAD, suspect_lines(facts, MORE_SUSPECTS if more else SUSPECTS)),
               value_part(facts, MORE_LINES if more else LINES),
-              Part(f"FROM BEFORE: loads behind it that no row {'that was read' if facts.log.unread else 'of the log'} stored",
+              Part(f"FROM BEFORE: loads behind it whose value {facts.no_row} gave",
                    origin_lines(facts, MORE_ORIGINS if more else ORIGINS))]
     if facts.log.harts > 1:
         parts.append(race_part(facts))
@@ -68,7 +68,7 @@ def output_lines(facts: Analysis, byte: Written) -> list[str]:
     said = [f"Asked of byte {byte.place} of write {byte.write}, which took {counted(call.size, 'byte')} from {call.address:08x}",
             f"hart {call.hart} wrote it at count {number(call.count)} in {facts.where(row)}"]
     if facts.stored == row:
-        return said + [f"No row{' that was read' if facts.log.unread else ''} stored the byte: below is the write."]
+        return said + [f"{facts.no_row.capitalize()} stored the byte: below is the write."]
     told = rows.store_of(facts.stored)
     place = call.address + byte.place & 3
     value = bytes([told.value >> 8 * place & 255]) if told else b""
@@ -87,7 +87,7 @@ def call_lines(facts: Analysis) -> list[str]:
         said.append(f"{'from' if i else 'at':<5} {frame.address:08x} {frame.function}  {frame.place}{inlined}")
     if stack.left_out:
         said.insert(-1, f"      .. {counted(stack.left_out, 'more call')} ..")
-    first = "the first row that was read" if facts.log.unread else "the log's first row"
+    first = "the first row that was read" if facts.is_part else "the log's first row"
     return said + ([f"      (calls from before {first} aren't known)"] if stack.is_cut else [])
 
 
@@ -104,7 +104,7 @@ def suspect_lines(facts: Analysis, most: int) -> list[str]:
     said: list[str] = []
     for place, item in enumerate(facts.shown[:most], 1):
         said += one_suspect(facts, place, item)
-    return said or [f"none: no row {'that was read' if facts.log.unread else 'of the log'} stored the value"]
+    return said or [f"none: {facts.no_row} stored the value"]
 
 
 def one_suspect(facts: Analysis, place: int, item: Suspect) -> list[str]:
@@ -184,8 +184,10 @@ def last_lines(facts: Analysis) -> list[str]:
 
 def unread(facts: Analysis) -> list[str]:
     """What of the log wasn't looked at."""
-    log = facts.log
-    if not log.unread:
+    log, passed = facts.log, facts.rows.passed
+    before = [f"{number(log.unread)} bytes of records"] * bool(log.unread) + [counted(passed, "row")] * bool(passed)
+    if not before:
         return []
-    return [f"Only the last {counted(facts.rows.size, 'row')} were read: {number(log.unread)} bytes of records before them weren't "
-            "looked at. --rows N reads the last N."]
+    last = f"up to {facts.asked or 'the write'}" if facts.asked or facts.output else "of the log"
+    return [f"Only the last {counted(facts.rows.size, 'row')} {last} were read: {' and '.join(before)} before them weren't looked at. "
+            "--rows N reads the last N."]

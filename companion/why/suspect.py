@@ -5,7 +5,7 @@ from typing import NamedTuple
 
 # What the guilty row of each kind did, and what its other two rows did.
 DID = {"store": "stored it in", "back": "gave the memory back in", "twice": "gave the memory back in",
-       "calls": "calls itself in", "branch": "chose the way in", "unlocked": "held no lock in", "order": "waits for a lock in",
+       "calls": "calls itself in", "branch": "chose the way in", "unlocked": "didn't hold the others' lock in", "order": "waits for a lock in",
        "failed": "stored nothing in", "unset": "loaded from its stack what it never stored in"}
 NEW_OWNER = "the new owner stored in"
 ALONE = "twice", "calls", "branch", "unlocked", "order", "failed", "unset"     # kinds that have no load

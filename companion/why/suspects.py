@@ -166,7 +166,7 @@ class Ranking:
                     pointer = writers.first[pointer]
                 if pointer and rows.code[pointer] == rows.code[n]:
                     for load in (n, pointer):
-                        for store in map(writers.changed_by, writers.stores(load).rows):
+                        for store in writers.stores(load).rows:
                             if store < hanging.first and store > latest.store:
                                 latest = Pair(load, store)
         return latest

@@ -59,7 +59,7 @@ RULES: Dict[str, Any] = {
     "ran before any call": ("before any call", {"branches.ENTRY": 0}),
     "who stored what it compared": ("a value that it compared was", {"branches.add_stored": nothing}),
     "branches": ("", {"suspects.branch_suspects": nothing}),
-    "an access without its lock": ("hold a lock", {"suspects.unlocked": nothing}),
+    "an access without its lock": ("their hart holds", {"suspects.unlocked": nothing}),
     "locks in a circle": ("each other's locks", {"suspects.circle": nothing}),
     "a deep recursion": ("calls deep", {"recursion.DEEP": 1 << 32}),
     "a failed store-conditional": ("a store-conditional failed", {"suspects.failed_stores": nothing}),

@@ -3,11 +3,11 @@ import re
 
 import case
 import common
-from recordings import DATA, T0, T1, T2, addi, atomic, branch_unless_equal, elf_of, lui
+from recordings import DATA, EXIT, T0, T1, T2, addi, atomic, branch_unless_equal, elf_of, load, lui, store
 
 from companion.why.analysis import analysed
 
-S0, LR, SC = 8, 2, 3
+S0, SWAP, LR, SC = 8, 1, 2, 3
 HANGS = "hang_width", "hang_wakeup", "hang", "lock_left_held"
 
 
@@ -49,15 +49,15 @@ class HangTest(case.Case):
     def test_who_holds_the_locks(self):
         log = self.record("two_locks", "--seed", "8", "--harts", "2", "--limit", "20000")
         said = self.says("why", log, self.elf("two_locks"))
-        self.assertIn("a5 is 00000001, from 000112f0, stored last in 0001018c (hart 1 at count 107)", said)
-        self.assertIn("a5 is 00000001, from 000112f8, stored last in 0001025c (hart 0 at count 92)", said)
+        self.assertIn("a5 is 00000001, from 000112f0, stored in 0001018c (hart 1 at count 107); later in 0001028c (hart 0 at", said)
+        self.assertIn("a5 is 00000001, from 000112f8, stored in 0001025c (hart 0 at count 92); later in 000101bc (hart 1 at", said)
 
-    def test_a_spinners_own_exchange_is_no_store(self):
+    def test_a_spinners_own_exchange_gives_no_value(self):
         """A hart took the lock before the log's first row; since then the other one puts 1 in the place of 1."""
         elf = self.crash("lock_left_held")[1]
         log = common.record("held", elf, "--seed", "1", "--harts", "2", "--limit", "800000", "--log-size", "16384", "--interval", "2000")
         said = self.says("why", log, elf)
-        self.assertIn("a5 is 00000001, from lock, which no row of the log stored\n", said)
+        self.assertRegex(said, r"a5 is 00000001, from lock, stored before the log; in acquire .* an atomic stored it as it was\n")
         self.assertNotIn("stored last in", said)
         self.assertNotIn("stored it in acquire", said)
 
@@ -69,7 +69,30 @@ class HangTest(case.Case):
                                branch_unless_equal(T0, 0, -12), 0x6f]))
         log = common.record("exchange", elf, "--seed", "3", "--harts", "2", "--limit", "2000")
         said = self.says("why", log, elf)
-        self.assertIn("t0 is 00000001, from 00020000, stored last in 00010080 (hart 1 at count 3)\n", said)
+        self.assertIn("t0 is 00000001, from 00020000, stored in 00010080 (hart 1 at count 3); later in 00010080 (hart", said)
+
+    def flags(self, options, *rows):
+        """HANG and FROM BEFORE of a hart that loads the first word until it isn't 0, after some other rows."""
+        elf = common.written(common.path("flags.elf"), elf_of([lui(S0, DATA), *rows, load(T1, S0), branch_unless_equal(T1, 0, 8),
+                                                               branch_unless_equal(S0, 0, -8), *EXIT], b"\0"))
+        log = common.record("flags", elf, "--seed", "1", "--interval", "2000", "--limit", "30000")
+        return self.says("why", log, elf, *options)
+
+    def test_what_stands_before_the_rows_is_not_denied(self):
+        """The word was stored before the rows that are read, whether the log's end holds that store or not."""
+        store_it = store(0, S0)
+        self.assertIn("t1 is 00000000, from 00020000, stored last in", self.flags((), store_it))
+        for rows in ("1000", "25000"):
+            said = self.flags(("--rows", rows), store_it)
+            self.assertIn("t1 is 00000000, from 00020000, zero from the start, or stored before the rows that were read", said)
+            self.assertNotIn("never stored", said)
+            self.assertRegex(said, r"\nOnly the last [\d,]+ rows of the log were read: ")
+
+    def test_an_atomic_that_stores_what_was_there_is_a_store(self):
+        said = self.flags((), atomic(SWAP, 0, S0, 0))
+        self.assertIn("t1 is 00000000, from 00020000, zero from the start; in 00010078 (hart 0 at count 1) an atomic stored it", said)
+        self.assertNotIn("never stored", said)
+        self.assertIn("t1 is 00000000, from 00020000, zero from the start: never stored", self.flags(()))
 
     def test_a_run_that_ends_has_none(self):
         log = self.record("counter", "--seed", "1", "--harts", "2")

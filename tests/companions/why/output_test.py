@@ -131,4 +131,4 @@ class ByteTest(case.Case):
     def test_a_byte_that_no_row_stored(self):
         elf = common.written(common.path("constant.elf"), elf_of(call(WRITE, 1, FIRST, 4) + list(EXIT)))
         log = common.record("constant", elf, "--seed", "1")
-        self.assertIn("No row stored the byte: below is the write.\n", self.says("why", log, elf, "--output", "0:1"))
+        self.assertIn("No row of the log stored the byte: below is the write.\n", self.says("why", log, elf, "--output", "0:1"))

@@ -9,6 +9,9 @@ from common import TOP, companion, example, output, path, record, text_of
 from companion.why.analysis import analysed
 
 
+UNLOCKED = "didn't hold the others' lock in"
+
+
 def suspects(text):
     part = re.search(r"^SUSPECTS.*?\n(.*?)^VALUES", text, re.S | re.M)
     return re.split(r"^  (?=\d+\. )", part.group(1), flags=re.M)[1:]
@@ -43,11 +46,17 @@ class WhyTest(case.Case):
                    "hart 1 stored it" in first and "amoswap.w" in first and re.search(r"\n +1 107 ", first), first)
 
     def test_a_word_without_its_lock(self):
-        found = [item for item in suspects(self.says("why", *self.crash("race_list"), "--more")) if "held no lock in" in item]
+        found = [item for item in suspects(self.says("why", *self.crash("race_list"), "--more")) if UNLOCKED in item]
         self.assertEqual(len(found), 1)
-        self.assertIn("held no lock in take_one_back race_list.c:61", found[0])
-        self.assertRegex(found[0], r"[0-9]+ other accesses hold a lock, lock")
-        self.assertNotIn("held no lock in", self.says("why", *self.crash("lock_left_held"), "--more"))
+        self.assertIn(UNLOCKED + " take_one_back race_list.c:61", found[0])
+        self.assertRegex(found[0], r"at [0-9]+ other accesses to \w+(\+\d+)? their hart holds lock, here none")
+        self.assertNotIn(UNLOCKED, self.says("why", *self.crash("lock_left_held"), "--more"))
+
+    def test_a_count_is_no_lock(self):
+        self.assertNotIn(UNLOCKED, self.built("readers", "--harts", "2"))
+
+    def test_nothing_is_guarded_once_the_others_are_done(self):
+        self.assertNotIn(UNLOCKED, self.built("joined", "--harts", "2"))
 
     def built(self, name, *options):
         """What `why` says of one of lib/programs."""
