@@ -51,12 +51,12 @@ def judge_values(facts: Facts, suspect: Suspect) -> None:
     if one is not None and other is not None:
         words = f"it compared {one:08x} with {other:08x}"
         if one == other and rows.code_of(row).name.startswith(ORDERS):
-            suspect.sign(EQUAL, words + ", which are the same: is the bound one off?")
+            suspect.sign(EQUAL, words + ", which are the same")
         else:
             suspect.why.append(words)
     cut = cut_behind(facts.trace, writers.first[row]) or cut_behind(facts.trace, writers.second[row])
     if cut:
-        suspect.sign(CUT, "of which one had lost bits")
+        suspect.sign(CUT, "one of them comes from a part of a value")
         suspect.extra.append(Extra(cut.words + " in", cut.row))
 
 

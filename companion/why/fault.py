@@ -3,7 +3,7 @@ from __future__ import annotations
 
 from ..call.text import as_text
 from ..recording.elf import Elf
-from ..recording.instruction import AMO, LOAD, NAMES, OP_SYSTEM, SP, STORE
+from ..recording.instruction import AMO, LOAD, NAMES, OP_SYSTEM, STORE
 from ..recording.rows import Fault, Rows
 
 # Words that other processors know, and registers that words with this opcode access.
@@ -29,7 +29,7 @@ def fault_words(rows: Rows, fault: Fault, elf: Elf) -> list[str]:
     if ins.rs1 and ins.kind in (LOAD, STORE, AMO):
         offset = (value - base + (1 << 31)) % (1 << 32) - (1 << 31)
         said.append(f"The address is {NAMES[ins.rs1]} = {base:08x}{f' {offset:+d}' if offset else ''}.")
-    return said + jump_words(rows, fault) + stack_words(rows.final[fault.hart][SP], elf, ins.rs1)
+    return said + jump_words(rows, fault)
 
 
 def reason(rows: Rows, elf: Elf, fault: Fault) -> str:
@@ -76,10 +76,3 @@ def jump_words(rows: Rows, fault: Fault) -> list[str]:
     if jump.ret:
         return ["It was a return: the return address that its function had saved was overwritten."]
     return ["It was a call through a pointer."] if jump.call else []
-
-
-def stack_words(pointer: int, elf: Elf, base: int) -> list[str]:
-    """Whether the stack's pointer is at a place for no stack."""
-    if base == SP or pointer < PAGE or elf.part_of(pointer):
-        return [f"The stack's pointer is {pointer:08x}{near(elf, pointer)}: the stack may have overflowed."]
-    return []

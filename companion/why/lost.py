@@ -1,4 +1,4 @@
-"""Whether a value had lost bits: it was stored in fewer bytes, masked, or shifted up and down again."""
+"""Whether a value is some bits of another: it was stored in fewer bytes, masked, or shifted up and down again."""
 from __future__ import annotations
 
 from typing import Mapping, Optional
@@ -45,9 +45,13 @@ def loss(trace: Trace, n: int, users: Mapping[int, int]) -> str:
     after = before & (1 << width) - 1
     if ins.kind != STORE and (1 << 32) - before <= SMALL and trace.rows.result_of(n) == after:
         is_fine = is_meant(trace.rows.code_of(user_of(trace, n, users)), width)
-        return "" if is_fine else f"{before - (1 << 32)}, below zero, became {after:08x}"
+        return "" if is_fine else kept_words(before, width) + f" ({before - (1 << 32)} if it has a sign)"
     signed = after | (0xffffffff << width & 0xffffffff if after >> width - 1 else 0)
-    return "" if before in (after, signed) else f"{before:08x} was cut to {width} bits, and became {after:08x}"
+    return "" if before in (after, signed) else kept_words(before, width)
+
+
+def kept_words(before: int, width: int) -> str:
+    return f"{before & (1 << width) - 1:08x} is the lowest {width} bits of {before:08x}"
 
 
 def narrowing(trace: Trace, n: int) -> tuple[int, int]:

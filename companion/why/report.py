@@ -12,6 +12,7 @@ from .fault import fault_words
 from .hang import hang_lines
 from .history import ADDRESS
 from .origins import advice
+from .stack_room import stack_lines
 from .suspect import ALONE, DID, NEW_OWNER, Suspect
 
 SUSPECTS, MORE_SUSPECTS, LINES, MORE_LINES, ORIGINS, MORE_ORIGINS = 5, 12, 10, 40, 6, 20
@@ -58,7 +59,8 @@ def head_lines(facts: Analysis) -> list[str]:
         said = ["No hart faulted: " + facts.ends(), f"Below is {what} of hart {hart}."]
         said += [f"hart {each} is in {facts.where(n)}" for each, n in sorted(rows.last.items())]
     source = facts.source(at)
-    return said + [f"{verb} {facts.where(at)}{':  ' + source if source else ''}"]
+    place = facts.where(at) + (f":  {source}" if source else "")
+    return said + stack_lines(facts) + [f"{verb} {place}"]
 
 
 def output_lines(facts: Analysis, byte: Written) -> list[str]:

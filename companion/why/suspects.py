@@ -71,8 +71,8 @@ class Ranking:
         return sorted(found, key=rank)
 
     def behind_places(self, found: list[Suspect], memory: MemoryUse) -> list[Suspect]:
-        """Of a store in a place of something else it isn't the value that is wrong: what is behind its address, and the
-        branch that should have kept it away?"""
+        """A store of some bytes that a load of more got can be in a place of something else. Then it isn't the value that
+        is wrong: what is behind its address, and the branch that should have kept it away?"""
         behind = []
         for item in [item for item in found if item.shown][:FIRST_ONES]:
             row = self.writers.first[item.store] if item.misplaced else 0
@@ -82,7 +82,7 @@ class Ranking:
                                 if not memory.blocks.is_own(one.guilty) and not memory.blocks.is_own(one.load)]:
                     suspect.cost += item.cost
                     suspect.score += max(item.score, -MOST_FOR_PLACE) + BEHIND_PLACE
-                    suspect.why.append("it is behind the address of a store in the wrong place")
+                    suspect.why.append(f"it is behind the address of the store in {self.facts.where(item.store)}")
                     behind.append(suspect)
         return behind
 

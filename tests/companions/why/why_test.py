@@ -5,7 +5,7 @@ import shutil
 import subprocess
 
 import case
-from common import TOP, companion, example, output, path, record, text_of
+from common import TOP, companion, example, output, path, record, text_of, written
 from companion.why.analysis import analysed
 
 
@@ -58,11 +58,12 @@ class WhyTest(case.Case):
     def test_nothing_is_guarded_once_the_others_are_done(self):
         self.assertNotIn(UNLOCKED, self.built("joined", "--harts", "2"))
 
-    def built(self, name, *options):
-        """What `why` says of one of lib/programs."""
+    def built(self, name, *options, begins=""):
+        """What `why` says of one of lib/programs, whose file begins with a text."""
         self.needs_addr2line()
         elf = path(name + ".elf")
-        source = os.path.join(os.path.dirname(os.path.abspath(__file__)), "..", "lib", "programs", name + ".c")
+        kept = os.path.join(TOP, "tests", "companions", "lib", "programs", name + ".c")
+        source = written(path(name + ".c"), begins + text_of(kept))
         if not shutil.which("riscv64-unknown-elf-gcc"):
             self.skipTest("riscv64-unknown-elf-gcc isn't installed")
         subprocess.run(["bash", "-c", ". examples/lib/with_names.sh && build_with_names \"$@\"", "-", elf, source], cwd=TOP, check=True)
@@ -77,6 +78,15 @@ class WhyTest(case.Case):
         first = suspects(self.built("conditional", "--harts", "2"))[0]
         self.assertIn("stored nothing in add conditional.c:7", first)
         self.assertRegex(first, r"a store-conditional failed here \d+ times, and nothing read its answer")
+
+    def test_a_stack_that_was_left(self):
+        """A stack in a segment of the program is as good as any. One that was left is told."""
+        self.assertNotIn("stack", self.built("deep").split("CALLS")[0])
+        said = self.built("deep", begins="#define ROUNDS 100\n")
+        rows = output("joint", path("deep.log"), path("deep.elf")).decode()
+        lowest = min(re.findall(r"\| sp=(\w+)", rows))
+        self.assertRegex(said, r"\n  The stack of hart 0 left its 2,048 bytes at \w{8} \(own\): its pointer was "
+                               + lowest + r"( \(\S+\))?, [\d,]+ bytes below them, at count [\d,]+ in walk ")
 
     def test_a_fenced_pair_is_no_race(self):
         said = self.built("fenced", "--harts", "2")
