@@ -50,7 +50,8 @@ Ctrl-C (or TERM, HUP) ends the search: the table is printed, what was found is k
                      LOG.good and BOOK.good, and does what `zelkuma compare` does with both
     --json           prints one JSON object in place of the text (docs/JSON.md)
 
-One recording in threads is under way at a time. One that spins on a busy machine takes long: give a --limit.
+One recording in threads is under way at a time, and the others wait for it. One that spins on a busy machine takes long:
+give a --limit.
 Numbers may end in K, M or G. Trials are saved beside LOG and BOOK, in folders that are taken away again.
 
 Over machines, each of which has a part; `triage` joins what they found:

@@ -4,6 +4,7 @@ from __future__ import annotations
 import heapq
 import os
 import time
+from collections import deque
 from contextlib import closing
 from dataclasses import dataclass
 from pathlib import Path
@@ -124,10 +125,10 @@ class Buckets:
 
 class TrialSearch:
     """Trials in order; those above the lowest that was found are given up. Recordings in threads need a processor a hart, so
-    only one is under way: beside others it is left out when its turn comes too early. They don't repeat, so the first
-    that ends as wanted ends the search.
+    only one is under way, and the others wait for it. They don't repeat, so the first that ends as wanted ends the search.
 
     until    the status that is searched for; None keeps one of each ending
+    waiting  plans in threads whose turn came while another was under way
     found    the trial that is kept
     kept     those of each ending
     stopped  the signal that ends it, if one came"""
@@ -139,17 +140,29 @@ class TrialSearch:
         self.running: dict[int, Trial] = {}     # by process
         self.found: Optional[Trial] = None
         self.kept: dict[Ending, Trial] = {}
+        self.waiting: deque[Plan] = deque()
         self.stopped = 0
         self.endings, self.buckets = Endings(), Buckets(words.elf)
         self.quick = Quick(self.folders[0])
         self.at = numbers.first
+        self.plans = self.in_order()
         self.progress, self.began = streams.Progress(), time.monotonic()
 
-    def plans(self) -> Iterator[Plan]:
+    def in_order(self) -> Iterator[Plan]:
         for self.at in self.numbers.range():
             for kind in self.kinds:
-                if kind is not Kind.THREADS or len(self.kinds) == 1 or kind not in {trial.plan.kind for trial in self.running.values()}:
-                    yield Plan(self.at, kind)
+                yield Plan(self.at, kind)
+
+    def next_plan(self) -> Optional[Plan]:
+        """The next that can begin now, if there is one."""
+        is_free = len(self.kinds) == 1 or not any(trial.plan.kind is Kind.THREADS for trial in self.running.values())
+        if self.waiting and is_free:
+            return self.waiting.popleft()
+        for plan in self.plans:
+            if plan.kind is not Kind.THREADS or is_free:
+                return plan
+            self.waiting.append(plan)
+        return None
 
     def stop(self, number: int, _: object) -> None:
         """Ctrl-C, or another signal. No call is broken off, so that each child is known."""
@@ -167,9 +180,9 @@ class TrialSearch:
         if self.stopped:
             trial.child.kill()
 
-    def start(self, plans: Iterator[Plan]) -> None:
+    def start(self) -> None:
         while self.found is None and not self.stopped and len(self.running) < self.jobs:
-            plan = next(plans, None)
+            plan = self.next_plan()
             if plan is None:
                 return
             self.watch(Trial(self.words, plan, self.folders, self.quick))
@@ -230,18 +243,17 @@ class TrialSearch:
         self.progress.tell(", ".join(said))
 
     def run(self) -> None:
-        plans = self.plans()
         with self.quick, closing(self.buckets), self.progress:
             streams.on_interrupt(self.stop)
             try:
-                self.start(plans)
+                self.start()
                 while self.running:
                     process, status = os.wait()
                     if process not in self.running:     # an addr2line that failed
                         continue
                     trial = self.running.pop(process)
                     self.take(trial, trial.child.end(status))
-                    self.start(plans)
+                    self.start()
                     self.count()
                     self.tell()
             finally:
@@ -251,8 +263,9 @@ class TrialSearch:
                 self.count_rest()
 
     def count(self) -> None:
-        """Counts those below all that are under way and the one that was found."""
-        open_ones = [trial.plan for trial in self.running.values()] + ([self.found.plan] if self.found else [])
+        """Counts those below all that are still to end, and below the one that was found."""
+        open_ones = [trial.plan for trial in self.running.values()]
+        open_ones += [self.found.plan] if self.found else list(self.waiting)[:1]
         self.endings.count_while(lambda plan: plan < min(open_ones, default=plan))
 
     def count_rest(self) -> None:

@@ -302,14 +302,14 @@ def case_a_hit_ends_what_could_go_on_for_ever(recordings):
 
 
 def case_one_in_threads_at_a_time(recordings):
-    """The first lasts until the last seed has begun: the turns of those between are left out."""
+    """The first lasts until the last seed has begun: those whose turn came meanwhile are made later, and none is left out."""
     folder = Folder(recordings, "turns")
     started, last = recordings.path("started"), recordings.path("last")
     script = program_of(recordings, "turns.sh", f"""if [[ $* == *--seed=9* ]]; then touch {last}
 elif [[ $* != *--seed=* ]]; then echo >>{started}; until [ -e {last} ]; do sleep 0.05; done; fi""")
     done = seeds("-j4", "--only", "seeds,threads", "1", "9", "--", HAND_OVER, folder.log, folder.book, program=script)
-    assert done[0] == NOT_FOUND and len(content(started)) in (1, 2), done
-    assert rows(done[1]) == [["0", str(9 + len(content(started))), "seed 1", "-"]], done
+    assert done[0] == NOT_FOUND and len(content(started)) == 9, done
+    assert rows(done[1]) == [["0", "18", "seed 1", "-"]], done
 
 
 def case_interrupted(recordings):
