@@ -1,0 +1,144 @@
+"""python3 -m tests.oracle [--seed N] [--minutes M | --recordings N] [--only WORD] [--case NAME] [--project DIR] [--keep DIR]
+
+Compares what the companions say with the oracle's answers, of random programs from a number on. `--only` asks one word (history,
+calls, find ..), `--project` asks the companions of another checkout than this. Each difference is told with the recording's
+command, the question and both answers; its files are kept below --keep. The status is 1 if there is one."""
+from __future__ import annotations
+
+import argparse
+import functools
+import os
+import random
+import shutil
+import sys
+import tempfile
+import time
+from typing import Callable, Dict, List
+
+from . import building
+from .asking import Asked, Server, Tally
+from .cases import CASES, Case
+from .machine import Machine
+from .of_calls import ask_calls
+from .of_compare import ask_compare
+from .of_export import ask_export
+from .of_find import ask_find
+from .of_gdb import ask_gdb
+from .of_history import ask_history
+from .of_output import ask_output
+from .of_race import ask_race
+from .of_same import ask_same
+from .of_why import ask_why
+from .program import Program
+
+TOP = os.path.dirname(os.path.dirname(os.path.dirname(os.path.abspath(__file__))))
+WORDS: Dict[str, Callable[[Asked, random.Random], None]] = {"history": ask_history, "calls": ask_calls, "find": ask_find,
+                                                            "export": ask_export, "output": ask_output, "race": ask_race, "why": ask_why,
+                                                            "same": ask_same, "gdb": ask_gdb}
+
+
+def asked_of(given: argparse.Namespace, server: Server, recorded: building.Recorded, tally: Tally, has_gdb: bool) -> Asked:
+    names = Program(recorded.named, has_gdb)
+    machine = Machine(given.program, recorded.log, recorded.elf, names.functions())
+    environment = {"ZELKUMA_PROGRAM": given.program, **({} if has_gdb else {"ZELKUMA_GDB": "nope"})}
+    return Asked(server, recorded, machine, names, tally, environment)
+
+
+def ask_all(given: argparse.Namespace, asked: Asked, seed: int) -> None:
+    for word, ask in WORDS.items():
+        if given.only in ("", word):
+            ask(asked, random.Random(f"{seed} {word}"))
+
+
+def options(words: List[str]) -> argparse.Namespace:
+    parser = argparse.ArgumentParser(prog="tests.oracle", description=__doc__, formatter_class=argparse.RawDescriptionHelpFormatter)
+    parser.add_argument("--seed", type=int, default=1)
+    parser.add_argument("--minutes", type=float, default=0.0)
+    parser.add_argument("--recordings", type=int, default=5)
+    parser.add_argument("--only", default="")
+    parser.add_argument("--case", default="", help="one of the kept cases; 'all'; 'none'")
+    parser.add_argument("--project", default=TOP)
+    parser.add_argument("--keep", default="")
+    parser.add_argument("--program", default="")
+    given = parser.parse_args(words)
+    given.program = given.program or os.path.join(given.project, "release", "zelkuma-x86_64-linux")
+    return given
+
+
+class Session:
+    """What is tried, each in a folder of its own, which is kept if something differs."""
+
+    def __init__(self, given: argparse.Namespace) -> None:
+        self.given, self.tally, self.told, self.recordings = given, Tally(), 0, 0
+        self.folder = given.keep or tempfile.mkdtemp(prefix="oracle-")
+        os.makedirs(self.folder, exist_ok=True)
+        self.server = Server(given.project, self.folder)
+
+    def try_seed(self, folder: str, seed: int) -> None:
+        """A program of a number."""
+        recorded = building.drawn(self.given.program, folder, seed)
+        ask_all(self.given, asked_of(self.given, self.server, recorded, self.tally, random.Random(seed).random() < 0.6), seed)
+
+    def try_case(self, folder: str, case: Case) -> None:
+        """A program that is kept."""
+        elf = building.compiled(folder, case.name, case.code(), *case.compile)
+        options = list(case.record) if "--seed" in case.record else ["--seed", "1", *case.record]
+        both = []
+        for number, read in enumerate((case.first, case.second)[:2 if case.second else 1]):
+            recorded = building.recorded(self.given.program, elf, elf, case.harts, *options, read=read, number=number)
+            both.append(asked_of(self.given, self.server, recorded, self.tally, case.has_gdb))
+        case.ask(both[0])
+        if case.second:
+            ask_compare(*both)
+
+    def attempt(self, name: str, what: Callable[[str], None]) -> None:
+        before, own = sum(self.tally.differing.values()), os.path.join(self.folder, name)
+        os.makedirs(own, exist_ok=True)
+        what(own)
+        self.recordings += 1
+        for difference in self.tally.kept[self.told:]:
+            print("\n".join([f"in {name}:", *difference.lines()]), flush=True)
+        self.told = len(self.tally.kept)
+        if sum(self.tally.differing.values()) == before:
+            shutil.rmtree(own)
+
+    def cases(self, chosen: str) -> None:
+        for case in CASES:
+            if chosen == case.name or chosen == "all" and not case.is_big:
+                self.attempt(case.name, functools.partial(self.try_case, case=case))
+
+    def seeds(self) -> None:
+        given, until = self.given, time.monotonic() + 60 * self.given.minutes
+        seed = given.seed
+        while time.monotonic() < until if given.minutes else seed < given.seed + given.recordings:
+            self.attempt(str(seed), functools.partial(self.try_seed, seed=seed))
+            seed += 1
+
+    def end(self) -> int:
+        tally = self.tally
+        self.server.close()
+        print(", ".join(f"{word} {count:,}" for word, count in sorted(tally.compared.items())))
+        for kind, count in sorted(tally.differing.items()):
+            print(f"differs: {kind}: {count:,}")
+        total, differing = sum(tally.compared.values()), sum(tally.differing.values())
+        print(f"{total:,} answers of {self.recordings} recordings compared, {differing:,} differ" +
+              (f"; their files are in {self.folder}" if differing else ""))
+        if not differing and not self.given.keep:
+            shutil.rmtree(self.folder, ignore_errors=True)
+        return 1 if differing else 0
+
+
+def main(words: List[str]) -> int:
+    given = options(words)
+    if not building.has_tools():
+        print("skipped: there is no RISC-V compiler here")
+        return 77
+    session = Session(given)
+    session.cases(given.case)
+    if given.case in ("", "all"):
+        session.seeds()
+    return session.end()
+
+
+if __name__ == "__main__":
+    sys.exit(main(sys.argv[1:]))

@@ -1,0 +1,49 @@
+"""The rows that have a value."""
+from __future__ import annotations
+
+import random
+from typing import Any, Dict, List, Tuple
+
+from .asking import Asked
+
+LONGEST = 200               # places of an answer
+
+
+def ask_find(asked: Asked, draw: random.Random, most: int = 3) -> None:
+    rows = asked.machine.rows
+    for row in draw.sample(rows, min(most, len(rows))):
+        values = [row.result] if row.register else []
+        values += [access.value for access in (row.load, row.store) if access]
+        ask_value(asked, draw.choice(values or [row.code.pc]))
+
+
+def ask_value(asked: Asked, value: int) -> None:
+    words = [f"{value:08x}"]
+    told = asked.json("find", *words)
+    if told is None:
+        return
+    places: Dict[Tuple[int, str], Dict[str, Any]] = {}
+    total = 0
+    for row in asked.machine.rows:
+        did, access = "", None
+        if row.store and row.store.value == value:
+            did, access = "stores it to", row.store
+        elif row.load and row.load.value == value:
+            did, access = "loads it from", row.load
+        elif row.register and row.result == value:
+            did = f"puts it into {row.register}"
+        if not did:
+            continue
+        total += 1
+        at = f"{row.hart}:{row.ic}"
+        group = places.setdefault((row.code.pc, did), {"did": did, "first": at, "times": 0, "words": []})
+        group.update(last=at, times=group["times"] + 1)
+        if access and f"{access.address & ~3:08x}" not in group["words"]:
+            group["words"].append(f"{access.address & ~3:08x}")
+    asked.same("find: rows", words, told["rows"], total)
+    asked.program.fetch(pc for pc, _ in places)
+    wanted: List[Dict[str, Any]] = [{**group, "place": asked.place(pc), "words": group["words"][:3]} for (pc, _), group in places.items()]
+    asked.same("find: places", words, len(told["places"]), min(len(wanted), LONGEST))
+    for one, group in zip(told["places"], wanted):
+        for key, true in group.items():
+            asked.same(f"find: {key}", words, one[key], true)

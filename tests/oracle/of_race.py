@@ -1,0 +1,70 @@
+"""The groups of races, by the program's own list of them."""
+from __future__ import annotations
+
+import random
+from typing import Any, Dict, List, NamedTuple
+
+from .asking import Asked
+from .machine import Row, lines_of
+
+MOST = 20000
+
+
+class Pair(NamedTuple):
+    one: Row
+    other: Row
+    word: int
+
+
+def pairs_of(asked: Asked) -> List[Pair]:
+    found = []
+    for line in lines_of(asked.environment["ZELKUMA_PROGRAM"], "races", asked.recorded.log, asked.recorded.elf, str(MOST)):
+        words = line.split(" ")
+        if words[0] == "race":
+            one, other = (asked.machine.at.get((int(words[at]), int(words[at + 1])), -1) for at in (1, 3))
+            if one >= 0 and other >= 0:
+                found.append(Pair(asked.machine.rows[one], asked.machine.rows[other], int(words[5], 16)))
+    return found
+
+
+def did(row: Row) -> str:
+    if row.code.name == "ecall":
+        return "makes a system call"
+    if row.load and row.store:
+        return "updates"
+    return "stores" if row.store else "loads"
+
+
+def ask_race(asked: Asked, _draw: random.Random) -> None:
+    if asked.recorded.harts == 1:
+        return
+    told = asked.json("race")
+    if told is None:
+        return
+    true = pairs_of(asked)
+    asked.program.fetch({row.code.pc for pair in true for row in pair[:2]})
+    if not asked.same("race: pairs", [], told["pairs"], len(true)):
+        return
+    asked.same("race: pairs of all groups", [], sum(group["pairs"] for group in told["groups"]), len(true))
+    for group in told["groups"]:
+        ask_group(asked, group, true)
+
+
+def ask_group(asked: Asked, group: Dict[str, Any], true: List[Pair]) -> None:
+    """Its pair is a race, what both rows did is so, and no pair of the same places and words is left out."""
+    ends = group["one"], group["other"]
+    keys = [(end["hart"], end["count"]) for end in ends]
+    words = {int(word, 16) for word in group["words"]}
+    found = [pair for pair in true if sorted(keys) == sorted((row.hart, row.ic) for row in pair[:2])]
+    asked.same("race: its pair", [], (keys, bool(found)), (keys, True))
+    if not found:
+        return
+    for end in ends:
+        row = asked.machine.rows[asked.machine.at[end["hart"], end["count"]]]
+        asked.same("race: row", [], end["row"], row.text)
+        asked.same("race: place", [], end["place"], asked.place(row.code.pc))
+        if "did" in end:
+            asked.same("race: did", [], (end["row"], end["did"]), (row.text, did(row)))
+    places = sorted(end["place"]["address"] for end in ends)
+    alike = [pair for pair in true if pair.word in words and sorted(f"{row.code.pc:08x}" for row in pair[:2]) == places]
+    asked.same("race: pairs of a group", [], (keys, group["pairs"] >= len(alike)), (keys, True))

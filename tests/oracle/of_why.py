@@ -1,0 +1,199 @@
+"""The facts that `why` states: who stored what, what nothing stored, who called, who held a lock."""
+from __future__ import annotations
+
+import random
+import re
+from typing import Any, Dict, List, Optional, Tuple
+
+from .asking import Asked
+from .machine import NAMES, READ, Machine, Row
+
+NEVER = re.compile(r"from ([\w.]+(?:\+\d+)?)(?: \(a word of \w+\))?, which no row of the log stored")
+LAST = re.compile(r"from ([\w.]+(?:\+\d+)?)(?: \(a word of \w+\))?, stored last in .* \(hart (\d+) at count ([\d,]+)\)")
+CALLED = re.compile(r"\s+called from (.*)")
+ROW = re.compile(r"\s+(\d+) (\d+) [0-9a-f]{8} ")
+UNLOCKED = re.compile(r"\s*\d+\. hart (\d+) held no lock in ")
+HOLD = re.compile(r"other access(?:es)? holds? a lock, (.*?)(?:;|$)")
+LEFT_OUT = re.compile(r"Only the last|left out|--rows N")
+
+
+class Bytes:
+    """Of each byte of a word who stored it, row by row. (A store of the same value stored it, too.)"""
+
+    def __init__(self, machine: Machine) -> None:
+        self.machine = machine
+        self.fills = {call.row.number: call for call in machine.calls if call.kind == READ}
+        self.stores: Dict[int, List[int]] = {}          # {byte: the rows that stored it}
+        self.changes: Dict[int, List[int]] = {}         # and those that changed it
+        known: Dict[int, Optional[int]] = {}
+        for row in machine.rows:
+            fill = self.fills.get(row.number)
+            for at in range(fill.address, fill.address + fill.size) if fill else ():
+                self.stores.setdefault(at, []).append(row.number)
+                self.changes.setdefault(at, []).append(row.number)
+                known[at] = None
+            if row.load:
+                known.update((self.base(row.load.address) + i, row.load.value >> 8 * i & 255) for i in range(4))
+            if row.store:
+                self.take_store(row, known)
+
+    @staticmethod
+    def base(address: int) -> int:
+        return address & ~3
+
+    def take_store(self, row: Row, known: Dict[int, Optional[int]]) -> None:
+        assert row.store
+        for at in range(row.store.address, row.store.address + row.code.width):
+            value = row.store.value >> 8 * (at & 3) & 255
+            self.stores.setdefault(at, []).append(row.number)
+            before = known.get(at, self.machine.memory.image.byte(at) if not self.machine.head.dropped else None)
+            if before != value:
+                self.changes.setdefault(at, []).append(row.number)
+        known.update((self.base(row.store.address) + i, row.store.value >> 8 * i & 255) for i in range(4))
+
+    def gave(self, store: Row, load: Row) -> bool:
+        """Whether a load got a byte that a row stored: none changed it since."""
+        if not load.load or not store.store:
+            return False
+        for at in range(load.load.address, load.load.address + load.code.width):
+            if store.store.address <= at < store.store.address + store.code.width and store.number < load.number:
+                if not any(store.number < each < load.number for each in self.changes.get(at, [])):
+                    return True
+        return False
+
+    def is_stored(self, first: int, end: int, before: int) -> bool:
+        return any(each < before for at in range(first, end) for each in self.stores.get(at, []))
+
+
+def address_of(asked: Asked, name: str) -> Optional[int]:
+    """Of an object and an offset, or of eight digits."""
+    base, _, offset = name.partition("+")
+    found = [each.address for each in asked.program.symbols if each.name == base and each.kind == "OBJECT"]
+    if len(found) == 1:
+        return found[0] + int(offset or 0)
+    return int(name, 16) if re.fullmatch("[0-9a-f]{8}", name) else None
+
+
+def ask_why(asked: Asked, _draw: random.Random, *words: str) -> None:
+    if not asked.machine.rows or len(asked.machine.rows) > 200000 and not words:
+        return
+    told = asked.json("why", "--more", *words)
+    if told is None:
+        return
+    stored = Bytes(asked.machine)
+    ask_facts(asked, told, words)
+    for suspect in told["suspects"]:
+        ask_suspect(asked, words, suspect, stored)
+    for line in told["hang"]:
+        ask_hang(asked, words, line, stored)
+    for each in told["before"]:
+        ask_before(asked, words, each, stored)
+    text = asked.text("why", "--more", *words)
+    if told["rows"] < len(asked.machine.rows) - 1:
+        asked.same("why: says what it left out", words, any(map(LEFT_OUT.search, text)), True)
+    ask_text(asked, words, text)
+
+
+def row_at(asked: Asked, point: Dict[str, Any]) -> Row:
+    return asked.machine.rows[asked.machine.at[point["hart"], point["count"]]]
+
+
+def stack_of(asked: Asked, row: Row) -> List[Tuple[str, str]]:
+    """The functions and addresses of a row's calls, with what is inlined."""
+    pcs = [row.code.pc, *asked.machine.chain(asked.machine.frames[row.number])]
+    found = []
+    for pc in pcs:
+        places = asked.program.places(pc)
+        found += [(f"{pc:08x}", place.function) for place in places] or [(f"{pc:08x}", "")]
+    return found
+
+
+def ask_facts(asked: Asked, told: Dict[str, Any], words: Tuple[str, ...]) -> None:
+    row = row_at(asked, told["start"])
+    asked.same("why: row", words, told["start"]["row"], row.text)
+    asked.same("why: place", words, told["start"]["place"], asked.place(row.code.pc))
+    if told["rows"] >= len(asked.machine.rows) - 1:
+        stack = [(call["address"], call["function"]) for call in told["calls"]]
+        asked.same("why: calls", words, stack, stack_of(asked, row)[:len(stack)] if len(stack) >= 200 else stack_of(asked, row))
+    if told["registers"]:
+        values = asked.machine.harts[row.hart].registers
+        asked.same("why: registers", words, told["registers"], {name: f"{value:08x}" for name, value in zip(NAMES, values)})
+    own = [each.text for each in asked.machine.rows if each.hart == row.hart and each.number <= row.number]
+    asked.same("why: last rows", words, told["last_rows"], own[-len(told["last_rows"]):])
+
+
+def ask_suspect(asked: Asked, words: Tuple[str, ...], suspect: Dict[str, Any], stored: Bytes) -> None:
+    points: List[Dict[str, Any]] = [suspect["guilty"], suspect["store"], suspect["load"], *suspect["extra"]]
+    for point in filter(None, points):
+        asked.same("why: row of a suspect", words, point["row"], row_at(asked, point).text)
+        asked.same("why: place of a suspect", words, point["place"], asked.place(row_at(asked, point).code.pc))
+    if suspect["kind"] == "store" and suspect["store"] and suspect["load"]:
+        pair = suspect["store"]["row"], suspect["load"]["row"]
+        asked.same("why: stored it", words, (pair, stored.gave(row_at(asked, suspect["store"]), row_at(asked, suspect["load"]))), (pair, True))
+
+
+def ask_hang(asked: Asked, words: Tuple[str, ...], line: str, stored: Bytes) -> None:
+    never, last = NEVER.search(line), LAST.search(line)
+    if never:
+        address = address_of(asked, never[1])
+        if address is not None:
+            asked.same("why: which no row of the log stored", words, (line, stored.is_stored(address, address + 1, 1 << 60)), (line, False))
+    if last:
+        address, at = address_of(asked, last[1]), (int(last[2]), int(last[3].replace(",", "")))
+        number = asked.machine.at.get(at, -1)
+        if address is not None:
+            rows = [each for i in range(4) for each in stored.stores.get((address & ~3) + i, [])]
+            asked.same("why: stored last", words, (line, number in rows), (line, True))
+
+
+def ask_before(asked: Asked, words: Tuple[str, ...], told: Dict[str, Any], stored: Bytes) -> None:
+    """Of the loads at its place one has a byte that no row had stored, and that is 0 if it is called so."""
+    if not re.match(r"zero from the start: never stored$|the program file$", told["words"]):
+        return
+    is_zero = told["words"].startswith("zero")
+    unset = [unset_bytes(row, stored) for row in asked.machine.rows if row.load and text_of(asked, row) == told["place"]]
+    is_so = any(each and not (is_zero and any(each)) for each in unset)
+    asked.same("why: never stored", words, (told["words"], told["place"], is_so), (told["words"], told["place"], True))
+
+
+def unset_bytes(row: Row, stored: Bytes) -> List[int]:
+    """The bytes that a load got and that no row had stored."""
+    assert row.load
+    first = row.load.address
+    return [row.load.value >> 8 * (at & 3) & 255 for at in range(first, first + row.code.width) if not stored.is_stored(at, at + 1, row.number)]
+
+
+def text_of(asked: Asked, row: Row) -> str:
+    places = asked.program.places(row.code.pc)
+    return places[0].text() if places else f"{row.code.pc:08x}"
+
+
+def ask_text(asked: Asked, words: Tuple[str, ...], text: List[str]) -> None:
+    """What only the text says."""
+    unlocked, caller = "", ""
+    for line in text:
+        called, row = CALLED.fullmatch(line), ROW.match(line)
+        if called:
+            caller = called[1]
+        elif row and caller:
+            found = asked.machine.rows[asked.machine.at[int(row[1]), int(row[2])]]
+            chain = asked.program.chain([found.code.pc, *asked.machine.chain(asked.machine.frames[found.number])], 50)[1:]
+            told = caller.split("  <  ")
+            asked.same("why: called from", words, (line.strip(), told), (line.strip(), chain[:len(told)]))
+            caller = ""
+        if UNLOCKED.match(line):
+            unlocked = line
+        held = HOLD.search(line)
+        if unlocked and held:
+            for name in held[1].split(", "):
+                ask_lock(asked, words, unlocked.strip(), name)
+            unlocked = ""
+
+
+def ask_lock(asked: Asked, words: Tuple[str, ...], line: str, name: str) -> None:
+    """A lock is taken and given: atomic instructions and stores set it to two values at most."""
+    address = address_of(asked, name)
+    if address is None:
+        return
+    values = {row.store.value for row in asked.machine.rows if row.store and row.store.address & ~3 == address & ~3}
+    asked.same("why: held no lock", words, (line, name, len(values) <= 2), (line, name, True))
