@@ -23,6 +23,7 @@ from ..why.facts import asked_row
 from .memory import Memory
 from .packets import PacketStream
 from .questions import Questions
+from .reasons import MORE_ROWS, Reasons
 from .server import Server
 from .session import begin_session
 
@@ -71,7 +72,7 @@ def wait_for_gdb(port: int) -> socket.socket:
 def told_of_rows(log: Log) -> str:
     """How far back the rows that are loaded lead."""
     first = ", ".join(f"hart {hart} from count {number(each.start)}" for hart, each in sorted(log.first_intervals().items()))
-    return f"the last {number(log.rows())} rows are loaded, {first}; --rows N loads more"
+    return f"the last {number(log.rows())} rows are loaded, {first}; {MORE_ROWS}"
 
 
 def run_gdb(log_name: str, elf_name: str, options: Mapping[str, str]) -> NoReturn:
@@ -104,7 +105,7 @@ def main(words: list[str]) -> int:
         peer = opened.enter_context(wait_for_gdb(port)) if port is not None else None
         ends = (peer.fileno(),) * 2 if peer else (sys.stdin.fileno(), sys.stdout.fileno())
         server = Server(session, Memory(log, elf, session), PacketStream(*ends, "--trace" in options),
-                        Questions(log_name, elf_name, options.get("--names", "")))
+                        Questions(log_name, elf_name, options.get("--names", "")), Reasons(log))
         with contextlib.suppress(EOFError, ConnectionError):    # gdb has left
             server.begin("--end" in options, at)
             server.serve()

@@ -87,23 +87,33 @@ class Memory:
         self.future = Future(session.steps, self.fills)
         self.borders = sorted({border for part in elf.parts for border in (part.address, part.address + part.size)})
 
-    def first_word(self, address: int) -> Optional[int]:
-        """A word's value at the start, if it is still that, else None."""
-        is_mapped = LOWEST <= address < self.size
-        if not self.is_whole or not is_mapped or self.fills.find(address, 4, 0, self.session.at) is not None:
-            return None
-        # A segment can end within a word; the bytes behind it are 0.
-        body = b"".join(self.elf.bytes_at(address + i, 1) or b"\0" for i in range(4))
-        return int.from_bytes(body, "little")
+    def first_words(self, first: int, count: int) -> list[int]:
+        """The words from an aligned address on as they were at first: the ELF's, or 0 outside."""
+        body = bytearray(4 * count)
+        for part in self.elf.parts:
+            begin = max(first, part.address)
+            end = min(first + len(body), part.address + len(part.body))
+            if begin < end:
+                body[begin - first:end - first] = part.body[begin - part.address:end - part.address]
+        return list(struct.unpack(f"<{count}I", body))
+
+    def is_untouched(self, address: int) -> bool:
+        """Whether a word that no row touched is what it was at the start."""
+        if not self.is_whole or not LOWEST <= address < self.size:
+            return False
+        return self.fills.find(address, 4, 0, self.session.at) is None
 
     def words(self, first: int, count: int) -> list[int]:
         """Words from an aligned address on, up to the first that isn't known."""
         found: list[int] = []
         while len(found) < count:
+            at = first + 4 * len(found)
             wanted = min(BATCH, count - len(found))
-            addresses = [first + 4 * (len(found) + i) for i in range(wanted)]
-            for address, value in zip(addresses, self.session.words(addresses)):
-                value = self.first_word(address) if value is None else value
+            addresses = range(at, at + 4 * wanted, 4)
+            told, first_words = self.session.words(addresses), self.first_words(at, wanted)
+            for address, value, before in zip(addresses, told, first_words):
+                if value is None and self.is_untouched(address):
+                    value = before
                 if value is None and self.session.all_have_states():
                     value = self.future.word(address, self.session.at)
                 if value is None:

@@ -6,11 +6,12 @@ access is the next step at the stop, and on the way back it was the last one.
 """
 from __future__ import annotations
 
-from typing import Callable, NamedTuple, Optional
+from typing import Callable, Optional
 
 from .lines import Pattern
 from .points import Hit, Points
 from .session import Session
+from .stops import Stop, WatchStops
 from .target import INTERRUPTED, TRAP
 
 FIRST_CHUNK, LARGEST_CHUNK = 64, 1 << 16  # steps between two looks at gdb
@@ -18,19 +19,13 @@ SINGLE_STEPS = 16  # of a range before it continues by chunks: a step too far ta
 BEGIN, END = "replaylog:begin;", "replaylog:end;"
 
 
-class Stop(NamedTuple):
-    """Which hart has stopped, by which of gdb's signals, and what more gdb is told."""
-    hart: int
-    signal: int = TRAP
-    detail: str = ""
-
-
 class Motion:
     """Moves a session, and says where and why it stopped. `alone` says that only the stops of the hart
     that moves count: gdb fails if a thread reports that it hasn't resumed."""
 
-    def __init__(self, session: Session, points: Points, is_interrupted: Callable[[], bool]) -> None:
-        self.session, self.points = session, points
+    def __init__(self, session: Session, points: Points, watch_stops: WatchStops,
+                 is_interrupted: Callable[[], bool]) -> None:
+        self.session, self.points, self.watch_stops = session, points, watch_stops
         self.is_interrupted = is_interrupted
         self.steps = session.steps
         self.told: Optional[int] = None  # the place where a fault was reported
@@ -49,8 +44,16 @@ class Motion:
     def first_hart(self) -> int:
         return (self.session.live() or [0])[0]
 
-    def watched(self, place: int) -> Stop:
-        return Stop(self.steps.hart_at(place), TRAP, self.points.watch_at(place))
+    def leave(self) -> None:
+        """The session goes elsewhere by no move of gdb: nothing is left to tell of where it was."""
+        self.told = self.watch_stops.owed = None
+
+    def before_move(self, hart: int, alone: bool, back: bool) -> Optional[Stop]:
+        """The stop of a move that doesn't begin: gdb has asked for an interruption, or is owed a
+        watchpoint."""
+        if self.is_interrupted():
+            return Stop(hart, INTERRUPTED)
+        return self.watch_stops.due(hart, alone, back)
 
     def met(self, start: int, end: int, first_break: int, only: Optional[int]) -> Optional[Stop]:
         """Goes to the first stop in steps that were taken, and returns it."""
@@ -58,7 +61,7 @@ class Motion:
         access = self.points.next_watch(start, end if hit is None else hit.place, only=only)
         if access is not None:
             self.session.go_to(access)
-            return self.watched(access)
+            return self.watch_stops.at_access(access, False)
         if hit is not None:
             self.session.go_to(hit.place)
             return Stop(hit.hart)
@@ -71,13 +74,16 @@ class Motion:
             if signal and self.told != self.session.at:
                 self.told = self.session.at
                 return Stop(stopped, signal)
-        return Stop(hart, TRAP, END)
+        return Stop(hart, TRAP, END, alone)
 
     # Forward
 
     def go(self, hart: int, alone: bool) -> Stop:
         """All harts continue, this one first; or this one alone, and what it waits for."""
         session, only = self.session, hart if alone else None
+        stop = self.before_move(hart, alone, False)
+        if stop:
+            return stop
         if session.at < self.steps.count and self.steps.hart_at(session.at) != hart and session.left(hart):
             self.steps.cut(session.at)
         start, chunk = session.at, FIRST_CHUNK
@@ -98,6 +104,11 @@ class Motion:
     def step(self, hart: int, alone: bool, low: int = 0, high: int = 0) -> Stop:
         """A hart takes one row, or rows while its pc is in [low, high); others what it waits for."""
         session, only, moved = self.session, hart if alone else None, 0
+        if self.watch_stops.is_stepped_over(False):
+            return Stop(hart)
+        stop = self.before_move(hart, alone, False)
+        if stop:
+            return stop
         while session.left(hart):
             start = session.at
             session.advance(hart, 1 if moved < SINGLE_STEPS else min(LARGEST_CHUNK, moved))
@@ -134,6 +145,11 @@ class Motion:
     def step_back(self, hart: int, alone: bool) -> Stop:
         """Goes back over a hart's latest row, and over what the others did since."""
         at, only = self.session.at, hart if alone else None
+        if self.watch_stops.is_stepped_over(True):
+            return Stop(hart)
+        stop = self.before_move(hart, alone, True)
+        if stop:
+            return stop
         place = self.steps.row_before(hart, at)
         if place is not None and place < self.base:
             place = None
@@ -146,6 +162,9 @@ class Motion:
     def go_back(self, hart: int) -> Stop:
         """All harts go back, up to a stop or to the session's beginning."""
         at = self.session.at
+        stop = self.before_move(hart, False, True)
+        if stop:
+            return stop
         return self.back_to(self.points.next_break(self.base, at, True),
                              self.points.next_watch(self.base, at, True), hart)
 
@@ -154,6 +173,6 @@ class Motion:
         self.told = None
         if access is not None and (hit is None or access + 1 > hit.place):
             self.session.go_to(access + 1)
-            return self.watched(access)
+            return self.watch_stops.at_access(access, True)
         self.session.go_to(self.base if hit is None else hit.place)
         return Stop(hart, TRAP, BEGIN) if hit is None else Stop(hit.hart)

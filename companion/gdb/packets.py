@@ -15,6 +15,7 @@ from ..call.errors import UNWRITABLE, CompanionError
 
 LONGEST = 1 << 16  # more bytes than that without an end are no packet of gdb: PACKET_SIZE is less
 PACKET_SIZE = 0x4000
+INTERRUPT = b"\x03"
 
 
 def checksum(body: bytes) -> bytes:
@@ -28,6 +29,7 @@ class PacketStream:
         self.source, self.sink, self.traced = source, sink, traced
         self.data = bytearray()
         self.acknowledges = True
+        self.asked = False  # gdb has asked for an interruption, and no move has heard it
 
     def fill(self) -> None:
         piece = os.read(self.source, 1 << 16)
@@ -48,14 +50,20 @@ class PacketStream:
         if self.traced:
             streams.tell(f"{arrow} {text[:300]}")
 
+    def skip(self) -> bool:
+        """Skips what stands before the next packet; returns whether there is one. gdb asks for an
+        interruption between two packets too, on its own way from stop to stop: the next
+        move hears it."""
+        begin = self.data.find(b"$")
+        end = len(self.data) if begin < 0 else begin
+        self.asked = self.asked or INTERRUPT in self.data[:end]
+        del self.data[:end]
+        return begin >= 0
+
     def next_frame(self) -> tuple[bytes, bytes]:
-        """A packet's body and its two digits; skips what stands before it."""
+        """A packet's body and its two digits."""
         while True:
-            begin = self.data.find(b"$")
-            if begin < 0:
-                self.data.clear()
-            else:
-                del self.data[:begin]
+            if self.skip():
                 end = self.data.find(b"#")
                 if 0 <= end <= len(self.data) - 3:
                     body, digits = bytes(self.data[1:end]), bytes(self.data[end + 1:end + 3])
@@ -87,9 +95,6 @@ class PacketStream:
         """Whether gdb has asked for an interruption; takes the request. It doesn't wait."""
         if select.select([self.source], [], [], 0)[0]:
             self.fill()
-        while self.data[:1] in (b"+", b"-"):
-            del self.data[:1]
-        if self.data[:1] != b"\x03":
-            return False
-        del self.data[:1]
-        return True
+        self.skip()
+        asked, self.asked = self.asked, False
+        return asked

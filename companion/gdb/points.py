@@ -14,7 +14,8 @@ FEW = 16  # watched bytes up to which each address is looked for by itself, whic
 WATCH_KINDS = {"2": ("watch", (b"| store ",)), "3": ("rwatch", (b"| load ",)),
                "4": ("awatch", (b"| load ", b"| store "))}
 BREAK_KINDS = ("0", "1")
-WRITE_KINDS = ("2", "4")
+WRITTEN = "2"  # the kind that tells a value which changes, and no access that leaves it
+WRITE_KINDS = (WRITTEN, "4")
 
 
 class Hit(NamedTuple):
@@ -108,9 +109,8 @@ class Points:
         places = [place for place in found if place is not None]
         return (max(places) if last else min(places)) if places else None
 
-    def watch_at(self, place: int) -> str:
-        """What gdb is told of the watchpoint that the row at a place meets."""
+    def met_at(self, place: int) -> list[Watch]:
+        """The watchpoints that the row at a place meets."""
         line = self.steps.lines.line(place)
-        watch = next(watch for watch in self.watches if touches(line, watch)
-                     or self.next_fill(watch, place, place + 1, False, None) is not None)
-        return f"{WATCH_KINDS[watch.kind][0]}:{watch.first:x};"
+        return [watch for watch in self.watches if touches(line, watch)
+                or self.next_fill(watch, place, place + 1, False, None) is not None]

@@ -9,21 +9,25 @@ from ..recording.log import At
 from ..why.facts import asked_row
 from . import target
 from .memory import Memory
-from .motion import Motion, Stop
+from .motion import BEGIN, END, Motion
 from .packets import PACKET_SIZE, PacketStream
 from .points import Points
 from .questions import WORDS, Questions
+from .reasons import READ_ONLY, Reasons
 from .session import Session
+from .stops import Stop, WatchStops
 from .threads import Threads
 
 REFUSED, UNREADABLE, OK = "E01", "E0e", "OK"
+NOT_WRITTEN = f"E.{READ_ONLY}"  # gdb shows it of a register, and of memory doesn't
+KILLED = "X09"  # by SIGKILL
 UNSUPPORTED = ""  # the protocol's answer to a packet that isn't known
 FEATURES = (f"PacketSize={PACKET_SIZE:x};qXfer:features:read+;ReverseStep+;ReverseContinue+;"
             "QStartNoAckMode+;vContSupported+")
 MOST_BYTES = PACKET_SIZE // 4  # of memory in an answer, each two digits
 MOST_ROWS = 100
 MONITOR_HELP = ("monitor where: the next count and address of each hart\n"
-                "monitor rows N: the last N rows\n"
+                "monitor last N: the last N rows before this place\n"
                 "monitor at: how many steps lead here\n"
                 "monitor goto HART:COUNT: goes there\n" + "".join(f"{said}\n" for said in WORDS.values()))
 PIECE = PACKET_SIZE // 4  # bytes of a long answer to `monitor` that go at once
@@ -43,12 +47,16 @@ def numbers_of(text: str) -> tuple[int, int]:
 class Server:
     """One session with gdb."""
 
-    def __init__(self, session: Session, memory: Memory, stream: PacketStream, questions: Questions) -> None:
-        self.session, self.memory, self.stream, self.questions = session, memory, stream, questions
+    def __init__(self, session: Session, memory: Memory, stream: PacketStream, questions: Questions,
+                 reasons: Reasons) -> None:
+        self.session, self.memory, self.stream = session, memory, stream
+        self.questions, self.reasons = questions, reasons
         self.points = Points(session.steps, memory.fills)
-        self.motion = Motion(session, self.points, stream.is_interrupted)
+        watch_stops = WatchStops(session, self.points, memory.read)
+        self.motion = Motion(session, self.points, watch_stops, stream.is_interrupted)
         self.threads = Threads(session)
         self.last_stop, self.is_extended = "", False
+        self.is_killed = False  # by gdb's `kill`, up to its `run`
         self.moved = ""     # the hart that `monitor goto` went to, until gdb has asked for it
         self.whole, self.begun = self.packets(), self.packets_with_more()
 
@@ -56,18 +64,18 @@ class Server:
         """What answers packets that are one word."""
         threads, motion = self.threads, self.motion
         return {
-            "?": lambda: self.last_stop,
+            "?": lambda: KILLED if self.is_killed else self.last_stop,
             "g": self.registers,
             "qC": lambda: f"QC{threads.shown + 1:x}",
-            "qfThreadInfo": lambda: "m" + threads.listed(),
+            "qfThreadInfo": lambda: "l" if self.is_killed else "m" + threads.listed(),
             "qsThreadInfo": lambda: "l",
             "qAttached": lambda: "1",
             "vCont?": lambda: "vCont;c;C;s;S;r",
             "!": self.extend,
-            "s": lambda: self.stopped(motion.step(*threads.moving())),
-            "c": lambda: self.stopped(motion.go(*threads.moving())),
-            "bs": lambda: self.stopped(motion.step_back(*threads.moving())),
-            "bc": lambda: self.stopped(motion.go_back(threads.moving()[0])),
+            "s": lambda: self.moved_to(motion.step(*threads.moving())),
+            "c": lambda: self.moved_to(motion.go(*threads.moving())),
+            "bs": lambda: self.moved_to(motion.step_back(*threads.moving())),
+            "bc": lambda: self.moved_to(motion.go_back(threads.moving()[0])),
         }
 
     def packets_with_more(self) -> dict[str, Callable[[str], str]]:
@@ -88,7 +96,8 @@ class Server:
             "z": lambda text: self.change_point(False, text),
             "S": lambda _: whole["s"](),
             "C": lambda _: whole["c"](),
-            **dict.fromkeys("GPMX", lambda _: REFUSED),     # a recorded run can't be changed
+            **dict.fromkeys("GP", lambda _: NOT_WRITTEN),
+            **dict.fromkeys("MX", self.refuse_memory),
         }
 
     # What is asked
@@ -116,7 +125,14 @@ class Server:
     def read_memory(self, text: str) -> str:
         address, length = numbers_of(text)
         found = self.memory.read(address, min(length, MOST_BYTES))
-        return found.hex() if found or not length else UNREADABLE
+        if length and not found:
+            self.reasons.say_unknown(address, length)
+            return UNREADABLE
+        return found.hex()
+
+    def refuse_memory(self, text: str) -> str:
+        self.reasons.say_not_written(text)
+        return NOT_WRITTEN
 
     def about_thread(self, text: str) -> str:
         hart = self.threads.hart_of(text)
@@ -138,7 +154,7 @@ class Server:
             said = self.session.where()
         elif words == ["at"]:
             said = f"at {self.session.at} of {self.session.steps.count} known\n"
-        elif len(words) == 2 and words[0] == "rows" and words[1].isdecimal():
+        elif len(words) == 2 and words[0] == "last" and words[1].isdecimal():
             said = self.session.steps.lines.text(max(0, self.session.at - min(int(words[1]), MOST_ROWS)), self.session.at).decode()
         elif len(words) == 2 and words[0] == "goto":
             said = self.goto(words[1])
@@ -155,7 +171,8 @@ class Server:
             self.session.go_to_row(place)
         except CompanionError as error:
             return f"{error}\n"
-        self.motion.told, self.threads.shown, self.moved = None, place.hart, str(place.hart)
+        self.motion.leave()
+        self.threads.shown, self.moved = place.hart, str(place.hart)
         return f"at {text}\n" if self.is_extended else f"at {text}; type: maintenance flush register-cache\n"
 
     # What moves
@@ -169,6 +186,18 @@ class Server:
         self.last_stop = f"T{stop.signal:02x}{stop.detail}{place}thread:{hart + 1:x};"
         return self.last_stop
 
+    def moved_to(self, stop: Stop) -> str:
+        """The same of a move, which gdb waits for: at an end it is told why."""
+        said = ""
+        if stop.detail == BEGIN:
+            said = self.reasons.beginning()
+        elif stop.detail == END:
+            harts = [stop.hart] if stop.is_alone else sorted(self.session.intervals)
+            said = self.reasons.end(harts)
+        if said:
+            self.stream.send("O" + f"zelkuma: {said}\n".encode().hex())
+        return self.stopped(stop)
+
     def resume(self, text: str) -> str:
         """Does the first action that steps or continues."""
         actions = [action.partition(":") for action in text.split(";")]
@@ -178,12 +207,12 @@ class Server:
             named = self.threads.hart_of(thread)
             hart = self.threads.shown if named is None else named
             if word[:1] in ("s", "S"):
-                return self.stopped(self.motion.step(hart, alone))
+                return self.moved_to(self.motion.step(hart, alone))
             if word[:1] == "r":
                 low, high = numbers_of(word[1:])
-                return self.stopped(self.motion.step(hart, alone, low, high))
+                return self.moved_to(self.motion.step(hart, alone, low, high))
             if word[:1] in ("c", "C"):
-                return self.stopped(self.motion.go(hart, alone))
+                return self.moved_to(self.motion.go(hart, alone))
         return UNSUPPORTED
 
     def answer(self, packet: str) -> str:
@@ -208,7 +237,8 @@ class Server:
     def run_again(self) -> str:
         """gdb's `run`: from the beginning."""
         self.session.go_to(self.motion.base)
-        self.motion.told = None
+        self.motion.leave()
+        self.is_killed = False
         return self.stopped(Stop(self.motion.first_hart()))
 
     def serve(self) -> None:
@@ -217,6 +247,7 @@ class Server:
             if packet[:1] == "k" and not self.is_extended:
                 return
             if packet[:1] == "k":               # gdb's `run` kills what runs
+                self.is_killed = True
                 continue
             if packet[:1] == "D":
                 self.stream.send(OK)

@@ -1,11 +1,18 @@
 """Tries by a client of gdb's protocol what `zelkuma gdb` says of memory, on small recordings; needs no gdb."""
+import contextlib
 import os
+import unittest.mock
 
 import cases
 from client import Client, Stop
 from recordings import (A0, A1, A2, A7, DATA, ECALL, EXIT, FIRST, SEGV, T0, T1, T2, addi, branch_unless_equal,
                         load, lui, pc_of, store)
 from reference import Reference, agrees
+
+from companion.gdb.memory import Memory
+from companion.gdb.session import begin_session
+from companion.recording.elf import Elf
+from companion.recording.recent import open_log
 
 
 def case_03_memory(recordings):
@@ -27,6 +34,21 @@ def case_03_memory(recordings):
     assert client.close() == 0
 
 
+def case_03_untouched_memory(recordings):
+    """All of it, as the file has it: segments that end within words, and zeros. It is taken from the file by blocks."""
+    code = [*EXIT] * 1500
+    log, elf = recordings.words("untouched", code, data=bytes(range(1, 251)) * 7)
+    text = b"".join(word.to_bytes(4, "little") for word in code)
+    expected = (bytes(FIRST - 0x1000) + text + bytes(DATA - FIRST - len(text)) + bytes(range(1, 251)) * 7).ljust(1 << 17, b"\0")
+    with contextlib.closing(open_log(log)) as opened:
+        read = opened.whole()
+        with contextlib.closing(begin_session(read, elf)) as session:
+            memory = Memory(read, Elf(elf), session)
+            with unittest.mock.patch.object(Elf, "bytes_at", autospec=True, side_effect=Elf.bytes_at) as looked_up:
+                assert b"".join(memory.read(at, 4096) for at in range(0x1000, 0x21000, 4096)) == expected
+            assert looked_up.call_count < 100, looked_up.call_count
+
+
 def case_03_memory_that_a_read_filled(recordings):
     """The bytes that a `read` put are unknown until a row loads them; the words beside them are the ELF's."""
     code = [lui(A1, DATA), addi(A1, A1, 6), addi(A2, 0, 5), addi(A0, 0, 0), addi(A7, 0, 63), ECALL,
@@ -46,6 +68,8 @@ def case_03_memory_that_a_read_filled(recordings):
         client("bs")
     assert client(f"m{DATA:x},14") == "11" * 20
     assert client.close() == 0
+    why = "isn't known here: a `read` call filled it, and no row has loaded it up to here"    # once of each address
+    assert client.err() == f"zelkuma: {DATA + 4:08x} {why}\nzelkuma: {DATA + 8:08x} {why}\n"
 
 
 def processor_seconds(process):

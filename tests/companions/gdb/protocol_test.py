@@ -29,9 +29,12 @@ def case_01_what_gdb_asks_first(recordings):
     assert "<osabi>none</osabi>" in text and text.count("<reg ") == 33 and text.endswith("</target>")
     assert client("vNoSuchThing") == "" and client("qNoSuchThing") == ""
     assert client("qC") == "QC1" and client("T1") == "OK" and client("T9") == "E01" and client("Hg7") == "E01"
-    for refused in ("P0=00000000", "G00", "M10000,1:00", "X10000,0:", "m", "mzz,4", "m-4,4", "p-1", "Z2,5", "p21"):
+    for refused in ("m", "mzz,4", "m-4,4", "p-1", "Z2,5", "p21"):
         assert client(refused) == "E01", refused
+    for refused in ("P0=00000000", "G00", "M10000,1:00", "X10000,0:"):
+        assert client(refused) == "E.a recorded run can't be changed, and no function of it called", refused
     assert client.close() == 0
+    assert client.err() == "zelkuma: a recorded run can't be changed, and no function of it called\n"     # of M
 
 
 def case_02_registers_at_both_ends_and_between(recordings):
@@ -70,10 +73,13 @@ def case_04_faults(recordings):
 def case_05_both_ends(recordings):
     log, elf = recordings.words("exit", [addi(T0, 0, 1), addi(T0, T0, 1), *EXIT])
     limit, counter = recordings.example("counter", "--harts", "2", "--limit", "60")
-    for log, elf in ((log, elf), (limit, counter)):
+    for log, elf, why in ((log, elf, "hart 0 exited with 0"), (limit, counter, "hart 0 came to --limit; hart 1 came to --limit")):
         client, reference = Client(log, elf), Reference(log, elf)
         assert Stop(client("bs")).end == "begin" and Stop(client("bc")).end == "begin"
+        assert client.said == 2 * "zelkuma: the recorded run begins here\n"
+        client.said = ""
         assert Stop(client("vCont;c")).end == "end" and Stop(client("vCont;c")).end == "end"
+        assert client.said == 2 * f"zelkuma: the recorded run ends here; {why}\n"
         agrees(client, reference)
         assert Stop(client("bc")).end == "begin" and client.monitor("at").startswith("at 0 of ")
         agrees(client, reference)
@@ -111,6 +117,39 @@ def case_15_interruption_and_leaving(recordings):
     client.write(b"$" + b"x" * 200000)
     client.write(b"#00")
     assert client("qC") == "QC1"
+    assert client.close() == 0
+
+
+def case_15_an_interruption_between_packets(recordings):
+    """gdb asks for it on its own way from stop to stop: the next move is interrupted, and none after it."""
+    log, elf = recordings.words("asked", [addi(T0, 0, 1)] * 9 + [*EXIT])
+    client = Client(log, elf)
+    for move, back in (("vCont;s:1", "bs"), ("vCont;c", "bc"), ("bs", "vCont;s:1"), ("bc", "vCont;c"),
+                       (f"vCont;r{pc_of(0):x},{pc_of(3):x}:1", "bs")):
+        client(back)
+        client("vCont;s:1")
+        at = client.counts()
+        client.write(b"\x03")
+        assert client("qC") == "QC1"
+        stop = Stop(client(move))
+        assert (stop.signal, client.counts()) == (INTERRUPTED, at), (move, stop.text)
+        assert Stop(client(move)).signal == TRAP and client.counts() != at, move
+    client("bc")
+    client(f"Z0,{pc_of(3):x},4")
+    client.write(b"\x03")
+    assert Stop(client("vCont;c")).signal == INTERRUPTED        # though a stop is in the first steps that it takes
+    assert Stop(client("vCont;c")).pc == pc_of(3)
+    assert client.close() == 0
+
+
+def case_15_killed(recordings):
+    """In gdb's `target extended-remote` a killed program has no threads, up to `run`."""
+    log, elf = recordings.words("killed", [addi(T0, 0, 1), *EXIT])
+    client = Client(log, elf)
+    assert client("!") == "OK" and client("qfThreadInfo") == "m1"
+    client.send("k")
+    assert client("?") == "X09" and client("qfThreadInfo") == "l"
+    assert Stop(client("vRun;")).pc == pc_of(0) and client("qfThreadInfo") == "m1" and client("?")[:1] == "T"
     assert client.close() == 0
 
 

@@ -14,7 +14,7 @@ import sys
 import cases
 from cases import Skipped
 from common import COMPANION, EXAMPLES, TOP, content, crash, named_examples, path
-from recordings import FAULTS, T2, addi
+from recordings import DATA, EXIT, FAULTS, T0, T1, T2, addi, lui, pc_of, store
 from reference import run
 
 GDB, COMPILER = "gdb-multiarch", "riscv64-unknown-elf-gcc"
@@ -167,6 +167,33 @@ def case_faults_without_names(names):
         assert "= 1" in answers[2] and f"hart 0 count {count} {name})" in answers[3], (name, answers)
         assert f"received signal {SIGNALS[signal]}" in answers[5], (name, answers)
     return len(FAULTS)
+
+
+def case_one_store_that_two_watch(names):
+    """gdb tells both right behind the store, and on the way back right before it; it passes on then."""
+    log, elf = names.recordings.words("both", [lui(T0, DATA), addi(T1, 0, 0x155), store(T1, T0), addi(T2, 0, 1), *EXIT])
+    watches = [f"watch *(unsigned char *) {DATA + at:#x}" for at in (0, 1)]
+    answers = talk("| " + bridge(log, elf), [*watches, *["continue", "print $pc"] * 2, "stepi", "print $pc", "continue",
+                                             *["reverse-continue", "print $pc"] * 2, "reverse-stepi", "print $pc"])[3:]
+    for at, (behind, number, values) in enumerate(((3, 1, ("0", "85")), (3, 2, ("0", "1")))):
+        assert f"Hardware watchpoint {number}: " in answers[2 * at], answers
+        assert "Old value = %s" % values[0] in answers[2 * at] and "New value = %s" % values[1] in answers[2 * at], answers
+        assert f"{pc_of(behind):#x}" in answers[2 * at + 1], answers
+    assert f"{pc_of(4):#x}" in answers[5] and "hart 0 exited with 0" in answers[6], answers
+    for at, (number, value) in enumerate(((1, "85"), (2, "1"))):
+        assert f"Hardware watchpoint {number}: " in answers[7 + 2 * at], answers
+        assert f"Old value = {value}" in answers[7 + 2 * at] and "New value = 0" in answers[7 + 2 * at], answers
+        assert f"{pc_of(2):#x}" in answers[8 + 2 * at], answers
+    assert f"{pc_of(1):#x}" in answers[12], answers
+
+
+def case_what_cannot_be_done(names):
+    """gdb prints why, beside its own words."""
+    log, elf = names.recordings.words("fixed", [addi(T2, 0, 1), *EXIT])
+    answers = talk("| " + bridge(log, elf), [f"set var *(int *) {DATA:#x} = 5", "print $t2 = 5", "reverse-stepi", "continue"])
+    for answer, said in zip(answers[1:], ("a recorded run can't be changed", "a recorded run can't be changed",
+                                          "the recorded run begins here", "the recorded run ends here; hart 0 exited with 0")):
+        assert said in answer, (said, answer)
 
 
 def monkey(seed, harts, functions, variables):

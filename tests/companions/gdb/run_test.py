@@ -60,11 +60,13 @@ class RunTest(case.Case):
 
     def test_how_far_back_it_leads_is_said(self):
         log, elf = self.record("wild_store", "--seed", "1", *SMALL), self.elf("wild_store")
-        said = "".join(self.talk(log, elf, ["monitor goto 0:1"], "--rows", "500"))
+        said = "".join(self.talk(log, elf, ["monitor goto 0:1", "print *(int *) 0x11500", "reverse-continue"], "--rows", "500"))
         found = re.search(r"the last ([\d,]+) rows are loaded, hart 0 from count ([\d,]+); --rows N loads more", said)
         rows, first = (int(told.replace(",", "")) for told in found.groups())
         self.assertEqual(first + rows, 22675)
         self.assertIn(f"hart 0 has counts {first} to 22675 here, not 1", said)
+        self.assertIn("00011500 isn't known here: no row that is loaded tells it; --rows N loads more", said)
+        self.assertIn("the rows that are loaded begin here; --rows N loads more", said)
 
     def test_refusals(self):
         log, elf = self.record("heap", "--seed", "1"), self.elf("heap")

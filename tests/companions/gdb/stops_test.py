@@ -64,11 +64,12 @@ def stops_of(client, forward, backward):
 
 
 class Watcher(Client):
-    """A client with one watchpoint, which it takes out for a step, as gdb does."""
+    """A client with watchpoints, which it takes out for a step, as gdb does."""
     watch = ""
 
     def toggle(self, is_set):
-        assert self(("Z" if is_set else "z") + self.watch) == "OK"
+        for watch in self.watch.split():
+            assert self(("Z" if is_set else "z") + watch) == "OK"
 
 
 def case_07_watchpoints(recordings):
@@ -111,6 +112,55 @@ def case_07_two_that_meet(recordings):
     client(f"z2,{DATA + 3:x},1")
     assert Stop(client("vCont;c")).end == "end"
     assert client("Z5,0,1") == ""
+    assert client.close() == 0
+
+
+def case_07_one_store_that_several_watch(recordings):
+    """All whose bytes it changes are told, and no others: one at the store, each other one behind it, where gdb's step over
+    that stop stays. A stop tells one address, and gdb looks at those that hold it."""
+    log, elf = recordings.words("several", [lui(T0, DATA), addi(T1, 0, 0x155), store(T1, T0, 0), addi(T2, 0, 1), *EXIT])
+    client = Watcher(log, elf)
+    first, second, third, word = f"2,{DATA:x},1", f"2,{DATA + 1:x},1", f"2,{DATA + 2:x},1", f"2,{DATA:x},4"
+    for watches, told in (((first, second), [DATA, DATA + 1]), ((second, first), [DATA + 1, DATA]),
+                          ((third, second), [DATA + 1]), ((second, word), [DATA + 1]),
+                          ((word, second, first), [DATA, DATA + 1]), ((second, f"4,{DATA + 2:x},2"), [DATA + 1, DATA + 2])):
+        client.watch = " ".join(watches)
+        client.toggle(True)
+        forward, backward = stops_of(client, "vCont;c", "bc")
+        assert forward == [(2 + min(1, at), address) for at, address in enumerate(told)], (watches, forward)
+        assert backward == [(3 - min(1, at), address) for at, address in enumerate(told)], (watches, backward)
+        client.toggle(False)
+    assert client.close() == 0
+
+
+def case_07_owed_watchpoints_that_are_gone(recordings):
+    """What was owed isn't told if it was taken out, the session went elsewhere, or a hart that isn't resumed made the store."""
+    code = [lui(T0, DATA), addi(T1, 0, 0x155), store(T1, T0, 0), addi(T2, 0, 1), *EXIT]
+    log, elf = recordings.words("gone", code, "--harts", "2")
+    client = Watcher(log, elf)
+    client.watch = f"2,{DATA:x},1 2,{DATA + 1:x},1"
+
+    def to_the_store():
+        client("vRun;")
+        client.toggle(True)
+        assert Stop(client("vCont;c")).watch == DATA
+        client.toggle(False)
+        assert Stop(client("vCont;s:1")).pc == pc_of(3)
+        client.toggle(True)
+
+    to_the_store()
+    assert Stop(client("vCont;s:2")).hart == 1          # hart 0 isn't resumed
+    to_the_store()
+    assert Stop(client("vCont;s:1;c")).watch == DATA + 1
+    client.toggle(False)
+    assert Stop(client("vCont;s:1")).pc == pc_of(3)     # gdb's step over it
+    assert Stop(client("vCont;s:1")).pc == pc_of(4)
+    to_the_store()
+    client.toggle(False)
+    assert Stop(client("vCont;s:1")).pc == pc_of(4)     # they are taken out
+    to_the_store()
+    assert client.monitor("goto 0:1").startswith("at 0:1") and Stop(client("vCont;s:1")).pc == pc_of(2)
+    client.toggle(False)
     assert client.close() == 0
 
 
@@ -267,7 +317,10 @@ def case_12_a_log_that_lost_its_beginning(recordings):
     agrees(client, reference)
     assert Stop(client("vCont;c")).end == "end"
     agrees(client, reference)
+    client.said = ""
     assert Stop(client("bc")).end == "begin" and client.monitor("at").split()[1] == begin
+    assert client.said == (f"zelkuma: the log begins here, as it has dropped {reference.dropped:,} records before; "
+                           "a larger --log-size keeps more\n")
     assert client.close() == 0
 
 

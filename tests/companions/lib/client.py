@@ -23,7 +23,7 @@ class Client:
         start = [COMPANION, "gdb"] if room is None else ["-c", SMALL_ROOM % (TOP, room)]
         self.process = subprocess.Popen([sys.executable, *start, log, elf, *options], bufsize=0,
                                         stdin=subprocess.PIPE, stdout=subprocess.PIPE, stderr=subprocess.PIPE)
-        self._data = b""
+        self._data, self.said = b"", ""
         self._acknowledges = True
         assert self("QStartNoAckMode") == "OK"
         self._acknowledges = False
@@ -39,6 +39,14 @@ class Client:
         return re.search(rb"\$([^#]*)#(..)", self._data, re.S)
 
     def receive(self):
+        """The next answer. What the bridge has gdb print before it is added to `said`."""
+        text = self._packet()
+        while text[:1] == "O" and text != "OK":
+            self.said += bytes.fromhex(text[1:]).decode()
+            text = self._packet()
+        return text
+
+    def _packet(self):
         while not self._frame():
             piece = os.read(self.process.stdout.fileno(), 65536)
             if not piece:
@@ -85,6 +93,10 @@ class Client:
         assert self("D") == "OK"
         self.process.stdin.close()
         return self.process.wait()
+
+    def err(self):
+        """What it has written on err, once it has left."""
+        return self.process.stderr.read().decode()
 
     def kill(self):
         self.process.kill()
