@@ -6,7 +6,7 @@ from typing import Dict, List, Mapping, NoReturn, Sequence, Tuple
 
 from .errors import REFUSED, CompanionError
 
-REPEATED, AND = "--source", "\0"       # this option can be given several times: its values, and what stands between them
+REPEATED, AND = ("--source", "--alloc", "--free"), "\0"     # options that can be given several times; what stands between the values
 TIMES = {"": 1, "K": 1 << 10, "M": 1 << 20, "G": 1 << 30}
 Words = Tuple[List[str], Dict[str, str]]    # names, and {option: its value}; of one without a value that is empty
 
@@ -26,7 +26,7 @@ def parse(words: Sequence[str], known: Mapping[str, bool], names: range, form: s
             found, left = found + left, []
         elif not word.startswith("--"):
             found.append(word)
-        elif option not in known or (option in given and option != REPEATED):
+        elif option not in known or (option in given and option not in REPEATED):
             refuse(f"option {option} is {'given twice' if option in given else 'unknown'}")
         elif not known[option]:
             if equals:

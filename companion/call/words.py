@@ -27,6 +27,7 @@ PARTS = {
     "view": {"view": "draws a log as one page"},
     "gdb": {"gdb": "lets gdb attach to a log"},
     "triage": {"bucket": "sorts logs by the cause of their end", "triage": "sorts the logs of folders into one table"},
+    "memory": {"memory": "tells memory errors where they happen"},
     "questions": {
         "history": "lists what stored to a variable",
         "calls": "lists the calls of a function",

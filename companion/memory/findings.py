@@ -1,0 +1,57 @@
+"""What was found, in the order in which it happened, and what couldn't be told."""
+from __future__ import annotations
+
+from collections import Counter
+from dataclasses import dataclass
+from typing import Counter as Counts
+from typing import Dict, Hashable, List, Optional
+
+from .state import Event, Thing
+
+MOST_FINDINGS = 400         # that are kept: each is a bug, and a list of so many is read by nobody
+
+# The kinds, by AddressSanitizer's names if it has one.
+HEAP, FREED, TWICE, NO_BLOCK, NULL = ("heap-buffer-overflow", "heap-use-after-free", "double-free", "invalid-free",
+                                      "use-of-failed-allocation")
+GLOBAL, MEMBER, STACK, AFTER_RETURN, AFTER_SCOPE = ("global-buffer-overflow", "member-overflow", "stack-buffer-overflow",
+                                                    "stack-use-after-return", "stack-use-after-scope")
+DEPTH, REGISTER, RETURN, POINTER = "stack-overflow", "saved-register-overwritten", "return-address-overwritten", "invalid-pointer-stored"
+UNINITIALIZED, OVERLAP, LEAK = "use-of-uninitialized-value", "memcpy-param-overlap", "memory-leak"
+KINDS = (HEAP, FREED, TWICE, NO_BLOCK, NULL, GLOBAL, MEMBER, STACK, AFTER_RETURN, AFTER_SCOPE, DEPTH, REGISTER, RETURN, POINTER,
+         UNINITIALIZED, OVERLAP, LEAK)
+
+
+@dataclass
+class Finding:
+    """thing   the object that it is about, if there is one
+    origin  the place that made or loaded the pointer, or the undefined value, and what it did; 0 if that isn't known
+    times   how often the same was done: by one function to one thing"""
+    kind: str
+    text: str
+    when: Event
+    thing: Optional[Thing] = None
+    origin: int = 0
+    origin_does: str = ""
+    times: int = 1
+
+
+class Findings:
+    """unknown   {what couldn't be told: how often}"""
+
+    def __init__(self) -> None:
+        self.kept: Dict[Hashable, Finding] = {}
+        self.unknown: Counts[str] = Counter()
+        self.more = 0
+
+    def add(self, key: Hashable, finding: Finding) -> None:
+        old = self.kept.get(key)
+        if old is not None:
+            old.times += 1
+        elif len(self.kept) < MOST_FINDINGS:
+            self.kept[key] = finding
+        else:
+            self.more += 1
+
+    def in_order(self) -> List[Finding]:
+        """As they were found, which is the order of `joint`."""
+        return list(self.kept.values())

@@ -1,0 +1,261 @@
+"""What is wrong with an access that isn't plainly good: by a pointer outside of what it was made for, or to bytes that are no one's."""
+from __future__ import annotations
+
+import re
+from typing import Hashable, Iterator, List, NamedTuple, Optional
+
+from ..recording.instruction import NAMES
+from .facts import Facts
+from .findings import (
+    AFTER_RETURN, FREED as FREED_KIND, GLOBAL as GLOBAL_KIND, HEAP, MEMBER as MEMBER_KIND, NULL as NULL_KIND, REGISTER, STACK,
+    Finding, Findings)
+from .heap import Heap
+from .operation import ALU, AMO, BRANCH, FULL, JAL, JALR, LOAD, SP, STORE, Operation
+from .state import (
+    BESIDE, BLOCK, ENDED, FORBIDDEN, FRAME, FREED, GLOBAL, GOOD, MEMBER, NULL, SAVED, UNDEFINED, UNWRITTEN, Hart, Memory,
+    Thing, pc_of, value_of)
+from .value import NUMBER, as_term
+
+# Functions of a library that read whole words, whose other bytes they don't use.
+BY_WORDS = re.compile(r"_*(str|mem|rawmemchr|stpcpy|stpncpy|index|bcopy|bzero|bcmp)\w*")
+ROWS_BACK, ROWS_OF_LOOP = 3000, 20000   # in which a pointer's origin, and the end of a loop before, are looked for
+ANCHOR = 16                 # bytes: a place so little before an object may be meant as its begin, less an index
+FAR = 64                    # bytes: an access farther from an object, by an index alone, is another object's
+NEXT = 8                    # bytes between objects that follow each other
+
+
+class Access(NamedTuple):
+    """`base` is the register with the pointer."""
+    hart: Hart
+    row: bytes
+    one: Operation
+    address: int
+    size: int
+    is_store: bool
+    base: int
+
+    @property
+    def verb(self) -> str:
+        return f"{'store' if self.is_store else 'load'} of {self.size}"
+
+
+class Recent:
+    """The rows of this chunk and of the one before."""
+
+    def __init__(self) -> None:
+        self.rows: List[bytes] = []
+        self.before: List[bytes] = []
+
+    def add(self, rows: List[bytes]) -> None:
+        self.before, self.rows = self.rows, rows
+
+    def back(self, hart: Hart, row: bytes, most: int) -> Iterator[bytes]:
+        """So many rows of a hart before a row, the last one first."""
+        mine = b"%d " % hart.number
+        at = self.rows.index(row) if row in self.rows else 0
+        found = (each for rows in (self.rows[:at], self.before) for each in reversed(rows) if each.startswith(mine))
+        for _, each in zip(range(most), found):
+            yield each
+
+
+class Judge:
+    """made     {address of an instruction that makes a pointer to a part: True}
+    direct   {address of an access whose pointer has to lead into its thing, whatever else is known}
+    anchors  accesses that reach one object by a constant from another one's pointer, as compilers do: nothing is said of them"""
+
+    def __init__(self, facts: Facts, memory: Memory, heap: Heap, findings: Findings) -> None:
+        self.facts, self.program, self.memory, self.heap, self.findings = facts, facts.program, memory, heap, findings
+        self.recent = Recent()
+        self.made: set[int] = set()
+        self.limited: set[int] = set()
+        self.anchors: set[Hashable] = set()
+
+    def load(self, access: Access, thing: Optional[Thing]) -> int:
+        """Tells what is wrong. Gives the bits that are loaded and that nobody wrote."""
+        address, size = access.address, access.size
+        if thing is not None and not thing.holds(address, size) and self.outside(access, thing):
+            return 0
+        states = self.memory.states[address:address + size]
+        if ENDED in states or FREED in states or BESIDE in states:
+            if self.is_by_words(access, min(states) in (GOOD, UNWRITTEN)):
+                self.findings.unknown["words past an end that a library's function read"] += 1
+            elif thing is None or thing.kind != BLOCK:
+                self.forbidden(access, states)
+            return 0
+        return self.memory.undefined_bits(address, size)
+
+    def store(self, access: Access, thing: Optional[Thing]) -> None:
+        """Tells what is wrong. The bytes are written then, if they are someone's."""
+        address, size, memory = access.address, access.size, self.memory
+        states = memory.states[address:address + size]
+        if thing is not None and not thing.holds(address, size) and self.outside(access, thing):
+            if UNDEFINED.issuperset(states):
+                memory.fill(address, address + size, GOOD)
+            return
+        if not FORBIDDEN.isdisjoint(states):
+            if thing is None or thing.kind != BLOCK or SAVED in states:
+                self.forbidden(access, states)
+            if SAVED not in states:
+                return
+        memory.fill(address, address + size, GOOD)
+
+    def is_by_words(self, access: Access, has_good: bool) -> bool:
+        return (has_good and access.size == 4 and access.address % 4 == 0
+                and bool(BY_WORDS.fullmatch(self.program.function_of(access.one.pc))) and self.program.is_library(access.one.pc))
+
+    # By a pointer that leads outside of what it was made for.
+
+    def outside(self, access: Access, thing: Thing) -> bool:
+        """Whether it is wrong, or nothing can be said."""
+        if thing.gone is None and thing.kind != NULL and not access.is_store:
+            if self.is_by_words(access, thing.low - 3 <= access.address < thing.high):
+                self.findings.unknown["words past an end that a library's function read"] += 1
+                return False
+        kind, text = self.said(access, thing)
+        self.tell(access, kind, f"{access.verb}, {text}", thing)
+        return True
+
+    def said(self, access: Access, thing: Thing) -> tuple[str, str]:
+        """The kind, and what is said of the object."""
+        if thing.kind == BLOCK:
+            text = f"{distance(access, thing.begin, thing.end)} a block of {thing.size} bytes"
+            return (FREED_KIND, f"{text} that was given back") if thing.gone else (HEAP, text)
+        if thing.kind == NULL:
+            return NULL_KIND, f"{access.address} bytes from the 0 that {thing.name} gave"
+        if thing.kind in (GLOBAL, MEMBER):
+            return (MEMBER_KIND if thing.is_part else GLOBAL_KIND,
+                    f"{distance(access, thing.begin, thing.end)} {thing.name} ({thing.size} bytes)")
+        if thing.gone:
+            return AFTER_RETURN, f"{thing.name} has ended"
+        return STACK, f"{distance(access, thing.low, thing.high)} {thing.name} ({thing.high - thing.low} bytes)"
+
+    def tell(self, access: Access, kind: str, text: str, thing: Optional[Thing]) -> None:
+        key = self.key(kind, access.one.pc, thing)
+        if key in self.anchors:
+            self.findings.unknown[ANCHORED] += 1
+            return
+        origin, does = 0, ""
+        if key not in self.findings.kept:
+            made = self.origin(access, thing)
+            if made is None:
+                self.anchors.add(key)
+                self.findings.unknown[ANCHORED] += 1
+                return
+            origin, does = made
+        self.findings.add(key, Finding(kind, text, access.hart.event(access.row, access.one.pc), thing, origin, does))
+
+    def key(self, kind: str, pc: int, thing: Optional[Thing]) -> Hashable:
+        """Accesses of one function to one thing are one finding."""
+        if thing is None:
+            return kind, pc
+        return (kind, self.program.function_at(pc).first, thing.taken.pcs[:1] if thing.taken else thing.name,
+                thing.gone.pcs[:1] if thing.gone else ())
+
+    def origin(self, access: Access, thing: Optional[Thing]) -> Optional[tuple[int, str]]:
+        """The place that loaded or made the pointer, and what it did, or (0, ""). None if another object can be meant, that the
+        compiler reaches from this one's pointer."""
+        hart, one = access.hart, access.one
+        is_static = thing is not None and thing.kind in (GLOBAL, FRAME, MEMBER) and not thing.gone
+        if not is_static or thing is None:
+            found = self.source(access, FULL)
+            return found if found and not self.program.is_library(found[0]) else (0, "")
+        if thing.kind == GLOBAL and self.is_loops_end(access, thing):
+            return None
+        found = self.source(access, thing.size)
+        if found is None and one.pc in self.limited:
+            found = 0, ""
+        by_tag = hart.tags[access.base] is thing and one.kind in (LOAD, STORE)
+        far = access.address and not thing.begin - FAR <= access.address < thing.end + FAR
+        if found is None or by_tag and (not -ANCHOR <= one.imm < thing.size or not found[0] and far):
+            return None
+        return found
+
+    def source(self, access: Access, size: int) -> Optional[tuple[int, str]]:
+        """The place that loaded or made a pointer, by the last rows. None if a constant was added that leads out of so many bytes."""
+        register = access.base
+        for row in self.recent.back(access.hart, access.row, ROWS_BACK):
+            if b"| %s=" % NAMES[register].encode() not in row:
+                continue
+            one = self.facts.at(pc_of(row), word_of(row))
+            if one.kind in (LOAD, AMO):
+                return one.pc, "loaded"
+            if one.kind == ALU and one.pc in self.made:
+                return one.pc, "made"
+            if one.kind != ALU or one.name not in ("addi", "add", "sub") or not one.rs1:
+                return (one.pc, "made") if one.kind not in (JAL, JALR) else (0, "")
+            if one.name == "addi" and not -ANCHOR <= one.imm < size and one.rs1 != SP:
+                return None
+            register = one.rs1
+            if one.name == "add":
+                for other, value in ((one.rs2, as_term(one.base)), (one.rs1, as_term(one.other))):
+                    if value.to == NUMBER and not value.indexed:
+                        if not -ANCHOR <= value.offset < size:
+                            return None
+                        register = other
+        return 0, ""
+
+    def is_loops_end(self, access: Access, thing: Thing) -> bool:
+        """Whether a loop over one object ended with a pointer to its end, which the compiler takes for the next one's begin."""
+        after = self.program.object_at(thing.end) or self.program.object_at(thing.end + NEXT - 1)
+        if after is None or after.begin - thing.end > NEXT:
+            return False
+        registers, is_equal, later = {access.base}, False, access.one.pc
+        for row in self.recent.back(access.hart, access.row, ROWS_OF_LOOP):
+            one = self.facts.at(pc_of(row), word_of(row))
+            if one.kind == BRANCH and {one.rs1, one.rs2} & registers and one.name == ("beq" if later == one.imm else "bne"):
+                is_equal = True                 # to what it was compared with: is that the end?
+            later = one.pc
+            if one.kind != ALU or one.rd not in registers:
+                continue
+            if is_equal and 0 <= value_of(row) - thing.end <= NEXT:
+                return True
+            is_equal = False
+            registers.discard(one.rd)
+            if one.name == "add":
+                registers |= {one.rs1, one.rs2}
+            elif one.name == "addi" and one.imm == 0:
+                registers.add(one.rs1)
+            elif value_of(row) == thing.end or one.rd in (one.rs1, one.rs2):
+                registers.add(one.rd)
+            if not registers:
+                return False
+        return False
+
+    # To bytes that are no one's, whatever the pointer was made for.
+
+    def forbidden(self, access: Access, states: bytearray) -> None:
+        if SAVED in states:
+            register, at, _ = self.memory.saved.get(access.address & ~3, (0, access.one.pc, b""))
+            if access.is_store:
+                what = "return address" if register == 1 else f"saved {NAMES[register]}"
+                self.tell(access, REGISTER, f"{access.verb}, over the {what} of {self.program.function_of(at)}", None)
+        elif ENDED in states:
+            self.tell(access, AFTER_RETURN, f"{access.verb} at {access.address:08x}, in a frame that has ended", None)
+        else:
+            block = self.heap.near(access.address)
+            if block is not None:
+                self.tell(access, *self.said_of(access, block), block)
+
+    def said_of(self, access: Access, block: Thing) -> tuple[str, str]:
+        kind, text = self.said(access, block)
+        return kind, f"{access.verb}, {text}"
+
+
+ANCHORED = "accesses that a compiler may have meant for an object beside"
+
+
+def distance(access: Access, begin: int, end: int) -> str:
+    """The distance of an access from an object, in words."""
+    if access.address >= end:
+        return f"{access.address - end} bytes after"
+    if access.address < begin:
+        return f"{begin - access.address} bytes before"
+    if access.address + access.size > end:
+        return f"{end - access.address} bytes before the end of"
+    return f"{access.address - begin} bytes into"
+
+
+def word_of(row: bytes) -> int:
+    """The word of a row's instruction."""
+    text = row.split(b" ", 4)[3]
+    return 0 if text[:1] == b"-" else int(text, 16)

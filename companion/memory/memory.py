@@ -1,0 +1,72 @@
+"""Tells memory errors of a recorded run, each at its first access."""
+from __future__ import annotations
+
+import contextlib
+from contextlib import closing
+from typing import List, Mapping
+
+from ..call.errors import REFUSED, CompanionError
+from ..call.options import AND, read_words, whole
+from ..call.text import number
+from ..recording.answers import put_found
+from ..recording.chunks import chunks
+from ..recording.elf import Elf
+from ..recording.log import Log
+from ..recording.naming import named_elf, places_of
+from ..recording.recent import open_log
+from .answer import Answer
+from .heap import hooks_of
+from .leaks import leaks_of
+from .program import Program
+from .run import Run
+
+HELP = """Tells memory errors of a recorded run: each access that isn't to what its pointer was made for.
+
+    zelkuma memory LOG ELF [--alloc FN] [--free FN] [--leaks] [--names ELF] [--rows N] [--json] [--fail]
+
+--alloc  FN takes memory: its first argument is the size, or its Nth with FN:N; with FN:=BYTES it always takes so many
+--free   FN gives back its first argument, or its Nth with FN:N; both can be given several times
+--leaks  tells the blocks that are live at the end, by the place that took them
+--names  the same program with names and lines, if ELF was stripped
+--rows   how many of the last rows are read, 20 million without it
+--json   prints one JSON object in place of the text (docs/JSON.md)
+--fail   the status is 23 if something was found
+
+C's allocators (malloc, calloc, realloc, free, ..) are known by their names. A finding is a statement by definition
+(docs/MEMORY.md); what can't be told is counted as unknown. Companions show; the program proves."""
+FORM = "memory LOG ELF [--alloc FN] [--free FN] [--leaks] [--names ELF] [--rows N] [--json] [--fail]"
+MOST_ROWS = 20000000        # some 40 seconds
+HIGHEST = 1 << 41
+LARGEST_MEMORY = 64 << 20   # bytes of the guest: of each word a tag of eight bytes is kept
+FOUND = 23                  # the status of --fail
+
+
+def notes_of(log: Log) -> List[str]:
+    if log.unread:
+        return [f"Only the last {number(log.rows())} rows were read; --rows N reads more."]
+    return [f"The log gave up {number(log.dropped)} records before its first row."] if log.dropped else []
+
+
+def names_in(given: Mapping[str, str], option: str) -> List[str]:
+    return given[option].split(AND) if option in given else []
+
+
+def main(words: List[str]) -> int:
+    (log_name, elf_name), given = read_words(words, FORM)
+    rows = whole(given["--rows"], 1, HIGHEST, "--rows") if "--rows" in given else MOST_ROWS
+    with contextlib.ExitStack() as opened:
+        source = opened.enter_context(closing(open_log(log_name)))
+        log = source.end(rows)
+        elf = Elf(elf_name)
+        named = named_elf(elf, given.get("--names", ""))
+        if log.memory > LARGEST_MEMORY:
+            raise CompanionError(f"memory: the recorded program has {number(log.memory)} bytes of memory, and this can follow "
+                                 f"{number(LARGEST_MEMORY)}", REFUSED)
+        places = opened.enter_context(closing(places_of(named)))
+        program = Program(named)
+        run = Run(log, program, hooks_of(program, names_in(given, "--alloc"), names_in(given, "--free")))
+        run.along(chunks(log.name, elf.name, log=log))
+        leaks = leaks_of(run.heap, run.harts, log.name, elf.name) if "--leaks" in given else []
+        answer = Answer(run, places, notes_of(log), leaks)
+        put_found("memory", answer, Answer.lines, Answer.answer, "--json" in given)
+    return FOUND if "--fail" in given and (answer.findings or any(leak.unreached for leak in leaks)) else 0

@@ -1,0 +1,237 @@
+"""Which part of the program's data an instruction's pointer is for: what is known of it whatever the run, and by the types."""
+from __future__ import annotations
+
+import re
+from typing import Callable, Dict, NamedTuple, Optional
+
+from ..recording.types import Elements, Part
+from .facts import Facts
+from .operation import FULL, Operation
+from .program import Local
+from .state import FRAME, GLOBAL, MEMBER, Hart, Thing, value_of
+from .value import ABSOLUTE, POINTER, Value
+from .value import FRAME as IN_FRAME
+
+STARTS = re.compile(r"_*(c?start|crt|reset|cstart)")     # what starts a program goes over sections
+BEFORE = 16                 # bytes: so close before an object another may end whose end is meant
+NEAR = 4                    # bytes: a place so little before a variable may be meant as its begin, less an index
+FAR = 65536                 # bytes: an access farther than this is by an index that wasn't one
+Limit = Callable[[Hart, int], Optional[Thing]]  # of an access's address: the thing that it misses, or None
+
+
+class Inner(NamedTuple):
+    """An array member that a pointer is made to: its begin and end from there, and its name."""
+    low: int
+    high: int
+    name: str
+
+
+class Place(NamedTuple):
+    """A place of the frame that a pointer is made to: begin (None: at sp) and end of the variable from there, and its name."""
+    low: Optional[int]
+    high: int
+    name: str
+
+
+class Parts:
+    def __init__(self, facts: Facts) -> None:
+        self.facts, self.program, self.types = facts, facts.program, facts.program.types
+        self.globals: Dict[int, Optional[Thing]] = {}
+
+    # Global objects.
+
+    def global_thing(self, address: int) -> Optional[Thing]:
+        """What a constant leads to, if an object or an array member begins there: others can be those of objects behind them, less
+        an offset. What ends there is taken in, since it may be its end."""
+        if address not in self.globals:
+            self.globals[address] = self.new_global(address)
+        return self.globals[address]
+
+    def new_global(self, address: int) -> Optional[Thing]:
+        there = self.program.object_at(address)
+        if there is None:
+            return None
+        before = self.program.object_before(there.begin)
+        low = before.begin if before and 0 <= there.begin - before.end < BEFORE else there.begin
+        if address == there.begin:
+            thing = Thing(low, there.end, GLOBAL, there.name)
+            thing.begin, thing.end = there.begin, there.end
+            return thing
+        kind, offset = self.program.types_of_objects.get(there.begin), address - there.begin
+        part = self.types.array_at(kind, offset)
+        if part is None or part.begin != offset:
+            return None
+        first = min((each.begin for each in self.types.arrays(kind) if each.end == offset), default=offset)
+        thing = Thing(there.begin + first if first else low, there.begin + part.end, GLOBAL, there.name + part.path)
+        thing.begin, thing.end, thing.is_part = address, there.begin + part.end, True
+        return thing
+
+    def made_global(self, one: Operation, value: Value) -> Optional[Thing]:
+        if STARTS.match(self.program.function_of(one.pc)):
+            return None
+        return self.global_thing(value.offset & FULL)
+
+    def indexed_global(self, one: Operation, base: Value) -> Optional[Limit]:
+        """The limit of an access by a constant and an index."""
+        thing = self.global_thing(base.offset + one.imm)
+        kind = self.program.types_of_objects.get(thing.begin) if thing else None
+        if thing is None or kind is not None and not thing.is_part and not self.types.is_array(kind):
+            return None                         # nothing that an index is added to: the constant is another object's
+        missed, low, high, size = thing, thing.low, thing.high, one.size
+        if base.more and one.imm:
+            other = self.global_thing(base.offset)
+            if other is not None and (other.begin > thing.begin or other.end <= thing.begin):
+                low, high = min(low, other.low), max(high, other.high)
+
+        def limit(_: Hart, address: int) -> Optional[Thing]:
+            is_in = low <= address and address + size <= high
+            if is_in or not -FAR < address - missed.begin < FAR + high - low or missed.holds(address, size):
+                return None
+            return missed
+        return limit
+
+    # Members of structures.
+
+    def elements(self, address: int) -> Optional[Elements]:
+        """The global array of structures that an address is in: an object, or a member of one that is in no other array."""
+        there = self.program.object_at(address)
+        if there is None or there.begin not in self.program.types_of_objects:
+            return None
+        return self.types.structures_at(self.program.types_of_objects[there.begin], there.begin, address, there.name)
+
+    def with_before(self, kind: int, part: Part) -> tuple[int, int]:
+        """An array member's range, with the one that ends at its begin: a pointer may be that one's end."""
+        return min((each.begin for each in self.types.arrays(kind) if each.end == part.begin), default=part.begin), part.end
+
+    def inner(self, one: Operation, value: Value) -> Optional[Inner]:
+        """The array member to whose begin an instruction makes a pointer."""
+        base = one.base
+        if value.to == POINTER and not value.indexed:
+            if one.name != "addi" or not one.imm or not base or base.to != POINTER or base.indexed:
+                return None
+            kind, offset, name = value.more, value.offset, self.types.name(value.more)
+        elif value.to == ABSOLUTE and value.indexed and value.more and base:
+            of = self.elements(value.offset)
+            if of is None:
+                return None
+            kind, offset, name = of.type, (value.offset - of.begin) % of.size, of.name
+        else:
+            return None
+        part = self.types.array_at(kind, offset)
+        if part is None or part.begin != offset or offset <= 0:
+            return None
+        low, high = self.with_before(kind, part)
+        return Inner(low - offset, high - offset, name + part.path)
+
+    def indexed_member(self, one: Operation, base: Value) -> Optional[Limit]:
+        """The limit of an access by a structure's pointer and an index. The pointer's value was kept when the index was added."""
+        offset, kind = base.offset + one.imm, base.more
+        found = self.types.array_at(kind, offset, BEFORE)
+        size = self.types.size(kind)
+        if found is None or not size:
+            return None
+        part = found
+        free = -1 if part.begin <= offset < part.end else offset
+        name, width = self.types.name(kind) + part.path, one.size
+
+        def limit(hart: Hart, address: int) -> Optional[Thing]:
+            tag = hart.tags[one.rs1]
+            if tag is not None and not tag.holds(address, width):
+                return tag
+            kept = hart.indexed[one.rs1]
+            if kept is None:
+                return None
+            pointer = value_of(kept) if isinstance(kept, bytes) else kept
+            at = (address - pointer) % size
+            if part.begin <= at and at + width <= part.end or at == free or not -FAR < address - pointer < FAR:
+                return None
+            return member_at(address - at, part, name)
+        return limit
+
+    def indexed_elements(self, one: Operation, base: Value) -> Optional[Limit]:
+        """The limit of an access by an index into a global array of structures, in which an array is a member."""
+        of = self.elements(base.offset + one.imm) if base.more or one.imm else None
+        if of is None:
+            return None
+        offset = (base.offset + one.imm - of.begin) % of.size
+        found = self.types.array_at(of.type, offset, BEFORE)
+        if found is None:
+            return None
+        part = found
+        free = -1 if part.begin <= offset < part.end else offset
+        begin, end, step, name, width = of.begin, of.end, of.size, of.name + "[]" + part.path, one.size
+
+        def limit(_: Hart, address: int) -> Optional[Thing]:
+            at = (address - begin) % step
+            if not begin <= address < end or part.begin <= at and at + width <= part.end or at == free:
+                return None
+            return member_at(address - at, part, name)
+        return limit
+
+    # Variables of a frame.
+
+    def place(self, pc: int, offset: int, is_indexed: bool = False) -> Optional[Place]:
+        """The variable of the frame at an offset, from there; of indexed places arrays alone, and those it may be meant for."""
+        first = self.program.function_at(pc).first
+        listed = self.program.locals_of(first) or []
+        inside = [each for each in listed if each.offset <= offset < each.end]
+        inside = [each for each in inside if each.low <= pc < each.high] or inside
+        if is_indexed:
+            inside = [each for each in inside if each.has_parts]
+            inside += [each for each in listed if each.has_parts and inside and (
+                each.end == offset or 0 < each.offset - offset <= BEFORE and all(other.offset != offset for other in inside))]
+            return place_of(inside, [], offset) if inside else None
+        begins_here = any(each.offset == offset for each in inside)
+        before = [each for each in listed if begins_here and each.end == offset]
+        chosen = inside or [each for each in listed if each.end == offset or 0 < each.offset - offset <= NEAR]
+        if chosen:
+            return place_of(chosen, before, offset)
+        above = [at for at in self.facts.slots.get(first, {}) if at > offset]
+        # (behind what a function with any number of arguments got in registers come others)
+        return Place(None, min(above) - offset, "") if above and offset < 0 else None
+
+    def indexed_local(self, one: Operation, base: Value) -> Optional[Limit]:
+        """The limit of an access by a place of the frame and an index."""
+        stack = one.stack
+        if stack is None or stack.to != IN_FRAME:
+            return None
+        found = self.place(one.pc, base.offset + one.imm, True)
+        if found is None or found.low is None:
+            return None
+        offset = base.offset + one.imm - stack.offset       # from sp
+        low, high, width = offset + found.low, offset + found.high, one.size
+        name, begin = local_name(found.name, self.program.function_of(one.pc)), -stack.offset
+
+        def limit(hart: Hart, address: int) -> Optional[Thing]:
+            at = address - hart.sp
+            if low <= at and at + width <= high or not -FAR < at - begin < FAR:
+                return None
+            return Thing(hart.sp + low, hart.sp + high, FRAME, name)
+        return limit
+
+    def limit(self, one: Operation) -> Optional[Limit]:
+        """The limit of an access whose pointer had an index added."""
+        base = one.base
+        if base is None or not base.indexed:
+            return None
+        if base.to == ABSOLUTE:
+            return self.indexed_elements(one, base) or self.indexed_global(one, base)
+        if base.to == POINTER:
+            return self.indexed_member(one, base)
+        return self.indexed_local(one, base) if base.to == IN_FRAME else None
+
+
+def member_at(begin: int, part: Part, name: str) -> Thing:
+    """The array member of a structure that begins there."""
+    thing = Thing(begin + part.begin, begin + part.end, MEMBER, name)
+    thing.is_part = True
+    return thing
+
+
+def place_of(chosen: list[Local], before: list[Local], offset: int) -> Place:
+    names = sorted({each.name for each in chosen if each.name})
+    return Place(min(each.offset for each in chosen + before) - offset, max(each.end for each in chosen) - offset, "/".join(names[:2]))
+
+
+def local_name(name: str, function: str) -> str:
+    return f"{name} of {function}" if name else f"the frame of {function}"

@@ -1,0 +1,159 @@
+"""What the program's file says, whatever the run: functions, global objects, variables of frames, and their types."""
+from __future__ import annotations
+
+import bisect
+import re
+from functools import cached_property
+from typing import Iterator, NamedTuple, Optional
+
+from ..recording.dwarf import BLOCK, FRAME_BASE, FUNCTION, HIGH, INLINED, LOCATION, LOW, PARAMETER, VARIABLE, Dwarf, Entry, signed
+from ..recording.elf import FUNCTION as FUNCTION_SYMBOL
+from ..recording.elf import Elf, Symbol
+from ..recording.types import Types
+
+LIBRARY = re.compile(r"picolibc|newlib|/libc/|libgcc|tinystdio|musl|glibc")      # in the path of a library's source
+# Functions whose parameters aren't those of the source.
+CLONE = re.compile(r"\.(isra|constprop|part|cold)")
+CFA, FBREG, ADDRESS = b"\x9c", 0x91, 3          # DWARF's operations for a frame's begin, a place in it, and an address
+LONGEST_FUNCTION = 65536    # bytes that are analysed
+DEEPEST_BLOCK = 60          # blocks in blocks
+REGISTERS = 8               # that hold arguments
+
+
+class Function(NamedTuple):
+    first: int
+    end: int
+    name: str
+
+
+class Object(NamedTuple):
+    begin: int
+    end: int
+    name: str
+
+
+class Local(NamedTuple):
+    """A variable of a frame, by its offset from the frame's begin; low and high are the addresses of its scope."""
+    offset: int
+    size: int
+    name: str
+    low: int
+    high: int
+    has_parts: bool
+
+    @property
+    def end(self) -> int:
+        return self.offset + self.size
+
+
+class Program:
+    """`elf` is the file with names, if it was stripped."""
+
+    def __init__(self, elf: Elf) -> None:
+        self.elf, self.dwarf = elf, Dwarf(elf)
+        self.types = Types(self.dwarf)
+        self.objects = sorted(Object(each.address, each.address + each.size, each.name) for each in elf.objects if each.size)
+        self.object_begins = [each.begin for each in self.objects]
+        self.symbols: dict[int, Symbol] = {}
+        for each in elf.functions:
+            if elf.is_code(each.address) and not each.name.startswith(".L"):
+                kept = self.symbols.get(each.address)
+                self.symbols[each.address] = max(kept, each, key=lambda one: (one.kind, one.size)) if kept else each
+        self.begins = sorted(self.symbols)
+
+    @cached_property
+    def entries(self) -> dict[int, Entry]:
+        """{first address: what is told of the function}"""
+        return {each.told[LOW]: each for each in self.dwarf.entries.values()       # type: ignore[misc]
+                if each.tag == FUNCTION and isinstance(each.told.get(LOW), int)}
+
+    @cached_property
+    def types_of_objects(self) -> dict[int, Optional[int]]:
+        """{address of a global object: its type}"""
+        found: dict[int, Optional[int]] = {}
+        for each in self.dwarf.entries.values():
+            where = each.block(LOCATION) if each.tag == VARIABLE else b""
+            if len(where) == 5 and where[0] == ADDRESS:
+                found[int.from_bytes(where[1:], "little")] = self.dwarf.type_of(each)
+        return found
+
+    def function_at(self, pc: int) -> Function:
+        """The function that an address is in. A label without a size, in a function that has one, is a part of it."""
+        at = bisect.bisect_right(self.begins, pc) - 1
+        if at < 0:
+            return Function(pc, pc + 4, "")
+        first = self.begins[at]
+        for before in self.begins[max(0, at - 8):at + 1][::-1]:
+            if self.symbols[before].size:
+                first = before if before + self.symbols[before].size > pc else first
+                break
+        size = self.symbols[first].size
+        following = self.begins[at + 1] if at + 1 < len(self.begins) else pc + 4
+        return Function(first, max(first + size if size else following, pc + 4), self.symbols[first].name)
+
+    def function_of(self, pc: int) -> str:
+        return self.function_at(pc).name
+
+    def is_library(self, pc: int) -> bool:
+        """Whether an address is in code that isn't the user's: of a library's source, or without debug information, if the program
+        has any."""
+        entry = self.entries.get(self.function_at(pc).first)
+        return bool(LIBRARY.search(f"{entry.unit.folder}/{entry.unit.file}")) if entry else bool(self.entries)
+
+    def object_at(self, address: int) -> Optional[Object]:
+        at = bisect.bisect_right(self.object_begins, address) - 1
+        return self.objects[at] if at >= 0 and address < self.objects[at].end else None
+
+    def object_before(self, begin: int) -> Optional[Object]:
+        """The object before the one that begins there."""
+        at = bisect.bisect_left(self.object_begins, begin) - 1
+        return self.objects[at] if at >= 0 else None
+
+    def parameters(self, first: int) -> list[int]:
+        """Of each parameter that is in a register the structure to which it points, or 0; nothing if one takes two registers."""
+        entry = self.entries.get(first)
+        if entry is None or CLONE.search(self.symbols[first].name if first in self.symbols else ""):
+            return []
+        kinds = [self.dwarf.type_of(each) for each in entry.below if each.tag == PARAMETER]
+        if self.types.size(self.dwarf.type_of(entry)) > 8 or any(self.types.size(kind) > 4 for kind in kinds):
+            return []
+        return [self.types.pointed(kind) for kind in kinds[:REGISTERS]]
+
+    def result(self, first: int) -> int:
+        """The structure to which a function's result points, or 0."""
+        entry = self.entries.get(first)
+        if entry is None or CLONE.search(self.symbols[first].name if first in self.symbols else ""):
+            return 0
+        return self.types.pointed(self.dwarf.type_of(entry))
+
+    def locals_of(self, first: int) -> Optional[list[Local]]:
+        """The variables that a function's frame has a place for; None if nothing tells them."""
+        entry = self.entries.get(first)
+        if entry is None or entry.block(FRAME_BASE) != CFA:
+            return None
+        if first not in self.kept_locals:
+            high = first + (entry.number(HIGH) or 0)
+            self.kept_locals[first] = list(self.scope(entry, first, high, 0))
+        return self.kept_locals[first]
+
+    @cached_property
+    def kept_locals(self) -> dict[int, list[Local]]:
+        return {}
+
+    def scope(self, entry: Entry, low: int, high: int, depth: int) -> Iterator[Local]:
+        """The variables of a block and those in it; one of several ranges is as wide as what is around it."""
+        for each in entry.below if depth < DEEPEST_BLOCK else ():
+            if each.tag in (VARIABLE, PARAMETER):
+                where, kind = each.block(LOCATION), self.dwarf.type_of(each)
+                if where[:1] == bytes([FBREG]) and self.types.size(kind) and signed(where + b"\0", 1)[1] == len(where):
+                    yield Local(signed(where, 1)[0], self.types.size(kind), self.dwarf.name_of(each), low, high,
+                                self.types.has_parts(kind))
+            elif each.tag in (BLOCK, INLINED):
+                begin, size = each.number(LOW), each.number(HIGH)
+                inner = (low, high) if begin is None or size is None else (begin, begin + size)
+                yield from self.scope(each, *inner, depth + 1)
+
+    def function_named(self, name: str) -> int:
+        """The first address of a function, or 0."""
+        return next((each.address for each in self.elf.functions if each.name == name and each.kind == FUNCTION_SYMBOL), 0) or next(
+            (each.address for each in self.elf.functions if each.name == name), 0)

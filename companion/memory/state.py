@@ -1,0 +1,185 @@
+"""What the checks keep along the rows: what pointers were made for, the state of each byte, the registers of each hart."""
+from __future__ import annotations
+
+from dataclasses import dataclass
+from typing import Dict, List, NamedTuple, Optional, Tuple, Union
+
+from .operation import A0, CALLER_SAVED, FULL
+
+# Of a byte. What is PARTLY or wholly COPIED are bits that nobody wrote, stored elsewhere.
+GOOD, UNWRITTEN, SAVED, BESIDE, FREED, ENDED, PARTLY, COPIED = range(8)
+UNDEFINED = frozenset((UNWRITTEN, PARTLY, COPIED))
+FORBIDDEN = frozenset((SAVED, BESIDE, FREED, ENDED))
+BLOCK, GLOBAL, MEMBER, FRAME, NULL, NUMBER = "block", "global", "member", "frame", "null", "number"
+MOST_CALLERS = 12           # places of a call stack that are kept of an event
+DEEPEST_SEARCH = 200        # calls that a return may leave at once, as longjmp does
+
+
+@dataclass(frozen=True)
+class Event:
+    """hart and count of a row, and the places of it and of the calls over it."""
+    hart: int
+    count: int
+    pcs: Tuple[int, ...]
+
+
+class Thing:
+    """What a pointer may point into: from `low` up to `high`; nothing is left of it once it is gone.
+
+    kind     of the six above; a `NUMBER` is the difference of two pointers, and may point anywhere once it is added to one
+    begin, end      as they are, without what is before an object whose end may have been meant
+    taken, gone     when it was taken and given back
+    is_part  whether it is a part of an object"""
+    __slots__ = "low", "high", "kind", "name", "begin", "end", "taken", "gone", "is_part"
+
+    def __init__(self, low: int, high: int, kind: str, name: str = "", taken: Optional[Event] = None) -> None:
+        self.low = self.begin = low
+        self.high = self.end = high
+        self.kind, self.name, self.taken, self.is_part = kind, name, taken, False
+        self.gone: Optional[Event] = None
+
+    @property
+    def size(self) -> int:
+        return self.end - self.begin
+
+    def end_life(self, when: Event) -> None:
+        self.gone, self.low, self.high = when, FULL, 0
+
+    def holds(self, address: int, size: int) -> bool:
+        return self.low <= address and address + size <= self.high
+
+
+DIFFERENCE = Thing(0, FULL + 1, NUMBER)
+
+
+class Origin(NamedTuple):
+    """The origin of bits that nobody wrote: in words, the block, and the place of the load."""
+    text: str
+    thing: Optional[Thing]
+    pc: int
+
+
+class Undefined(NamedTuple):
+    """The bits of a register that nobody wrote; of no `origin` are those of a library's own frame, whose matter they are."""
+    bits: int
+    origin: Optional[Origin]
+
+
+class Hart:
+    """tags      of each register what its value points into, or None
+    rows      of each register the row that wrote it last, or its value, or None
+    indexed   of each register the row or the value of the structure's pointer to which an index was added
+    undefined {register: its bits that nobody wrote}
+    returns   the addresses to which the calls that are under way return
+    places    things of frames to which pointers were made, outermost first
+    sp        the stack pointer, None if it isn't known; top, lowest: of its stack; limit: it may grow down to this for certain
+    is_own    whether what is known of its stack is true (not after a change of stacks)
+    awaited   what an allocator's function that is under way will give"""
+
+    def __init__(self, number: int, registers: Tuple[int, ...]) -> None:
+        self.number = number
+        self.tags: List[Optional[Thing]] = [None] * 32
+        self.rows: List[Union[bytes, int, None]] = [0, *registers[1:]] if registers else [None] * 32
+        self.indexed: List[Union[bytes, int, None]] = [None] * 32
+        self.undefined: Dict[int, Undefined] = {}
+        self.returns: List[int] = []
+        self.places: List[Thing] = []
+        self.sp = registers[2] if registers else 0
+        self.top = self.lowest = self.sp
+        self.lowest_at: Optional[Event] = None
+        self.limit = 0
+        self.is_own, self.has_met = True, False
+        self.awaited: Optional[Awaited] = None
+
+    def value(self, register: int) -> Optional[int]:
+        """What a register holds, or None if no row tells."""
+        row = self.rows[register] if register else 0
+        return value_of(row) if isinstance(row, bytes) else row
+
+    def callers(self, pc: int) -> Tuple[int, ...]:
+        """A place and those of the calls over it."""
+        return (pc, *(at - 4 for at in self.returns[:-MOST_CALLERS - 1:-1]))
+
+    def event(self, row: bytes, pc: int) -> Event:
+        return Event(self.number, count_of(row), self.callers(pc))
+
+    def after_call(self, row: Optional[bytes]) -> None:
+        """A function whose rows weren't looked at has returned; `row` is what wrote a0."""
+        for register in CALLER_SAVED:
+            self.tags[register] = self.rows[register] = None
+            self.undefined.pop(register, None)
+        self.rows[A0] = row
+
+    def return_to(self, address: int) -> bool:
+        """Takes the call that a return ends off; false if it fits none."""
+        returns = self.returns
+        for depth in range(len(returns) - 1, max(-1, len(returns) - DEEPEST_SEARCH), -1):
+            if returns[depth] == address:
+                del returns[depth:]
+                return True
+        return not returns
+
+
+class Awaited(NamedTuple):
+    """A call of an allocator's function that is under way.
+
+    does      what it does (heap.py); name: the function's
+    back      the address to which it returns, as rows have it
+    size      what was asked for, None if that isn't known; old: the block that is resized
+    slot      of posix_memalign: what a row that stores its result has"""
+    does: str
+    name: str
+    back: bytes
+    size: Optional[int]
+    old: Optional[Thing]
+    when: Event
+    slot: bytes = b""
+
+
+class Memory:
+    """states  of each byte
+    tags    of each word what the pointer in it points into
+    bits, origins  {address of a byte that is PARTLY or COPIED: its bits that nobody wrote; their origin}
+    saved   {address: the register that was saved there, the place that saved it, and the row}"""
+
+    def __init__(self, size: int) -> None:
+        self.size = size
+        self.states = bytearray(size + 8)
+        self.tags: List[Optional[Thing]] = [None] * (size // 4 + 2)
+        self.bits: Dict[int, int] = {}
+        self.origins: Dict[int, Optional[Origin]] = {}
+        self.saved: Dict[int, Tuple[int, int, bytes]] = {}
+
+    def fill(self, begin: int, end: int, state: int) -> None:
+        """Gives bytes a state. (As many are replaced as are given, whatever a row says.)"""
+        end = min(end, self.size)
+        if 0 <= begin < end:
+            self.states[begin:end] = bytes((state,)) * (end - begin)
+
+    def undefined_bits(self, address: int, size: int) -> int:
+        """Those of some bytes that nobody wrote."""
+        found = 0
+        for at, state in enumerate(self.states[address:address + size]):
+            if state in UNDEFINED:
+                found |= (self.bits.get(address + at, 255) if state == PARTLY else 255) << 8 * at
+        return found
+
+    def forget_tags(self, begin: int, end: int) -> None:
+        """The words with a byte from an address up to another point into nothing that is known."""
+        first, last = begin >> 2, min(end + 3, self.size) >> 2
+        if first < last:
+            self.tags[first:last] = [None] * (last - first)
+
+
+def value_of(row: bytes) -> int:
+    """What a row wrote into its register."""
+    at = row.index(b"=", row.index(b"| ")) + 1
+    return int(row[at:at + 8], 16)
+
+
+def count_of(row: bytes) -> int:
+    return int(row.split(b" ", 2)[1])
+
+
+def pc_of(row: bytes) -> int:
+    return int(row.split(b" ", 3)[2], 16)

@@ -1,0 +1,161 @@
+"""Bits that nobody wrote: their ways, and what depends on them."""
+from __future__ import annotations
+
+import re
+from typing import Optional, Tuple
+
+from .findings import UNINITIALIZED, Finding
+from .judge import Judge
+from .operation import FULL, Operation
+from .state import COPIED, PARTLY, Hart, Origin, Undefined
+from .value import FRAME
+
+# Functions of a library whose branches look at bytes that don't count.
+LOOKS = re.compile(r"_*(str|mem|stpcpy|stpncpy|rawmem)[a-z]*(_.*)?")
+SPREADING = "add", "sub", "mul"         # a bit can change all bits above it
+COMPARING = "slt", "sltu", "slti", "sltiu"
+
+
+def spread(bits: int) -> int:
+    """These bits and all above the lowest one."""
+    return (bits | -(bits & -bits)) & FULL
+
+
+def signed_shift(bits: int, by: int) -> int:
+    return bits >> by | (FULL << 32 - by & FULL if bits >> 31 and by else 0)
+
+
+def result_bits(hart: Hart, one: Operation, x: int, y: int) -> int:
+    """The bits of a result that depend on bits that nobody wrote: x of rs1, y of rs2. Exact for what moves and masks bits; else as
+    many as may."""
+    name, imm = one.name, one.imm
+    if name in SPREADING or name == "addi" and imm:
+        return spread(x | y)
+    if name in ("addi", "xori", "xor"):
+        return x | y
+    if name == "andi":
+        return x & imm & FULL
+    if name == "ori":
+        return x & ~imm & FULL
+    if name in ("and", "or"):
+        return masked_bits(hart, one, x, y)
+    if name == "slli":
+        return x << imm & FULL
+    if name == "srli":
+        return x >> imm
+    if name == "srai":
+        return signed_shift(x, imm)
+    by = hart.value(one.rs2)
+    if name in ("sll", "srl", "sra") and not y and by is not None:
+        by &= 31
+        return x << by & FULL if name == "sll" else x >> by if name == "srl" else signed_shift(x, by)
+    return 1 if name in COMPARING else FULL
+
+
+def masked_bits(hart: Hart, one: Operation, x: int, y: int) -> int:
+    """A bit that the other operand determines depends on nothing."""
+    values = []
+    for register in (one.rs1, one.rs2):
+        value = hart.value(register)
+        values.append(FULL if value is None else value if one.name == "and" else ~value)
+    return (x | y) & (x | values[0]) & (y | values[1]) & FULL
+
+
+class UndefinedBits:
+    def __init__(self, judge: Judge) -> None:
+        self.judge, self.program, self.memory = judge, judge.program, judge.memory
+
+    def computed(self, hart: Hart, one: Operation) -> None:
+        """An instruction without an access has run."""
+        x, y = hart.undefined.get(one.rs1), hart.undefined.get(one.rs2) if one.rs2 else None
+        bits = result_bits(hart, one, x.bits if x else 0, y.bits if y else 0) if x or y else 0
+        source = x or y
+        if bits and one.rd and source:
+            hart.undefined[one.rd] = Undefined(bits, source.origin)
+        else:
+            hart.undefined.pop(one.rd, None)
+
+    def loaded(self, hart: Hart, one: Operation, address: int, bits: int) -> None:
+        """Bits that nobody wrote are in a register."""
+        width = 8 * one.size
+        if one.rd:
+            if width < 32 and not one.unsigned and bits >> width - 1 & 1:
+                bits |= FULL & -1 << width
+            hart.undefined[one.rd] = Undefined(bits, self.origin(hart, one.pc, address))
+
+    def stored(self, hart: Hart, one: Operation, address: int) -> None:
+        """They are in memory, which is no error."""
+        bits, origin = hart.undefined[one.rs2]
+        for at in range(one.size):
+            part = bits >> 8 * at & 255
+            if part:
+                self.memory.states[address + at] = COPIED if part == 255 else PARTLY
+                self.memory.bits[address + at] = part
+                self.memory.origins[address + at] = origin
+
+    def branched(self, hart: Hart, one: Operation, row: bytes) -> None:
+        """A branch depends on them, unless other bits determine it, or a library's function looks at bytes that don't count."""
+        if one.name in ("beq", "bne"):
+            x, y = hart.value(one.rs1), hart.value(one.rs2)
+            bits = sum_of_bits(hart, one)
+            if x is not None and y is not None and (x ^ y) & ~bits & FULL:
+                return
+        if not LOOKS.fullmatch(self.program.function_of(one.pc)):
+            self.used(hart, one, row, (one.rs1, one.rs2), "a branch depends")
+
+    def used(self, hart: Hart, one: Operation, row: bytes, registers: Tuple[int, ...], what: str) -> None:
+        """Tells of the first of these registers that has such bits; it is good then, so that one error is told once."""
+        for register in registers:
+            if register in hart.undefined:
+                origin = hart.undefined.pop(register).origin
+                if origin is not None:
+                    self.tell(hart, one, row, f"{what} on bytes that nobody wrote{origin.text}", origin)
+                return
+
+    def tell(self, hart: Hart, one: Operation, row: bytes, text: str, origin: Origin) -> None:
+        key = self.judge.key(UNINITIALIZED, one.pc, origin.thing)
+        self.judge.findings.add(key, Finding(UNINITIALIZED, text, hart.event(row, one.pc), origin.thing, origin.pc, "loaded"))
+
+    def written(self, hart: Hart, one: Operation, row: bytes, buffer: int, size: int, at: int) -> None:
+        """A byte of a `write` call is one that nobody wrote."""
+        origin = self.origin(hart, one.pc, buffer + at)
+        if origin is not None:
+            self.tell(hart, one, row, f"byte {at} of {size} that are written out is one that nobody wrote{origin.text}", origin)
+
+    def origin(self, hart: Hart, pc: int, address: int) -> Optional[Origin]:
+        """The origin of bytes that nobody wrote; None if that is a library's own frame."""
+        for at in range(address, (address | 3) + 1):
+            if self.memory.states[at] in (PARTLY, COPIED):
+                return self.memory.origins.get(at)
+        if hart.lowest <= address < hart.top:
+            return self.in_frame(hart, pc, address)
+        block = self.judge.heap.holding(address)
+        if block is not None:
+            return Origin(f", {address - block.begin} bytes into a block of {block.size} bytes", block, pc)
+        return Origin(f", at {address:08x}", None, pc)
+
+    def in_frame(self, hart: Hart, pc: int, address: int) -> Optional[Origin]:
+        """Of which function's frame an address is, walked from the innermost one by what is known of each place."""
+        sp: Optional[int] = hart.sp
+        for at in hart.callers(pc):
+            one = self.judge.facts.operations.get(at)
+            if one is None or one.stack is None or one.stack.to != FRAME or sp is None:
+                break
+            begin = sp - one.stack.offset
+            if sp <= address < begin:
+                function = self.program.function_at(at)
+                if self.program.is_library(at):
+                    return None
+                names = [each.name for each in self.program.locals_of(function.first) or ()
+                         if each.name and each.offset <= address - begin < each.end]
+                return Origin(f", of {names[0] if names else 'the frame'} of {function.name}", None, pc)
+            sp = begin
+        return Origin(f", of the stack at {address:08x}", None, pc)
+
+
+def sum_of_bits(hart: Hart, one: Operation) -> int:
+    return sum_bits(hart.undefined.get(one.rs1)) | sum_bits(hart.undefined.get(one.rs2))
+
+
+def sum_bits(found: Optional[Undefined]) -> int:
+    return found.bits if found else 0

@@ -1,0 +1,214 @@
+"""zelkuma memory: each kind beside its nearest good twin, with one hart and several, and in a log that lost its beginning."""
+import bisect
+import json
+import os
+import re
+import shutil
+import subprocess
+from contextlib import closing
+
+import case
+import common
+
+from companion.memory import findings, memory
+from companion.memory.answer import Answer
+from companion.memory.heap import hooks_of
+from companion.memory.leaks import leaks_of
+from companion.memory.program import Program
+from companion.memory.run import Run
+from companion.recording.chunks import chunks
+from companion.recording.elf import Elf
+from companion.recording.log import load_log
+from companion.recording.places import Places
+from companion.recording.recent import open_log
+from companion.recording.row import rows_of
+
+SOURCES = [os.path.join("tests", "companions", "lib", "programs", name) for name in ("libc/memory.c", "memory_errors.c")]
+# In the order of the program's cases: the kind, what is said of the access, and the function that it is in.
+CASES = (
+    ("heap_after", findings.HEAP, "store of 1, 0 bytes after a block of 13 bytes", "set"),
+    ("heap_before", findings.HEAP, "store of 1, 1 bytes before a block of 8 bytes", "set"),
+    ("heap_by_copy", findings.HEAP, "store of 1, 0 bytes after a block of 8 bytes", "copy, called in heap_by_copy"),
+    ("freed", findings.FREED, "load of 4, 4 bytes into a block of 16 bytes that was given back", "get"),
+    ("freed_twice", findings.TWICE, "is given back again: a block of 8 bytes", "work"),
+    ("freed_inside", findings.NO_BLOCK, "is given back: it is 4 bytes into a block of 8 bytes", "work"),
+    ("freed_global", findings.NO_BLOCK, "is given back: it is in letters", "work"),
+    ("failed", findings.NULL, "store of 1, 5 bytes from the 0 that malloc gave", "set"),
+    ("resized", findings.FREED, "load of 4, 12 bytes into a block of 16 bytes that was given back", "get"),
+    ("aligned", findings.HEAP, "store of 1, 0 bytes after a block of 16 bytes", "set"),
+    ("global_after", findings.GLOBAL, "store of 1, 0 bytes after letters (10 bytes)", "set"),
+    ("member_after", findings.MEMBER, "store of 1, 0 bytes after name.text (12 bytes)", "set_text"),
+    ("block_member_after", findings.MEMBER, "store of 1, 0 bytes after name.text (12 bytes)", "set_text"),
+    ("stack_after", findings.STACK, "store of 1, 0 bytes after text of stack_after (20 bytes)", "set"),
+    ("after_return", findings.AFTER_RETURN, "store of 1, text of keep_place has ended", "set"),
+    ("depth", findings.DEPTH, "bytes deep, and has run into", "deep"),
+    ("over_return_address", findings.REGISTER, "store of 4, over the saved s0 of over_return_address", "over_return_address"),
+    ("no_pointer", findings.POINTER, "74786574 gets into the pointer first, and is none", "copy, called in no_pointer"),
+    ("unwritten_block", findings.UNINITIALIZED, "8 bytes into a block of 16 bytes", "unwritten_block"),
+    ("unwritten_local", findings.UNINITIALIZED, "that nobody wrote, of word of unwritten_local", "unwritten_local"),
+    ("unwritten_copied", findings.UNINITIALIZED, "4 bytes into a block of 8 bytes", "unwritten_copied"),
+    ("unwritten_out", findings.UNINITIALIZED, "byte 7 of 8 that are written out is one that nobody wrote", "system_call"),
+    ("leak", findings.LEAK, "1 block of 8 bytes, 1 of them reached by no pointer, taken in leak", ""),
+)
+NUMBERS = {name: at for at, (name, *_) in enumerate(CASES)}
+programs = {}
+
+
+class Oracle:
+    """Blocks by a plain reading of rows: which accesses outside of the allocator's functions are to bytes that were given back and
+    weren't taken again."""
+
+    def __init__(self, log, elf):
+        named = {item.name: item.address for item in Elf(elf).symbols}
+        self.malloc, self.free = (named[name] for name in ("malloc", "free"))
+        functions = sorted(item.address for item in Elf(elf).functions if item.kind == 2)
+        self.begins = functions
+        self.own = {named[name] for name in ("malloc", "free", "calloc", "realloc", "posix_memalign", "copy")}
+        self.registers, self.live, self.freed, self.awaited = {}, {}, {}, None
+        self.bad = []
+        for row in rows_of(log, elf):
+            self.take(row)
+
+    def take(self, row):
+        if row.pc == self.malloc:
+            self.awaited = self.registers["ra"], self.registers["a0"]
+        elif row.pc == self.free and self.registers.get("a0") in self.live:
+            begin = self.registers["a0"]
+            self.freed[begin] = begin + self.live.pop(begin)
+        if self.awaited and row.pc == self.awaited[0]:
+            begin = self.registers["a0"]
+            self.live[begin], self.awaited = self.awaited[1], None
+            self.freed.pop(begin, None)
+        function = self.begins[max(0, bisect.bisect_right(self.begins, row.pc) - 1)]
+        for access in (row.load, row.store):
+            if access and function not in self.own and any(low <= access.address < high for low, high in self.freed.items()):
+                self.bad.append((row.hart, row.ic))
+        if row.register:
+            self.registers[row.register] = row.result
+
+
+class MemoryTest(case.Case):
+    @classmethod
+    def setUpClass(cls):
+        cls.program = None
+        if shutil.which("riscv64-unknown-elf-gcc"):
+            cls.program = common.path("memory.elf")
+            subprocess.run(["bash", "-c", '. examples/lib/with_names.sh && build_with_names "$@"', "-", cls.program, *SOURCES],
+                           cwd=common.TOP, check=True)
+
+    def log(self, name, which, hart=0):
+        """The recording of a case: `which` is b or g."""
+        if self.program is None:
+            self.skipTest("riscv64-unknown-elf-gcc isn't installed")
+        key = name, which, hart
+        if key not in case.logs:
+            given = common.written(common.path("given"), chr(ord("a") + NUMBERS[name]) + which + str(hart))
+            harts = ["--harts", str(hart + 1)] if hart else []
+            case.logs[key] = common.record("-".join(map(str, key)), self.program, "--seed", "3", "--input", given, *harts)
+        return case.logs[key]
+
+    def found(self, log, elf, *options):
+        """The findings of a log, as the word's JSON has them, and its whole answer."""
+        answer = json.loads(self.says("memory", log, elf, "--json", *options))
+        return answer["findings"], answer
+
+    def run_of(self, log, elf):
+        if elf not in programs:
+            programs[elf] = Program(Elf(elf))
+        program = programs[elf]
+        run = Run(load_log(log), program, hooks_of(program, [], []))
+        run.along(chunks(log, elf, log=load_log(log)))
+        return run
+
+    def lines_of(self, log, elf):
+        """What the word says, without a process of its own."""
+        run = self.run_of(log, elf)
+        with closing(Places(run.program.elf)) as places:
+            return "\n".join(Answer(run, places, [], leaks_of(run.heap, run.harts, log, elf)).lines()) + "\n"
+
+    def test_each_kind_is_told_where_it_happens(self):
+        self.needs_addr2line()
+        for name, kind, text, function in CASES:
+            with self.subTest(name):
+                said = self.lines_of(self.log(name, "b"), self.program)
+                told = re.search(r"(?:1\. |  )%s: (.*)\n(?:     it is in (.*))?" % kind, said)
+                self.assertIsNotNone(told, said)
+                self.assertIn(text, told[1])
+                self.assertTrue((told[2] or "").startswith(function), said)
+
+    def test_good_twins_are_silent(self):
+        for name, *_ in CASES:
+            for hart in (0, 1):
+                with self.subTest(name, hart=hart):
+                    self.assertEqual(self.run_of(self.log(name, "g", hart), self.program).findings.in_order(), [])
+        self.assertNotIn("memory-leak", self.lines_of(self.log("leak", "g"), self.program))
+
+    def test_another_hart_is_told_the_same(self):
+        for name, kind, text, _ in CASES[:-1]:
+            with self.subTest(name):
+                found = self.run_of(self.log(name, "b", 1), self.program).findings.in_order()
+                self.assertEqual((found[0].kind, found[0].when.hart), (kind, 1))
+                self.assertIn(text, found[0].text)
+
+    def test_of_a_lost_beginning_nothing_is_told_that_needs_it(self):
+        """Each end of a good recording is silent, too."""
+        for name in ("heap_after", "freed", "resized", "stack_after", "unwritten_copied", "depth"):
+            log = self.record_in_intervals(name)
+            with closing(open_log(log)) as source:
+                for end in (source.end(rows) for rows in (20, 60, 200)):
+                    with self.subTest(name, rows=end.rows()):
+                        program = programs.setdefault(self.program, Program(Elf(self.program)))
+                        run = Run(end, program, hooks_of(program, [], []))
+                        run.along(chunks(end.name, self.program, log=end))
+                        self.assertEqual((run.findings.in_order(), run.is_whole), ([], not end.unread))
+
+    def record_in_intervals(self, name):
+        """A good recording with a Header each hundred rows, so that an end of it can be read."""
+        self.log(name, "g")
+        given = common.written(common.path("given"), chr(ord("a") + NUMBERS[name]) + "g0")
+        return common.record(name + "-ends", self.program, "--seed", "3", "--input", given, "--interval", "100")
+
+    def test_accesses_to_what_was_given_back_are_those_of_a_plain_reading(self):
+        for name in ("freed", "resized", "heap_after", "unwritten_copied"):
+            log = self.log(name, "b")
+            oracle = Oracle(log, self.program).bad
+            found = [each for each in self.run_of(log, self.program).findings.in_order() if each.kind == findings.FREED]
+            told = [(each.when.hart, each.when.count) for each in found]
+            if name == "resized":               # (the memory of `freed` was taken again: addresses don't tell it)
+                self.assertEqual(told, oracle)
+            else:
+                self.assertLessEqual(set(oracle), set(told))
+
+    def test_allocators_of_the_program(self):
+        log, elf = self.crash("use_after_free")
+        found, answer = self.found(log, elf)
+        self.assertIn("No function that takes or gives back memory is known", " ".join(answer["notes"]))
+        self.assertNotIn(findings.FREED, [each["kind"] for each in found])
+        found, answer = self.found(log, elf, "--alloc", "take", "--free", "give:1")
+        first = found[0]
+        self.assertEqual((first["kind"], first["calls"][0]["line"], first["hart"]), (findings.FREED, 47, 0))
+        self.assertEqual(first["taken"]["calls"][0]["function"], "open_session")
+        self.assertEqual(first["given_back"]["calls"][0]["line"], 31)
+        self.assertEqual([each["text"] for each in self.found(log, elf, "--alloc=take:=12", "--free=give")[0]],
+                         [each["text"] for each in found])
+
+    def test_fail_is_a_status(self):
+        for which, status in (("b", memory.FOUND), ("g", 0)):
+            self.assertEqual(common.companion("memory", self.log("freed", which), self.program, "--fail")[0], status)
+
+    def test_refusals(self):
+        log, elf = self.record("heap", "--seed", "10"), self.elf("heap")
+        self.assertIn("no function nothing", self.refuses_here(4, memory, log, elf, "--alloc", "nothing"))
+        self.refuses_here(2, memory, log, elf, "--alloc", "take:x")
+        self.refuses_here(2, memory, log, elf, "--free", "main:=3")
+        self.refuses_here(2, memory, log, elf, "--alloc", "main:9")
+        self.refuses_here(2, memory, log, elf, "--rows", "0")
+        self.refuses(8, "memory", log, self.elf("counter"))
+
+    def test_examples_are_good(self):
+        """Those that end well have no error of memory; of those with one nothing but it is told."""
+        for name, *words in (("counter", "--harts", "4"), ("sort", "--limit", "300000"), ("word_count",), ("lock", "--harts", "4"),
+                             ("two_locks", "--harts", "2"), ("prices", "--harts", "4"), ("filters", "--harts", "4")):
+            with self.subTest(name):
+                log = self.record(name, "--seed", "1", *words)
+                self.assertEqual(self.run_of(log, self.elf(name)).findings.in_order(), [])
