@@ -23,6 +23,8 @@ These are what gdb 13 was found to need, and what breaks if one is changed:
   with threads that ends in an internal error.
 - Watchpoints stop before the access forward, and behind it backwards. gdb steps over the access by
   itself and compares the values. Reported after the access, each stop would be one row too far.
+- A stop at a watchpoint tells one address, and gdb looks at the watchpoints that hold it. What else a
+  store changes is told by more stops at the place behind it, of which gdb steps over each (stops.py).
 - Only a thread that was resumed may report a stop: `vCont;s:1` and `Hc1` with `bs` resume one alone.
 - A hart that arrives at a breakpoint behind its last row has hit it, though no row is there.
 - All harts are always listed, with `x` for the registers of one without a state. A thread that is left
