@@ -14,12 +14,13 @@ from ..call.saving import Target
 from ..call.scratch import Scratch
 from ..call.text import counted, number
 from ..recording.answers import LONGEST
-from ..recording.calls import CallTree
+from ..recording.calls import Entries
 from ..recording.cause import cause_of
 from ..recording.elf import Elf
 from ..recording.log import Log, load_log
 from ..recording.naming import places_of
 from ..recording.ready import ready
+from ..recording.stacks import Stacks
 from ..recording.story import MOST_TOLD, Switch, Teller, lines_by_piece
 from ..recording.turns import pieces_of, shown, size_of
 from ..triage.bucket import bucket_of
@@ -115,7 +116,7 @@ class Signals:
 def offset_of(log: Log, elf: Elf, byte: Byte) -> int:
     """How many bytes of the output come before one."""
     before = 0
-    for write in writes_of(log, elf, CallTree(), numbered(log), MOST_ROWS):
+    for write in writes_of(log, elf, Stacks(Entries(), log.harts), numbered(log), MOST_ROWS):
         if write.number == byte.write and write.stream == 1 and byte.place < len(write.data):
             return before + byte.place
         before += len(write.data) if write.stream == 1 else 0

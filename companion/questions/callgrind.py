@@ -49,8 +49,9 @@ class Costs:
 
 def callgrind(asked: Asked) -> str:
     costs = Costs(asked)
-    flow = Flow(costs.left)
-    read(asked.chunks(), flow)
+    stacks = asked.stacks()
+    flow = Flow(stacks, costs.left)
+    read(asked.chunks(), stacks, flow)
     pcs = {int(pc, 16): times for pc, times in flow.times.items()}
     asked.places.fetch(pcs)
     for hart, calls in flow.open.items():       # of those that didn't return: up to the hart's end

@@ -5,21 +5,23 @@ import operator
 import re
 from collections import deque
 from dataclasses import dataclass, field
-from typing import Any, Callable, Deque, Iterator, NamedTuple, Optional, Union
+from typing import Any, Callable, Deque, Iterator, List, NamedTuple, Optional, Sequence, Union
 
 from ..call.errors import REFUSED, CompanionError
 from ..call.options import read_words, whole
 from ..call.text import clean, columns, counted
 from ..recording.answers import place_of, put_found
+from ..recording.chunks import places, row_at
 from ..recording.elf import Elf
 from ..recording.instruction import JUMP, Instruction
 from ..recording.places import Frame
+from ..recording.stacks import HEAD, Chunk, Move
 from .functions import PAIR, PLAIN, WORD, Begin, Function, function_of
 from .reading import Asked, asked_of, read
 from .registers import Registers
 from .types import Leaf, Type, signed, value_text
 from .variables import ADDRESS
-from .window import RETURNS, Window, has_any
+from .window import Window
 
 HELP = """Lists each call of a function: hart and count, its arguments and its result, how long it ran, and from where.
 
@@ -39,23 +41,26 @@ TOLD, MOST_TOLD, MOST_FRAMES, MOST_TEXT = 100, 1000000, 3, 40
 WHERE = re.compile(r"\s*(\w+)\s*(==|!=|<=|>=|<|>)\s*(-?\w+)\s*")
 COMPARE: dict[str, Callable[[int, int], bool]] = {"==": operator.eq, "!=": operator.ne, "<": operator.lt, "<=": operator.le,
                                                   ">": operator.gt, ">=": operator.ge}
-RESULT = "result"
+RESULT, RESULTS = "result", ("a0", "a1")        # the name of a result in --where, and the registers that have it
+MOST_OPEN = 1000000         # calls that haven't returned are kept of a hart: of more, as of a recursion without an end, the inner half
+DECIMAL = "int", "enum", "bool"             # types whose values are told in decimal
 
 
 @dataclass
 class Call:
-    """A call: the address from which it came, 0 if that isn't known, and whether by a jump.
+    """A call: the place of its first row, the address from which it came, 0 if that isn't known, and whether by a jump.
 
-    back     the address to which it returns
+    depth    how deep its frame is
     values   what each parameter's registers held, None if nothing tells it
     rows     how long it ran, None if it didn't return; end: its hart's count then
     result   what a0 and a1 held then"""
     hart: bytes
     count: int
+    place: int
     begin: Begin
     source: int
     jumped: bool
-    back: int = 0
+    depth: int = 0
     values: list[Optional[int]] = field(default_factory=list)
     rows: Optional[int] = None
     end: int = 0
@@ -76,7 +81,7 @@ class Where:
             raise CompanionError(f"--where: {function.name} is inlined everywhere, so its calls have neither arguments nor a result", REFUSED)
         if self.name not in names:
             raise CompanionError(f"--where: {function.name} has no {clean(self.name)}; it has {', '.join(names)}", REFUSED)
-        self.value = number_of(told[3])
+        self.value, self.text = number_of(told[3]), told[3]
 
     def takes(self, call: Call) -> bool:
         """Whether a call has such an argument, or such a result."""
@@ -85,11 +90,13 @@ class Where:
         return any(self.fits(value, each.type) for each, value in zip(call.begin.parameters, call.values) if each.name == self.name)
 
     def fits(self, value: Optional[int], kind: Type) -> bool:
-        return value is not None and self.compare(signed(kind, value, 64 if 4 < kind["size"] <= 8 else 32), self.value)
+        is_decimal = kind["kind"] in DECIMAL and self.text.isdigit() and self.text[0] != "0"
+        wanted = int(self.text) if is_decimal else self.value
+        return value is not None and self.compare(signed(kind, value, 64 if 4 < kind["size"] <= 8 else 32), wanted)
 
 
 def number_of(text: str) -> int:
-    """A number of --where: decimal, or hexadecimal of eight digits or behind 0x."""
+    """A number of --where: decimal, or hexadecimal of eight digits or behind 0x. (Eight digits are decimal, too, for what is told so.)"""
     if (found := ADDRESS.fullmatch(text)):
         return int(found[1] or found[2], 16)
     if not re.fullmatch(r"-?\d{1,20}", text):
@@ -97,11 +104,18 @@ def number_of(text: str) -> int:
     return int(text)
 
 
+class Arrival(NamedTuple):
+    """A call's first row: its place in the chunk, and the row of its hart before it, if there is one."""
+    place: int
+    begin: Begin
+    source: Optional[Instruction]
+
+
 class WaitingChunk(NamedTuple):
-    """A chunk that waits: its place, and how many calls it has."""
-    text: bytes
+    """A chunk that waits, its place, and its calls."""
+    chunk: Chunk
     base: int
-    calls: int
+    arrivals: List[Arrival]
 
 
 class Calls:
@@ -109,28 +123,36 @@ class Calls:
 
     total, told   how many there are, and those that are told
     open          {hart: its calls that haven't returned, innermost last}
+    last          {hart: its last row}
     asks          (place, call, whether of its result): whose registers are looked for before the text there is forgotten
     waiting       chunks that wait, and waiting_calls: how many calls they have"""
 
     def __init__(self, asked: Asked, function: Function, most: int, where: Optional[Where]) -> None:
         self.asked, self.function, self.where = asked, function, where
+        self.begins = {b" %08x " % begin.address: begin for begin in function.begins if not is_part(asked, function, begin)}
+        self.stacks = asked.stacks(begin.address for begin in self.begins.values() if not begin.inlined)
         self.window = Window()
-        self.registers = Registers(asked.log, self.window)
+        self.registers = Registers(asked.log, self.window, registers_of(function))
         self.open: dict[bytes, list[Call]] = {}
-        self.backs: dict[int, int] = {}         # {address to which open calls return: how many}
-        self.begins = {begin.address: begin for begin in function.begins}
+        self.last: dict[bytes, bytes] = {}
         self.sources: dict[bytes, Instruction] = {}
-        self.told: Deque[Call] = deque(maxlen=most)
+        self.kept: Deque[Call] = deque(maxlen=most)
         self.asks: Deque[tuple[int, Call, bool]] = deque()
         self.waiting: Deque[WaitingChunk] = deque()
         self.total = self.waiting_calls = 0
 
+    @property
+    def told(self) -> list[Call]:
+        """In the order of their first rows; --where can know of a result only later."""
+        return sorted(self.kept, key=lambda call: call.place)
+
     def take(self, text: bytes) -> None:
         """While later ones may have all calls that are told, only its calls are counted."""
         self.window.add(text)
+        self.stacks.take(text)
         base = self.window.begins[-1]
-        self.waiting.append(WaitingChunk(text, base, 0 if self.where else self.count_calls(text, base)))
-        self.waiting_calls += self.waiting[-1].calls
+        self.waiting.append(WaitingChunk(self.stacks.chunk, base, sorted(self.arrivals(text), key=lambda each: each.place)))
+        self.waiting_calls += len(self.waiting[-1].arrivals)
         while self.waiting and (self.where or self.is_passed() or self.window.end - self.waiting[0].base > self.window.kept // 2):
             self.take_waiting()
         while self.window.surplus():
@@ -145,121 +167,107 @@ class Calls:
 
     def is_passed(self) -> bool:
         """Whether the first chunk that waits has no call that is told: those behind it have enough."""
-        return not self.where and self.waiting_calls - self.waiting[0].calls >= (self.told.maxlen or 0)
+        return not self.where and self.waiting_calls - len(self.waiting[0].arrivals) >= (self.kept.maxlen or 0)
 
     def take_waiting(self) -> None:
         """Takes the first of the chunks that wait. If none of its calls is told, they are only counted."""
-        is_passed, (text, base, calls) = self.is_passed(), self.waiting.popleft()
-        self.waiting_calls -= calls
+        is_passed, first = self.is_passed(), self.waiting.popleft()
+        self.waiting_calls -= len(first.arrivals)
         if is_passed:
-            self.total += calls
+            self.total += len(first.arrivals)
             self.open.clear()
-            self.backs.clear()
         else:
-            for at, address in self.arrivals(text):
-                self.arrive(text, at, base, address)
+            self.follow(*first)
 
-    def count_calls(self, text: bytes, base: int) -> int:
-        """How many calls a chunk has."""
-        found = 0
-        for address, begin in self.begins.items():
-            needle = b" %08x " % address
-            at = text.find(needle)
-            while at >= 0:
-                source = self.source_of(self.row_before(text, at, base))
-                found += source is None or self.is_call(begin, source)
-                at = text.find(needle, at + 1)
-        return found
+    def arrivals(self, text: bytes) -> Iterator[Arrival]:
+        """The calls of the next chunk."""
+        for needle, begin in self.begins.items():
+            for at in places(text, needle):
+                place = text.rfind(b"\n", 0, at)
+                row = self.row_before(text, place)
+                source = self.source_of(row) if row else None
+                if source is None or self.is_call(begin, source):
+                    yield Arrival(place, begin, source)
+        for hart in range(self.asked.log.harts):
+            at = text.rfind(b"\n%d " % hart)
+            if at >= 0:
+                self.last[b"%d" % hart] = row_at(text, at + 1)
 
-    def row_before(self, text: bytes, at: int, base: int) -> bytes:
-        """The row of a hart before the one that a place of a chunk is in."""
-        begin = text.rfind(b"\n", 0, at)
-        hart = text[begin + 1:text.index(b" ", begin)]
-        last = text.rfind(b"\n", 0, begin) + 1
-        return text[last:begin] if last and text.startswith(hart + b" ", last) else self.window.row_before(hart, base + at)
+    def row_before(self, text: bytes, place: int) -> bytes:
+        """The row of a hart before one that begins there, or nothing if that is its first."""
+        hart = text[place + 1:text.index(b" ", place)]
+        at = text.rfind(b"\n" + hart + b" ", 0, place)
+        return row_at(text, at + 1) if at >= 0 else self.last.get(hart, b"")
 
-    def arrivals(self, text: bytes) -> Iterator[tuple[int, int]]:
-        """The places of rows at the function's beginnings, and at those addresses to which open calls return."""
-        nexts = {address: text.find(b" %08x " % address) for address in (*self.begins, *self.backs)}
-        while nexts:
-            address = min(nexts, key=nexts.__getitem__)
-            at = nexts.pop(address)
-            if at < 0:
-                continue
-            yield at, address
-            for each in (address, *self.backs):         # and of a call that begins here
-                if each not in nexts and (each in self.begins or each in self.backs):
-                    nexts[each] = text.find(b" %08x " % each, at + 1)
-
-    def arrive(self, text: bytes, at: int, base: int, address: int) -> None:
-        hart, _, count = text[text.rfind(b"\n", 0, at) + 1:at].partition(b" ")
-        before = self.row_before(text, at, base)
-        if address in self.backs and has_any(before, RETURNS):
-            self.back(hart, int(count), address, base + at)
-        if address in self.begins:
-            source = self.source_of(before)
-            if source is None or self.is_call(self.begins[address], source):
-                self.call(self.begins[address], hart, int(count), base + at, source)
-
-    def source_of(self, row: bytes) -> Optional[Instruction]:
+    def source_of(self, row: bytes) -> Instruction:
         key = row.partition(b" | ")[0].split(b" ", 2)[-1]
-        if key and key not in self.sources:
+        if key not in self.sources:
             self.sources[key] = Instruction(0, key)
-        return self.sources[key] if key else None
+        return self.sources[key]
 
-    def call(self, begin: Begin, hart: bytes, count: int, place: int, source: Optional[Instruction]) -> None:
-        call = Call(hart, count, begin, source.pc if source else 0, bool(source and not source.call))
+    def is_call(self, begin: Begin, source: Instruction) -> bool:
+        """Whether a function's first row behind another one is a call: its own code can lead there too."""
+        if begin.inlined:
+            own, other = (self.asked.places.frames(pc) for pc in (begin.address, source.pc))
+            return inlined_call(own, begin) != inlined_call(other, begin)
+        return source.call or source.kind == JUMP and not source.ret and self.stacks.entries.are_led_to(source.pc, begin.address)
+
+    def follow(self, chunk: Chunk, base: int, arrivals: List[Arrival]) -> None:
+        """Takes the calls and the returns of a chunk."""
+        moves = {move.place: move for move in chunk.moves()}
+        calls = {each.place: each for each in arrivals}
+        for place in sorted({*moves, *calls}):
+            move = moves.get(place)
+            if move and not move.jump.frame:
+                self.back(move, base)
+            if place in calls:
+                self.call(chunk, base, calls[place])
+
+    def call(self, chunk: Chunk, base: int, arrival: Arrival) -> None:
+        hart, count, _ = chunk.text[arrival.place + 1:arrival.place + HEAD].split(b" ", 2)
+        source, begin = arrival.source, arrival.begin
+        call = Call(hart, int(count), base + arrival.place, begin, source.pc if source else 0, bool(source and not source.call))
         if begin.inlined:
             if not self.where:
                 self.keep(call)
             return
-        if source and source.call:
-            call.back = source.pc + 4
-        else:
-            call.back = self.registers.value(hart, b"ra", place, count) or 0
+        call.depth = chunk.top(hart, arrival.place + 1)[2]
         if self.where:
-            self.take_arguments(call, place)
-            if self.where.name != RESULT and not self.where.takes(call):
-                return
-        self.open.setdefault(hart, []).append(call)
-        self.backs[call.back] = self.backs.get(call.back, 0) + 1
-        if not self.where or self.where.name != RESULT:
+            self.take_arguments(call, call.place)
+            call.is_told = self.where.name == RESULT or self.where.takes(call)
+        else:
+            self.asks.append((call.place, call, False))
+        calls = self.open.setdefault(hart, [])
+        calls.append(call)
+        if len(calls) > MOST_OPEN:
+            del calls[:MOST_OPEN // 2]
+        if call.is_told and (not self.where or self.where.name != RESULT):
             self.keep(call)
-        if not self.where:
-            self.asks.append((place, call, False))
 
     def keep(self, call: Call) -> None:
         self.total += 1
-        if len(self.told) == self.told.maxlen:
-            self.told[0].is_told = False
-        self.told.append(call)
+        if len(self.kept) == self.kept.maxlen:
+            self.kept[0].is_told = False
+        self.kept.append(call)
 
-    def is_call(self, begin: Begin, source: Instruction) -> bool:
-        """Whether a row came from outside of the function: its own code can lead to its first row too."""
-        if begin.inlined:
-            own, other = (self.asked.places.frames(pc) for pc in (begin.address, source.pc))
-            return inlined_call(own, begin) != inlined_call(other, begin)
-        return source.call or source.kind == JUMP and not begin.address <= source.pc < begin.address + begin.size
+    def back(self, move: Move, base: int) -> None:
+        """A return: the call that it returns from has ended, and so have the functions that were jumped to from there. Calls in
+        these that didn't return, as behind a longjmp, never will."""
+        calls, depth, ended = self.open.get(move.hart, []), move.behind[2], []
+        while move.behind is not move.before and calls and calls[-1].depth > depth:
+            ended.append(calls.pop())
+        for call in reversed(ended):
+            if call.depth == depth + 1 or call.jumped and call.depth == depth + 2:
+                call.rows, call.end = move.ic - call.count, move.ic
+                self.result(call, base + move.place)
 
-    def back(self, hart: bytes, count: int, address: int, place: int) -> None:
-        """A return: the innermost open call that returns there has ended, and so have those in it."""
-        calls = self.open.get(hart, [])
-        if not any(call.back == address for call in calls):
-            return
-        ended = 0
-        while ended != address:
-            call = calls.pop()
-            ended = call.back
-            self.backs[ended] -= 1
-            if not self.backs[ended]:
-                del self.backs[ended]
-        call.rows, call.end = count - call.count, count
-        if self.where:
+    def result(self, call: Call, place: int) -> None:
+        if not self.where:
+            self.asks.append((place, call, True))
+        elif call.is_told:
             self.take_result(call, place)
             if self.where.name == RESULT and self.where.takes(call):
                 self.keep(call)
-        else:
-            self.asks.append((place, call, True))
 
     def answer(self, end: int) -> None:
         """Looks for the registers of calls whose text is forgotten next."""
@@ -269,18 +277,32 @@ class Calls:
                 (self.take_result if is_result else self.take_arguments)(call, place)
 
     def take_arguments(self, call: Call, place: int) -> None:
-        call.values = [self.value_of(each.registers, call.hart, place, call.count) for each in call.begin.parameters]
+        call.values = [self.value_of(each.registers, call.hart, place) for each in call.begin.parameters]
 
     def take_result(self, call: Call, place: int) -> None:
         if call.begin.result:
-            names = ["a0", "a1"] if PAIR >= call.begin.result["size"] > WORD else ["a0"]
-            call.result = self.value_of(names, call.hart, place, call.end)
+            call.result = self.value_of(RESULTS[:2 if PAIR >= call.begin.result["size"] > WORD else 1], call.hart, place)
 
-    def value_of(self, names: list[str], hart: bytes, place: int, count: int) -> Optional[int]:
-        values = [self.registers.value(hart, name.encode(), place, count) for name in names]
+    def value_of(self, names: Sequence[str], hart: bytes, place: int) -> Optional[int]:
+        values = [self.registers.value(hart, name.encode(), place) for name in names]
         if not values or None in values:
             return None
         return sum((value or 0) << 32 * i for i, value in enumerate(values))
+
+
+def registers_of(function: Function) -> set[str]:
+    """Those that have its arguments or its result."""
+    return {name for begin in function.begins for each in begin.parameters for name in each.registers} | set(RESULTS)
+
+
+def is_part(asked: Asked, function: Function, begin: Begin) -> bool:
+    """Whether inlined code is but a part of the function's own: what a compiler took out of it to inline the rest elsewhere, and
+    put back. It is in the line that names the function: no call of itself can be there."""
+    if not begin.inlined:
+        return False
+    frames = asked.places.frames(begin.address)[-begin.depth - 1:]
+    own = [frame.line for each in function.begins if not each.inlined for frame in asked.places.frames(each.address)[-1:]]
+    return len(frames) > 1 and frames[0].function == frames[1].function and any(frames[1].line <= line for line in own)
 
 
 def inlined_call(frames: list[Frame], begin: Begin) -> list[Union[str, Frame]]:

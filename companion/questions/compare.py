@@ -9,11 +9,14 @@ from ..call.errors import NO_INTERVAL, CompanionError
 from ..call.options import read_words, whole
 from ..call.text import counted, number
 from ..recording.answers import place_of, put_found
-from ..recording.chunks import STORE, rows_between, rows_with, touching
+from ..recording.chunks import row_at, rows_between
 from ..recording.instruction import NAMES, Instruction
 from .reading import HIGHEST, Asked, asked_of
+from .types import words_type
+from .variables import Variable
 from .waiting import Loops
 from .ways import Lane
+from .words import Words
 
 HELP = """Compares two logs of one program, as of two seeds or two inputs: of each hart the first branch that went another way
 though all was the same before, the load behind it, and who had stored that word in each run.
@@ -163,26 +166,26 @@ def rows_back(runs: list[Run], lane: Lane) -> Iterator[tuple[Row, Row]]:
 class StoreSearch:
     """Looks in the order of a run for the row that had stored what was loaded, and for the place at which a hart parted."""
 
-    def __init__(self, found: Parting, at: int) -> None:
+    def __init__(self, run: Run, found: Parting, at: int) -> None:
         self.found, self.at, load, row = found, at, found.loads[at], found.same[at]
         self.branch = b"\n%d %d " % (found.hart, row.count)
         self.load = b"\n%d %d " % (found.hart, load.count) if load else b""
-        self.stored = touching(word_of(load), word_of(load) + 4, STORE) if load else None
+        self.words = Words(run.asked, loaded(load)) if load else None
 
     def take(self, text: bytes, rows: int) -> bool:
         """Whether it has to look further than a chunk, before which there are so many rows."""
-        if self.stored:
+        if self.words:
             end = text.find(self.load)
-            for row in rows_with(text if end < 0 else text[:end], self.stored):
-                self.found.givers[self.at] = row.decode("ascii", "replace")
-            self.stored = None if end >= 0 else self.stored
+            for change in self.words.changes(text if end < 0 else text[:end]):
+                self.found.givers[self.at] = row_at(text, change.place).decode("ascii", "replace")
+            self.words = None if end >= 0 else self.words
         end = text.find(self.branch)
         self.found.place = rows + text.count(b"\n", 0, max(0, end))
         return end < 0
 
 
 def find_givers(run: Run, at: int, partings: list[Parting]) -> None:
-    rows, left = 0, [StoreSearch(found, at) for found in partings]
+    rows, left = 0, [StoreSearch(run, found, at) for found in partings]
     for text in run.asked.chunks() if left else ():
         left = [search for search in left if search.take(text, rows)]
         rows += text.count(b"\n")
@@ -196,8 +199,9 @@ def result_of(row: Row) -> str:
     return found[0] if found else ""
 
 
-def word_of(load: Optional[Row]) -> int:
-    return int(load.text.partition(" | load ")[2][:8], 16) & ~3 if load else 0
+def loaded(load: Row) -> Variable:
+    """The bytes that a row loads."""
+    return Variable("", int(load.text.partition(" | load ")[2][:8], 16), words_type(load.code.width))
 
 
 def row_lines(title: str, row: Optional[Row], run: Run, found: Parting) -> list[str]:
@@ -228,7 +232,8 @@ def giver_text(row: str, run: Run) -> str:
     if not row:
         return "no row: it is from the beginning"
     hart, count, pc = row.split(" ")[:3]
-    return f"{hart}:{count} in {run.asked.places.chain([int(pc, 16)], MOST_FRAMES)}: {row.rpartition(' | ')[2]}"
+    did = row.rpartition(" | ")[2] if " | store " in row else f"a read call, {row.rpartition(' | ')[2]}"
+    return f"{hart}:{count} in {run.asked.places.chain([int(pc, 16)], MOST_FRAMES)}: {did}"
 
 
 def ends(title: str, run: Run) -> list[str]:

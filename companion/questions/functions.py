@@ -52,6 +52,8 @@ def function_of(elf: Elf, name: str) -> Function:
     sizes = {item.address: item.size for item in own}
     said = ask_gdb(elf, function=name) if elf.symbols and PART.fullmatch(name) else None
     told = [begin_of(each, sizes) for each in (said or {}).get("begins", [])]
+    # Linkers make code shorter than DWARF says: what follows a function of assembly then seems to be in it.
+    told = [each for each in told if each.inlined or not sizes or each.address in sizes]
     known = {each.address for each in told}
     told += [Begin(address, size, False, plain_parameters(), PLAIN) for address, size in sizes.items() if address not in known]
     if not told and (found := ADDRESS.fullmatch(name)):

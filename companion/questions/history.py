@@ -4,18 +4,19 @@ from __future__ import annotations
 import itertools
 from collections import deque
 from dataclasses import dataclass
-from typing import Any, Deque, Optional
+from typing import Any, Deque, List, NamedTuple, Optional
 
 from ..call.options import read_words, whole
 from ..call.text import columns, counted
 from ..recording.answers import place_of, put_found
+from ..recording.chunks import row_at
 from ..recording.instruction import STORE, Instruction
 from ..recording.log import SystemCall
 from ..recording.memory import bytes_of, words_of
+from ..recording.stacks import Frame, Stacks, call_places
 from .reading import Asked, asked_of, read
 from .types import Leaf, leaves, value_text
 from .variables import Variable, variable_of
-from .window import Window
 from .words import Change, Words
 
 HELP = """Lists each store to a variable: hart and count, the value before and after it, its place and the calls over it.
@@ -39,7 +40,7 @@ TOLD, MOST_TOLD, MOST_FRAMES, LARGEST = 100, 1000000, 4, 8
 
 @dataclass(frozen=True)
 class Entry:
-    """A store or a `read` call: its hart and count, its row, its address and that of the call over it, the part that it stored to,
+    """A store or a `read` call: its hart and count, its row, its address and those of the calls over it, the part that it stored to,
     and the values of that before and after."""
     hart: int
     count: int
@@ -51,30 +52,35 @@ class Entry:
     fill: Optional[SystemCall]
 
 
+class Kept(NamedTuple):
+    """A change that may be told: its row, and the innermost frame there."""
+    change: Change
+    row: bytes
+    top: Frame
+
+
 class History:
     """The latest stores to a variable.
 
     total, told   how many there are, and those that are told"""
 
-    def __init__(self, asked: Asked, variable: Variable, most: int, only_changes: bool) -> None:
-        self.asked, self.variable, self.only_changes = asked, variable, only_changes
-        self.words, self.window, self.total = Words(asked, variable), Window(), 0
+    def __init__(self, asked: Asked, stacks: Stacks, variable: Variable, most: int, only_changes: bool) -> None:
+        """`stacks` takes each chunk before this."""
+        self.asked, self.stacks, self.variable, self.only_changes = asked, stacks, variable, only_changes
+        self.words, self.total = Words(asked, variable), 0
         self.begins = dict(self.words.known)
-        self.waiting: Deque[Change] = deque(maxlen=most)    # whose text is kept
-        self.told: Deque[Entry] = deque(maxlen=most)
+        self.kept: Deque[Kept] = deque(maxlen=most)
 
     def take(self, text: bytes) -> None:
-        self.window.add(text)
-        for change in self.words.changes(text, self.window.begins[-1]):
+        for change in self.words.changes(text):
             if not self.only_changes or self.is_change(change):
                 self.total += 1
-                self.waiting.append(change)
-        while self.window.surplus():
-            self.tell(self.window.surplus())
-            self.window.drop()
+                row = row_at(text, change.place)
+                self.kept.append(Kept(change, row, self.stacks.chunk.top(row[:row.index(b" ")], change.place)))
 
-    def finish(self) -> None:
-        self.tell(self.window.end + 1)
+    @property
+    def told(self) -> List[Entry]:
+        return [self.entry(*each) for each in self.kept]
 
     def is_change(self, change: Change) -> bool:
         if self.words.is_aligned or change.after is None:
@@ -83,19 +89,9 @@ class History:
         old, new = change.values(begin, end - begin)
         return old != new
 
-    def tell(self, end: int) -> None:
-        """Looks for the callers of stores whose text is forgotten next."""
-        most = self.waiting.maxlen or 0
-        while self.waiting and self.waiting[0].place < end:
-            if self.told and len(self.told) + len(self.waiting) > most:
-                self.told.popleft()
-            self.told.append(self.entry(self.waiting.popleft()))
-
-    def entry(self, change: Change) -> Entry:
-        row = self.window.row(change.place)
+    def entry(self, change: Change, row: bytes, top: Frame) -> Entry:
         hart, count, key = row.split(b" | ")[0].split(b" ", 2)
         code, base = Instruction(0, key), self.variable.address
-        caller = self.window.caller(hart, change.place)
         first, end = change.word, change.word + 4
         if change.fill:
             first, end = change.fill.address, change.fill.address + change.fill.size
@@ -105,8 +101,8 @@ class History:
         first, end = max(first, base), min(end, self.variable.end)
         part = self.part(first - base, end - base)
         old, new = (value_text(part, data, self.asked.name_of) for data in change.values(base + part.at, part.size))
-        return Entry(int(hart), int(count), row.decode("ascii", "replace"), [code.pc] + ([caller] if caller else []), part.path,
-                     old, new, change.fill)
+        return Entry(int(hart), int(count), row.decode("ascii", "replace"), [code.pc, *call_places(top, MOST_FRAMES)], part.path, old, new,
+                     change.fill)
 
     def part(self, first: int, end: int) -> Leaf:
         """The part of the variable that has these bytes; of several the bytes as they are, by the first one's name."""
@@ -154,9 +150,9 @@ def history_answer(found: History) -> dict[str, Any]:
 
 
 def history_of(asked: Asked, variable: Variable, most: int = TOLD, only_changes: bool = False) -> History:
-    found = History(asked, variable, most, only_changes)
-    read(asked.chunks(), found)
-    found.finish()
+    stacks = asked.stacks()
+    found = History(asked, stacks, variable, most, only_changes)
+    read(asked.chunks(), stacks, found)
     return found
 
 

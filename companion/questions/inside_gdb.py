@@ -76,7 +76,8 @@ def registers_at(address: int) -> dict[str, str]:
     for name, said in re.findall(r"^Symbol (\S+) is (.*?)(?=^Symbol |\Z)", text, re.M | re.S):
         here = re.match(r"a variable in \$(\w+)", said)
         for low, high, register in re.findall(r"Range (\w+)-(\w+): a variable in \$(\w+)", said):
-            if int(low, 16) <= address < int(high, 16):
+            # An empty range is what holds before the first row, which may change it at once.
+            if int(low, 16) <= address < int(high, 16) or int(low, 16) == address:
                 found.setdefault(name, register)
         if here:
             found.setdefault(name, here[1])

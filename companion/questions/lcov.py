@@ -11,10 +11,15 @@ from .reading import Asked
 
 
 def lcov(asked: Asked) -> str:
-    """A line was done as often as the address of it that was done most."""
+    """A line was done as often as the address of it that was done most, and a function as often as it was called: its first row can be
+    that of a loop, too."""
     done: Counter[bytes] = Counter()
+    calls = Counter(each.registers[0] for each in asked.log.first_intervals().values() if each.end > each.start)
+    stacks = asked.stacks()
     for text in asked.chunks():
         done.update(PCS.findall(text))
+        stacks.take(text)
+        calls.update(int(move.target, 16) for move in stacks.chunk.moves() if move.is_call)
     times = {**dict.fromkeys(code_of(asked.named), 0), **{int(pc, 16): times for pc, times in done.items()}}
     asked.places.fetch(times)
     lines: dict[str, Counter[int]] = {}
@@ -27,8 +32,8 @@ def lcov(asked: Asked) -> str:
     for symbol in asked.named.functions:
         frames = asked.places.frames(symbol.address)
         if symbol.kind == FUNCTION and frames and frames[-1].line:
-            functions.setdefault(frames[-1].path, []).extend([
-                f"FN:{frames[-1].line},{symbol.name}", f"FNDA:{times.get(symbol.address, 0)},{symbol.name}"])
+            made = calls[symbol.address] if symbol.address in stacks.entries.addresses else times.get(symbol.address, 0)
+            functions.setdefault(frames[-1].path, []).extend([f"FN:{frames[-1].line},{symbol.name}", f"FNDA:{made},{symbol.name}"])
     said = ["TN:"]
     for path, counts in sorted(lines.items()):
         said += [f"SF:{source_of(asked, path)}", *functions.get(path, [])]

@@ -90,8 +90,9 @@ class Turns:
 
 def perfetto(asked: Asked) -> str:
     events, turns = Events(asked), Turns(asked)
-    flow = Flow(events.left)
-    read(asked.chunks(), turns, flow)
+    stacks = asked.stacks()
+    flow = Flow(stacks, events.left)
+    read(asked.chunks(), stacks, turns, flow)
     for hart, end in sorted(asked.log.ends.items()):
         for call in flow.open.get(b"%d" % hart, []):
             events.left(hart, call, end.count, flow.rows)

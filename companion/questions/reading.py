@@ -7,6 +7,7 @@ from typing import Iterable, Iterator, Mapping, NamedTuple, Protocol, Sequence
 
 from ..call.options import whole
 from ..call.text import number
+from ..recording.calls import Entries, entries_of
 from ..recording.chunks import chunks
 from ..recording.elf import Elf, last_before
 from ..recording.log import Log
@@ -15,6 +16,7 @@ from ..recording.places import Places
 from ..recording.sources import source_folders
 from ..recording.ready import ready
 from ..recording.recent import open_log
+from ..recording.stacks import Stacks
 
 MOST_ROWS = 80000000        # are read without --rows
 HIGHEST = 1 << 41
@@ -31,6 +33,11 @@ class Asked(NamedTuple):
     def is_whole(self) -> bool:
         """Whether these are all rows of the run."""
         return not self.log.dropped and not self.log.unread
+
+    def stacks(self, more: Iterable[int] = ()) -> Stacks:
+        """What follows the calls: it reads each chunk before those who ask it. Functions begin at some more addresses, too."""
+        entries = entries_of(self.named)
+        return Stacks(Entries([*entries.addresses, *more]), self.log.harts)
 
     def chunks(self) -> Iterator[bytes]:
         return chunks(self.log.name, self.elf.name, log=self.log)

@@ -1,54 +1,54 @@
-"""The registers of a hart at a row: the last row before it that wrote one tells it, else the interval's beginning."""
+"""The registers of a hart at a row: the last row before it that wrote one tells it, else the log's beginning."""
 from __future__ import annotations
 
-import bisect
-import re
-from typing import Optional
+from typing import Iterable, Optional
 
 from ..recording.instruction import NAMES
 from ..recording.log import Log
 from .window import Window
 
-LONGEST_ROW = 100           # bytes, about
-WRITES = re.compile(rb"\n(\d+) [^|\n]*\| (a[0-7]|ra)=(\w{8})")
-
 
 class Registers:
-    """known   {hart and register: the place up to which rows were looked at, and what its value was there, or None}
-    carries  whether an interval may begin before the kept text, so that what is forgotten has to be looked at"""
+    """firsts    {hart: its registers at the log's beginning}
+    carried   {hart and register: what the last row of it wrote among those that are forgotten}
+    known     {hart and register: the place up to which rows were looked at, and what its value was there, or None}"""
 
-    def __init__(self, log: Log, window: Window) -> None:
-        self.window = window
-        self.intervals = log.by_hart()
-        self.starts = {hart: [each.start for each in found] for hart, found in self.intervals.items()}
-        longest = max((each.end - each.start for each in log.intervals), default=0)
-        self.carries = (log.rows() if log.harts > 1 else longest) * LONGEST_ROW > window.kept
+    def __init__(self, log: Log, window: Window, names: Iterable[str]) -> None:
+        """`names` are those that are asked for."""
+        self.window, self.needles = window, {name.encode(): b"| %s=" % name.encode() for name in names}
+        self.firsts = {b"%d" % hart: interval.registers for hart, interval in log.first_intervals().items()}
         self.carried: dict[tuple[bytes, bytes], int] = {}
         self.known: dict[tuple[bytes, bytes], tuple[int, Optional[int]]] = {}
 
     def forget(self, text: bytes) -> None:
         """Takes a chunk that the window forgets."""
-        if self.carries:
-            self.carried.update(((hart, name), int(value, 16)) for hart, name, value in WRITES.findall(text))
+        for name, needle in self.needles.items():
+            left = set(self.firsts) if needle in text else set()
+            at = len(text)
+            while left and at >= 0:                 # the latest of each hart
+                at = text.rfind(needle, 0, at)
+                hart = text[text.rfind(b"\n", 0, max(0, at)) + 1:][:3].split(b" ")[0]
+                if at >= 0 and hart in left:
+                    left.remove(hart)
+                    self.carried[hart, name] = value_at(text, at + len(needle))
 
-    def value(self, hart: bytes, name: bytes, place: int, count: int) -> Optional[int]:
-        """A register before the row that a place is in, whose count is `count`; None if nothing tells it."""
-        end = place - len(self.window.row_start(place))
-        before, found = self.known.get((hart, name), (0, None))
-        for at in self.window.found_before(b"| %s=" % name, end):
-            if at < before:
-                break
+    def value(self, hart: bytes, name: bytes, place: int) -> Optional[int]:
+        """A register before the row that begins at a place; None if nothing tells it. Places are asked for in their order."""
+        needle, (looked_at, found) = self.needles[name], self.known.get((hart, name), (-1, None))
+        for at in self.window.found_before(needle, place, max(0, looked_at)):
             if self.window.is_of(hart, at):
-                found = int(self.window.bytes_at(at + 3 + len(name), 8), 16)
+                found = int(self.window.bytes_at(at + len(needle), 8), 16)
                 break
         else:
-            if before < self.window.begins[0]:      # rows between were forgotten
-                found = self.carried.get((hart, name)) if self.carries else None
-                found = self.at_start(hart, name, count) if found is None else found
-        self.known[hart, name] = end, found
+            if looked_at < self.window.begins[0]:   # it was forgotten what rows between wrote, or nothing was looked at
+                found = self.carried.get((hart, name), self.at_start(hart, name))
+        self.known[hart, name] = place, found
         return found
 
-    def at_start(self, hart: bytes, name: bytes, count: int) -> Optional[int]:
-        """A register at the beginning of the interval of a count."""
-        at = bisect.bisect_right(self.starts.get(int(hart), []), count) - 1
-        return self.intervals[int(hart)][at].registers[NAMES.index(name.decode())] if at >= 0 else None
+    def at_start(self, hart: bytes, name: bytes) -> Optional[int]:
+        found = self.firsts.get(hart)
+        return found[NAMES.index(name.decode())] if found else None
+
+
+def value_at(text: bytes, place: int) -> int:
+    return int(text[place:place + 8], 16)

@@ -16,7 +16,7 @@ Word = Optional[int]
 
 
 class Change(NamedTuple):
-    """A store to a word: its place in the text, the word, the values before it of the word before, of this one and of the one
+    """A store to a word: its place in the chunk, the word, the values before it of the word before, of this one and of the one
     after, and the new value. What a `read` call put there isn't known."""
     place: int
     word: int
@@ -58,8 +58,8 @@ class Words:
         self.stores, self.loads = (touching(variable.address, variable.end, kind) for kind in (STORE, LOAD))
         self.is_aligned = variable.size == self.end - self.first
 
-    def changes(self, text: bytes, begin: int) -> Iterator[Change]:
-        """The stores of a chunk, whose place is `begin`, and the `read` calls in it."""
+    def changes(self, text: bytes) -> Iterator[Change]:
+        """The stores of a chunk, and the `read` calls in it."""
         fills = list(self.fills_in(text))
         events = [(found.end(), STORE) for found in self.stores.finditer(text)]
         if self.unknown or fills:
@@ -67,14 +67,14 @@ class Words:
             events.sort()
         for at, kind in events:
             while fills and fills[0][0] < at:
-                yield from self.filled(begin, *fills.pop(0))
+                yield from self.filled(*fills.pop(0))
             word, value = int(text[at - 9:at - 1], 16) & LAST_WORD, int(text[at:at + 8], 16)
             if kind == STORE and (self.is_aligned or self.is_touched(text, at)):
-                yield Change(begin + at, word, self.around(word), value)
+                yield Change(at, word, self.around(word), value)
             if word in self.known:
                 self.tells(word, value)
         for fill in fills:
-            yield from self.filled(begin, *fill)
+            yield from self.filled(*fill)
 
     def is_touched(self, text: bytes, at: int) -> bool:
         """Whether the store whose value begins at a place of a text is to the variable."""
@@ -89,10 +89,10 @@ class Words:
         self.known[word] = value
         self.unknown.discard(word)
 
-    def filled(self, begin: int, at: int, fill: SystemCall) -> Iterator[Change]:
+    def filled(self, at: int, fill: SystemCall) -> Iterator[Change]:
         """What a `read` call did: no row tells what it put there."""
         first, end = max(fill.address, self.variable.address), min(fill.address + fill.size, self.variable.end)
-        yield Change(begin + at, first & ~3, self.around(first & ~3), None, fill)
+        yield Change(at, first & ~3, self.around(first & ~3), None, fill)
         for word in words_of(first, end - first):
             self.known[word] = None
             self.unknown.add(word)

@@ -7,17 +7,35 @@ from __future__ import annotations
 
 import bisect
 from array import array
-from typing import AbstractSet, NamedTuple
+from typing import Iterable, NamedTuple, Optional
 
 from .elf import FUNCTION, Elf
 from .rows import Rows
 
-RESTORES = "__riscv_restore_"
+RESTORES, COLD = "__riscv_restore_", ".cold"
+MASK = (1 << 32) - 1
 
 
-def entries_of(elf: Elf) -> set[int]:
-    """The first addresses of functions. What takes registers back for a function that ends is a part of it."""
-    return {symbol.address for symbol in elf.functions if symbol.kind == FUNCTION and not symbol.name.startswith(RESTORES)}
+class Entries:
+    """The first addresses of functions: to jump there from another function is a call."""
+
+    def __init__(self, addresses: Iterable[int] = ()) -> None:
+        self.addresses = set(addresses)
+        self.order = sorted(self.addresses)
+
+    def are_led_to(self, pc: int, target: int) -> bool:
+        """Whether a jump leads to a function. One to the first row of its own is a loop."""
+        if target not in self.addresses:
+            return False
+        at = bisect.bisect_right(self.order, pc) - 1
+        return at < 0 or self.order[at] != target
+
+
+def entries_of(elf: Elf) -> Entries:
+    """Those of a program. What takes registers back for a function that ends is a part of it, and so is the code that a compiler
+    put elsewhere since it is seldom done."""
+    return Entries(symbol.address for symbol in elf.functions if symbol.kind == FUNCTION
+                   and not symbol.name.startswith(RESTORES) and not symbol.name.endswith(COLD))
 
 
 class Above(NamedTuple):
@@ -32,9 +50,7 @@ class Above(NamedTuple):
 class CallTree:
     """parent, call_pc, depth, and the place of the outermost call: of each node."""
 
-    def __init__(self, entries: AbstractSet[int] = frozenset()) -> None:
-        """`entries` is where functions begin."""
-        self.entries = entries
+    def __init__(self) -> None:
         self.tails: set[int] = set()            # the nodes of jumps
         self.parent, self.call_pc, self.depth, self.outermost = (array("I", [0]) for _ in range(4))
         self.child: dict[int, int] = {}         # {node above << 32 | place of the call: node}
@@ -62,6 +78,8 @@ class CallTree:
         at = node
         while at and self.call_pc[at] != pc - 4:
             at = self.parent[at]
+        if not at and node in self.tails and not self.parent[node]:
+            at = node                           # its function's call isn't known, and has ended
         return self.parent[at] if at else node
 
     def calls(self, node: int, most: int) -> Above:
@@ -87,18 +105,21 @@ class Calls:
     tails    the jumps to functions
     goes     {hart: the rows of its jumps}; nodes: {hart: its nodes after them}"""
 
-    def __init__(self, rows: Rows, entries: AbstractSet[int] = frozenset()) -> None:
-        """`entries` is where functions begin."""
-        self.rows, self.tree = rows, CallTree(entries)
+    def __init__(self, rows: Rows, entries: Optional[Entries] = None) -> None:
+        self.rows, self.tree, self.entries = rows, CallTree(), entries or Entries()
         self.jumps, self.a0, self.writers = array("I"), array("I"), array("I")
         self.tails: list[Tail] = []
         self.goes = {hart: array("I") for hart in range(rows.log.harts)}
         self.nodes = {hart: array("I", [0]) for hart in range(rows.log.harts)}
 
     def go(self, n: int, writer: int, a0: int, target: int) -> None:
-        """A call, a return, or a jump to a function. `writer` is the row that wrote a0, `target` what its register held."""
+        """A call, a return, or a jump that can lead to a function. `writer` is the row that wrote a0, `target` what its register held."""
         ins, hart, tree = self.rows.code_of(n), self.rows.hart[n], self.tree
         node = self.nodes[hart][-1]
+        if not ins.leads:
+            target = target + (ins.word >> 20) - (ins.word >> 31 << 12) & MASK & ~1
+            if not (ins.call or ins.ret or self.entries.are_led_to(ins.pc, target)):
+                return
         if ins.call or ins.ret:
             self.jumps.append(n)
             self.a0.append(a0)

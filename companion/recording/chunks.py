@@ -16,8 +16,6 @@ CHUNK = 1 << 18             # bytes of a chunk, about
 OTHER_LINES, WORDS = re.compile(rb"\n[a-z][^\n]*"), b"\nword "
 LOAD, STORE = b"load", b"store"
 FIRST_HART = b"\n0 "
-JUMPS = re.compile(rb" jalr? ")     # in rows of calls, returns and other jumps
-JUMP = b"j"                 # no other row has this letter
 DIGITS = "0123456789abcdef"
 
 
@@ -107,6 +105,12 @@ def places(text: bytes, word: bytes, at: int = 0, end: Optional[int] = None) -> 
     while at >= 0:
         yield at
         at = text.find(word, at + 1, end)
+
+
+def row_at(text: bytes, place: int) -> bytes:
+    """The row that a place is in, without its newline."""
+    end = text.find(b"\n", place)
+    return text[text.rfind(b"\n", 0, place) + 1:len(text) if end < 0 else end]
 
 
 def rows_with(text: bytes, pattern: Pattern[bytes]) -> Iterator[bytes]:

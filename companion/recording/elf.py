@@ -128,9 +128,11 @@ class Elf:
                         f"not {its.size} bytes at {its.address:08x} with flags {its.flags}")
             begin = max(self.headers_in(part), other.headers_in(its))
             if part.body[begin:] != its.body[begin:]:
-                one, two = bytes(part.body), bytes(its.body)
-                first = next((i for i, (a, b) in enumerate(zip(one[begin:], two[begin:]), begin) if a != b), None)
-                return f"other bytes from {part.address + (min(len(one), len(two)) if first is None else first):08x} on"
+                size = max(len(part.body), len(its.body))       # strip writes zeros at a segment's end that memory has there anyway
+                one, two = (bytes(each.body[begin:]).ljust(size - begin, b"\0") for each in (part, its))
+                first = next((i for i, (a, b) in enumerate(zip(one, two), begin) if a != b), None)
+                if first is not None:
+                    return f"other bytes from {part.address + first:08x} on"
         return ""
 
     def headers_in(self, part: Segment) -> int:
@@ -150,9 +152,10 @@ class Elf:
         return found.name + (f"+{address - found.address}" if address > found.address else "")
 
     def function_name(self, address: int) -> str:
-        """The function, or else the label, before an address of code, or nothing."""
+        """The function that an address of code is in, or else the label before it, or nothing: constants can follow functions."""
         found = last_before(self.functions, address)
-        return found.name if found and self.is_code(address) else ""
+        is_in = found and (not found.size or address < found.address + found.size)
+        return found.name if found and is_in and self.is_code(address) else ""
 
 
 def last_before(symbols: list[Symbol], address: int) -> Symbol | None:

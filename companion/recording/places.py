@@ -115,7 +115,8 @@ class Tool:
                 # $x and the like are marks for disassemblers, which LLVM's tool takes for functions.
                 name = self.elf.function_name(address) if function[:1] == "$" else clean(function)
                 number = int(line) if line.isdigit() and len(line) <= LONGEST_LINE_NUMBER else 0
-                found.append(Frame(name, os.path.basename(clean(path)), number, clean(path)))
+                path = "" if path == "??" else clean(path)
+                found.append(Frame(name, os.path.basename(path), number, path))
         return found
 
     def fail(self, why: Exception) -> None:

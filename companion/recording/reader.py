@@ -70,7 +70,7 @@ class Codes(Dict[bytes, int]):
 
     def __init__(self, rows: Rows, calls: Calls) -> None:
         super().__init__()
-        self.codes, self.entries = rows.codes, calls.tree.entries
+        self.codes, self.entries = rows.codes, calls.entries
         self.shapes: list[int] = []
         self.registers: list[tuple[int, int, int]] = []
 
@@ -92,7 +92,7 @@ class Codes(Dict[bytes, int]):
         ins = Instruction(len(self.codes), row.partition(b" | ")[0])
         self.codes.append(ins)
         shape = WRITES if ins.rd and (ins.kind != CALL or ins.name == "ecall") else 0
-        if ins.kind == JUMP and (ins.call or ins.ret or ins.leads in self.entries):
+        if ins.kind == JUMP and (ins.call or ins.ret or not ins.leads or self.entries.are_led_to(ins.pc, ins.leads)):
             shape |= GOES
         elif ins.kind == AMO:
             shape |= STORES | TRIES if ins.name.startswith("sc.") else LOADS if ins.name.startswith("lr.") else BOTH

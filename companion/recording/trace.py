@@ -2,9 +2,9 @@
 from __future__ import annotations
 
 import time
-from typing import AbstractSet, NamedTuple, Optional
+from typing import NamedTuple, Optional
 
-from .calls import Calls
+from .calls import Calls, Entries
 from .chunks import OTHER_LINES, after, chunks
 from .log import At, Log
 from .reader import Reader
@@ -18,12 +18,12 @@ class Trace(NamedTuple):
     calls: Calls
 
 
-def begin_trace(log: Log, entries: AbstractSet[int] = frozenset()) -> Trace:
+def begin_trace(log: Log, entries: Optional[Entries] = None) -> Trace:
     rows = Rows(log)
     return Trace(rows, Writers(rows), Calls(rows, entries))
 
 
-def read_trace(log: Log, elf_name: str, entries: AbstractSet[int] = frozenset(), most: int = 0,
+def read_trace(log: Log, elf_name: str, entries: Optional[Entries] = None, most: int = 0,
                asked: Optional[At] = None) -> Trace:
     """The rows of a log: all, or with `most` about the last so many; of a row that is asked of, the last up to it."""
     trace, began = begin_trace(log, entries), time.monotonic()

@@ -53,11 +53,12 @@ def questions_data(page: Page, crash: Analysis, suspects: Sequence[Suspect], rac
     functions = [name for row in [crash.start, *guilty] for name in
                  [crash.places.function(rows.code_of(row).pc), *(frame.function for frame in crash.callers(row))]]
     asked = Asked(crash.log, crash.elf, crash.named, crash.places)
-    histories = [History(asked, variable, TOLD, False) for variable in variables_of(asked.named, words)]
+    stacks = asked.stacks()
+    histories = [History(asked, stacks, variable, TOLD, False) for variable in variables_of(asked.named, words)]
     calls = list(calls_in(asked, functions))
     every: list[Union[History, Calls]] = [*histories, *calls]
-    read(asked.chunks(), *every)
-    for each in every:
+    read(asked.chunks(), stacks, *every)
+    for each in calls:
         each.finish()
     return {"most": TOLD, "leftOut": asked.left_out(), "variables": [history_data(page, found) for found in histories],
             "functions": [{"name": found.function.name, "title": found.function.title(), "calls": found.total,

@@ -11,16 +11,17 @@ from ..call import streams
 from ..call.options import read_words, whole
 from ..call.text import counted, number
 from ..recording.answers import place_of as code_place, put_answer
-from ..recording.calls import CallTree, entries_of
-from ..recording.chunks import JUMP, after, chunks, places, touching_any
+from ..recording.calls import entries_of
+from ..recording.chunks import after, chunks, places, touching_any
 from ..recording.elf import Elf
-from ..recording.instruction import A0, Instruction
+from ..recording.instruction import A0
 from ..recording.log import READ_CALL, WRITE_CALL, Log, SystemCall
 from ..recording.memory import Memory, quoted
 from ..recording.naming import named_elf, places_of
 from ..recording.places import Places
 from ..recording.ready import ready
 from ..recording.recent import open_log
+from ..recording.stacks import Frame, Stacks, call_places
 
 HELP = """Lists what the guest wrote: each write with its row, its place and its text.
 
@@ -36,47 +37,39 @@ as unknown. Companions show; the program proves."""
 FORM = "output LOG ELF [--names ELF] [--rows N] [--json]"
 MOST_ROWS, MOST_FRAMES, MOST_RANGES = 32000000, 4, 8
 ASKED, SET = b" 00000073 ecall", b"| a0="
-CODE, TOP = 18, 1 << 32     # letters of an address and a word, before an instruction's name
+TOP = 1 << 32
 STREAMS = {1: "the output", 2: "err"}
 
 
 class Write(NamedTuple):
-    """A write: its number, its row, the stream, the bytes that it took, the address of its code, and the node of the calls over
-    it. A byte is None if it isn't known."""
+    """A write: its number, its row, the stream, the bytes that it took, the address of its code, and the innermost frame there. A
+    byte is None if it isn't known."""
     number: int
     row: str
     stream: int
     data: list[Optional[int]]
     pc: int
-    node: int
-
-
-class Hart:
-    """a0 as it was last set, the node of its calls, and whether its next row is that to which it returns."""
-    __slots__ = ("a0", "node", "returns")
-
-    def __init__(self, a0: int) -> None:
-        self.a0, self.node, self.returns = a0, 0, False
+    top: Frame
 
 
 class Reader:
-    """Follows the rows of `joint`: the words that are written, a0 and calls."""
+    """Follows the rows of `joint`: the words that are written, and a0."""
 
-    def __init__(self, log: Log, elf: Elf, tree: CallTree, numbers: dict[SystemCall, int]) -> None:
+    def __init__(self, log: Log, elf: Elf, stacks: Stacks, numbers: dict[SystemCall, int]) -> None:
         """`numbers` are those of the writes of the whole log."""
-        self.memory, self.tree, self.numbers = Memory(elf, not log.dropped), tree, numbers
+        self.memory, self.stacks, self.numbers = Memory(elf, not log.dropped), stacks, numbers
         self.calls = {(call.hart, call.count): call for call in log.system_calls()}
         self.wanted = sorted(numbers[call] for call in self.calls.values() if call in numbers)
         self.ranges = ranges(numbers)
         self.touched = touching_any(self.ranges)
-        self.jumps: dict[bytes, Instruction] = {}
-        self.harts = {b"%d" % hart: Hart(interval.registers[A0]) for hart, interval in log.first_intervals().items()}
+        self.a0 = {b"%d" % hart: interval.registers[A0] for hart, interval in log.first_intervals().items()}      # as it was last set
 
     def writes(self, texts: Iterator[bytes]) -> Iterator[Write]:
         """In the order of their numbers."""
         ready: dict[int, Write] = {}
         at = 0
         for text in texts:
+            self.stacks.take(text)
             for write in self.written(text):
                 ready[write.number] = write
             while at < len(self.wanted) and self.wanted[at] in ready:
@@ -87,9 +80,6 @@ class Reader:
 
     def written(self, text: bytes) -> Iterator[Write]:
         at = 0
-        for name, hart in self.harts.items():
-            if hart.returns:                    # its last row was a return
-                self.come_back(hart, text, name, 0)
         for asked in places(text, ASKED):
             begin, end = text.rfind(b"\n", 0, asked) + 1, text.find(b"\n", asked)
             name, count, _ = text[begin:asked].split(b" ", 2)
@@ -99,8 +89,8 @@ class Reader:
                 at = begin
                 if call in self.numbers:
                     row = text[begin:end if end >= 0 else len(text)].decode("ascii", "replace")
-                    yield Write(self.numbers[call], row, self.harts[name].a0, self.memory.read(call.address, call.size), call.pc,
-                                self.harts[name].node)
+                    yield Write(self.numbers[call], row, self.a0[name], self.memory.read(call.address, call.size), call.pc,
+                                self.stacks.chunk.top(name, begin))
                 elif call.kind == READ_CALL:
                     self.fill(call.address, call.address + call.size)
         self.follow(text, at, len(text))
@@ -115,36 +105,13 @@ class Reader:
         for told in self.touched.finditer(text, begin, end):
             address, value = text[told.end() - 9:told.end() - 1], text[told.end():told.end() + 8]
             self.memory.known[int(address, 16) & ~3] = int(value, 16)
-        for at in places(text, JUMP, begin, end):
-            self.jump(text, at)
-        left = set(self.harts)
+        left = set(self.a0)
         while left and end >= begin:            # of each hart the latest a0
             end = text.rfind(SET, begin, end)
             name = text[text.rfind(b"\n", 0, max(end, 0)) + 1:][:3].split(b" ")[0]
             if end >= 0 and name in left:
                 left.remove(name)
-                self.harts[name].a0 = int(text[end + len(SET):end + len(SET) + 8], 16)
-
-    def jump(self, text: bytes, at: int) -> None:
-        """A call, a return, or a jump to a function: its name is at a place."""
-        code, tree = text[at - CODE:at], self.tree
-        if code not in self.jumps:
-            self.jumps[code] = Instruction(0, code + JUMP)
-        ins = self.jumps[code]
-        if ins.call or ins.ret or ins.leads in tree.entries:
-            name = text[text.rfind(b"\n", 0, at) + 1:at].split(b" ", 1)[0]
-            hart = self.harts[name]
-            if ins.ret:
-                self.come_back(hart, text, name, at)
-            else:
-                hart.node = tree.called(hart.node, ins.pc) if ins.call else tree.went(hart.node, ins.pc)
-
-    def come_back(self, hart: Hart, text: bytes, name: bytes, behind: int) -> None:
-        """A hart's return leads to its next row, which may be in a later chunk."""
-        at = text.find(b"\n" + name + b" ", behind)
-        hart.returns = at < 0
-        if at >= 0:
-            hart.node = self.tree.returned(hart.node, int(text[at:at + 40].split(b" ", 3)[2], 16))
+                self.a0[name] = int(text[end + len(SET):end + len(SET) + 8], 16)
 
 
 def ranges(calls: Iterable[SystemCall]) -> list[tuple[int, int]]:
@@ -162,12 +129,9 @@ def ranges(calls: Iterable[SystemCall]) -> list[tuple[int, int]]:
         found, near = merged, near * 4
 
 
-def place_of(places: Places, tree: CallTree, write: Write) -> str:
+def place_of(places: Places, write: Write) -> str:
     """The place of a write, and the calls over it, innermost first."""
-    pcs = [write.pc] + tree.calls(write.node, MOST_FRAMES).calls
-    frames = [frame for pc in pcs for frame in places.frames(pc)][:MOST_FRAMES]
-    said = [f"{frame.function} {frame.file}:{frame.line}" if frame.line else frame.function for frame in frames]
-    return "  <  ".join(said) or f"{write.pc:08x}"
+    return places.chain([write.pc, *call_places(write.top, MOST_FRAMES)], MOST_FRAMES)
 
 
 def write_answer(places: Places, write: Write) -> dict[str, Any]:
@@ -181,15 +145,15 @@ def numbered(log: Log) -> dict[SystemCall, int]:
     return {call: at for at, call in enumerate(call for call in log.system_calls() if call.kind == WRITE_CALL)}
 
 
-def writes_of(log: Log, elf: Elf, tree: CallTree, numbers: dict[SystemCall, int], most: int) -> Iterator[Write]:
+def writes_of(log: Log, elf: Elf, stacks: Stacks, numbers: dict[SystemCall, int], most: int) -> Iterator[Write]:
     """The writes among about so many of the last rows of a log. `numbers` are those of the whole log's."""
     first = log.rows() - most if log.rows() > 2 * most else 0
-    return Reader(log, elf, tree, numbers).writes(after(first, chunks(log.name, elf.name, log=log)))
+    return Reader(log, elf, stacks, numbers).writes(after(first, chunks(log.name, elf.name, log=log)))
 
 
-def said_of(places: Places, tree: CallTree, write: Write) -> str:
+def said_of(places: Places, write: Write) -> str:
     stream = STREAMS.get(write.stream, f"stream {write.stream}")
-    return (f"{write.number:>3}. {counted(len(write.data), 'byte')} to {stream}, in {place_of(places, tree, write)}\n"
+    return (f"{write.number:>3}. {counted(len(write.data), 'byte')} to {stream}, in {place_of(places, write)}\n"
             f"     {quoted(write.data)}\n     {write.row}\n")
 
 
@@ -199,17 +163,18 @@ def main(words: list[str]) -> int:
     with closing(open_log(log_name)) as source:
         elf = Elf(elf_name)
         named = named_elf(elf, given.get("--names", ""))
-        all_rows, log, tree = source.whole(), source.end(most), CallTree(entries_of(named))
+        all_rows, log = source.whole(), source.end(most)
+        stacks = Stacks(entries_of(named), log.harts)
         numbers, listed = numbered(all_rows), []
         count = size = unknown = 0
         with closing(places_of(named)) as places:
-            for write in writes_of(log, elf, tree, numbers, most):
+            for write in writes_of(log, elf, stacks, numbers, most):
                 if "--json" in given:
                     listed.append(write_answer(places, write))
                 else:
                     hart, at, _ = write.row.split(" ", 2)
                     beside = ready(log_name, elf, named, int(hart), int(at))
-                    streams.put(said_of(places, tree, write) + "".join(f"     {line}\n" for line in beside))
+                    streams.put(said_of(places, write) + "".join(f"     {line}\n" for line in beside))
                 count, size, unknown = count + 1, size + len(write.data), unknown + write.data.count(None)
     before = len(numbers) - count
     if "--json" in given:

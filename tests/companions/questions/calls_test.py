@@ -86,16 +86,19 @@ class CallsTest(case.Case):
     def test_text_that_is_forgotten_loses_nothing(self):
         log, elf = self.record("heap", "--seed", "1"), self.elf("heap")
         said = []
-        for kept in (1 << 30, 1 << 10):
+        for kept in (1 << 30, 1 << 15, 1 << 10):
             with asked_of(log, elf, {}) as asked:
                 found = calls.Calls(asked, calls.function_of(asked.named, "put_text"), 1000, None)
                 found.window.kept = kept
-                found.registers.carries = kept < 1 << 30
                 rows = b"".join(asked.chunks())[1:].split(b"\n")
                 read((b"\n" + b"\n".join(rows[at:at + 10]) for at in range(0, len(rows), 10)), found)
                 found.finish()
                 said.append(calls.report(found))
-        self.assertEqual(said[0], said[1])
+        self.assertEqual(said[1:], said[:1] * 2)
+
+    def test_a_function_whose_parts_a_compiler_inlined_and_put_back(self):
+        log, elf = self.crash("libc_tree")
+        self.assertNotIn("(inlined)", self.compared(log, elf, "free"))
 
     def test_refusals(self):
         log, elf = self.crash("use_after_free")

@@ -73,23 +73,22 @@ class HistoryTest(case.Case):
         self.assertEqual(told(said), [row[:2] for row in rows[-2:]])
         self.assertIn("9 stores; the last 2 are told (--last N)\n", said)
 
-    def test_text_that_is_forgotten_loses_no_caller(self):
-        """With a window of a few rows the same is said, but for calls that are further back."""
-        from companion.questions import window
+    def test_a_caller_is_found_however_far_back_its_call_is(self):
+        """Chunks of a few rows each, and a loop of many calls between: the frames are followed, not looked for."""
         from companion.questions.history import History, report
         from companion.questions.reading import asked_of, read
         from companion.questions.variables import variable_of
         log, elf = self.record("heap", "--seed", "1"), self.elf("heap")
         said = []
-        for kept in (window.KEPT, 1 << 10):
+        for rows in (1, 10, 1 << 20):
             with asked_of(log, elf, {}) as asked:
-                found = History(asked, variable_of(asked.named, "00011b60"), 100, False)
-                found.window.kept = kept
-                text = b"".join(asked.chunks())
-                read((b"\n" + b"\n".join(rows) for rows in zip(*[iter(text[1:].split(b"\n"))] * 10)), found)
-                found.finish()
+                stacks = asked.stacks()
+                found = History(asked, stacks, variable_of(asked.named, "00011b60"), 100, False)
+                lines = b"".join(asked.chunks())[1:].split(b"\n")
+                read((b"\n" + b"\n".join(lines[at:at + rows]) for at in range(0, len(lines), rows)), stacks, found)
                 said.append(report(found))
-        self.assertEqual([line.split("  <  ")[0] for line in said[0]], [line.split("  <  ")[0] for line in said[1]])
+        self.assertEqual(said[0], said[2])
+        self.assertEqual(said[1], said[2])
         self.assertIn("_start", said[0][3])
 
     def test_what_a_read_call_fills_is_unknown_until_a_row_tells_it(self):

@@ -46,11 +46,6 @@ class ChunksTest(case.Case):
                 expected = [row for row in self.rows if place <= int(row.split(b" ")[2], 16) < place + size]
                 self.assertEqual(self.found(chunks.at(place, place + size)), expected)
 
-    def test_rows_of_jumps(self):
-        expected = [row for row in self.rows if row.split(b" ")[4] in (b"jal", b"jalr")]
-        self.assertEqual(self.found(chunks.JUMPS), expected)
-        self.assertTrue(expected)
-
     def test_rows_of_a_hart(self):
         log = read_log(self.log)
         for hart in range(4):
