@@ -31,6 +31,9 @@ class Checks:
         self.facts, self.memory, self.heap = judge.facts, judge.memory, judge.heap
         self.undefined, self.parts = UndefinedBits(judge), Parts(judge.facts)
         self.tables: list[Actions] = []
+        named = self.facts.program.function_named
+        # (one function that does both is no memcpy)
+        self.copies = named("memcpy") if named("memcpy") != named("memmove") else 0
 
     def operation(self, pc: int, word: int) -> Operation:
         """The instruction of a row. If its function's code was changed, what was known of it is forgotten."""
@@ -70,8 +73,21 @@ class Actions(Dict[bytes, Act]):
             found: Act = take
         else:
             found = self.action(self.checks.operation(pc, word))
+            if pc == self.checks.copies:
+                found = self.of_copy(found)
         self[key] = found
         return found
+
+    def of_copy(self, act: Act) -> Act:
+        """Of the first instruction of memcpy, whose ranges may be the same but not overlap."""
+        hart, judge = self.hart, self.checks.judge
+
+        def check(row: bytes) -> Optional[bool]:
+            to, source, size = (hart.value(A0 + at) for at in range(3))
+            if to is not None and source is not None and size is not None and 0 < abs(to - source) < size:
+                judge.tell_overlap(hart, row, size, size - abs(to - source))
+            return act(row)
+        return check
 
     def action(self, one: Operation) -> Act:
         if one.kind == ALU:

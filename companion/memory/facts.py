@@ -10,6 +10,7 @@ from .program import LONGEST_FUNCTION, Function, Program
 from .value import ABSOLUTE, ENTRY, FRAME, NUMBER, POINTER, UNKNOWN, WILD, State, Value, added, meet, mixed, moved, multiplied, subtracted
 
 SAVE = "__riscv_save_"      # functions of -msave-restore, that make their caller's frame
+STEPS_EACH = 200            # steps for each instruction of a function, at most: some 10 are usual
 MOST_VISITS = 8             # of a place by new states; after them it only loses facts, so that it ends
 
 
@@ -97,6 +98,7 @@ class Flow:
         self.visits: dict[int, int] = {}
         self.work: list[int] = []
         self.jump: Optional[State] = None       # what all computed jumps agree on
+        self.left = STEPS_EACH * len(self.code)
         self.shared = self.shared_words()
 
     def run(self) -> None:
@@ -105,7 +107,10 @@ class Flow:
             for pc in self.code:
                 if not self.operations[pc].known:
                     self.begin(pc, dict(self.jump))
-        self.find_slots()
+        if self.left < 0:
+            self.facts.forget(self.function)
+        else:
+            self.find_slots()
 
     def entry_state(self) -> State:
         state: State = {register: Value(ENTRY, register) for register in CALLEE_SAVED}
@@ -138,7 +143,7 @@ class Flow:
     def begin(self, pc: int, state: State) -> None:
         self.into.setdefault(pc, {})[0] = state
         self.work.append(pc)
-        while self.work:
+        while self.work and self.left >= 0:
             self.run_block(self.work.pop())
 
     def run_block(self, pc: int) -> None:
@@ -146,10 +151,12 @@ class Flow:
         self.visits[pc] = self.visits.get(pc, 0) + 1
         first, *others = self.into[pc].values()
         state = dict(first)
+        self.left -= len(others)
         for other in others:
             state = meet(state, other)
         while pc in self.code:
             one = self.operations[pc]
+            self.left -= 1
             one.known, one.base, one.other, one.stack = True, state.get(one.rs1), state.get(one.rs2), state.get(SP)
             self.take(one, state)
             if one.kind == BRANCH or one.kind == JAL and not one.rd:

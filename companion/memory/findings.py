@@ -13,12 +13,9 @@ MOST_FINDINGS = 400         # that are kept: each is a bug, and a list of so man
 # The kinds, by AddressSanitizer's names if it has one.
 HEAP, FREED, TWICE, NO_BLOCK, NULL = ("heap-buffer-overflow", "heap-use-after-free", "double-free", "invalid-free",
                                       "use-of-failed-allocation")
-GLOBAL, MEMBER, STACK, AFTER_RETURN, AFTER_SCOPE = ("global-buffer-overflow", "member-overflow", "stack-buffer-overflow",
-                                                    "stack-use-after-return", "stack-use-after-scope")
+GLOBAL, MEMBER, STACK, AFTER_RETURN = "global-buffer-overflow", "member-overflow", "stack-buffer-overflow", "stack-use-after-return"
 DEPTH, REGISTER, RETURN, POINTER = "stack-overflow", "saved-register-overwritten", "return-address-overwritten", "invalid-pointer-stored"
 UNINITIALIZED, OVERLAP, LEAK = "use-of-uninitialized-value", "memcpy-param-overlap", "memory-leak"
-KINDS = (HEAP, FREED, TWICE, NO_BLOCK, NULL, GLOBAL, MEMBER, STACK, AFTER_RETURN, AFTER_SCOPE, DEPTH, REGISTER, RETURN, POINTER,
-         UNINITIALIZED, OVERLAP, LEAK)
 
 
 @dataclass

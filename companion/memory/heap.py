@@ -25,6 +25,7 @@ ALLOCATORS = {
     "_free_r": (GIVES_BACK, 1), "_memalign_r": (TAKES, 2)}
 BEFORE, BEHIND = 4, 16      # bytes beside a block that are the allocator's own, if they are no other block's
 MOST_GONE = 4096            # blocks that were given back and are remembered by address
+MOST_OVER = 8               # blocks that were given back, of other sizes, in which the same byte can have been
 MOST_ARGUMENTS = 8
 OPTION = re.compile(r"([\w.$]+)(?::(=?)([0-9]+))?")
 
@@ -88,6 +89,7 @@ class Heap:
         self.live: Dict[int, Thing] = {}
         self.begins: List[int] = []
         self.gone: Dict[int, Thing] = {}
+        self.gone_begins: List[int] = []
         self.failed: Optional[tuple[Event, int, int, int]] = None
 
     def holding(self, address: int) -> Optional[Thing]:
@@ -102,7 +104,9 @@ class Heap:
         before = self.live[self.begins[at]] if at >= 0 else None
         if before and address < before.end + BEHIND:
             return before
-        was = next((one for one in self.gone.values() if one.begin <= address < one.end), None)
+        at_gone = bisect.bisect_right(self.gone_begins, address)
+        was = next((one for one in (self.gone[begin] for begin in self.gone_begins[max(0, at_gone - MOST_OVER):at_gone][::-1])
+                    if address < one.end), None)
         if was is None and at + 1 < len(self.begins) and self.begins[at + 1] - address <= BEFORE:
             return self.live[self.begins[at + 1]]
         return was or before
@@ -202,7 +206,7 @@ class Heap:
             self.release(self.live[begin], awaited.when)
         block = self.live[begin] = Thing(begin, end, BLOCK, awaited.name, awaited.when)
         bisect.insort(self.begins, begin)
-        self.gone.pop(begin, None)
+        self.forget(begin)
         self.memory.fill(begin, end, GOOD if awaited.does == CLEARS else UNWRITTEN)
         self.memory.forget_tags(begin, end)
         if awaited.name in ALLOCATORS:
@@ -226,10 +230,17 @@ class Heap:
         at = bisect.bisect_left(self.begins, begin)
         if at < len(self.begins) and self.begins[at] == begin:
             del self.begins[at]
+        self.forget(begin)
         self.gone[begin] = block
+        bisect.insort(self.gone_begins, begin)
         if len(self.gone) > MOST_GONE:
-            self.gone.pop(next(iter(self.gone)))
+            self.forget(next(iter(self.gone)))
         self.memory.fill(begin, end, FREED)
+
+    def forget(self, begin: int) -> None:
+        """The block that was given back there isn't remembered by its address any longer."""
+        if self.gone.pop(begin, None) is not None:
+            del self.gone_begins[bisect.bisect_left(self.gone_begins, begin)]
 
     def resize(self, block: Thing, awaited: Awaited) -> None:
         """A block stays at its place, and is longer or shorter now."""

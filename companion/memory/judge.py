@@ -7,7 +7,7 @@ from typing import Hashable, Iterator, List, NamedTuple, Optional
 from ..recording.instruction import NAMES
 from .facts import Facts
 from .findings import (
-    AFTER_RETURN, FREED as FREED_KIND, GLOBAL as GLOBAL_KIND, HEAP, MEMBER as MEMBER_KIND, NULL as NULL_KIND, REGISTER, STACK,
+    AFTER_RETURN, FREED as FREED_KIND, GLOBAL as GLOBAL_KIND, HEAP, MEMBER as MEMBER_KIND, NULL as NULL_KIND, OVERLAP, REGISTER, STACK,
     Finding, Findings)
 from .heap import Heap
 from .operation import ALU, AMO, BRANCH, FULL, JAL, JALR, LOAD, SP, STORE, Operation
@@ -21,6 +21,7 @@ BY_WORDS = re.compile(r"_*(str|mem|rawmemchr|stpcpy|stpncpy|index|bcopy|bzero|bc
 ROWS_BACK, ROWS_OF_LOOP = 3000, 20000   # in which a pointer's origin, and the end of a loop before, are looked for
 ANCHOR = 16                 # bytes: a place so little before an object may be meant as its begin, less an index
 FAR = 64                    # bytes: an access farther from an object, by an index alone, is another object's
+MOST_SEARCHES = 2000        # for origins: each takes up to 10 ms
 NEXT = 8                    # bytes between objects that follow each other
 
 
@@ -69,6 +70,7 @@ class Judge:
         self.made: set[int] = set()
         self.limited: set[int] = set()
         self.anchors: set[Hashable] = set()
+        self.searches = 0
 
     def load(self, access: Access, thing: Optional[Thing]) -> int:
         """Tells what is wrong. Gives the bits that are loaded and that nobody wrote."""
@@ -136,7 +138,8 @@ class Judge:
             return
         origin, does = 0, ""
         if key not in self.findings.kept:
-            made = self.origin(access, thing)
+            self.searches += 1
+            made = self.origin(access, thing) if self.searches < MOST_SEARCHES else None
             if made is None:
                 self.anchors.add(key)
                 self.findings.unknown[ANCHORED] += 1
@@ -220,6 +223,11 @@ class Judge:
             if not registers:
                 return False
         return False
+
+    def tell_overlap(self, hart: Hart, row: bytes, size: int, common: int) -> None:
+        when = hart.event(row, pc_of(row))
+        self.findings.add((OVERLAP, when.pcs[1:2]), Finding(
+            OVERLAP, f"memcpy of {size} bytes between places that have {common} bytes in common", when))
 
     # To bytes that are no one's, whatever the pointer was made for.
 

@@ -49,6 +49,8 @@ CASES = (
     ("unwritten_copied", findings.UNINITIALIZED, "4 bytes into a block of 8 bytes", "unwritten_copied"),
     ("unwritten_out", findings.UNINITIALIZED, "byte 7 of 8 that are written out is one that nobody wrote", "system_call"),
     ("leak", findings.LEAK, "1 block of 8 bytes, 1 of them reached by no pointer, taken in leak", ""),
+    ("overlapping", findings.OVERLAP, "memcpy of 8 bytes between places that have 1 bytes in common", "memcpy, called in overlapping"),
+    ("lends", findings.FREED, "store of 1, 0 bytes into a block of 8 bytes that was given back", "set"),
 )
 NUMBERS = {name: at for at, (name, *_) in enumerate(CASES)}
 programs = {}
@@ -103,7 +105,7 @@ class MemoryTest(case.Case):
         key = name, which, hart
         if key not in case.logs:
             given = common.written(common.path("given"), chr(ord("a") + NUMBERS[name]) + which + str(hart))
-            harts = ["--harts", str(hart + 1)] if hart else []
+            harts = ["--harts", "2"] if hart or name == "lends" else []
             case.logs[key] = common.record("-".join(map(str, key)), self.program, "--seed", "3", "--input", given, *harts)
         return case.logs[key]
 
@@ -139,16 +141,26 @@ class MemoryTest(case.Case):
     def test_good_twins_are_silent(self):
         for name, *_ in CASES:
             for hart in (0, 1):
+                if hart and name == "lends":
+                    continue
                 with self.subTest(name, hart=hart):
                     self.assertEqual(self.run_of(self.log(name, "g", hart), self.program).findings.in_order(), [])
         self.assertNotIn("memory-leak", self.lines_of(self.log("leak", "g"), self.program))
 
     def test_another_hart_is_told_the_same(self):
-        for name, kind, text, _ in CASES[:-1]:
+        for name, kind, text, _ in CASES:
+            if name in ("leak", "lends"):       # (no finding; of two harts by itself)
+                continue
             with self.subTest(name):
                 found = self.run_of(self.log(name, "b", 1), self.program).findings.in_order()
                 self.assertEqual((found[0].kind, found[0].when.hart), (kind, 1))
                 self.assertIn(text, found[0].text)
+
+    def test_what_another_hart_gave_back(self):
+        found, = self.run_of(self.log("lends", "b"), self.program).findings.in_order()
+        self.assertEqual((found.kind, found.when.hart, found.thing.taken.hart, found.thing.gone.hart), (findings.FREED, 0, 0, 1))
+        self.needs_addr2line()
+        self.assertRegex(self.lines_of(self.log("lends", "b"), self.program), r"given back in gives_back .*: another hart\n")
 
     def test_of_a_lost_beginning_nothing_is_told_that_needs_it(self):
         """Each end of a good recording is silent, too."""

@@ -16,7 +16,7 @@ SP, RA, S0, S1, ROUNDS = 2, 1, 8, 9, 28
 LEAST, MOST = 0.05, 3           # seconds that are told from none, and how much longer twice the rows may take
 BYTE, SWAP = 0, 1               # kinds of a load or store, and of an atomic instruction
 FAULT = [addi(T1, 0, -1), load(T2, T2)]
-COMPANIONS = "why", "view", "race", "bucket", "output", "history", "calls", "find", "compare"
+COMPANIONS = "why", "view", "race", "bucket", "output", "history", "calls", "find", "compare", "memory"
 BEGINS = {"recursion": 1, "gives": 13}          # the word at which the function begins that is called
 
 

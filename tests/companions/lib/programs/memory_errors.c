@@ -249,10 +249,46 @@ NOINLINE static void leak(unsigned bad)
     nodes[2].next = bad ? 0 : node;
 }
 
+NOINLINE static void overlapping(unsigned bad)
+{
+    char *text = calloc(4, 4);
+    memcpy(text + 8 - bad, text, sink + 8);
+    memcpy(text, text, sink + 8);
+    free(text);
+}
+
+/* Hart 1 gives back what hart 0 has taken. */
+static char *shared;
+
+static void wait_for(unsigned number)
+{
+    while (__atomic_load_n(&turn, __ATOMIC_SEQ_CST) != number)
+        ;
+}
+
+NOINLINE static void lends(unsigned bad)
+{
+    shared = malloc(8);
+    set(shared, 1, 1);
+    if (!bad)
+        set(shared, 0, 1);
+    __atomic_store_n(&turn, 2, __ATOMIC_SEQ_CST);
+    wait_for(3);
+    if (bad)
+        set(shared, 0, 1);
+}
+
+static void gives_back(void)
+{
+    wait_for(2);
+    free(shared);
+    __atomic_store_n(&turn, 3, __ATOMIC_SEQ_CST);
+}
+
 static void (*const cases[])(unsigned) = {
     heap_after, heap_before, heap_by_copy, freed, freed_twice, freed_inside, freed_global, failed, resized, aligned, global_after,
     member_after, block_member_after, stack_after, after_return, depth, over_return_address, no_pointer, unwritten_block,
-    unwritten_local, unwritten_copied, unwritten_out, leak};
+    unwritten_local, unwritten_copied, unwritten_out, leak, overlapping, lends};
 
 static void work(int hart)
 {
@@ -272,6 +308,8 @@ int other_harts(int hart)
 {
     while (!__atomic_load_n(&turn, __ATOMIC_SEQ_CST))
         ;
+    if (input[0] == 'y' && hart == 1)
+        gives_back();
     work(hart);
     return 0;
 }

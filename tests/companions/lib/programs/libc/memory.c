@@ -31,6 +31,11 @@ char *copy(char *to, const char *from, size bytes)
     return to;
 }
 
+void *memcpy(void *to, const void *from, size bytes)
+{
+    return copy(to, from, bytes);
+}
+
 void *calloc(size count, size bytes)
 {
     char *block = malloc(count * bytes);

@@ -6,4 +6,5 @@ void *calloc(size count, size bytes);
 void *realloc(void *block, size bytes);
 int posix_memalign(void **block, size alignment, size bytes);
 void free(void *block);
+void *memcpy(void *to, const void *from, size bytes);
 char *copy(char *to, const char *from, size bytes);

@@ -1,0 +1,96 @@
+"""What debug information says of types, beside gdb's own answers, and of files that are forged."""
+import random
+import re
+import shutil
+import subprocess
+import unittest.mock
+
+import case
+import common
+
+from companion.memory import facts
+from companion.memory.parts import Parts
+from companion.memory.program import Program
+from companion.recording import dwarf
+from companion.recording.dwarf import ARRAY, BYTE_SIZE, MEMBER, OFFSET, POINTER, STRUCT, SUBRANGE, TYPE, UPPER, Dwarf, Entry, Unit
+from companion.recording.elf import Elf
+from companion.recording.types import Types
+
+GDB = "gdb-multiarch"
+NAMES = "heap", "filters", "table", "prices"
+
+
+def questions(program):
+    """(expression for gdb, what the program's types say) of each global object whose name is its own."""
+    names = [each.name for each in program.objects]
+    for each in program.objects:
+        kind = program.types_of_objects.get(each.begin)
+        if kind is None or names.count(each.name) > 1 or "." in each.name:
+            continue
+        yield f"sizeof({each.name})", program.types.size(kind)
+        for path, begin, end in program.types.arrays(kind):
+            yield f"(unsigned)&{each.name}{path}", each.begin + begin
+            yield f"sizeof({each.name}{path})", end - begin
+
+
+class DwarfTest(case.Case):
+    def test_sizes_and_places_are_gdbs(self):
+        if not shutil.which(GDB):
+            self.skipTest(f"{GDB} isn't installed")
+        asked = 0
+        for elf in [self.elf(name) for name in NAMES] + [each.elf for each in list(common.crashes().values())[:40:3]]:
+            wanted = list(questions(Program(Elf(elf))))
+            words = [word for expression, _ in wanted for word in ("-ex", f"print/d {expression}")]
+            said = subprocess.run([GDB, "-batch", "-nx", *words, elf], stdout=subprocess.PIPE, stderr=subprocess.STDOUT).stdout.decode()
+            told = [int(value) for value in re.findall(r"^\$\d+ = (\d+)$", said, re.M)]
+            self.assertEqual(told, [value for _, value in wanted], elf)
+            asked += len(told)
+        self.assertGreater(asked, 100)
+
+    def test_damaged_files(self):
+        """Each byte of the debug information can be another: the rest is read, or nothing."""
+        data, draw = common.content(self.elf("table")), random.Random(7)
+        parts = [data.index(part) for name, part in dwarf.sections_of(data).items() if name in (".debug_info", ".debug_abbrev")]
+        for _ in range(60):
+            forged = bytearray(data)
+            for _ in range(20):
+                forged[draw.choice(parts) + draw.randrange(400)] = draw.randrange(256)
+            program = Program(Elf(common.written(common.path("forged.elf"), bytes(forged))))
+            for each in program.objects:
+                kind = program.types_of_objects.get(each.begin)
+                self.assertLessEqual(len(program.types.pointers_in(kind)), 1 << 16)
+                program.types.structures_at(kind, each.begin, each.begin + 8, "")
+            parts_of = Parts(facts.Facts(program))
+            for symbol in program.elf.functions:
+                program.parameters(symbol.address)
+                parts_of.place(symbol.address, -16)
+
+    def types_of(self, *entries):
+        """Types of entries that are made here: (place, tag, what is told, the entries below)."""
+        found = Dwarf.__new__(Dwarf)
+        found.entries = {}
+        for at, tag, told, below in entries:
+            found.entries[at] = Entry(at, tag, told, Unit("", ""))
+            found.entries[at].below = [Entry(0, part, also, Unit("", "")) for part, also in below]
+        return Types(found)
+
+    def test_types_that_hold_themselves(self):
+        """An array of itself, a structure in itself, and structures that double at each level."""
+        doubled = [(at, STRUCT, {BYTE_SIZE: 1 << 20}, [(MEMBER, {OFFSET: 64 * part, TYPE: at + 1}) for part in range(2)])
+                   for at in range(10, 60)]
+        types = self.types_of((1, ARRAY, {TYPE: 1}, [(SUBRANGE, {UPPER: 3})]), (2, STRUCT, {BYTE_SIZE: 8}, [(MEMBER, {TYPE: 2})]),
+                              (3, 0x16, {TYPE: 3}, []), *doubled, (60, POINTER, {TYPE: 60}, []))
+        for kind in (1, 2, 3, 10, 60):
+            self.assertLess(types.size(kind), 1 << 26)
+            self.assertLessEqual(len(types.arrays(kind)), 1 << 20)
+            self.assertLessEqual(len(types.pointers_in(kind)), 1 << 16)
+            types.pointee_at(kind, 0)
+            types.structures_at(kind, 0, 4, "")
+
+    def test_an_analysis_that_takes_too_long_is_left(self):
+        """Then nothing is known of the function."""
+        elf = Elf(self.elf("heap"))
+        main = next(symbol.address for symbol in elf.functions if symbol.name == "main")
+        for steps, known in ((200, True), (0, False)):
+            with unittest.mock.patch.object(facts, "STEPS_EACH", steps):
+                self.assertEqual(facts.Facts(Program(elf)).at(main, elf.word(main)).known, known)
