@@ -1,6 +1,6 @@
 #!/usr/bin/env python3
-"""The compiler of GDB's tests: riscv64-unknown-elf-gcc for static RV32IMA programs with picolibc, as
-in examples/picolibc.
+"""The compiler of GDB's tests: riscv64-unknown-elf-gcc for static RV32IMA programs with picolibc,
+as in examples/picolibc.
 
 Sources are compiled for rv32ima and linked with the library for rv32im: Debian's picolibc for
 rv32ima has no multiplication."""

@@ -7,7 +7,7 @@ far as the log shows it:
 
 write    it writes memory or a register, or calls a function of the program
 after    an earlier test of the file did, and so the state isn't what this one expects
-end      it waits for the program's exit; a recording ends, and its program doesn't
+end      it or a test before it waits for the program's exit; a recording ends, its program doesn't
 other    has to be looked at: these are listed below the table"""
 import os
 import re
@@ -46,25 +46,29 @@ def results(log: str) -> Iterator[Result]:
                 said += line
 
 
-def cause(result: Result, wrote: bool) -> str:
+def cause(result: Result, wrote: bool, ended: bool) -> str:
     if WRITE.search(result.said + result.name):
         return "write"
     if END in result.said:
         return "end"
-    return "after" if wrote else "other"
+    if wrote:
+        return "after"
+    return "end" if ended else "other"
 
 
 def main(bridge: str, control: str) -> None:
     # By file, and whether it is the bridge.
     counts: Dict[Tuple[str, bool], Counter] = defaultdict(Counter)
     causes: Dict[str, Counter] = defaultdict(Counter)
-    wrote, others = set(), []   # files that wrote, and failures without another cause
+    wrote, ended, others = set(), set(), []     # files that did, and failures without another cause
     for is_bridge, folder in enumerate((control, bridge)):
         for result in results(os.path.join(folder, "gdb.log")):
             counts[result.file, bool(is_bridge)][result.passed] += 1
             if is_bridge and not result.passed:
-                why = cause(result, result.file in wrote)
+                why = cause(result, result.file in wrote, result.file in ended)
                 causes[result.file][why] += 1
+                if why == "end":
+                    ended.add(result.file)
                 if why == "other":
                     others.append(f"{result.file}: {result.name}")
             if is_bridge and WRITE.search(result.said):
