@@ -11,6 +11,7 @@ from typing import Any
 
 gdb: Any = importlib.import_module("gdb")     # only there inside of gdb
 MOST_PARTS, DEEPEST = 4000, 12      # of a type
+ASSEMBLY = ".s", ".sx", ".asm"      # sources whose functions have no parameters for DWARF, whatever they take
 PLAIN = {gdb.TYPE_CODE_INT: "int", gdb.TYPE_CODE_CHAR: "int", gdb.TYPE_CODE_BOOL: "bool", gdb.TYPE_CODE_FLT: "float",
          gdb.TYPE_CODE_PTR: "pointer", gdb.TYPE_CODE_REF: "pointer"}
 
@@ -90,7 +91,7 @@ def function(name: str) -> dict[str, Any]:
     begins: list[dict[str, Any]] = []
     for location in point.locations:
         block = block_of(location.address, name)
-        if block is None:
+        if block is None or block.function.symtab.filename.lower().endswith(ASSEMBLY):
             continue
         if depth_of(block):
             begins.append({"address": location.address, "inlined": True, "depth": depth_of(block)})
