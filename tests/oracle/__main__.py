@@ -1,7 +1,7 @@
 """python3 -m tests.oracle [--seed N] [--minutes M | --recordings N] [--only WORD] [--case NAME] [--project DIR] [--keep DIR]
 
-Compares what the companions say with the oracle's answers, of random programs from a number on. `--only` asks one word (history,
-calls, find ..), `--project` asks the companions of another checkout than this. Each difference is told with the recording's
+Compares what the companions say with the oracle's answers, of random programs from a number on. `--only` asks some words (history,
+calls ..), `--project` asks the companions of another checkout than this. Each difference is told with the recording's
 command, the question and both answers; its files are kept below --keep. The status is 1 if there is one."""
 from __future__ import annotations
 
@@ -25,16 +25,18 @@ from .of_export import ask_export
 from .of_find import ask_find
 from .of_gdb import ask_gdb
 from .of_history import ask_history
+from .of_names import ask_bucket, ask_names
 from .of_output import ask_output
+from .of_page import ask_page
 from .of_race import ask_race
 from .of_same import ask_same
 from .of_why import ask_why
 from .program import Program
 
 TOP = os.path.dirname(os.path.dirname(os.path.dirname(os.path.abspath(__file__))))
-WORDS: Dict[str, Callable[[Asked, random.Random], None]] = {"history": ask_history, "calls": ask_calls, "find": ask_find,
-                                                            "export": ask_export, "output": ask_output, "race": ask_race, "why": ask_why,
-                                                            "same": ask_same, "gdb": ask_gdb}
+WORDS: Dict[str, Callable[[Asked, random.Random], None]] = {
+    "history": ask_history, "calls": ask_calls, "find": ask_find, "export": ask_export, "output": ask_output, "race": ask_race,
+    "why": ask_why, "names": ask_names, "bucket": ask_bucket, "same": ask_same, "page": ask_page, "gdb": ask_gdb}
 
 
 def asked_of(given: argparse.Namespace, server: Server, recorded: building.Recorded, tally: Tally, has_gdb: bool) -> Asked:
@@ -46,7 +48,7 @@ def asked_of(given: argparse.Namespace, server: Server, recorded: building.Recor
 
 def ask_all(given: argparse.Namespace, asked: Asked, seed: int) -> None:
     for word, ask in WORDS.items():
-        if given.only in ("", word):
+        if not given.only or word in given.only.split(","):
             ask(asked, random.Random(f"{seed} {word}"))
 
 
@@ -81,11 +83,13 @@ class Session:
 
     def try_case(self, folder: str, case: Case) -> None:
         """A program that is kept."""
-        elf = building.compiled(folder, case.name, case.code(), *case.compile)
+        elf = named = case.built(folder)
+        if case.is_stripped:
+            elf = building.stripped(folder, named)
         options = list(case.record) if "--seed" in case.record else ["--seed", "1", *case.record]
         both = []
         for number, read in enumerate((case.first, case.second)[:2 if case.second else 1]):
-            recorded = building.recorded(self.given.program, elf, elf, case.harts, *options, read=read, number=number)
+            recorded = building.recorded(self.given.program, folder, elf, named, case.harts, *options, read=read, number=number)
             both.append(asked_of(self.given, self.server, recorded, self.tally, case.has_gdb))
         case.ask(both[0])
         if case.second:
@@ -104,7 +108,7 @@ class Session:
 
     def cases(self, chosen: str) -> None:
         for case in CASES:
-            if chosen == case.name or chosen == "all" and not case.is_big:
+            if chosen == case.name or chosen == "all" and not case.is_big and case.can_be_built():
                 self.attempt(case.name, functools.partial(self.try_case, case=case))
 
     def seeds(self) -> None:

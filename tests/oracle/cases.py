@@ -1,14 +1,23 @@
-"""Programs that a companion once told something wrong about: each asks just that. They are tried before drawn programs."""
+"""Programs that a companion once told something wrong about: each asks just that. They are tried before drawn programs; those whose
+logs are big only if they are named."""
 from __future__ import annotations
 
 import os
 import random
 from typing import Callable, NamedTuple, Sequence
 
+from . import building
 from .asking import Asked
-from .of_calls import ask_condition, ask_function
+from .of_calls import ask_calls, ask_condition, ask_function
 from .of_export import ask_export
-from .of_history import ask_variable
+from .of_find import ask_find
+from .of_gdb import ask_gdb
+from .of_history import ask_history, ask_variable
+from .of_names import ask_bucket, ask_names
+from .of_output import ask_output
+from .of_page import ask_page
+from .of_race import ask_race
+from .of_same import ask_same
 from .of_why import ask_why
 
 Ask = Callable[[Asked], None]
@@ -17,7 +26,8 @@ SOURCES = os.path.join(os.path.dirname(os.path.abspath(__file__)), "cases")
 
 
 class Case(NamedTuple):
-    """`code` is compiled by these options, and recorded by those. With `second` it is recorded again of that input, to compare."""
+    """A program of the folder cases, or a file of the repository, that is compiled by these options, and recorded by those. With
+    `second` it is recorded again of that input, to compare. What comes after a - in the name tells cases of one program apart."""
     name: str
     compile: Sequence[str]
     record: Sequence[str]
@@ -27,10 +37,20 @@ class Case(NamedTuple):
     first: bytes = b""
     second: bytes = b""
     is_big: bool = False
+    is_stripped: bool = False
+    library: bool = False
+    elf: str = ""
 
-    def code(self) -> str:
+    def built(self, folder: str) -> str:
+        """Its ELF file."""
+        if self.elf:
+            return os.path.join(building.TOP, self.elf)
         with open(os.path.join(SOURCES, self.name.split("-")[0] + ".c"), encoding="utf-8") as file:
-            return file.read()
+            code = file.read()
+        return (building.compiled_with_library if self.library else building.compiled)(folder, self.name, code, *self.compile)
+
+    def can_be_built(self) -> bool:
+        return not self.library or building.has_library()
 
 
 def calls(*names: str, where: Sequence[Sequence[str]] = ()) -> Ask:
@@ -55,8 +75,13 @@ def why(*words: str) -> Ask:
     return lambda asked: ask_why(asked, DRAW, *words)
 
 
-def export(asked: Asked) -> None:
-    ask_export(asked, DRAW)
+def all_of(*asks: Callable[[Asked, random.Random], None], times: int = 1) -> Ask:
+    """What drawn programs are asked, so many times."""
+    def ask(asked: Asked) -> None:
+        draw = random.Random(1)
+        for each in asks * times:
+            each(asked, draw)
+    return ask
 
 
 G = "-g"
@@ -66,10 +91,10 @@ CASES = [
     Case("tails-history", ["-O2", G], [], history("turns")),
     Case("far", ["-O1", G], [], history("after")),
     Case("far-slow", ["-O1"], [], calls("leaf")),
-    Case("start", ["-O2", G], [], calls("main", "raw_sum", "sized_sum", where=[("main", "harts", "==", "1")])),
+    Case("start", ["-O2", G], [], calls("main", "raw_sum", "sized_sum", "through", "seven", where=[("main", "harts", "==", "1")])),
     Case("decimal", ["-O2", G], [], calls("much", where=[("much", "result", "==", "72149959")])),
     Case("saved", ["-Os", G, "-msave-restore"], [], restores),
-    Case("loops", ["-Os", G], [], export),
+    Case("loops", ["-Os", G], [], all_of(ask_export)),
     Case("gcd", ["-Os", G], [], why()),
     Case("start-plain", ["-O2"], [], calls("main"), has_gdb=False),
     Case("moves", ["-O2", G], [], calls("move", where=[("move", "n", "==", "5")])),
@@ -80,5 +105,20 @@ CASES = [
     Case("readers", ["-O2", G], ["--seed", "3"], why(), harts=2),
     Case("other_byte", ["-O2", G], [], lambda asked: None, first=b"ab", second=b"x"),
     Case("read_call", ["-O2", G], [], lambda asked: None, first=b"abxdefgh", second=b"abcdefgh"),
-    Case("seldom", ["-O1", G], ["--limit", "2M"], history("rare"), is_big=True),
+    Case("heap", ["-O2", G], [], calls("free", "malloc"), library=True),
+    Case("heap-stripped", ["-O2", G], [], calls("main"), library=True, is_stripped=True),
+    Case("constants", [], ["--limit", "300000"], why(), elf="tests/crashes/jump_shape.elf"),
+    Case("shop-history", ["-O2", G], [], all_of(ask_history)),
+    Case("shop-calls", ["-O1", G], [], all_of(ask_calls)),
+    Case("shop-find", ["-O2", G], [], all_of(ask_find)),
+    Case("shop-export", ["-O2", G], [], all_of(ask_export)),
+    Case("shop-output", ["-O0", G], [], all_of(ask_output)),
+    Case("shop-why", ["-O1", G], [], why()),
+    Case("shop-names", ["-O2", G], [], all_of(ask_names, ask_bucket)),
+    Case("shop-same", ["-Os", G], [], all_of(ask_same, times=2)),
+    Case("shop-page", ["-O1", G], [], all_of(ask_page)),
+    Case("shop-gdb", ["-O1", G], [], all_of(ask_gdb)),
+    Case("harts", ["-O2", G], ["--limit", "8000", "--log-size", "16384"], all_of(ask_race, ask_history), harts=4),
+    Case("seldom", ["-O1", G], ["--limit", "2000000"], history("rare"), is_big=True),
+    Case("sift", ["-O2", G], ["--limit", "2000000"], calls("sift_down"), is_big=True),
 ]

@@ -32,7 +32,8 @@ def backs(frame: Any) -> List[int]:
 
 def state(hart: int, count: int, words: List[int]) -> Dict[str, Any]:
     gdb.execute(f"monitor goto {hart}:{count}", to_string=True)
-    gdb.execute("maintenance flush register-cache", to_string=True)
+    for cache in ("register-cache", "dcache"):          # gdb doesn't know that it is elsewhere: it keeps the stack, too
+        gdb.execute(f"maintenance flush {cache}", to_string=True)
     gdb.execute(f"thread {hart + 1}", to_string=True)
     frame = gdb.newest_frame()
     registers = [int(frame.read_register(name)) & MASK for name in NAMES]
@@ -43,7 +44,8 @@ def state(hart: int, count: int, words: List[int]) -> Dict[str, Any]:
 def main() -> None:
     with open(os.environ["ASKED"], encoding="utf-8") as file:
         asked = json.load(file)
-    said = [state(*each) for each in asked]
+    said = {"states": [state(*each) for each in asked["places"]],
+            "answers": [gdb.execute(f"monitor {each}", to_string=True) for each in asked["questions"]]}
     with open(os.environ["ANSWER"], "w", encoding="utf-8") as file:
         json.dump(said, file)
 

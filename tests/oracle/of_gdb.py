@@ -57,20 +57,20 @@ def states(asked: Asked, numbers: Sequence[int], draw: random.Random) -> List[St
     return found
 
 
-def told_by_gdb(asked: Asked, places: Sequence[Any]) -> List[Dict[str, Any]]:
+def told_by_gdb(asked: Asked, places: Sequence[Any], questions: Sequence[str]) -> Dict[str, Any]:
     bridge = f"{sys.executable} -B {os.path.join(asked.server.project, 'companion')} gdb {asked.recorded.log} {asked.recorded.elf}"
     with tempfile.TemporaryDirectory() as folder:
         wanted, answer = os.path.join(folder, "asked"), os.path.join(folder, "answer")
         with open(wanted, "w", encoding="utf-8") as file:
-            json.dump(places, file)
+            json.dump({"places": places, "questions": questions}, file)
         done = subprocess.run([GDB, "-q", "-nx", "-batch", "-ex", "set remotetimeout 300", "-ex", f"file {asked.recorded.named}",
                                "-ex", f"target remote | {bridge}", "-x", INSIDE], stdout=subprocess.PIPE, stderr=subprocess.STDOUT, check=False,
                               env={**os.environ, **asked.environment, "ASKED": wanted, "ANSWER": answer}, text=True, errors="replace")
         if not os.path.exists(answer):
             asked.differs("gdb: no answer", ["gdb"], done.stdout[-300:], "an answer")
-            return []
+            return {"states": [], "answers": []}
         with open(answer, encoding="utf-8") as file:
-            found: List[Dict[str, Any]] = json.load(file)
+            found: Dict[str, Any] = json.load(file)
     return found
 
 
@@ -80,15 +80,21 @@ def ask_gdb(asked: Asked, draw: random.Random) -> None:
         return
     numbers = sorted(draw.sample(range(len(rows)), min(ROWS, len(rows))))
     true = states(asked, numbers, draw)
-    told = told_by_gdb(asked, [[rows[number].hart, rows[number].ic, sorted(state.words)] for number, state in zip(numbers, true)])
-    for number, state, one in zip(numbers, true, told):
+    objects = [each.name for each in asked.program.symbols if each.kind == "OBJECT" and 0 < each.size <= 64]
+    names = [f"history {draw.choice(objects)}"] if objects and not asked.names() else []
+    told = told_by_gdb(asked, [[rows[number].hart, rows[number].ic, sorted(state.words)] for number, state in zip(numbers, true)], names)
+    for question, answer in zip(names, told["answers"]):
+        word, what = question.split(" ")
+        asked.same("gdb: monitor", [question], answer.splitlines(), asked.text(word, what))
+    for number, state, one in zip(numbers, true, told["states"]):
         at = f"at {rows[number].hart}:{rows[number].ic}"
         asked.same("gdb: pc", [at], one["pc"], state.pc)
         for name, value in zip(NAMES, one["registers"]):
             asked.same("gdb: registers", [at], (at, name, value), (at, name, state.registers[REGISTER[name]]))
-        for word, value in state.words.items():
-            if value is not None:               # (gdb may know more: what the session has seen further ahead)
-                asked.same("gdb: memory", [at], (at, f"{word:08x}", one["words"][str(word)]), (at, f"{word:08x}", value))
+        for address, value in state.words.items():
+            # (gdb may know more: what the session has seen further ahead. Harts of a log that lost rows can have another order.)
+            if value is not None and (asked.recorded.is_whole or asked.recorded.harts == 1):
+                asked.same("gdb: memory", [at], (at, f"{address:08x}", one["words"][str(address)]), (at, f"{address:08x}", value))
         if asked.program.types["functions"] and asked.recorded.is_whole and one["backs"] and one["is_described"]:
             size = min(len(one["backs"]), len(state.backs))
             asked.same("gdb: backtrace", [at], (at, one["backs"][:size]), (at, state.backs[:size]))

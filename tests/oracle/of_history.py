@@ -64,17 +64,17 @@ class Index:
         found = []
         for number in sorted(numbers):
             row, fill = self.machine.rows[number], self.fills.get(number)
-            old = [known[address + i] for i in range(size)]
             first, end = self.touched(row, fill)
+            if row.load and row.load.address & ~3 in words:         # of an atomic: it tells what was there before
+                known.update((row.load.address & ~3 | i, row.load.value >> 8 * i & 255) for i in range(4))
+            old = [known[address + i] for i in range(size)]
             if fill and first < address + size and address < end:
                 for word in words:
                     if word < end and first < word + 4:
                         known.update(dict.fromkeys(range(word, word + 4)))
                 found.append(Stored(row, fill, first, end, old, [known[address + i] for i in range(size)]))
-            for access in (row.load, row.store):
-                word = access.address & ~3 if access else -1
-                if access and word in words:
-                    known.update((word + i, access.value >> 8 * i & 255) for i in range(4))
+            if row.store and row.store.address & ~3 in words:
+                known.update((row.store.address & ~3 | i, row.store.value >> 8 * i & 255) for i in range(4))
             if row.store and first < address + size and address < end:
                 found.append(Stored(row, None, first, end, old, [known[address + i] for i in range(size)]))
         return found
@@ -141,6 +141,8 @@ def ask_history(asked: Asked, draw: random.Random, most: int = 5) -> None:
     index = Index(asked.machine)
     for variable in list(variables(asked, index, draw, most)):
         ask(asked, index, variable)
+        if draw.random() < 0.3:
+            ask_changes(asked, index, variable)
 
 
 def ask_variable(asked: Asked, name: str) -> None:
@@ -159,3 +161,13 @@ def ask(asked: Asked, index: Index, variable: Variable) -> None:
             at = f"{one['hart']}:{one['count']}"
             for key, value in entry(asked, variable, stored).items():
                 asked.same(f"history: {key}", words, (at, one[key]), (f"{stored.row.hart}:{stored.row.ic}", value))
+
+
+def ask_changes(asked: Asked, index: Index, variable: Variable) -> None:
+    """What was unknown has changed."""
+    words = [variable.name, "--changes", "--last", "1000000"]
+    told = asked.json("history", *words)
+    if told is not None:
+        true = [each for each in index.stores(variable.address, variable.size) if each.fill or each.old != each.new]
+        asked.same("history: --changes", words, [(each["hart"], each["count"]) for each in told["entries"]],
+                   [(each.row.hart, each.row.ic) for each in true])

@@ -2,12 +2,13 @@
 from __future__ import annotations
 
 import random
-from typing import Any, Dict, List, NamedTuple
+from typing import Any, Dict, FrozenSet, List, NamedTuple, Tuple
 
 from .asking import Asked
 from .machine import Row, lines_of
 
 MOST = 20000
+Key = Tuple[FrozenSet[int], Tuple[str, ...]]
 
 
 class Pair(NamedTuple):
@@ -46,15 +47,30 @@ def ask_race(asked: Asked, _draw: random.Random) -> None:
     if not asked.same("race: pairs", [], told["pairs"], len(true)):
         return
     asked.same("race: pairs of all groups", [], sum(group["pairs"] for group in told["groups"]), len(true))
+    sizes: Dict[Key, int] = {}
     for group in told["groups"]:
         ask_group(asked, group, true)
+        key = frozenset(int(word, 16) for word in group["words"]), places_of(asked, group)
+        sizes[key] = sizes.get(key, 0) + group["pairs"]
+    for (words, places), size in sizes.items():
+        alike = [pair for pair in true if pair.word in words and tuple(sorted(text_of(asked, row) for row in pair[:2])) == places]
+        asked.same("race: pairs of the same places", [], (places, size), (places, len(alike)))
+
+
+def places_of(asked: Asked, group: Dict[str, Any]) -> Tuple[str, ...]:
+    rows = [asked.machine.rows[asked.machine.at[end["hart"], end["count"]]] for end in (group["one"], group["other"])]
+    return tuple(sorted(text_of(asked, row) for row in rows))
+
+
+def text_of(asked: Asked, row: Row) -> str:
+    places = asked.program.places(row.code.pc)
+    return places[0].text() if places else f"{row.code.pc:08x}"
 
 
 def ask_group(asked: Asked, group: Dict[str, Any], true: List[Pair]) -> None:
-    """Its pair is a race, what both rows did is so, and no pair of the same places and words is left out."""
+    """Its pair is a race, and what both rows did is so."""
     ends = group["one"], group["other"]
     keys = [(end["hart"], end["count"]) for end in ends]
-    words = {int(word, 16) for word in group["words"]}
     found = [pair for pair in true if sorted(keys) == sorted((row.hart, row.ic) for row in pair[:2])]
     asked.same("race: its pair", [], (keys, bool(found)), (keys, True))
     if not found:
@@ -65,6 +81,3 @@ def ask_group(asked: Asked, group: Dict[str, Any], true: List[Pair]) -> None:
         asked.same("race: place", [], end["place"], asked.place(row.code.pc))
         if "did" in end:
             asked.same("race: did", [], (end["row"], end["did"]), (row.text, did(row)))
-    places = sorted(end["place"]["address"] for end in ends)
-    alike = [pair for pair in true if pair.word in words and sorted(f"{row.code.pc:08x}" for row in pair[:2]) == places]
-    asked.same("race: pairs of a group", [], (keys, group["pairs"] >= len(alike)), (keys, True))

@@ -43,8 +43,27 @@ def same(asked: Asked, word: str, name: str) -> None:
         asked.same(f"same: {word} --last", [word, name], some["entries"], whole["entries"][-LAST:])
         total = "stores" if word == "history" else "calls"
         asked.same(f"same: {word} --last", [word, name], some[total], whole[total])
+    same_rows(asked, word, name, whole["entries"])
     same_text(asked, word, name, whole["entries"])
     same_by_library(asked, word, name, whole["entries"])
+
+
+def same_rows(asked: Asked, word: str, name: str, entries: Sequence[Dict[str, Any]]) -> None:
+    """With fewer rows the last of them are told, as with all; what isn't known then is said to be unknown. That rows are left out
+    is said."""
+    words = [name, "--rows", str(max(1, len(asked.machine.rows) // 2)), "--last", MANY]
+    told = asked.json(word, *words)
+    if told is None:
+        return
+    if len(told["entries"]) < len(entries):
+        asked.same(f"same: {word} --rows says what it left out", words, bool(told["left_out"]), True)
+    for one, entry in zip(reversed(told["entries"]), reversed(entries)):
+        at = position(one), position(entry)
+        asked.same(f"same: {word} --rows", words, at[0], at[1])
+        pairs = [(one[key], entry[key]) for key in ("old", "new") if key in one]
+        pairs += [(value, entry["arguments"].get(key)) for key, value in one.get("arguments", {}).items()]
+        for value, other in pairs:
+            asked.same(f"same: {word} --rows", words, (at, value), (at, value if value == "unknown" else other))
 
 
 def position(entry: Dict[str, Any]) -> str:

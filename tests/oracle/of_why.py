@@ -178,7 +178,7 @@ def ask_text(asked: Asked, words: Tuple[str, ...], text: List[str]) -> None:
         elif row and caller:
             found = asked.machine.rows[asked.machine.at[int(row[1]), int(row[2])]]
             chain = asked.program.chain([found.code.pc, *asked.machine.chain(asked.machine.frames[found.number])], 50)[1:]
-            told = caller.split("  <  ")
+            told = [each.strip() for each in caller.split("  <  ")]
             asked.same("why: called from", words, (line.strip(), told), (line.strip(), chain[:len(told)]))
             caller = ""
         if UNLOCKED.match(line):

@@ -6,7 +6,7 @@ from typing import Callable, Dict, List, NamedTuple, Tuple
 
 HEAD = """typedef unsigned int word;
 #define OWN __attribute__((noinline, noclone))
-int raw_sum(int, int), sized_sum(int, int), raw_twice(int, int), through(void *, int);
+int raw_sum(int, int), sized_sum(int, int), raw_twice(int, int), through(void *, int), bounce(void *, int);
 static inline int sys(int n, int a, int b, int c)
 {
     register int a0 __asm__("a0") = a;
@@ -136,7 +136,7 @@ OWN int one{n}(int a) {{ went{n} = a; return a + {draw.randrange(1, 9)}; }}
 OWN int two{n}(int a) {{ went{n} += a; return a * {draw.randrange(2, 9)}; }}
 int (*volatile ways{n}[2])(int) = {{ one{n}, two{n} }};
 OWN int choose{n}(int a) {{ return ways{n}[a & 1](a); }}
-""", f"for (int i = 0; i < {draw.randrange(2, 12)}; i++) got += choose{n}(i) + through(one{n}, i);")
+""", f"for (int i = 0; i < {draw.randrange(2, 12)}; i++) got += choose{n}(i) + through(one{n}, i) + bounce(two{n}, i);")
 
 
 def reads(draw: Draw, n: str) -> Piece:
@@ -153,6 +153,19 @@ OWN int count_of{n}(const char *text, int size, char what)
     sys(63, 0, (int)text{n} + {draw.randrange(3)}, {ask});
     text{n}[{draw.randrange(size)}] = 'z';
     got += count_of{n}(text{n}, {size}, '{draw.choice('abxz')}');""")
+
+
+def echo(draw: Draw, n: str) -> Piece:
+    size = draw.randrange(3, 20)
+    return Piece(f"""char heard{n}[24];
+OWN int answer{n}(int size)
+{{
+    int got = sys(63, 0, (int)heard{n} + {draw.randrange(4)}, size);
+    heard{n}[1] = '{draw.choice('xyz')}';
+    sys(64, {draw.choice([1, 1, 2])}, (int)heard{n}, {draw.randrange(1, 24)});
+    return got + heard{n}[{draw.randrange(size)}];
+}}
+""", f"got += answer{n}({size}); sys(64, 1, (int)heard{n}, {size});")
 
 
 def loops(draw: Draw, n: str) -> Piece:
@@ -241,7 +254,7 @@ OWN void share{n}(int h, int times)
 
 MAKERS: Dict[str, Maker] = {
     "recursion": recursion, "mutual": mutual, "rounds": rounds, "seldom": seldom, "assembly": assembly, "indirect": indirect,
-    "reads": reads, "loops": loops, "moves": moves, "numbers": numbers, "same": same_again, "calculation": calculation, "said": said}
+    "reads": reads, "echo": echo, "loops": loops, "moves": moves, "numbers": numbers, "same": same_again, "calculation": calculation, "said": said}
 ENDS = {
     "exit": "return got & 63;",
     "fault": "{ int *volatile lost = (int *)((got & 0xffff) + 0x7fff0000); return *lost; }",
