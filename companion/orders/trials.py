@@ -12,11 +12,11 @@ from typing import Callable, Iterator, NamedTuple, Optional, Sequence
 
 from ..call import streams
 from ..call.children import Forked, Process
-from ..recording.cause import Cause, cause_of
+from ..recording.cause import Cause, cause_of_file
 from ..recording.elf import Elf
 from ..recording.naming import places_of
 from ..recording.places import Places
-from ..recording.recent import FIRST_ROWS, LogFile
+from ..recording.recent import LogFile
 from ..triage.bucket import bucket_of
 from .record import ENDS, FAULT, Kind, Plan, Quick, RecordWords, last_line, refusal
 
@@ -85,7 +85,7 @@ class Trial:
 
     def find_cause(self) -> str:
         with closing(LogFile(self.outputs[0])) as source:
-            return cause_of(source.end(FIRST_ROWS), self.words.elf).text()
+            return cause_of_file(source, self.words.elf).text()
 
     def cause(self) -> Optional[Cause]:
         """What was found; nothing in a log that lost the interval of its fault."""

@@ -8,11 +8,13 @@ from typing import Iterable, NamedTuple
 
 from ..call.errors import NO_INTERVAL, CompanionError
 from .calls import CallTree
-from .chunks import chunks
+from .chunks import chunks, rows_between
 from .elf import Elf
 from .log import End, Log, is_fault
+from .recent import FIRST_ROWS, LogFile
 
 LOOP_ROWS, MOST_FRAMES = 300, 200
+HANG_ROWS = 20000000        # of all harts, for the calls over a loop: one hart's share takes some seconds
 EXITS = "exit", "group"
 # The place of a call, or a return and the place of the next row. No other rows have the letter j.
 GOES = re.compile(rb"j(?<=(\w{8}) \w{8} j)al(?:r? (?:ra|t0),|(r zero,-?\d+\((?:ra|t0)\))(?:[^\n]*\n\d+ \d+ (\w{8}))?)")
@@ -139,3 +141,14 @@ def cause_along(texts: Iterable[bytes], hart: int, end: End) -> Cause:
 def cause_of(log: Log, elf_name: str) -> Cause:
     hart = ended_hart(log)
     return cause_along(chunks(log.name, elf_name, log=log), hart, log.ends[hart])
+
+
+def cause_of_file(source: LogFile, elf_name: str) -> Cause:
+    """The cause, by the last million rows. The calls over a loop without end can be from long before: more of its hart's rows
+    are read then, so that a hang has one cause whatever its limit was."""
+    log = source.end(FIRST_ROWS)
+    hart = ended_hart(log)
+    end = log.ends[hart]
+    if not log.unread or end.reason != "limit":
+        return cause_of(log, elf_name)
+    return cause_along(rows_between(source.end(HANG_ROWS), elf_name, hart, 0, end.count), hart, end)

@@ -8,11 +8,11 @@ from typing import NamedTuple
 from ..call import streams
 from ..call.options import read_words
 from ..recording.answers import put_answer
-from ..recording.cause import EXITS, Cause, cause_of
+from ..recording.cause import EXITS, Cause, cause_of_file
 from ..recording.elf import Elf
 from ..recording.naming import named_elf, places_of
 from ..recording.places import Places
-from ..recording.recent import FIRST_ROWS, open_log
+from ..recording.recent import open_log
 
 HELP = """One line that is the same for logs that ended for the same cause, for sorting many logs.
 
@@ -22,7 +22,8 @@ It prints how the run ended, the function, FILE:LINE and a digest: of the addres
 by ELF's own symbols, each once. So the digest is the same on each machine, with and without --names and addr2line. Values,
 counts and the schedule aren't in it. `sort | uniq -c` over the lines of many logs groups them. A run that came to its limit
 is told by the outermost function of its last rows, since any row of a loop can be last. Of a large log the last million
-rows are read, and calls from before them aren't known. --json prints one JSON object in place of the line (docs/JSON.md).
+rows are read, of such a run 20 million, and calls from before them aren't known. --json prints one JSON object in place
+of the line (docs/JSON.md).
 Companions show; the program proves."""
 FORM = "bucket LOG ELF [--names ELF] [--json]"
 UNKNOWN = "-"
@@ -42,6 +43,11 @@ class Bucket(NamedTuple):
     place: str
     digest: str
 
+    @property
+    def is_good(self) -> bool:
+        """Whether the run ended well: by an exit of code 0."""
+        return self.reason in EXITS and self.function == "0"
+
     def line(self) -> str:
         return " ".join(word.replace(" ", "_") if at else word for at, word in enumerate(self))
 
@@ -60,7 +66,7 @@ def main(words: list[str]) -> int:
     with closing(open_log(log_name)) as source:
         elf = Elf(elf_name)
         named = named_elf(elf, given.get("--names", ""))
-        cause = cause_of(source.end(FIRST_ROWS), elf_name)
+        cause = cause_of_file(source, elf_name)
         with closing(places_of(named)) as places:
             bucket = bucket_of(cause, elf, places)
     if "--json" in given:

@@ -22,7 +22,7 @@ JUNIT = Kind("a report of triage", lambda head: head.startswith(JUNIT_BEGINS.enc
 def json_text(table: Table) -> str:
     groups, unread = table.sorted(), table.sorted_unread()
     return json.dumps({
-        "answer": "triage", "version": VERSION, "logs": table.logs, "others": table.others, "causes": len(groups),
+        "answer": "triage", "version": VERSION, "logs": table.logs, "others": table.others, "good": table.good, "causes": len(groups),
         "buckets": [group_answer(group) for group in groups[:LONGEST]],
         "unread": [{"why": why, "count": len(files), "first": file_answer(files[0])} for why, files in unread[:LONGEST]]}) + "\n"
 

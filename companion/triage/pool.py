@@ -12,10 +12,15 @@ from typing import Any, Generator, Iterable, NoReturn, Optional
 
 from ..call import streams
 from ..call.children import lead_group, tie
-from .work import UNREAD, Answer, Task, Work, limit_memory
+from .work import MOST_SECONDS, TOO_LONG, UNREAD, WHY_SECONDS, Answer, Task, Work, limit_memory
 
-PATIENCE = 60.0             # seconds by the clock until a process that says nothing is ended
-STUCK, ENDED = f"nothing came of it in {PATIENCE:.0f} s", "the process that read it was ended"
+# A process that says nothing is ended once its group has taken no processor time for so many seconds by the clock. What takes
+# some is bounded by that time alone, so that a busy machine changes no table.
+PATIENCE = 60.0
+PROGRAM_SHARE = 3           # the programs that a process asks may take so much beside its own time
+LOOK_EACH = 1.0             # seconds between two looks at what the groups took
+TICKS = os.sysconf("SC_CLK_TCK")
+STUCK, ENDED = f"it stood still for {PATIENCE:.0f} s", "the process that read it was ended"
 
 
 class Worker:
@@ -24,7 +29,7 @@ class Worker:
     def __init__(self) -> None:
         self.ours, theirs = Pipe()
         self.task: Optional[Task] = None
-        self.until = 0.0
+        self.began = self.used = self.moved = 0.0
         parent = os.getpid()
         with streams.uninterrupted() as before:
             self.pid = os.fork()
@@ -35,8 +40,19 @@ class Worker:
             os.setpgid(self.pid, self.pid)
 
     def give(self, task: Task) -> None:
-        self.task, self.until = task, time.monotonic() + PATIENCE
+        self.task, self.moved = task, time.monotonic()
+        self.began = self.used = group_seconds(self.pid)
         self.ours.send(task)
+
+    def trouble(self) -> str:
+        """Why the task is given up, or nothing: its group took too much time, or none for long."""
+        used = group_seconds(self.pid)
+        if used != self.used:
+            self.used, self.moved = used, time.monotonic()
+        seconds = WHY_SECONDS if self.task and self.task.asks_why else MOST_SECONDS
+        if used - self.began > seconds * (1 + PROGRAM_SHARE):
+            return TOO_LONG
+        return STUCK if time.monotonic() - self.moved > PATIENCE else ""
 
     def end(self, how: int) -> None:
         os.killpg(self.pid, how)
@@ -63,9 +79,27 @@ def serve(pipe: Connection, parent: int, signals: set[Any]) -> NoReturn:
         os._exit(0)
 
 
+def group_seconds(leader: int) -> float:
+    """The processor time that a process has taken, with its children: those that have ended, and those that run."""
+    ticks = 0
+    with contextlib.suppress(OSError, ValueError, IndexError):
+        ticks += sum(times_of(leader))
+        with open(f"/proc/{leader}/task/{leader}/children", encoding="ascii") as file:
+            for child in file.read().split():
+                ticks += sum(times_of(int(child)))
+    return ticks / TICKS
+
+
+def times_of(process: int) -> list[int]:
+    """The ticks of a process and of its children that have ended. Its name, in brackets, can hold blanks."""
+    with open(f"/proc/{process}/stat", "rb") as file:
+        return list(map(int, file.read().rpartition(b")")[2].split()[11:15]))
+
+
 def answers(tasks: Iterable[Task], jobs: int) -> Generator[tuple[Task, Answer], None, None]:
     """The answer to each task, in the order in which they come."""
     left, workers = deque(tasks), [Worker() for _ in range(jobs)]
+    look_at = time.monotonic() + LOOK_EACH
     try:
         while True:
             for worker in workers:
@@ -74,24 +108,27 @@ def answers(tasks: Iterable[Task], jobs: int) -> Generator[tuple[Task, Answer], 
             busy = [worker for worker in workers if worker.task]
             if not busy:
                 return
-            said = wait([worker.ours for worker in busy], 1)
+            said = wait([worker.ours for worker in busy], LOOK_EACH)
+            looks = time.monotonic() >= look_at
+            if looks:
+                look_at = time.monotonic() + LOOK_EACH
             for worker in busy:
-                if worker.ours in said or time.monotonic() > worker.until:
+                why = worker.trouble() if looks and worker.ours not in said else ""
+                if worker.ours in said or why:
                     assert worker.task
-                    yield worker.task, answer_of(worker, workers)
+                    yield worker.task, answer_of(worker, workers, why)
     finally:
         for worker in workers:
             worker.end(signal.SIGTERM)
 
 
-def answer_of(worker: Worker, workers: list[Worker]) -> Answer:
-    """What a worker says. One that ended, or says nothing, gets a successor."""
+def answer_of(worker: Worker, workers: list[Worker], why: str) -> Answer:
+    """What a worker says. One that ended, or is given up, gets a successor."""
     try:
         if worker.ours.poll():
             found: Answer = worker.ours.recv()
             worker.task = None
             return found
-        why = STUCK
     except (EOFError, OSError):
         why = ENDED
     workers[workers.index(worker)] = Worker()

@@ -6,6 +6,7 @@ import time
 from dataclasses import dataclass, field
 
 from ..call.text import counted, number
+from ..recording.cause import EXITS
 from .bucket import Bucket
 from .store import File
 from .work import SALVAGED, Answer
@@ -39,19 +40,22 @@ class Group:
 
 class Table:
     """logs, others  how many logs there are, and how many files that are none
+    good          how many are of runs that ended well
     unread        {why they aren't read: logs}"""
 
     def __init__(self, logs: int, others: int) -> None:
-        self.logs, self.others = logs, others
-        self.groups: dict[Bucket, Group] = {}
+        self.logs, self.others, self.good = logs, others, 0
+        self.groups: dict[tuple[Bucket, str], Group] = {}
         self.unread: dict[str, list[File]] = {}
 
     def add(self, answer: Answer, file: File, elf: str) -> None:
         """A log. They come in the order of their dates."""
         is_whole = answer.state != SALVAGED
-        group = self.groups.get(answer.bucket)
+        # A code that programs end with tells nothing of a place: each program's is a cause of its own.
+        key = answer.bucket, file.program if answer.bucket.reason in EXITS else ""
+        group = self.groups.get(key)
         if group is None:
-            group = self.groups[answer.bucket] = Group(answer.bucket, file, file, file, elf, is_whole)
+            group = self.groups[key] = Group(answer.bucket, file, file, file, elf, is_whole)
         if is_whole and not group.is_whole:
             group.example, group.elf, group.is_whole = file, elf, True
         group.last = file
@@ -63,7 +67,7 @@ class Table:
         self.unread.setdefault(why, []).append(file)
 
     def sorted(self) -> list[Group]:
-        return sorted(self.groups.values(), key=lambda group: (-group.count, group.bucket))
+        return sorted(self.groups.values(), key=lambda group: (-group.count, group.bucket, group.elf))
 
     def sorted_unread(self) -> list[tuple[str, list[File]]]:
         return sorted(self.unread.items(), key=lambda item: (-len(item[1]), item[0]))
@@ -72,6 +76,7 @@ class Table:
         salvaged = sum(group.salvaged for group in self.groups.values())
         left = sum(map(len, self.unread.values()))
         said = [f"{counted(self.logs, 'log')}: {counted(len(self.groups), 'cause')}"]
+        said += [f"{number(self.good)} ended well"] * bool(self.good)
         said += [f"{number(salvaged)} salvaged"] * bool(salvaged) + [f"{number(left)} not read"] * bool(left)
         said += [f"{counted(self.others, 'other file')}"] * bool(self.others)
         return ", ".join(said)

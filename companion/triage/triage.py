@@ -17,7 +17,7 @@ from .forms import JSON, JUNIT, json_text, junit_text
 from .pool import answers
 from .store import MOST_LOGS, File, Logs, Store, find_logs, missing_elf
 from .table import Group, Table, day
-from .work import MOST_BYTES, MOST_SECONDS, READ, UNREAD, Answer, Task
+from .work import MOST_BYTES, MOST_SECONDS, READ, UNREAD, WHY_SECONDS, Answer, Task
 
 MOST_SUSPECTS = 20
 HELP = f"""Sorts many logs by the cause of their end.
@@ -34,10 +34,10 @@ of one of them.
 --junit  saves it as JUnit's XML: a cause is a test, and one that is no exit has failed
 --html   saves it as a page
 
-A damaged log is salvaged into a temporary place; its own file stays as it is. A log takes at most {MOST_SECONDS} s of
-processor time, a minute by the clock, and {MOST_BYTES >> 20} MB. Those that can't be read are counted by the reason, as are those
-whose program isn't there. Of a large log the last million rows are read. Of the {MOST_SUSPECTS} most frequent causes the suspect
-is told.
+Runs that ended well are counted, and are no cause. A damaged log is salvaged into a temporary place; its own file stays
+as it is. A log takes at most {MOST_SECONDS} s of processor time, a suspect {WHY_SECONDS} s, and either {MOST_BYTES >> 20} MB: what else the machine
+does changes nothing. Logs that can't be read are counted by the reason, as are those whose program isn't there. Of a large
+log the last million rows are read. Of the {MOST_SUSPECTS} most frequent causes the suspect is told.
 Companions show; the program proves."""
 FORM = "triage DIR.. --elfs DIR [--json FILE] [--junit FILE] [--html FILE]"
 KINDS = {"--json": JSON, "--junit": JUNIT, "--html": PAGE}
@@ -61,6 +61,8 @@ def table_of(logs: Logs, elfs: Mapping[str, str], found: Mapping[str, Answer]) -
             table.add_unread(missing_elf(file.program), file)
         elif answer.state == UNREAD:
             table.add_unread(answer.words, file)
+        elif answer.bucket.is_good:
+            table.good += 1
         else:
             table.add(answer, file, elfs[file.program])
     return table

@@ -11,16 +11,17 @@ from typing import Callable, Iterator, NamedTuple, TypeVar
 from ..call import program
 from ..call.errors import BAD_LOG, NO_MEMORY, CompanionError
 from ..call.scratch import Scratch
-from ..recording.cause import cause_of
+from ..recording.cause import cause_of_file
 from ..recording.elf import Elf
 from ..recording.places import Places
-from ..recording.recent import FIRST_ROWS, LogFile, open_log
+from ..recording.recent import LogFile, open_log
 from ..why.analysis import analysed
 from ..why.suspect import DID
 from .bucket import Bucket, bucket_of
 
-MOST_SECONDS, MOST_BYTES = 10, 300 << 20
-TOO_LONG = f"it takes more than {MOST_SECONDS} s of processor time"
+# Seconds of processor time for a bucket, which reads a million rows, and for a suspect, which reads 2.6 million into arrays.
+MOST_SECONDS, WHY_SECONDS, MOST_BYTES = 10, 40, 300 << 20
+TOO_LONG = "it takes too much processor time"
 TOO_LARGE = f"it takes more than {MOST_BYTES >> 20} MB"
 DAMAGED = "it is damaged, and nothing of it could be salvaged"
 READ, SALVAGED, UNREAD = "read", "salvaged", "unread"
@@ -76,7 +77,9 @@ class Work:
     def answer(self, task: Task) -> Answer:
         """Whatever a log is, there is an answer."""
         try:
-            return within(MOST_SECONDS, lambda: self.suspect(task) if task.asks_why else self.bucket(task))
+            if task.asks_why:
+                return within(WHY_SECONDS, lambda: self.suspect(task))
+            return within(MOST_SECONDS, lambda: self.bucket(task))
         except TooLong:
             failed = TOO_LONG
         except MemoryError:
@@ -104,8 +107,8 @@ class Work:
         if elf_name not in self.opened:
             elf = Elf(elf_name)
             self.opened[elf_name] = elf, Places(elf)
-        log = source.end(FIRST_ROWS)
-        return Answer(state, "", bucket_of(cause_of(log, elf_name), *self.opened[elf_name]), log.harts)
+        bucket = bucket_of(cause_of_file(source, elf_name), *self.opened[elf_name])
+        return Answer(state, "", bucket, source.harts())
 
     def suspect(self, task: Task) -> Answer:
         with closing(analysed(task.log, task.elf)) as facts:

@@ -18,6 +18,10 @@ class BucketTest(case.Case):
         hang = CRASHES + "/hang.elf"
         lines = {bucket(record("hang" + limit, hang, "--seed", "1", "--limit", limit), hang) for limit in ("60000", "60001", "60007")}
         self.check("a hang that is cut elsewhere, one line", len(lines) == 1 and min(lines).startswith("limit fire - "), lines)
+        locks = example("two_locks")
+        lines = {bucket(record("locks" + limit, locks, "--seed", "8", "--harts", "2", "--limit", limit), locks)
+                 for limit in ("20K", "1500K")}
+        self.check("a hang whose calls are from before the last million rows, one line", len(lines) == 1, lines)
         seen = bucket(*self.crash("lock_left_held")), bucket(*self.crash("use_after_free"))
         self.check("two causes, two lines", seen[0].startswith("limit acquire - ") and seen[1].startswith("LoadOutside serve "), seen)
         line = bucket(record("tills", example("tills"), "--harts", "2", "--seed", "1"), example("tills"))

@@ -12,6 +12,7 @@ import xml.etree.ElementTree
 import case
 import common
 import forged
+from recordings import A0, EXIT, addi, elf_of
 from common import COMPANION, CRASHES, PROGRAM, TOP, companion, content, path, written
 from companion.triage import pool as triage_pool, work as triage_work
 
@@ -154,11 +155,14 @@ class TriageTest(case.Case):
         xml.etree.ElementTree.fromstring(content(path("names/junit")))
 
     def test_a_run_that_exits(self):
+        """One that ended well is no cause."""
         fleet = Fleet("exits")
-        shutil.copy(common.example("word_count"), fleet.elfs)
-        fleet.add("log", common.record("exit", common.example("word_count"), "--seed", "1"))
-        answer, _ = fleet.answer("--junit", path("exits/junit"))
+        fails = written(os.path.join(fleet.elfs, "fails.elf"), elf_of([addi(A0, 0, 3), *EXIT]))
+        fleet.add("log", common.record("exit", fails, "--seed", "1"))
+        fleet.add("well", common.record("well", fleet.elf("wrong_total"), "--seed", "1"))
+        answer, said = fleet.answer("--junit", path("exits/junit"))
         self.assertEqual([(one["reason"], one["suspect"]) for one in answer["buckets"]], [("exit", "")])
+        self.assertEqual((answer["good"], said.split("\n")[0]), (1, "2 logs: 1 cause, 1 ended well"))
         self.assertEqual(xml.etree.ElementTree.fromstring(content(path("exits/junit"))).get("failures"), "0")
 
     def test_the_cache(self):
@@ -250,6 +254,13 @@ class LimitsTest(unittest.TestCase):
         self.script("exec sleep 600")
         self.change(triage_pool, "PATIENCE", 1.0)
         self.assertEqual(self.states(), [("read", ""), ("read", ""), ("unread", triage_pool.STUCK)])
+
+    def test_a_program_that_is_slow_on_a_busy_machine(self):
+        """It gets little of the processor, and is done after a time that would be too long for one that stands still."""
+        busy = "for ((n = 0; n < 30000; n++)); do :; done"
+        self.script("for i in {1..30}; do %s; sleep 0.3; done; exec %s \"$@\"" % (busy, PROGRAM))
+        self.change(triage_pool, "PATIENCE", 6.0)
+        self.assertEqual(self.states(), [("read", "")] * 3)
 
     def test_a_process_that_is_ended(self):
         self.script("kill -9 $PPID; exit")
