@@ -115,8 +115,9 @@ class Work:
             if not facts.shown:
                 return Answer(READ, "")
             first = facts.shown[0]
-            source = facts.source(first.guilty)
-            return Answer(READ, f"{DID[first.kind]} {facts.where(first.guilty)}" + (f": {source}" if source else ""))
+            source = facts.own_source(first.guilty)
+            place = facts.own_where(first.guilty)
+            return Answer(READ, f"{DID[first.kind]} {place}" + (f": {source}" if source else ""))
 
 
 def within(seconds: float, work: Callable[[], T]) -> T:

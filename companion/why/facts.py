@@ -1,6 +1,7 @@
 """All that is known of a crash: the rows, the names, and which rows a report begins with."""
 from __future__ import annotations
 
+import re
 from typing import NamedTuple, Sequence
 
 from ..call.errors import NO_INTERVAL, REFUSED, CompanionError
@@ -17,6 +18,7 @@ from .loops import Loop
 LAST_ROWS = 12
 LOOP_ROWS, MOST_LOADS = 300, 12         # what a hart did last, if it didn't fault
 MOST_EXITS = 12
+MOST_LIBRARY_CALLS = 12     # over a row: a library's printf has eight of its own
 
 
 class Byte(NamedTuple):
@@ -65,6 +67,7 @@ class Facts:
         self.log, self.elf, self.named, self.trace, self.asked = log, elf, named, trace, row
         self.rows, self.writers, self.calls = trace
         self.places = places_of(named, folders)
+        self.owns: dict[int, StackFrame | None] = {}
         self.notes = self.first_notes()
         if not trace.rows.last:
             raise CompanionError(f"the log holds no row: the records of a hart's last interval passed its --log-size "
@@ -116,9 +119,26 @@ class Facts:
                 said.append(StackFrame(at, frame.function, place, depth < len(frames)))
         return Stack(said, max(0, above.more - 1), self.rows.is_cut(n))
 
-    def is_own(self, n: int) -> bool:
-        """Whether the source of a row is here, or that of one of the innermost calls over it."""
-        return any(self.places.source(frame.address) for frame in self.stack(n, 3).frames[:4])
+    def own(self, n: int) -> StackFrame | None:
+        """The innermost frame over a row whose source is here, or None. What a library did is told as the call of it."""
+        if n not in self.owns:
+            frames = self.stack(n, MOST_LIBRARY_CALLS).frames
+            self.owns[n] = next((frame for frame in frames if self.places.source(frame.address)), None)
+        return self.owns[n]
+
+    def own_line(self, n: int) -> str:
+        """FILE:LINE of that frame, or else of the row."""
+        frame = self.own(n)
+        return frame.place if frame else self.line(n)
+
+    def own_where(self, n: int) -> str:
+        """The function and FILE:LINE of that frame, or else of the row."""
+        frame = self.own(n)
+        return f"{frame.function} {frame.place}" if frame else self.where(n)
+
+    def own_source(self, n: int) -> str:
+        frame = self.own(n)
+        return self.places.source(frame.address) if frame else ""
 
     def callers(self, n: int) -> list[StackFrame]:
         """The innermost calls over a row."""
@@ -185,10 +205,16 @@ def asked_row(row: str) -> At:
     return At(whole(hart, 0, 255, "the hart of --row"), whole(count, 0, 1 << 41, "the count of --row"))
 
 
+def is_byte(text: str) -> bool:
+    """Whether --output names a byte, and no text."""
+    return re.fullmatch(r"\d+(:\d+)?", text, re.ASCII) is not None
+
+
 def asked_byte(text: str) -> Byte:
-    """The byte that --output N:BYTE names."""
-    write, _, place = text.partition(":")
-    return Byte(whole(write, 0, 1 << 31, "the write of --output N:BYTE"), whole(place, 0, 1 << 31, "the byte of --output N:BYTE"))
+    """The byte that --output N:BYTE names, or the first one of N."""
+    write, colon, place = text.partition(":")
+    return Byte(whole(write, 0, 1 << 31, "the write of --output N:BYTE"),
+                whole(place, 0, 1 << 31, "the byte of --output N:BYTE") if colon else 0)
 
 
 def find_row(trace: Trace, at: At) -> int:

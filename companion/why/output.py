@@ -8,6 +8,7 @@ from contextlib import closing
 from typing import Any, Iterable, Iterator, NamedTuple, Optional
 
 from ..call import streams
+from ..call.errors import NO_INTERVAL, CompanionError
 from ..call.options import read_words, whole
 from ..call.text import counted, number
 from ..recording.answers import place_of as code_place, put_answer
@@ -18,7 +19,7 @@ from ..recording.instruction import A0
 from ..recording.log import READ_CALL, WRITE_CALL, Log, SystemCall
 from ..recording.memory import Memory, quoted
 from ..recording.naming import named_elf, places_of
-from ..recording.places import Places
+from ..recording.places import CALLED_FROM, Places
 from ..recording.ready import ready
 from ..recording.recent import open_log
 from ..recording.stacks import Frame, Stacks, call_places
@@ -31,11 +32,14 @@ HELP = """Lists what the guest wrote: each write with its row, its place and its
 --rows   how many of the last rows are read; without it 32 million
 --json   prints one JSON object in place of the text (docs/JSON.md)
 
-Writes are numbered from 0, and so are the bytes of each: `why LOG ELF --output N:BYTE` explains one. The text is put
+Writes are numbered from 0, and so are the bytes of each: `why LOG ELF --output N:BYTE` explains one. Of the calls over a
+write those of a library, whose source isn't here, are passed. The text is put
 together from the rows of `joint`: bytes that no row loaded or stored, and that the file doesn't give for sure, are told
 as unknown. Companions show; the program proves."""
 FORM = "output LOG ELF [--names ELF] [--rows N] [--json]"
 MOST_ROWS, MOST_FRAMES, MOST_RANGES = 32000000, 4, 8
+MOST_LIBRARY_CALLS = 16     # over a write: a library's printf has eight of its own
+UNKNOWN = "\ufffd"          # in place of a byte that isn't known
 ASKED, SET = b" 00000073 ecall", b"| a0="
 TOP = 1 << 32
 STREAMS = {1: "the output", 2: "err"}
@@ -130,8 +134,14 @@ def ranges(calls: Iterable[SystemCall]) -> list[tuple[int, int]]:
 
 
 def place_of(places: Places, write: Write) -> str:
-    """The place of a write, and the calls over it, innermost first."""
-    return places.chain([write.pc, *call_places(write.top, MOST_FRAMES)], MOST_FRAMES)
+    """The place of a write, and the calls over it, innermost first. Those of a library, whose source isn't here, are passed
+    if others have theirs."""
+    pcs = [write.pc, *call_places(write.top, MOST_LIBRARY_CALLS)]
+    frames = [frame for pc in pcs for frame in places.frames(pc)]
+    own = [frame for frame in frames if frame.line and places.sources.lines(frame.path)]
+    told = own if own[:1] == frames[:1] else frames[:1] + own
+    told = told[:MOST_FRAMES] if own else frames[:MOST_FRAMES]
+    return CALLED_FROM.join(frame.text() for frame in told) or f"{write.pc:08x}"
 
 
 def write_answer(places: Places, write: Write) -> dict[str, Any]:
@@ -149,6 +159,39 @@ def writes_of(log: Log, elf: Elf, stacks: Stacks, numbers: dict[SystemCall, int]
     """The writes among about so many of the last rows of a log. `numbers` are those of the whole log's."""
     first = log.rows() - most if log.rows() > 2 * most else 0
     return Reader(log, elf, stacks, numbers).writes(after(first, chunks(log.name, elf.name, log=log)))
+
+
+class Found(NamedTuple):
+    """The last letter of a text: its write, its place in that, and how often the text was written."""
+    write: int
+    place: int
+    times: int
+
+
+def find_text(writes: Iterable[Write], text: str) -> Found:
+    """The last place of a text, if it was written. It may have come in pieces, to one stream."""
+    wanted, found = text.encode().decode("latin-1"), Found(0, 0, 0)
+    before: dict[int, str] = {}                 # {stream: what was written last, less than the text}
+    for write in writes:
+        tail = before.get(write.stream, "")
+        said = tail + "".join(UNKNOWN if byte is None else chr(byte) for byte in write.data)
+        at = said.rfind(wanted)
+        if at >= 0:
+            times = found.times + said.count(wanted)
+            found = Found(write.number, at + len(wanted) - len(tail) - 1, times)
+        before[write.stream] = said[-len(wanted) + 1:] if len(wanted) > 1 else ""
+    return found
+
+
+def text_in(log_name: str, elf_name: str, text: str, most: int = MOST_ROWS) -> Found:
+    """The same by the rows of a log."""
+    with closing(open_log(log_name)) as source:
+        numbers, elf, log = numbered(source.whole()), Elf(elf_name), source.end(most)
+        found = find_text(writes_of(log, elf, Stacks(entries_of(elf), log.harts), numbers, most), text)
+    if not found.times:
+        raise CompanionError(f"the last {number(most)} rows wrote no {quoted(list(text.encode()))}: "
+                             "`zelkuma output` lists what was written", NO_INTERVAL)
+    return found
 
 
 def said_of(places: Places, write: Write) -> str:

@@ -112,7 +112,7 @@ def suspect_lines(facts: Analysis, most: int) -> list[str]:
 def one_suspect(facts: Analysis, place: int, item: Suspect) -> list[str]:
     said = [f"{place}. {did(facts, item.guilty, DID[item.kind])}"] + guilty_lines(facts, item.guilty)
     for words, n in item.extra:
-        said += [f"   {words} {facts.where(n)}   {facts.source(n)}"] + guilty_lines(facts, n)
+        said += [f"   {words} {facts.own_where(n)}   {facts.own_source(n)}"] + guilty_lines(facts, n)
     if item.kind == "back":
         said += ["   " + did(facts, item.store, NEW_OWNER), "      " + short(facts.rows.text(item.store))]
     if item.kind not in ALONE:
@@ -124,14 +124,15 @@ def one_suspect(facts: Analysis, place: int, item: Suspect) -> list[str]:
 
 
 def did(facts: Analysis, n: int, words: str) -> str:
-    return f"hart {facts.rows.hart[n]} {words} {facts.where(n)}   {facts.source(n)}"
+    return f"hart {facts.rows.hart[n]} {words} {facts.own_where(n)}   {facts.own_source(n)}"
 
 
 def guilty_lines(facts: Analysis, n: int) -> list[str]:
     """The calls over a row, and the row."""
-    callers = [f"{frame.function} {frame.place}" for frame in facts.callers(n)]
-    said = ["      called from " + CALLED_FROM.join(callers)] if callers else []
-    return said + ["      " + short(facts.rows.text(n))]
+    callers = [f"{frame.function or f'{frame.address:08x}'} {frame.place}".rstrip() for frame in facts.callers(n)]
+    inner = [f"by {facts.where(n)}"] if facts.own(n) and not facts.source(n) else []
+    said = inner + ["called from " + CALLED_FROM.join(callers)] * bool(callers)
+    return ["      " + ", ".join(said)] * bool(said) + ["      " + short(facts.rows.text(n))]
 
 
 def data_words(facts: Analysis, n: int) -> str:

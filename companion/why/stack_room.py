@@ -48,7 +48,7 @@ def sections(elf: Elf) -> Iterator[Room]:
 
 
 class Rooms:
-    """Where stacks are: at the end of memory, in an object or in a section."""
+    """The places of stacks: the end of memory, an object or a section."""
 
     def __init__(self, facts: Facts) -> None:
         self.elf, self.named, self.memory = facts.elf, facts.named, facts.log.memory

@@ -46,6 +46,10 @@ class Suspect:
         self.extra: list[Extra] = []
         self.rows, self.shown, self.misplaced = 1, True, False
 
+    def rows_told(self) -> list[int]:
+        """The rows that it is about."""
+        return [self.guilty, self.load] + [extra.row for extra in self.extra]
+
     def sign(self, worth: float, words: str) -> None:
         self.score -= worth
         self.why.append(words)

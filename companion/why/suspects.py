@@ -33,7 +33,6 @@ MOST_COMPARED = 40          # suspects whose lines are compared
 FIRST_ONES, PLACE_ROWS = 3, 2000    # suspects whose stores' addresses are asked of, and rows of such a history
 MOST_FOR_PLACE = 6          # what the store's own signs are worth to these at most
 GUARD, BEHIND_PLACE = 2, 3  # what the branch before such a store costs, and what all costs more than the store
-FOREIGN = 40                # what a suspect costs more of which no source is here
 NEAR_STORE = 6              # what a near store is worth less
 MOST_LOOKED_AT = 60         # pairs of loads and stores whose rows are read
 SIZES = {1: "bytes", 2: "halves"}, {2: "half", 4: "word"}
@@ -61,14 +60,10 @@ class Ranking:
         self.found = self.once(sorted(found + self.behind_places(found, memory), key=rank))
 
     def own_first(self, found: list[Suspect]) -> list[Suspect]:
-        """Those of which no source is here, as of a library's inner functions, come last."""
+        """Those of which no source is here, nor that of a call over them, are told only if there are no others."""
         self.places.fetch({self.facts.pc_of(n) for item in found for n in (item.guilty, item.load)})
-        foreign = [item for item in found if not any(self.facts.is_own(n) for n in
-                                                     [item.guilty, item.load] + [extra.row for extra in item.extra])]
-        if len(foreign) < len(found):
-            for item in foreign:
-                item.sign(-FOREIGN, "no source of it is here")
-        return sorted(found, key=rank)
+        own = [item for item in found if any(map(self.facts.own, item.rows_told()))]
+        return sorted(own or found, key=rank)
 
     def behind_places(self, found: list[Suspect], memory: MemoryUse) -> list[Suspect]:
         """A store of some bytes that a load of more got can be in a place of something else. Then it isn't the value that
@@ -82,7 +77,7 @@ class Ranking:
                                 if not memory.blocks.is_own(one.guilty) and not memory.blocks.is_own(one.load)]:
                     suspect.cost += item.cost
                     suspect.score += max(item.score, -MOST_FOR_PLACE) + BEHIND_PLACE
-                    suspect.why.append(f"it is behind the address of the store in {self.facts.where(item.store)}")
+                    suspect.why.append(f"it is behind the address of the store in {self.facts.own_where(item.store)}")
                     behind.append(suspect)
         return behind
 
@@ -92,28 +87,28 @@ class Ranking:
         told_lines: set[str] = set()
         stored: dict[str, Suspect] = {}         # {line: the first suspect that stored there}
         for item in [item for item in self.behind_others(found) if item.shown][:MOST_COMPARED]:
-            lines, line = self.lines_of(item), self.facts.line(item.guilty)
+            lines, line = self.lines_of(item), self.facts.own_line(item.guilty)
             if lines <= told_lines:
                 item.score += NOTHING_NEW
                 if item.kind == "store" and line in stored and item.store < stored[line].store:
                     stored.pop(line).extra.append(Extra("earlier the same line stored in", item.store))
             elif item.kind == "store":
                 stored.setdefault(line, item)
-            told_lines |= lines | {self.facts.line(item.load)}
+            told_lines |= lines | {self.facts.own_line(item.load)}
         return sorted(found, key=rank)
 
     def lines_of(self, item: Suspect) -> set[str]:
         """The lines that a suspect is about."""
         rows = [item.guilty] + [extra.row for extra in item.extra]
-        lines = {self.facts.line(n) for n in rows}
-        if item.kind == "order" or not self.facts.source(item.guilty):  # a lock's function, or a library's
+        lines = {self.facts.own_line(n) for n in rows}
+        if item.kind == "order":                # a lock's function
             lines |= {frame.place for frame in self.facts.callers(item.guilty)}
         return lines
 
     def behind_others(self, found: list[Suspect]) -> list[Suspect]:
         told: set[str] = set()
         for item in found:
-            line = self.places.line(self.rows.code_of(item.guilty).pc)
+            line = self.facts.own_line(item.guilty)
             if item.kind == "store" and item.shown and line in told:
                 item.score += AGAIN
             elif item.shown:

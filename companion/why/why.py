@@ -5,26 +5,30 @@ import os
 from contextlib import closing
 
 from ..call import streams
+from ..call.errors import REFUSED, CompanionError
 from ..call.options import read_words, whole
 from ..call.page import Part, page
 from ..call.saving import PAGE, target
+from ..call.text import number
 from ..recording.answers import put_answer
 from ..recording.sources import source_folders
 from ..recording.story import STORY_HEAD, Teller, asked_story
 from .analysis import analysed
 from .answer import why_answer
-from .facts import asked_byte
+from .facts import Byte, asked_byte, is_byte
+from .output import text_in
 from .report import report
 
 HELP = """Explains a crash: what happened, where, and which store, call or branch is behind it, likeliest first.
 
-    zelkuma why LOG ELF [--names ELF] [--source DIR] [--row HART:IC] [--output N:BYTE] [--rows N] [--book BOOK] [--input FILE]
-                [--more] [--html FILE] [--json]
+    zelkuma why LOG ELF [--names ELF] [--source DIR] [--row HART:IC] [--output N:BYTE|TEXT] [--rows N] [--book BOOK]
+                [--input FILE] [--more] [--html FILE] [--json]
 
 --names   the same program with names and lines, if ELF was stripped
 --source  shows sources below this folder too, not only below ELF's and the current one; may be given several times
 --row     asks of another row than the fault's
---output  asks of a byte that the guest wrote, as `zelkuma output` numbers them
+--output  asks of a byte that the guest wrote, as `zelkuma output` numbers them (N: its first byte), or of the last letter
+          of a text that it wrote
 --rows    how many of the last rows are read; without it a million, and 2.6 million if values near the fault come from before
 --book    tells first the switches between harts, if BOOK has no more than 40 of them, as that of `zelkuma shrink`
 --input   what the run read: with BOOK it is run again, to see that this is LOG's
@@ -34,16 +38,28 @@ HELP = """Explains a crash: what happened, where, and which store, call or branc
 
 It reads the rows of `joint`, keeps some 30 bytes of each, and shows what they say; the ranking is its own judgement.
 Companions show; the program proves."""
-FORM = "why LOG ELF [--names ELF] [--source DIR] [--row HART:IC] [--output N:BYTE] [--rows N] [--book BOOK] [--input FILE] [--more] [--html FILE] [--json]"
+FORM = "why LOG ELF [--names ELF] [--source DIR] [--row HART:IC] [--output N:BYTE|TEXT] [--rows N] [--book BOOK] [--input FILE] [--more] [--html FILE] [--json]"
+
+
+def asked_output(text: str, log: str, elf: str) -> tuple[Byte, str]:
+    """The byte that --output asks of, and a line for the end of the report."""
+    if not text:
+        raise CompanionError("--output names no text", REFUSED)
+    if is_byte(text):
+        return asked_byte(text), ""
+    found = text_in(log, elf, text)
+    times = f"The text was written {number(found.times)} times: this is the last." if found.times > 1 else ""
+    return Byte(found.write, found.place), times
 
 
 def main(words: list[str]) -> int:
     (log, elf), given = read_words(words, FORM)
     rows = whole(given["--rows"], 1, 1 << 41, "--rows") if "--rows" in given else 0
-    byte = asked_byte(given["--output"]) if "--output" in given else None
+    byte, note = asked_output(given["--output"], log, elf) if "--output" in given else (None, "")
     names = given.get("--names", "")
     saved = target(given["--html"], PAGE, [log, elf, names]) if "--html" in given else None
     with closing(analysed(log, elf, names, given.get("--row", ""), rows, byte, source_folders(given))) as analysis:
+        analysis.notes += [note] * bool(note)
         story, teller = asked_story(given, analysis.log, elf), Teller(analysis.named, analysis.places)
         parts = [Part(STORY_HEAD, teller.story(story))] if story else []
         parts += report(analysis, "--more" in given)

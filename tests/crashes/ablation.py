@@ -48,7 +48,7 @@ RULES: Dict[str, Any] = {
     "closed a circle": ("closed a circle", {"suspects.CLOSES": 0}),
     "a line told again": ("", {"suspects.AGAIN": 0, "suspects.NOTHING_NEW": 0}),
     "behind a wrong place": ("behind the address of the store", {"suspects.FIRST_ONES": 0}),
-    "source of one's own": ("no source of it", {"suspects.FOREIGN": 0}),
+    "source of one's own": ("", {"facts.Facts.own": lambda _facts, _row: None}),
     "given back": ("given back", {"memory_use.GIVEN_BACK": 0}),
     "copies of a pointer": ("a copy of the pointer", {"memory_use.MemoryUse.add_copy": nothing}),
     "an older pointer": ("the pointer is older", {"memory_use.MemoryUse.kept_pointer": no_row}),

@@ -20,7 +20,7 @@ class BucketTest(case.Case):
         self.check("a hang that is cut elsewhere, one line", len(lines) == 1 and min(lines).startswith("limit fire - "), lines)
         locks = example("two_locks")
         lines = {bucket(record("locks" + limit, locks, "--seed", "8", "--harts", "2", "--limit", limit), locks)
-                 for limit in ("20K", "1500K")}
+                 for limit in ("20000", "1500000")}
         self.check("a hang whose calls are from before the last million rows, one line", len(lines) == 1, lines)
         seen = bucket(*self.crash("lock_left_held")), bucket(*self.crash("use_after_free"))
         self.check("two causes, two lines", seen[0].startswith("limit acquire - ") and seen[1].startswith("LoadOutside serve "), seen)

@@ -83,7 +83,7 @@ class ViewTest(case.Case):
         self.assertEqual(data["start"][:2], [0, 18281])
         self.assertIn("The byte is '5': hart 0 stored it at count 18,281.", data["words"])
         self.assertEqual(data["places"][data["suspects"][0]["place"]][1], "wrong_total.c:42")
-        self.assertIn("has to be a number", self.refuses(2, "view", log, elf, "--output", "0"))
+        self.assertIn("has to be a number", self.refuses(2, "view", log, elf, "--output", "x"))
         self.refuses(14, "view", log, elf, "--output", "999:0")
 
     def test_tills_has_its_race(self):

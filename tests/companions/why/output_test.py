@@ -4,6 +4,8 @@ import subprocess
 
 import case
 import common
+from companion.recording.stacks import BOTTOM
+from companion.why.output import Found, Write, find_text
 from recordings import A0, A1, A2, A7, DATA, ECALL, EXIT, FIRST, T0, T1, addi, elf_of, load, lui
 
 READ, WRITE = 63, 64
@@ -79,11 +81,33 @@ class OutputTest(case.Case):
 
     def test_refusals(self):
         log, elf = self.crash("wrong_total")
-        for byte, status in (("0:68", 14), ("4:0", 14), ("0", 2), (":", 2), ("-1:0", 2), ("0:1:2", 2)):
+        for byte, status in (("0:68", 14), ("4:0", 14), ("no such text", 14), ("", 2),
+                             ("9" * 20 + ":0", 2)):
             self.refuses(status, "why", log, elf, "--output", byte)
+
+    def test_calls_of_a_library_are_passed(self):
+        """The place that called printf is told, whatever printf called."""
+        said = self.says("output", *self.crash("libc_prices"))
+        self.assertIn("put machine.c:38  <  print_order libc_prices.c:81\n", said)
+        self.assertNotIn("printf", said)
+
+    def test_a_text_in_pieces(self):
+        writes = [Write(at, "", stream, list(data), 0, BOTTOM)
+                  for at, (stream, data) in enumerate([(1, b"one tw"), (2, b"two"), (1, b"o"), (1, b" two"), (1, b"")])]
+        writes[2].data.append(None)
+        self.assertEqual(find_text(writes, "two"), Found(3, 3, 3))
+        self.assertEqual(find_text(writes[:3], "two"), Found(2, 0, 2))
+        self.assertEqual(find_text(writes, "w"), Found(3, 2, 3))
+        self.assertEqual(find_text(writes, "otw").times, 0)
 
 
 class ByteTest(case.Case):
+    def test_a_text_asks_of_its_last_letter(self):
+        log, elf = self.crash("libc_prices")
+        one, other = (self.says("why", log, elf, "--output", asked) for asked in ("18:18", "1 canvas   at  18.7"))
+        self.assertTrue(other.startswith(one[:one.index("LAST ROWS")]), other)
+        self.assertIn("  Asked of byte 0 of write 18, ", self.says("why", log, elf, "--output", "18"))
+
     def asked(self, name):
         case_of = common.crashes()[name]
         return self.says("why", *self.crash(name), "--output", case_of.wrong)

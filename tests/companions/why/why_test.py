@@ -88,6 +88,14 @@ class WhyTest(case.Case):
         self.assertRegex(said, r"\n  The stack of hart 0 left its 2,048 bytes at \w{8} \(own\): its pointer was "
                                + lowest + r"( \(\S+\))?, [\d,]+ bytes below them, at count [\d,]+ in walk ")
 
+    def test_a_library_is_told_by_its_call(self):
+        """No line of a library, whose source isn't here, is a suspect: the call of it is."""
+        said = self.says("why", *self.crash("libc_line"), "--more")
+        self.assertIn("hart 0 stored it in finish libc_line.c:65   line->letters = malloc(buffer.used + 1);\n"
+                      "        by malloc, called from finish libc_line.c:65  <  main libc_line.c:102", said)
+        told = re.findall(r"^  \d+\. hart \d .* in \S+ (\S+):\d+ ", said, re.M)
+        self.assertEqual((len(told), set(told)), (12, {"libc_line.c"}))
+
     def test_a_fenced_pair_is_no_race(self):
         said = self.built("fenced", "--harts", "2")
         self.assertIn("hart 1 stored it in other_harts fenced.c:10", suspects(said)[0])
