@@ -8,12 +8,13 @@ from typing import Any, Dict, List, Optional, Tuple
 from .asking import Asked
 from .machine import NAMES, READ, Machine, Row
 
-NEVER = re.compile(r"from ([\w.]+(?:\+\d+)?)(?: \(a word of \w+\))?, which no row of the log stored")
-LAST = re.compile(r"from ([\w.]+(?:\+\d+)?)(?: \(a word of \w+\))?, stored last in .* \(hart (\d+) at count ([\d,]+)\)")
-CALLED = re.compile(r"\s+called from (.*)")
+NEVER = re.compile(r"from ([\w.]+(?:\+\d+)?)(?: \(a word of \w+\))?, zero from the start: never stored")
+WORD = re.compile(r"from ([\w.]+(?:\+\d+)?)(?: \(a word of \w+\))?, ")
+STORED = re.compile(r"(?:, stored (?:last )?|[;,] (?:later )?)in .*? \(hart (\d+) at count ([\d,]+)\)")
+CALLED = re.compile(r"\s+(?:by [^,]+, )?called from (.*)")
 ROW = re.compile(r"\s+(\d+) (\d+) [0-9a-f]{8} ")
-UNLOCKED = re.compile(r"\s*\d+\. hart (\d+) held no lock in ")
-HOLD = re.compile(r"other access(?:es)? holds? a lock, (.*?)(?:;|$)")
+UNLOCKED = re.compile(r"\s*\d+\. hart (\d+) didn't hold the others' lock in ")
+HOLD = re.compile(r"other accesses to .* their hart holds (.*?), here ")
 LEFT_OUT = re.compile(r"Only the last|left out|--rows N")
 
 
@@ -133,26 +134,26 @@ def ask_suspect(asked: Asked, words: Tuple[str, ...], suspect: Dict[str, Any], s
 
 
 def ask_hang(asked: Asked, words: Tuple[str, ...], line: str, stored: Bytes) -> None:
-    never, last = NEVER.search(line), LAST.search(line)
+    never, word = NEVER.search(line), WORD.search(line)
     if never:
         address = address_of(asked, never[1])
         if address is not None:
             asked.same("why: which no row of the log stored", words, (line, stored.is_stored(address, address + 1, 1 << 60)), (line, False))
-    if last:
-        address, at = address_of(asked, last[1]), (int(last[2]), int(last[3].replace(",", "")))
-        number = asked.machine.at.get(at, -1)
-        if address is not None:
-            rows = [each for i in range(4) for each in stored.stores.get((address & ~3) + i, [])]
-            asked.same("why: stored last", words, (line, number in rows), (line, True))
+    address = address_of(asked, word[1]) if word else None
+    if address is None:
+        return
+    for hart, count in STORED.findall(line):
+        number = asked.machine.at.get((int(hart), int(count.replace(",", ""))), -1)
+        rows = [each for i in range(4) for each in stored.stores.get((address & ~3) + i, [])]
+        asked.same("why: stored last", words, (line, number in rows), (line, True))
 
 
 def ask_before(asked: Asked, words: Tuple[str, ...], told: Dict[str, Any], stored: Bytes) -> None:
-    """Of the loads at its place one has a byte that no row had stored, and that is 0 if it is called so."""
-    if not re.match(r"zero from the start: never stored$|the program file$", told["words"]):
+    """Of the loads at its place one has a byte that no row had stored, and that is 0."""
+    if told["words"] != "zero from the start: never stored":
         return
-    is_zero = told["words"].startswith("zero")
     unset = [unset_bytes(row, stored) for row in asked.machine.rows if row.load and text_of(asked, row) == told["place"]]
-    is_so = any(each and not (is_zero and any(each)) for each in unset)
+    is_so = any(each and not any(each) for each in unset)
     asked.same("why: never stored", words, (told["words"], told["place"], is_so), (told["words"], told["place"], True))
 
 
