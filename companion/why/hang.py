@@ -6,6 +6,7 @@ from typing import NamedTuple
 from ..call.text import counted, number, short
 from ..recording.instruction import NAMES
 from ..recording.rows import STORES
+from .deadlock import deadlock_lines
 from .facts import Facts
 from .loops import Exit, Loop, Operand
 from .origins import came_from
@@ -16,7 +17,7 @@ FUNCTIONS, ROW_WIDTH = 5, 60
 
 
 def hang_lines(facts: Facts, more: bool) -> list[str]:
-    said: list[str] = []
+    said = deadlock_lines(facts)
     for loop in facts.loops:
         said += loop_lines(facts, loop, more) if loop.places else [
             f"hart {loop.hart}: no loop is seen; its last row is in {facts.where(loop.last)}"]

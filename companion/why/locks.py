@@ -6,7 +6,7 @@ shows in what is held at their accesses."""
 from __future__ import annotations
 
 from collections import Counter
-from typing import Iterable, Mapping, NamedTuple, Sequence
+from typing import Iterable, NamedTuple, Sequence
 
 from ..call.text import number
 from ..recording.instruction import AMO
@@ -17,7 +17,6 @@ from .suspect import Extra, Suspect
 
 LEAST, RARE = 3, 3          # how often a guarded word is accessed with its lock at least, and how much rarer without
 UNLOCKED = 12
-CIRCLE, MOST_TIMES = 12, 1000
 
 
 class Held(NamedTuple):
@@ -127,53 +126,6 @@ def bare_of(rows: Rows, held: Sequence[Held], lock: int, changes: Sequence[Setti
 
 def name_of(facts: Facts, word: int) -> str:
     return facts.named.data_name(word) or f"{word:08x}"
-
-
-class Wait(NamedTuple):
-    """A hart's latest try to take a lock that another holds, and the row by which it took the one that it holds itself."""
-    row: int
-    taken: int
-
-
-def circle(facts: Facts) -> list[Suspect]:
-    """Harts that wait for each other's locks, at the end of a run that hangs: first the one that waits where locks were
-    taken least often, since its order is the odd one."""
-    rows, calls = facts.rows, facts.calls
-    if not facts.hangs or len(rows.last) < 2:
-        return []
-    holders: dict[int, int] = {}            # {lock: the row that took it last, if it is still held}
-    times: Counter[int] = Counter()         # how often a lock was taken in a call
-    for n, lock, is_set in setting(rows):
-        times[calls.node_of(n)] += is_set
-        if is_set:
-            holders[lock] = n
-        else:
-            holders.pop(lock, 0)
-    found = []
-    for wait in waits(rows, holders):
-        taken = times[calls.node_of(wait.row)]
-        suspect = Suspect("order", wait.row, wait.row, 0)
-        suspect.sign(CIRCLE - min(taken, MOST_TIMES) / MOST_TIMES,
-                     f"the harts wait for each other's locks; here a lock was taken {number(taken)} times")
-        suspect.extra.append(Extra("it holds the lock that it took in", wait.taken))
-        found.append(suspect)
-    return found
-
-
-def waits(rows: Rows, holders: Mapping[int, int]) -> list[Wait]:
-    """Those that are in a circle."""
-    latest: dict[int, int] = {}             # {hart: its last try}
-    for n, address in zip(rows.accesses, rows.addresses):
-        if rows.code_of(n).kind == AMO and address in holders:
-            latest[rows.hart[n]] = n
-    wanted = {hart: rows.access(n).address for hart, n in latest.items()}
-    wanted = {hart: lock for hart, lock in wanted.items() if rows.hart[holders[lock]] != hart}
-    found = []
-    for hart, lock in wanted.items():
-        other = rows.hart[holders[lock]]
-        if other in wanted and rows.hart[holders[wanted[other]]] == hart:
-            found.append(Wait(latest[hart], holders[wanted[other]]))
-    return found
 
 
 def suspect_of(facts: Facts, guilty: int, bare: list[int], cost: int) -> Suspect:

@@ -17,9 +17,10 @@ from ..recording.instruction import AMO, STORE
 from ..recording.log import At
 from ..recording.rows import LOADS
 from .branches import Ways, branch_suspects
+from .deadlock import deadlock_suspects
 from .facts import Facts
 from .history import ADDRESS, History, Pair
-from .locks import circle, unlocked
+from .locks import unlocked
 from .memory_use import MemoryUse
 from .suspect import Extra, Suspect, rank
 from .unread import failed_stores, unset
@@ -55,7 +56,7 @@ class Ranking:
         memory = MemoryUse(facts)
         found = [suspect for item in stores[:MOST_LOOKED_AT] for suspect in memory.judge(item)]
         found += memory.given_back_twice() + branch_suspects(facts, history, self.ways)
-        found += unlocked(facts, history) + circle(facts) + failed_stores(facts, history) + unset(facts, history)
+        found += unlocked(facts, history) + deadlock_suspects(facts) + failed_stores(facts, history) + unset(facts, history)
         found = self.own_first(stores + found + recursion)
         self.found = self.once(sorted(found + self.behind_places(found, memory), key=rank))
 

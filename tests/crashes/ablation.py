@@ -23,7 +23,7 @@ AT_ONCE = 2
 ALL = "all rules"
 PURE = (facts, "Loop"), (locks, "setting"), (locks, "accesses"), (memory_use, "Blocks"), (suspects, "Ways")
 SEARCHES = (analysis, "History"), (suspects, "History")
-FINDERS = (suspects, "unlocked"), (suspects, "circle"), (suspects, "failed_stores"), (suspects, "unset")
+FINDERS = (suspects, "unlocked"), (suspects, "deadlock_suspects"), (suspects, "failed_stores"), (suspects, "unset")
 
 
 def nothing(*_given):
@@ -60,7 +60,7 @@ RULES: Dict[str, Any] = {
     "who stored what it compared": ("a value that it compared was", {"branches.add_stored": nothing}),
     "branches": ("", {"suspects.branch_suspects": nothing}),
     "an access without its lock": ("their hart holds", {"suspects.unlocked": nothing}),
-    "locks in a circle": ("each other's locks", {"suspects.circle": nothing}),
+    "locks in a circle": ("each other's locks", {"suspects.deadlock_suspects": nothing}),
     "a deep recursion": ("calls deep", {"recursion.DEEP": 1 << 32}),
     "a failed store-conditional": ("a store-conditional failed", {"suspects.failed_stores": nothing}),
     "never stored by its call": ("from before this call", {"suspects.unset": nothing}),

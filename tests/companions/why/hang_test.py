@@ -94,6 +94,21 @@ class HangTest(case.Case):
         self.assertNotIn("never stored", said)
         self.assertIn("t1 is 00000000, from 00020000, zero from the start: never stored", self.flags(()))
 
+    def test_a_deadlock_is_one_sentence(self):
+        self.assertTrue(self.hang("hang_accounts").startswith(
+            "\nHANG\n  Deadlock: hart 0 (close_month hang_accounts.c:73) waits for accounts of hart 1 "
+            "(acquire_both hang_accounts.c:44), hart 1 (acquire_both hang_accounts.c:45) waits for accounts+16 of hart 0 "
+            "(close_month hang_accounts.c:71).\n"))
+        said = self.hang("hang_kitchen").split("\n")[2]
+        self.assertEqual(re.findall(r"hart (\d) \(take hang_kitchen.c:38\) waits for tools\S* of hart (\d) ", said),
+                         [(str(hart), str((hart + 1) % 5)) for hart in range(5)])
+
+    def test_a_lock_that_its_hart_holds_itself(self):
+        said = self.hang("lock_left_held")
+        self.assertIn("  Deadlock: hart 0 (transfer lock_left_held.c:23) waits for lock which it holds itself (transfer lock_left_held.c:23).\n"
+                      "  hart 1 (total lock_left_held.c:35) waits for lock of hart 0 (transfer lock_left_held.c:23).\n", said)
+        self.assertNotIn("waits for", self.hang("hang_wakeup"))
+
     def test_a_run_that_ends_has_none(self):
         log = self.record("counter", "--seed", "1", "--harts", "2")
         self.assertNotIn("HANG", self.says("why", log, self.elf("counter")))

@@ -1,0 +1,115 @@
+"""Harts that wait for locks which others hold, at the end of a run that hangs; and whether they wait in a circle."""
+from __future__ import annotations
+
+from collections import Counter
+from typing import NamedTuple, Optional, Sequence
+
+from ..call.text import number
+from ..recording.instruction import AMO
+from .facts import Facts
+from .locks import Setting, name_of, setting
+from .loops import Loop
+from .suspect import Extra, Suspect
+
+CIRCLE, MOST_TIMES = 12, 1000           # what a circle is worth, less if a lock was taken often in the same call
+
+
+class Wait(NamedTuple):
+    """A hart whose loop would end once a lock is free, the row that looked at it last, and the row that took it."""
+    hart: int
+    lock: int
+    row: int
+    taken: int
+
+
+def waits_of(facts: Facts, changes: Sequence[Setting]) -> list[Wait]:
+    """The harts at their limit that wait for a lock which is held."""
+    holders: dict[int, int] = {}            # {lock: the row that took it last, if it is still held}
+    for n, lock, is_set in changes:
+        if is_set:
+            holders[lock] = n
+        else:
+            holders.pop(lock, 0)
+    found = [wait_of(facts, loop, holders) for loop in facts.loops] if holders else []
+    return [wait for wait in found if wait]
+
+
+def wait_of(facts: Facts, loop: Loop, holders: dict[int, int]) -> Optional[Wait]:
+    """What would end the loop is a word that isn't 0, and that its holder would set to 0."""
+    for item in loop.exits:
+        load = item.operands[0].load if item.leads_out and len(item.operands) == 1 else 0
+        lock = facts.rows.access(load).address & ~3 if load else 0
+        if lock in holders:
+            return Wait(loop.hart, lock, last_try(facts, loop.hart, lock) or load, holders[lock])
+    return None
+
+
+def last_try(facts: Facts, hart: int, lock: int) -> int:
+    """The latest row of a hart that tried to take a lock."""
+    rows = facts.rows
+    for n, address in zip(reversed(rows.accesses), reversed(rows.addresses)):
+        if address == lock and rows.hart[n] == hart and rows.code_of(n).kind == AMO:
+            return n
+    return 0
+
+
+def in_circle(facts: Facts, waits: Sequence[Wait]) -> list[Wait]:
+    """Those that wait for each other, in their order from the lowest hart on. One that waits for itself is a circle, too."""
+    by_hart = {wait.hart: wait for wait in waits}
+    for first in waits:
+        circle: list[Wait] = []
+        wait: Optional[Wait] = first
+        while wait and wait not in circle:
+            circle.append(wait)
+            wait = by_hart.get(facts.rows.hart[wait.taken])
+        if wait == first:
+            return circle
+    return []
+
+
+def deadlock_suspects(facts: Facts) -> list[Suspect]:
+    """Harts that wait for each other's locks: first the one that waits where locks were taken least often, since its order
+    is the odd one."""
+    if not facts.hangs or len(facts.rows.last) < 2:
+        return []
+    changes = setting(facts.rows)
+    times = Counter(facts.calls.node_of(each.row) for each in changes if each.is_set)
+    circle = in_circle(facts, waits_of(facts, changes))
+    found = []
+    for wait in circle if len(circle) > 1 else ():
+        taken = times[facts.calls.node_of(wait.row)]
+        suspect = Suspect("order", wait.row, wait.row, 0)
+        suspect.sign(CIRCLE - min(taken, MOST_TIMES) / MOST_TIMES,
+                     f"the harts wait for each other's locks; here a lock was taken {number(taken)} times")
+        held = next(other.taken for other in circle if facts.rows.hart[other.taken] == wait.hart)
+        suspect.extra.append(Extra("it holds the lock that it took in", held))
+        found.append(suspect)
+    return found
+
+
+def deadlock_lines(facts: Facts) -> list[str]:
+    """Who waits for whom: a circle is one sentence."""
+    if len(facts.rows.last) < 2:
+        return []
+    waits = waits_of(facts, setting(facts.rows))
+    circle = in_circle(facts, waits)
+    said = ["Deadlock: " + ", ".join(wait_words(facts, wait) for wait in circle) + "."] * bool(circle)
+    return said + [wait_words(facts, wait) + "." for wait in waits if wait not in circle]
+
+
+def wait_words(facts: Facts, wait: Wait) -> str:
+    """A hart, its place, the lock, who holds it, and since what place. If both places are in one function, that takes locks:
+    what called it is told."""
+    holder = facts.rows.hart[wait.taken]
+    here, there = place_words(facts, wait.row, wait.taken), place_words(facts, wait.taken, wait.row)
+    end = facts.log.ends.get(holder)
+    ended = f", which ended ({end.reason})" if end and end.reason != "limit" else ""
+    owner = "which it holds itself" if holder == wait.hart else f"of hart {holder}"
+    return f"hart {wait.hart} ({here}) waits for {name_of(facts, wait.lock)} {owner} ({there}){ended}"
+
+
+def place_words(facts: Facts, n: int, other: int) -> str:
+    frames, others = facts.stack(n, 3).frames, facts.stack(other, 3).frames
+    is_shared = frames[0].function == others[0].function and len(frames) > 1 and frames[0].function
+    frame = frames[1 if is_shared else 0]
+    return f"{frame.function} {frame.place}".strip() or f"{frame.address:08x}"
