@@ -12,9 +12,10 @@ from ..recording.races import Races
 from ..recording.recent import FIRST_ROWS, MORE_ROWS, LogFile, open_log
 from ..recording.trace import Trace, read_trace
 from .control import Control
+from .earlier import earlier
 from .facts import Byte, Facts, Written, asked_row, find_starts, writer_of, written
 from .formatted import begin_at_argument
-from .history import NO_REGISTER, History
+from .history import ADDRESS, NO_REGISTER, History
 from .origins import origins
 from .recursion import find_recursion
 from .suspects import Ranking
@@ -50,6 +51,16 @@ class Analysis(Facts):
         self.shown = [item for item in self.suspects if item.shown] or [item for item in self.suspects if item.kind != "branch"]
         self.origin = origins(self, self.history)
 
+    def find_earlier(self) -> None:
+        """Looks before the rows that were read for what stored the words of a loop's exits, and near values."""
+        loads = [operand.load for loop in self.loops for item in loop.exits if item.leads_out
+                 for operand in item.operands if operand.load and not operand.store]
+        near = [n for n in self.history.before if self.history.cost[n] < ADDRESS]
+        loads += sorted(near, key=self.history.cost.__getitem__)
+        with streams.working("stores before the rows that were read are looked for"):
+            self.earlier = earlier(self.file, self.elf.name, self.trace, loads)
+        self.origin = origins(self, self.history)
+
     def close(self) -> None:
         super().close()
         self.file.close()
@@ -77,6 +88,7 @@ def analysed(log_name: str, elf_name: str, names: str = "", row: str = "", rows:
         named, byte = named_elf(elf, names), written(source.whole(), output) if output else None
         asked = asked_row(row) if row else At(byte.call.hart, byte.call.count) if byte else None
         entries, most = entries_of(named), rows or FIRST_ROWS
+        size = most
         log = source.end(most, asked)
         trace = read_trace(log, elf_name, entries, 2 * most, asked)
         if (log.unread or trace.rows.passed) and not rows and trace.rows.last:
@@ -85,11 +97,16 @@ def analysed(log_name: str, elf_name: str, names: str = "", row: str = "", rows:
                 is_short = needs_more(trace, log, more, row, byte)
             if is_short:
                 del trace                       # it is large
+                size = MORE_ROWS
                 log, trace = more, read_trace(more, elf_name, entries, MORE_ROWS, asked)
             else:
                 log = source.end(most, asked)
         with streams.working("what is behind it is looked for"):
-            return Analysis(source, log, elf, named, trace, row, byte, folders)
+            found = Analysis(source, log, elf, named, trace, row, byte, folders)
+        if found.is_part and not rows:
+            found.find_earlier()
+            source.end(size, asked)             # the file is its log's again
+        return found
     except BaseException:
         source.close()
         raise

@@ -1,25 +1,35 @@
 """Harts that wait for locks which others hold, at the end of a run that hangs; and whether they wait in a circle."""
 from __future__ import annotations
 
+import re
 from collections import Counter
 from typing import NamedTuple, Optional, Sequence
 
 from ..call.text import number
 from ..recording.instruction import AMO
-from .facts import Facts
+from .facts import Facts, StackFrame
 from .locks import Setting, name_of, setting
 from .loops import Loop
 from .suspect import Extra, Suspect
 
 CIRCLE, MOST_TIMES = 12, 1000           # what a circle is worth, less if a lock was taken often in the same call
+EMPTY = re.compile(r" \| load \w{8}=00000000 \| store ")
+
+
+class Taken(NamedTuple):
+    """How a lock was taken that is still held: by which hart, its calls, and the row, or 0 if that isn't among those that
+    were read."""
+    hart: int
+    frames: Sequence[StackFrame]
+    row: int
 
 
 class Wait(NamedTuple):
-    """A hart whose loop would end once a lock is free, the row that looked at it last, and the row that took it."""
+    """A hart whose loop would end once a lock is free, the row that looked at it last, and how it was taken."""
     hart: int
     lock: int
     row: int
-    taken: int
+    taken: Taken
 
 
 def waits_of(facts: Facts, changes: Sequence[Setting]) -> list[Wait]:
@@ -30,7 +40,7 @@ def waits_of(facts: Facts, changes: Sequence[Setting]) -> list[Wait]:
             holders[lock] = n
         else:
             holders.pop(lock, 0)
-    found = [wait_of(facts, loop, holders) for loop in facts.loops] if holders else []
+    found = [wait_of(facts, loop, holders) for loop in facts.loops]
     return [wait for wait in found if wait]
 
 
@@ -39,9 +49,23 @@ def wait_of(facts: Facts, loop: Loop, holders: dict[int, int]) -> Optional[Wait]
     for item in loop.exits:
         load = item.operands[0].load if item.leads_out and len(item.operands) == 1 else 0
         lock = facts.rows.access(load).address & ~3 if load else 0
-        if lock in holders:
-            return Wait(loop.hart, lock, last_try(facts, loop.hart, lock) or load, holders[lock])
+        taken = taken_in(facts, holders.get(lock, 0)) or taken_before(facts, load)
+        if taken:
+            return Wait(loop.hart, lock, last_try(facts, loop.hart, lock) or load, taken)
     return None
+
+
+def taken_in(facts: Facts, row: int) -> Optional[Taken]:
+    return Taken(facts.rows.hart[row], facts.stack(row, 3).frames, row) if row else None
+
+
+def taken_before(facts: Facts, load: int) -> Optional[Taken]:
+    """What an atomic set from 0 before the rows that were read, and nothing set since. A store-conditional's row doesn't
+    tell what was there."""
+    stored = facts.earlier_of(load) if load else None
+    if not stored or not EMPTY.search(stored.row):
+        return None
+    return Taken(stored.hart, facts.frames([stored.code.pc, *stored.calls]), 0)
 
 
 def last_try(facts: Facts, hart: int, lock: int) -> int:
@@ -61,7 +85,7 @@ def in_circle(facts: Facts, waits: Sequence[Wait]) -> list[Wait]:
         wait: Optional[Wait] = first
         while wait and wait not in circle:
             circle.append(wait)
-            wait = by_hart.get(facts.rows.hart[wait.taken])
+            wait = by_hart.get(wait.taken.hart)
         if wait == first:
             return circle
     return []
@@ -81,8 +105,8 @@ def deadlock_suspects(facts: Facts) -> list[Suspect]:
         suspect = Suspect("order", wait.row, wait.row, 0)
         suspect.sign(CIRCLE - min(taken, MOST_TIMES) / MOST_TIMES,
                      f"the harts wait for each other's locks; here a lock was taken {number(taken)} times")
-        held = next(other.taken for other in circle if facts.rows.hart[other.taken] == wait.hart)
-        suspect.extra.append(Extra("it holds the lock that it took in", held))
+        held = next(other.taken.row for other in circle if other.taken.hart == wait.hart)
+        suspect.extra += [Extra("it holds the lock that it took in", held)] * bool(held)
         found.append(suspect)
     return found
 
@@ -100,16 +124,15 @@ def deadlock_lines(facts: Facts) -> list[str]:
 def wait_words(facts: Facts, wait: Wait) -> str:
     """A hart, its place, the lock, who holds it, and since what place. If both places are in one function, that takes locks:
     what called it is told."""
-    holder = facts.rows.hart[wait.taken]
-    here, there = place_words(facts, wait.row, wait.taken), place_words(facts, wait.taken, wait.row)
+    holder, frames = wait.taken.hart, facts.stack(wait.row, 3).frames
+    here, there = place_words(frames, wait.taken.frames), place_words(wait.taken.frames, frames)
     end = facts.log.ends.get(holder)
     ended = f", which ended ({end.reason})" if end and end.reason != "limit" else ""
     owner = "which it holds itself" if holder == wait.hart else f"of hart {holder}"
     return f"hart {wait.hart} ({here}) waits for {name_of(facts, wait.lock)} {owner} ({there}){ended}"
 
 
-def place_words(facts: Facts, n: int, other: int) -> str:
-    frames, others = facts.stack(n, 3).frames, facts.stack(other, 3).frames
+def place_words(frames: Sequence[StackFrame], others: Sequence[StackFrame]) -> str:
     is_shared = frames[0].function == others[0].function and len(frames) > 1 and frames[0].function
     frame = frames[1 if is_shared else 0]
     return f"{frame.function} {frame.place}".strip() or f"{frame.address:08x}"

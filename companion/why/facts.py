@@ -13,6 +13,7 @@ from ..recording.naming import NO_TOOL, places_of
 from ..recording.places import Frame
 from ..recording.rows import LOADS
 from ..recording.trace import Trace
+from .earlier import Asked, Earlier
 from .loops import Loop
 
 LAST_ROWS = 12
@@ -59,7 +60,8 @@ class Facts:
     output   the byte of the output that is asked of; stored: the row that stored it, or else wrote it
     faulted  whether `start` is the fault
     last     the last rows up to `start`
-    notes    lines for the end of a report"""
+    notes    lines for the end of a report
+    earlier  the stores before the rows that were read, of those that were looked for"""
 
     def __init__(self, log: Log, elf: Elf, named: Elf, trace: Trace, row: str = "", output: Written | None = None,
                  folders: Sequence[str] = ()) -> None:
@@ -68,6 +70,7 @@ class Facts:
         self.rows, self.writers, self.calls = trace
         self.places = places_of(named, folders)
         self.owns: dict[int, StackFrame | None] = {}
+        self.earlier: dict[Asked, Earlier] = {}
         self.notes = self.first_notes()
         if not trace.rows.last:
             raise CompanionError(f"the log holds no row: the records of a hart's last interval passed its --log-size "
@@ -110,6 +113,10 @@ class Facts:
         """The place of a row and so many of the calls over it, innermost first."""
         above = self.calls.above(n, most)
         chain = [self.pc_of(n)] + above.calls + ([above.first] if above.more else [])
+        return Stack(self.frames(chain), max(0, above.more - 1), self.rows.is_cut(n))
+
+    def frames(self, chain: Sequence[int]) -> list[StackFrame]:
+        """The functions of some places, innermost first, with what is inlined."""
         self.places.fetch(chain)
         said = []
         for at in chain:
@@ -117,7 +124,12 @@ class Facts:
             for depth, frame in enumerate(frames, 1):
                 place = f"{frame.file}:{frame.line}" if frame.line else ""
                 said.append(StackFrame(at, frame.function, place, depth < len(frames)))
-        return Stack(said, max(0, above.more - 1), self.rows.is_cut(n))
+        return said
+
+    def earlier_of(self, load: int) -> Earlier | None:
+        """The store before the rows that gave a load's bytes their value, if it was found."""
+        word = self.rows.access(load).address & ~3
+        return self.earlier.get(Asked(word, self.writers.stores(load).rest))
 
     def own(self, n: int) -> StackFrame | None:
         """The innermost frame over a row whose source is here, or None. What a library did is told as the call of it."""

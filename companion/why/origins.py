@@ -9,7 +9,7 @@ from .facts import Facts
 from .history import History
 
 LARGEST_LOG = 1 << 28
-MOST_LOADS = 400
+MOST_LOADS, MOST_FRAMES = 400, 4
 
 
 class Origin(NamedTuple):
@@ -44,6 +44,11 @@ def came_from(facts: Facts, n: int) -> str:
     for call in reversed(facts.rows.reads):
         if call.row < n and any(call.address <= word + i < call.address + call.size for i in mine):
             return f"a read call filled it (hart {call.hart}, count {number(facts.rows.count_of(call.row))})"
+    stored = facts.earlier_of(n)
+    if stored:
+        places = facts.places.chain([stored.code.pc, *stored.calls], MOST_FRAMES)
+        moment = f"hart {stored.hart} at count {number(stored.ic)}"
+        return f"stored before the rows that were read, by {moment} in {places}"
     before = "stored before the rows that were read" if facts.is_part else "stored before the log" if facts.log.dropped else ""
     mask = sum(255 << 8 * i for i in mine)
     value = told.value & mask

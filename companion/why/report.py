@@ -192,5 +192,7 @@ def unread(facts: Analysis) -> list[str]:
     if not before:
         return []
     last = f"up to {facts.asked or 'the write'}" if facts.asked or facts.output else "of the log"
-    return [f"Only the last {counted(facts.rows.size, 'row')} {last} were read: {' and '.join(before)} before them weren't looked at. "
+    but = f", but for what stored {counted(len(facts.earlier), 'word')}" if facts.earlier else ""
+    rows = counted(facts.rows.size, "row")
+    return [f"Only the last {rows} {last} were read: {' and '.join(before)} before them weren't{but}. "
             "--rows N reads the last N."]

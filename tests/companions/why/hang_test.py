@@ -5,7 +5,9 @@ import case
 import common
 from recordings import DATA, EXIT, T0, T1, T2, addi, atomic, branch_unless_equal, elf_of, load, lui, store
 
+from companion.why import analysis
 from companion.why.analysis import analysed
+from companion.why.hang import hang_lines
 
 S0, SWAP, LR, SC = 8, 1, 2, 3
 HANGS = "hang_width", "hang_wakeup", "hang", "lock_left_held"
@@ -87,6 +89,39 @@ class HangTest(case.Case):
             self.assertIn("t1 is 00000000, from 00020000, zero from the start, or stored before the rows that were read", said)
             self.assertNotIn("never stored", said)
             self.assertRegex(said, r"\nOnly the last [\d,]+ rows of the log were read: ")
+
+    def bounded(self, log, elf, first=1000, more=5000):
+        """HANG, if so few rows are read."""
+        before = analysis.FIRST_ROWS, analysis.MORE_ROWS
+        analysis.FIRST_ROWS, analysis.MORE_ROWS = first, more
+        try:
+            facts = analysed(log, elf)
+            said = hang_lines(facts, False)
+            facts.close()
+        finally:
+            analysis.FIRST_ROWS, analysis.MORE_ROWS = before
+        self.assertLess(facts.rows.size, 20000)
+        return "\n".join(said)
+
+    def test_what_stored_before_the_rows_is_looked_for(self):
+        """The word's lowest byte was stored before another one of it. In between, an atomic stored what was there."""
+        names = common.path("flags.log"), common.path("flags.elf")
+        for rows, count in (([store(0, S0)], 1), ([store(0, S0), store(T1, S0, 1, 0)], 1),
+                            ([store(T1, S0), store(0, S0), atomic(SWAP, 0, S0, 0)], 2)):
+            self.flags((), *rows)
+            self.assertIn("t1 is 00000000, from 00020000, stored before the rows that were read, by hart 0 at "
+                          f"count {count} in ", self.bounded(*names))
+        self.flags(())
+        self.assertIn("zero from the start, or stored before the rows", self.bounded(*names))
+
+    def test_a_deadlock_from_before_the_rows(self):
+        """Who holds the locks is the same, however few rows are read."""
+        words = ("--seed", "8", "--harts", "2", "--limit", "60000", "--interval", "2000")
+        log, elf = self.record("two_locks", *words), self.elf("two_locks")
+        found = [re.findall(r"waits for (\w+) of (hart \d \(\w+\))", text)
+                 for text in (self.says("why", log, elf), self.bounded(log, elf))]
+        self.assertEqual(found[0], [("000112f0", "hart 1 (0001018c)"), ("000112f8", "hart 0 (0001025c)")])
+        self.assertEqual(found[0], found[1])
 
     def test_an_atomic_that_stores_what_was_there_is_a_store(self):
         said = self.flags((), atomic(SWAP, 0, S0, 0))
