@@ -12,6 +12,7 @@ from .fault import fault_words
 from .hang import hang_lines
 from .history import ADDRESS
 from .origins import advice
+from .returned import middle_lines, null_lines
 from .stack_room import stack_lines
 from .suspect import ALONE, DID, NEW_OWNER, Suspect
 
@@ -60,7 +61,7 @@ def head_lines(facts: Analysis) -> list[str]:
         said += [f"hart {each} is in {facts.where(n)}" for each, n in sorted(rows.last.items())]
     source = facts.source(at)
     place = facts.where(at) + (f":  {source}" if source else "")
-    return said + stack_lines(facts) + [f"{verb} {place}"]
+    return said + null_lines(facts) + middle_lines(facts) + stack_lines(facts) + [f"{verb} {place}"]
 
 
 def output_lines(facts: Analysis, byte: Written) -> list[str]:

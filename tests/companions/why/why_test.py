@@ -88,6 +88,15 @@ class WhyTest(case.Case):
         self.assertRegex(said, r"\n  The stack of hart 0 left its 2,048 bytes at \w{8} \(own\): its pointer was "
                                + lowest + r"( \(\S+\))?, [\d,]+ bytes below them, at count [\d,]+ in walk ")
 
+    def test_the_call_that_returned_the_null(self):
+        self.assertIn("  The null is what take returned to make spent.c:13.\n", self.built("spent"))
+        self.assertNotIn("The null is what", self.says("why", *self.crash("null_lookup")))
+
+    def test_a_jump_into_the_middle_of_a_function(self):
+        self.assertRegex(self.built("middle"), r"\n  The jump through a pointer in main middle.c:13 \(hart 0 at count \d+\) "
+                                               r"led into the middle of twice, to \w{8}\.\n")
+        self.assertNotIn("into the middle", self.says("why", *self.crash("jump_plugin")))
+
     def test_a_library_is_told_by_its_call(self):
         """No line of a library, whose source isn't here, is a suspect: the call of it is."""
         said = self.says("why", *self.crash("libc_line"), "--more")
