@@ -6,7 +6,7 @@ import random
 import shutil
 import subprocess
 from dataclasses import dataclass, field
-from typing import Dict, List
+from typing import List
 
 from . import sources
 
@@ -30,9 +30,15 @@ class Recorded:
     elf: str
     named: str
     harts: int
+    settings: List[str]
     is_whole: bool = True
     said: List[str] = field(default_factory=list)
-    environment: Dict[str, str] = field(default_factory=dict)   # of what is asked of it
+
+    @property
+    def options(self) -> List[str]:
+        """Those of its recording, but for the seed."""
+        at = self.settings.index("--seed")
+        return self.settings[:at] + self.settings[at + 2:]
 
 
 def has_tools() -> bool:
@@ -82,12 +88,13 @@ def recorded(program: str, folder: str, elf: str, named: str, harts: int, *optio
     log, book, given = base + ".log", base + ".book", base + ".input"
     with open(given, "wb") as file:
         file.write(read)
-    words = [program, "record", "--format", "2", "--harts", str(harts), "--input", given, *options, elf, log, book]
+    settings = ["--format", "2", "--harts", str(harts), "--input", given, *options]
+    words = [program, "record", *settings, elf, log, book]
     done = subprocess.run(words, stdout=subprocess.DEVNULL, stderr=subprocess.PIPE, check=False)
     if done.returncode not in (0, 10, 11):
         raise RuntimeError(f"{' '.join(words)}: {done.stderr.decode()}")
     is_whole = b" dropped 0 " in done.stderr
-    return Recorded(log, book, elf, named, harts, is_whole, [" ".join(words)])
+    return Recorded(log, book, elf, named, harts, settings, is_whole, [" ".join(words)])
 
 
 def crashes() -> List[List[str]]:

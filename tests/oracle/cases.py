@@ -18,6 +18,7 @@ from .of_output import ask_output
 from .of_page import ask_page
 from .of_race import ask_race
 from .of_same import ask_same
+from .of_shrink import ask_shrink
 from .of_why import ask_why
 
 Ask = Callable[[Asked], None]
@@ -34,7 +35,7 @@ class Case(NamedTuple):
     ask: Ask
     harts: int = 1
     has_gdb: bool = True
-    first: bytes = b""
+    first: bytes = building.INPUT
     second: bytes = b""
     is_big: bool = False
     is_stripped: bool = False
@@ -104,7 +105,7 @@ CASES = [
     Case("keeps", ["-O2", G], ["--limit", "3000"], why()),
     Case("readers", ["-O2", G], ["--seed", "3"], why(), harts=2),
     Case("other_byte", ["-O2", G], [], lambda asked: None, first=b"ab", second=b"x"),
-    Case("read_call", ["-O2", G], [], lambda asked: None, first=b"abxdefgh", second=b"abcdefgh"),
+    Case("read_call", ["-O2", G], [], history("text"), first=b"abxdefgh", second=b"abcdefgh"),
     Case("heap", ["-O2", G], [], calls("free", "malloc"), library=True),
     Case("heap-stripped", ["-O2", G], [], calls("main"), library=True, is_stripped=True),
     Case("constants", [], ["--limit", "300000"], why(), elf="tests/crashes/jump_shape.elf"),
@@ -119,6 +120,7 @@ CASES = [
     Case("shop-page", ["-O1", G], [], all_of(ask_page)),
     Case("shop-gdb", ["-O1", G], [], all_of(ask_gdb)),
     Case("harts", ["-O2", G], ["--limit", "8000", "--log-size", "16384"], all_of(ask_race, ask_history), harts=4),
+    Case("switches", [], ["--seed", "10"], ask_shrink, harts=4, elf="examples/filters.elf"),
     Case("seldom", ["-O1", G], ["--limit", "2000000"], history("rare"), is_big=True),
     Case("sift", ["-O2", G], ["--limit", "2000000"], calls("sift_down"), is_big=True),
 ]

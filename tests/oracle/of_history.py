@@ -129,8 +129,8 @@ def entry(asked: Asked, variable: Variable, stored: Stored) -> Dict[str, Any]:
     said: Dict[str, Any] = {"hart": stored.row.hart, "count": stored.row.ic, "row": stored.row.text, "place": asked.place(stored.row.code.pc),
                             "caller": None if caller is None else asked.place(caller), "read": stored.fill.size if stored.fill else 0}
     leaves = [leaf for leaf in variable.leaves if leaf.at < end and first < leaf.at + leaf.size]
-    if len(leaves) == 1 and leaves[0].type and all(leaf.type for leaf in variable.leaves):
-        leaf = leaves[0]
+    if leaves and all(leaf.type for leaf in variable.leaves) and not (stored.fill and len(leaves) > 1):
+        leaf = leaves[0] if len(leaves) == 1 else Leaf(leaves[0].path, first, end - first, WORDS)   # of several the bytes as they are
         values = [number_text(leaf.type or {}, data[leaf.at:leaf.at + leaf.size], asked.program) for data in (stored.old, stored.new)]
         if None not in values:
             said.update(part=leaf.path, old=values[0], new=values[1])

@@ -57,9 +57,11 @@ def same_rows(asked: Asked, word: str, name: str, entries: Sequence[Dict[str, An
         return
     if len(told["entries"]) < len(entries):
         asked.same(f"same: {word} --rows says what it left out", words, bool(told["left_out"]), True)
-    for one, entry in zip(reversed(told["entries"]), reversed(entries)):
-        at = position(one), position(entry)
-        asked.same(f"same: {word} --rows", words, at[0], at[1])
+    by_position = {position(entry): entry for entry in entries}     # (rows of several harts can have another order)
+    for one in told["entries"]:
+        at, entry = position(one), by_position.get(position(one))
+        if not asked.same(f"same: {word} --rows", words, (at, entry is not None), (at, True)) or entry is None:
+            continue
         pairs = [(one[key], entry[key]) for key in ("old", "new") if key in one]
         pairs += [(value, entry["arguments"].get(key)) for key, value in one.get("arguments", {}).items()]
         for value, other in pairs:

@@ -139,7 +139,7 @@ def number_text(kind: Dict[str, Any], data: List[Optional[int]], program: Progra
         return "unknown"
     number = int.from_bytes(bytes(byte or 0 for byte in data), "little")
     if kind["kind"] == "bytes":
-        return f"{number:0{2 * len(data)}x}"
+        return f"{number:0{2 * len(data)}x}" if len(data) <= 4 else bytes(byte or 0 for byte in data).hex(" ")
     if kind["kind"] == "pointer":
         name = program.name_of(number)
         return f"{number:08x}" + (f" <{name}>" if name else "")

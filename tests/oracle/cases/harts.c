@@ -8,7 +8,10 @@ OWN int share(int h)
     take(&lock);
     guarded += h;
     give(&lock);
-    open++;
+    if (h & 1)
+        __atomic_fetch_add(&open, 1, __ATOMIC_RELAXED);
+    else
+        open++;
     seen[h] = open;
     return __atomic_fetch_add(&seen[h + 8], open, __ATOMIC_RELAXED);
 }

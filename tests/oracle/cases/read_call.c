@@ -14,7 +14,7 @@ int main(void)
 {
     for (int i = 0; i < 16; i += 4) *(int *)(text + i) = 0;
     sys(63, 0, (int)text, 8);
-    text[9] = 'z';
+    text[5] = 'z';
     if (text[2] == 'x') count++;
     return count;
 }

@@ -34,6 +34,7 @@ OWN int listen(void)
     for (int i = 0; i < 24; i++)
         heard[i] = 'a' + i;
     int got = sys(63, 0, (int)heard + 3, 9);
+    heard[10] = '!';
     sys(64, 2, (int)heard, 16);
     heard[4] = heard[5];
     sys(64, 1, (int)heard, 20);
