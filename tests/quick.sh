@@ -67,6 +67,7 @@ tries tests/script/carry.sh "$program"
 tries tests/program/joined.py
 tries tests/program/read_log.sh "$program"
 tries tests/program/limits.sh "$program"
+tries tests/program/threads.py "$program"
 tries tests/pages/documents.py "$program" README.md examples/README.md docs/COMMANDS.md tests/pages/examples.md
 if command -v riscv64-unknown-elf-addr2line riscv64-linux-gnu-addr2line llvm-addr2line >/dev/null; then
     tries tests/pages/documents.py "$program" docs/{GUIDE,WHY,SHRINK,VIEW,GDB,PYTHON}.md
@@ -76,6 +77,7 @@ fi
 tries tests/sources/checkers.sh
 tries tests/sources/named.py
 tries tests/sources/stale.py
+tries tests/sources/promised.py
 tries tests/sources/examples.sh
 tries tests/companions.sh "$program"
 wait

@@ -39,6 +39,17 @@ if [ -r /proc/self/limits ]; then
     says "bugnet: store failed: LOG3"
     runs 3 limited convert LOG NEW
     says "bugnet: store failed: NEW"
+    # a file that is there has the limit too; a pipe and a device have none
+    cp LOG there
+    runs 3 limited "${few[@]}" --lean ELF there BOOK3
+    says "bugnet: store failed: there"
+    equals LOG there
+    runs 11 limited "${few[@]}" --lean ELF /dev/null BOOK3
+    mkfifo pipe
+    cat pipe >through &
+    runs 11 limited "${few[@]}" --lean ELF pipe BOOK3
+    wait
+    equals LOG through
 fi
 for name in LOG3 BOOK3 NEW; do
     [ ! -e $name ] || fails "$name was begun"
@@ -53,6 +64,31 @@ done
 answers 3 "bugnet: store failed: IN/SOFT" "${few[@]}" ELF LOG3 IN/SOFT
 answers 3 "bugnet: store failed: ./LOG" convert LOG ./LOG
 runs 0 sha256sum -c before
+
+# A regular file that can be read, on another device than a new one, and with that one's number; sets `twin` and `new`.
+find_twin() {
+    local number
+    for number in {1..60}; do
+        new=$shared/$number && echo old >"$new" || return 1
+        twin=$(find /sys/devices /sys/module -xdev -type f -perm -444 -inum "$(stat -c %i "$new")" -print -quit 2>/dev/null)
+        [ -n "$twin" ] && head -c 1 "$twin" >/dev/null 2>&1 && return 0
+    done
+    return 1
+}
+
+what="a file that was loaded is known by its device too: another one with its number is replaced"
+if shared=$(mktemp -d -p /dev/shm 2>/dev/null); then
+    trap 'rm -rf "$work" "$shared"' EXIT
+    if find_twin; then
+        answers 11 "" "${few[@]}" --input "$twin" ELF "$new" BOOK3
+        equals LOG "$new"
+    else
+        skips "no file below /sys has the number of one in /dev/shm"
+    fi
+    rm -rf "$shared"
+else
+    skips "there is no /dev/shm"
+fi
 
 what="LOG and BOOK are never one file, whatever names lead to it: LOG stands"
 answers 11 "" "${few[@]}" ELF plain BOOK

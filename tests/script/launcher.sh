@@ -218,6 +218,19 @@ truncate -s 500000000 large
 runs 9 bash -c 'ulimit -v 200000; ZELKUMA_SCHEDULE=book:large exec "$0" record --harts 2 ELF LOG BOOK' "$program"
 says "bugnet: out of memory"
 rm large
+# what a seed takes for a number is one here too, and the same one
+for number in 7 +7 007; do
+    for started in "$program" "$zelkuma"; do
+        runs 11 "$started" record --seed "$number" --harts 2 --limit 2000 ELF "seeded-$number" BOOK
+        runs 11 env ZELKUMA_SCHEDULE="bursts:$number" "$started" record --harts 2 --limit 2000 ELF "drawn-$number" BOOK
+    done
+    equals seeded-7 "seeded-$number"
+    equals drawn-7 "drawn-$number"
+done
+for number in '' 7x ' 7' 0x7 -7; do
+    runs 2 "$program" record "--seed=$number" --harts 2 --limit 2000 ELF LOG BOOK
+    runs 2 env ZELKUMA_SCHEDULE="bursts:$number" "$program" record --harts 2 --limit 2000 ELF LOG BOOK
+done
 for schedule in bursts:0 bursts:+7 sleeper:18446744073709551615; do
     export ZELKUMA_SCHEDULE=$schedule
     runs 11 "$zelkuma" record --harts 2 --limit 2000 ELF drawn drawn-BOOK
