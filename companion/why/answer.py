@@ -40,7 +40,7 @@ def why_answer(facts: Analysis) -> dict[str, Any]:
         "before": [{"words": origin.words, "place": origin.place, "loads": loads.times}
                    for origin, loads in facts.origin.items()],
         "races": None if facts.races.over else facts.races.total,
-        "rows": rows.size, "unread_bytes": log.unread, "dropped_records": 0 if log.unread else log.dropped,
+        "rows": rows.size, "unread_bytes": log.unread, "passed_rows": rows.passed, "dropped_records": 0 if log.unread else log.dropped,
         "notes": facts.notes + facts.places.trouble()}
 
 
@@ -55,7 +55,8 @@ def loop_answer(facts: Analysis, loop: Loop) -> dict[str, Any]:
 
 def suspect_answer(facts: Analysis, item: Suspect) -> dict[str, Any]:
     has_load = item.kind not in ALONE
-    return {"kind": item.kind, "did": DID[item.kind], "guilty": row_of(facts, item.guilty),
+    return {"kind": item.kind, "did": DID[item.kind], "where": facts.own_where(item.guilty),
+            "guilty": row_of(facts, item.guilty),
             "store": row_of(facts, item.store) if has_load else None,
             "load": row_of(facts, item.load) if has_load else None,
             "extra": [{"words": words, **row_of(facts, n)} for words, n in item.extra],

@@ -8,7 +8,8 @@ from typing import NamedTuple, Optional, Sequence
 from ..call.text import number
 from ..recording.instruction import AMO
 from .facts import Facts, StackFrame
-from .locks import Setting, name_of, setting
+from .lock_words import Setting
+from .locks import name_of
 from .loops import Loop
 from .suspect import Extra, Suspect
 
@@ -77,7 +78,7 @@ def last_try(facts: Facts, hart: int, lock: int) -> int:
     return 0
 
 
-def in_circle(facts: Facts, waits: Sequence[Wait]) -> list[Wait]:
+def in_circle(waits: Sequence[Wait]) -> list[Wait]:
     """Those that wait for each other, in their order from the lowest hart on. One that waits for itself is a circle, too."""
     by_hart = {wait.hart: wait for wait in waits}
     for first in waits:
@@ -96,9 +97,8 @@ def deadlock_suspects(facts: Facts) -> list[Suspect]:
     is the odd one."""
     if not facts.hangs or len(facts.rows.last) < 2:
         return []
-    changes = setting(facts.rows)
-    times = Counter(facts.calls.node_of(each.row) for each in changes if each.is_set)
-    circle = in_circle(facts, waits_of(facts, changes))
+    times = Counter(facts.calls.node_of(each.row) for each in facts.changes if each.is_set)
+    circle = in_circle(waits_of(facts, facts.changes))
     found = []
     for wait in circle if len(circle) > 1 else ():
         taken = times[facts.calls.node_of(wait.row)]
@@ -115,8 +115,8 @@ def deadlock_lines(facts: Facts) -> list[str]:
     """Who waits for whom: a circle is one sentence."""
     if len(facts.rows.last) < 2:
         return []
-    waits = waits_of(facts, setting(facts.rows))
-    circle = in_circle(facts, waits)
+    waits = waits_of(facts, facts.changes)
+    circle = in_circle(waits)
     said = ["Deadlock: " + ", ".join(wait_words(facts, wait) for wait in circle) + "."] * bool(circle)
     return said + [wait_words(facts, wait) + "." for wait in waits if wait not in circle]
 

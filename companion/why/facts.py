@@ -2,6 +2,7 @@
 from __future__ import annotations
 
 import re
+from functools import cached_property
 from typing import NamedTuple, Sequence
 
 from ..call.errors import NO_INTERVAL, REFUSED, CompanionError
@@ -14,6 +15,7 @@ from ..recording.places import Frame
 from ..recording.rows import LOADS
 from ..recording.trace import Trace
 from .earlier import Asked, Earlier
+from .lock_words import Setting, setting
 from .loops import Loop
 
 LAST_ROWS = 12
@@ -155,6 +157,11 @@ class Facts:
     def callers(self, n: int) -> list[StackFrame]:
         """The innermost calls over a row."""
         return self.stack(n, 3).frames[1:4]
+
+    @cached_property
+    def changes(self) -> list[Setting]:
+        """Who took and gave locks, in the rows' order."""
+        return setting(self.rows)
 
     @property
     def is_part(self) -> bool:

@@ -1,7 +1,4 @@
-"""A word that harts access while they hold a lock, and once without it.
-
-A lock is a word that a hart sets from 0 by an atomic instruction, and sets to 0 again. One that atomics add to, or set from
-one value to another that isn't 0 either, counts something, and is none. Nothing has to say which words a lock guards: that
+"""A word that harts access while they hold a lock, and once without it. Nothing has to say which words a lock guards: that
 shows in what is held at their accesses."""
 from __future__ import annotations
 
@@ -9,10 +6,10 @@ from collections import Counter
 from typing import Iterable, NamedTuple, Sequence
 
 from ..call.text import number
-from ..recording.instruction import AMO
-from ..recording.rows import LOADS, STORES, Rows
+from ..recording.rows import STORES, Rows
 from .facts import Facts
 from .history import History
+from .lock_words import Setting
 from .suspect import Extra, Suspect
 
 LEAST, RARE = 3, 3          # how often a guarded word is accessed with its lock at least, and how much rarer without
@@ -23,46 +20,6 @@ class Held(NamedTuple):
     """An access to a word, and the locks that its hart held."""
     row: int
     locks: frozenset[int]
-
-
-class Setting(NamedTuple):
-    """A row that set a word from 0 by an atomic instruction, or back to 0."""
-    row: int
-    word: int
-    is_set: bool
-
-
-def setting(rows: Rows) -> list[Setting]:
-    """In the rows' order."""
-    found, free, counts, stored = [], set(), set(), iter(rows.stored)
-    is_atomic = [ins.kind == AMO for ins in rows.codes]
-    adds = [ins.name.startswith("amoadd") for ins in rows.codes]
-    for n, address, value in zip(rows.accesses, rows.addresses, rows.words):
-        kind = rows.flags[n] & (LOADS | STORES)
-        if kind == LOADS | STORES:
-            after = next(stored)
-            if adds[rows.code[n]] or value and after and after != value:
-                counts.add(address)
-            elif after and not value:
-                found.append(Setting(n, address, True))
-        elif is_atomic[rows.code[n]]:
-            if kind == STORES:
-                if value and address in free:
-                    found.append(Setting(n, address, True))
-                elif value:
-                    counts.add(address)
-            elif value:                         # a store-conditional may follow
-                free.discard(address)
-            else:
-                free.add(address)
-    found = [each for each in found if each.word not in counts]
-    words, stored = {each.word for each in found}, iter(rows.stored)
-    for n, address, value in zip(rows.accesses, rows.addresses, rows.words):
-        kind = rows.flags[n] & (LOADS | STORES)
-        value = next(stored) if kind == LOADS | STORES else value
-        if not value and kind & STORES and address in words:
-            found.append(Setting(n, address, False))
-    return sorted(found)
 
 
 def accesses(rows: Rows, words: Iterable[int], changes: Sequence[Setting]) -> dict[int, list[Held]]:
@@ -88,7 +45,7 @@ def unlocked(facts: Facts, history: History) -> list[Suspect]:
     if len(rows.last) < 2:
         return []
     nearest, found = history.words(), []
-    changes = setting(rows)
+    changes = facts.changes
     for word, held in accesses(rows, set(nearest) - {each.word for each in changes}, changes).items():
         lock, times = max(Counter(lock for each in held for lock in each.locks).items(), key=lambda item: item[1],
                           default=(word, 0))

@@ -48,11 +48,12 @@ def sections(elf: Elf) -> Iterator[Room]:
 
 
 class Rooms:
-    """The places of stacks: the end of memory, an object or a section."""
+    """The places of stacks: the end of memory, an object or a section; and the rows by which harts set their pointers."""
 
     def __init__(self, facts: Facts) -> None:
         self.elf, self.named, self.memory = facts.elf, facts.named, facts.log.memory
         self.sections = list(sections(facts.elf))
+        self.writes = list(writes(facts.trace))
 
     def of(self, hart: int, pointer: int) -> Optional[Room]:
         """The stack whose end a pointer is, or that it is in. None if nothing tells its bounds."""
@@ -78,12 +79,16 @@ def deepest(facts: Facts, rooms: Rooms, hart: int) -> Optional[Deepest]:
     """Of a hart the first stack that it left, and its lowest pointer there; else the last one that it was in."""
     rows, left = facts.rows, MOST_ROOMS
     interval = rows.log.first_intervals().get(hart)
-    found = rooms.begin(hart, 0, interval.registers[SP] if interval else 0)
-    is_built = False
-    for n in writes(facts.trace, hart):
+    # If rows were passed, what its pointer was at the first one isn't known before it is set.
+    found = rooms.begin(hart, 0, interval.registers[SP]) if interval and not rows.passed else None
+    is_built, begins = False, rows.passed > 0
+    for n in rooms.writes:
+        if rows.hart[n] != hart:
+            continue
         ins, pointer = rows.code_of(n), rows.values[n]
-        stays = ins.kind == ALU and SP in (ins.rs1, ins.rs2) and not is_built
+        stays = ins.kind == ALU and SP in (ins.rs1, ins.rs2) and not is_built and not begins
         is_built = ins.word & 127 in (OP_LUI, OP_AUIPC)     # the first of two instructions that set it
+        begins = False
         if found and (stays or found.room.low <= pointer <= found.room.high):
             if pointer < found.pointer:
                 found = found._replace(row=n, pointer=pointer)
@@ -92,13 +97,11 @@ def deepest(facts: Facts, rooms: Rooms, hart: int) -> Optional[Deepest]:
     return found
 
 
-def writes(trace: Trace, hart: int) -> Iterator[int]:
-    """The rows by which a hart set its stack's pointer."""
+def writes(trace: Trace) -> Iterator[int]:
+    """The rows by which harts set their stacks' pointers."""
     rows = trace.rows
     sets = [ins.rd == SP for ins in rows.codes]
-    if any(sets):
-        found = compress(range(1, len(rows.code)), map(sets.__getitem__, rows.code[1:]))
-        yield from (n for n in found if rows.hart[n] == hart)
+    return compress(range(1, len(rows.code)), map(sets.__getitem__, rows.code[1:]))
 
 
 def stack_lines(facts: Facts) -> list[str]:

@@ -21,7 +21,7 @@ from crashes_test import FIRST, rank_of              # noqa: E402
 
 AT_ONCE = 2
 ALL = "all rules"
-PURE = (facts, "Loop"), (locks, "setting"), (locks, "accesses"), (memory_use, "Blocks"), (suspects, "Ways")
+PURE = (facts, "Loop"), (facts, "setting"), (locks, "accesses"), (memory_use, "Blocks"), (suspects, "Ways")
 SEARCHES = (analysis, "History"), (suspects, "History")
 FINDERS = (suspects, "unlocked"), (suspects, "deadlock_suspects"), (suspects, "failed_stores"), (suspects, "unset")
 
