@@ -132,7 +132,7 @@ class View:
         has_load = item.kind not in ALONE
         if has_load:
             steps.append(self.step("loaded it in", item.load))
-        return dict(at=self.page.point(item.guilty), place=self.page.place_of_row(item.guilty), did=DID[item.kind],
+        return dict(at=self.page.point(item.guilty), place=self.page.place(self.crash.own_pc(item.guilty)), did=DID[item.kind],
                     load=self.page.point(item.load) if has_load else None, steps=steps, why=item.why, pairs=item.rows,
                     calledFrom=[f"{frame.function} {frame.place}" for frame in self.crash.callers(item.guilty)])
 
@@ -140,7 +140,7 @@ class View:
         told = self.crash.rows.load_of(row)
         text = as_text(told.value) if told else ""
         names = [self.crash.named.data_name(told.address), f"'{text}'" if text else ""] if told else []
-        return dict(words=words, at=self.page.point(row), place=self.page.place_of_row(row),
+        return dict(words=words, at=self.page.point(row), place=self.page.place(self.crash.own_pc(row)),
                     word=f"{told.address:08x}={told.value:08x}" if told else "", about=" ".join(filter(None, names)))
 
     def no_suspect(self) -> str:

@@ -140,6 +140,11 @@ class Facts:
             self.owns[n] = next((frame for frame in frames if self.places.source(frame.address)), None)
         return self.owns[n]
 
+    def own_pc(self, n: int) -> int:
+        """The address of that frame, or else of the row."""
+        frame = self.own(n)
+        return frame.address if frame else self.pc_of(n)
+
     def own_line(self, n: int) -> str:
         """FILE:LINE of that frame, or else of the row."""
         frame = self.own(n)

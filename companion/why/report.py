@@ -16,9 +16,9 @@ from .returned import middle_lines, null_lines
 from .stack_room import stack_lines
 from .suspect import ALONE, DID, NEW_OWNER, Suspect
 
-SUSPECTS, MORE_SUSPECTS, LINES, MORE_LINES, ORIGINS, MORE_ORIGINS = 5, 12, 10, 40, 6, 20
+FIRST_SUSPECTS, MORE_SUSPECTS, LINES, MORE_LINES, ORIGINS, MORE_ORIGINS = 5, 12, 10, 40, 6, 20
 ROW_WIDTH, TEXT_WIDTH, MOST_CALLS = 84, 78, 9
-SUSPECTS_HEAD = "SUSPECTS, likeliest first (a load and the store that it got; what a call did to the memory; a branch)"
+SUSPECTS = "likeliest first (a load and the store that it got; what a call did to the memory; a branch)"
 
 
 def report(facts: Analysis, more: bool = False) -> list[Part]:
@@ -29,13 +29,18 @@ def report(facts: Analysis, more: bool = False) -> list[Part]:
     if not facts.asked and not facts.output:
         parts.append(Part("REGISTERS", register_lines(facts)))
     parts += [Part("LAST ROWS", row_lines(facts)),
-              Part(SUSPECTS_HEAD, suspect_lines(facts, MORE_SUSPECTS if more else SUSPECTS)),
+              Part(suspects_head(facts), suspect_lines(facts, MORE_SUSPECTS if more else FIRST_SUSPECTS)),
               value_part(facts, MORE_LINES if more else LINES),
               Part(f"FROM BEFORE: loads behind it whose value {facts.no_row} gave",
                    origin_lines(facts, MORE_ORIGINS if more else ORIGINS))]
     if facts.log.harts > 1:
         parts.append(race_part(facts))
     return parts + [Part("", last_lines(facts))]
+
+
+def suspects_head(facts: Analysis) -> str:
+    among = f" among the last {counted(facts.rows.size, 'row')}" if facts.is_part else ""
+    return f"SUSPECTS{among}, {SUSPECTS}"
 
 
 def heading(facts: Analysis) -> str:

@@ -74,6 +74,14 @@ class ViewTest(case.Case):
         self.assertIn("hart 0 goes round since count 8,372: 51,628 rows, 25,814 rounds", data["hang"])
         self.assertTrue([line for line in data["hang"] if "(zelkuma why --more)" in line])
 
+    def test_suspects_are_those_of_the_text(self):
+        """What a library did is told by its caller's line on the page, in the text and in JSON."""
+        log, elf = self.crash("libc_line")
+        data, answer = data_of(self.says("view", log, elf)), json.loads(self.says("why", log, elf, "--json"))
+        places = [" ".join(data["places"][item["place"]][:2]) for item in data["suspects"]]
+        self.assertIn("finish libc_line.c:65", places)
+        self.assertEqual(places, [item["where"] for item in answer["suspects"]][:len(places)])
+
     def test_a_byte_of_the_output_shows_its_store(self):
         log, elf = self.crash("wrong_total")
         page = self.says("view", log, elf, "--output", "0:29")
