@@ -156,26 +156,37 @@ class Actions(Dict[bytes, Act]):
         return act
 
     def to_frame(self, one: Operation, value: Value) -> Act:
-        hart, stacks, undefined = self.hart, self.checks.stacks, self.checks.undefined
+        hart, undefined = self.hart, self.checks.undefined
+        thing_of = self.frame_thing(one, value)
+        if thing_of is None:
+            return self.without_tag(one)
+        thing_at = thing_of
+
+        def act(row: bytes) -> None:
+            if hart.undefined:
+                undefined.computed(hart, one)
+            hart.tags[one.rd] = thing_at(value_of(row))
+            hart.rows[one.rd] = row
+        return act
+
+    def frame_thing(self, one: Operation, value: Value) -> Optional[Callable[[int], Thing]]:
+        """What gives the thing of a pointer to a place of the frame."""
+        hart, stacks = self.hart, self.checks.stacks
         found = self.checks.parts.place(one.pc, value.offset)
         if found is None:
-            return self.without_tag(one)
+            return None
         below, above = found.low, found.high
         name = local_name(found.name, self.checks.facts.program.function_of(one.pc))
         last: Optional[Thing] = None
 
-        def act(row: bytes) -> None:
+        def thing_at(pointer: int) -> Thing:
             nonlocal last
-            if hart.undefined:
-                undefined.computed(hart, one)
-            pointer = value_of(row)
             low = hart.sp if below is None else pointer + below
             if last is None or last.low != low or last.high != pointer + above:
                 last = Thing(low, pointer + above, FRAME, name)
                 stacks.keep(hart, last)
-            hart.tags[one.rd] = last
-            hart.rows[one.rd] = row
-        return act
+            return last
+        return thing_at
 
     def to_member(self, one: Operation, value: Value) -> Optional[Act]:
         hart, undefined, inner = self.hart, self.checks.undefined, self.checks.parts.inner(one, value)
@@ -334,15 +345,28 @@ class Actions(Dict[bytes, Act]):
         return act
 
     def of_store(self, one: Operation) -> Act:
+        """If sp itself is stored, that makes a pointer to the frame's first variable."""
+        act, is_made = self.store_of(one), one.rs2 == SP and one.size == 4
+        value = one.other if is_made and one.other and one.other.to == IN_FRAME and not one.other.indexed else None
+        thing_at = self.frame_thing(one, value) if value else None
+        if thing_at is None:
+            return act
+        hart, made = self.hart, thing_at
+
+        def store(row: bytes) -> None:
+            hart.tags[SP] = made(hart.sp)
+            act(row)
+            hart.tags[SP] = None
+        return store
+
+    def store_of(self, one: Operation) -> Act:
         limit = self.checks.parts.limit(one)
         if limit is not None:
             self.checks.judge.limited.add(one.pc)
             return self.store(one, limit)
-        if self.is_known_place(one):
-            is_own = one.base is not None and one.base.to == IN_FRAME and one.rs1 == SP
-            if one.base is not None and one.base.to == ABSOLUTE or is_own:
-                return self.plain_store(one, is_own)
-        return self.store(one, no_limit if self.is_free(one) or self.is_known_place(one) else None)
+        if self.is_known_place(one) and one.base is not None:
+            return self.plain_store(one, one.base.to == IN_FRAME)
+        return self.store(one, no_limit if self.is_free(one) else None)
 
     def plain_store(self, one: Operation, is_own: bool) -> Act:
         """To a place that is the program's own; of the frame it is written then, or holds a saved register."""

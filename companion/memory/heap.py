@@ -3,7 +3,7 @@ from __future__ import annotations
 
 import bisect
 import re
-from typing import Dict, List, NamedTuple, Optional
+from typing import Dict, List, NamedTuple, Optional, Sequence
 
 from ..call.errors import MISSING, REFUSED, CompanionError
 from ..call.options import whole
@@ -40,7 +40,7 @@ class Hook(NamedTuple):
     is_standard: bool = True
 
 
-def hooks_of(program: Program, takes: List[str], gives: List[str]) -> Dict[int, Hook]:
+def hooks_of(program: Program, takes: Sequence[str], gives: Sequence[str]) -> Dict[int, Hook]:
     """{first address: hook} of C's functions and of those that --alloc and --free name."""
     found = {}
     for name, (does, argument) in ALLOCATORS.items():

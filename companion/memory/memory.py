@@ -9,16 +9,13 @@ from ..call.errors import REFUSED, CompanionError
 from ..call.options import AND, read_words, whole
 from ..call.text import number
 from ..recording.answers import put_found
-from ..recording.chunks import chunks
 from ..recording.elf import Elf
 from ..recording.log import Log
 from ..recording.naming import named_elf, places_of
 from ..recording.recent import open_log
 from .answer import Answer
-from .heap import hooks_of
 from .leaks import leaks_of
-from .program import Program
-from .run import Run
+from .run import run_of
 
 HELP = """Tells memory errors of a recorded run: each access that isn't to what its pointer was made for.
 
@@ -63,9 +60,7 @@ def main(words: List[str]) -> int:
             raise CompanionError(f"memory: the recorded program has {number(log.memory)} bytes of memory, and this can follow "
                                  f"{number(LARGEST_MEMORY)}", REFUSED)
         places = opened.enter_context(closing(places_of(named)))
-        program = Program(named)
-        run = Run(log, program, hooks_of(program, names_in(given, "--alloc"), names_in(given, "--free")))
-        run.along(chunks(log.name, elf.name, log=log))
+        run = run_of(log, elf.name, named, names_in(given, "--alloc"), names_in(given, "--free"))
         leaks = leaks_of(run.heap, run.harts, log.name, elf.name) if "--leaks" in given else []
         answer = Answer(run, places, notes_of(log), leaks)
         put_found("memory", answer, Answer.lines, Answer.answer, "--json" in given)

@@ -1,13 +1,15 @@
 """The checks along the rows of a log."""
 from __future__ import annotations
 
-from typing import Dict, Iterable, Iterator, List, Mapping, Optional, Tuple
+from typing import Dict, Iterable, Iterator, List, Mapping, Optional, Sequence, Tuple
 
+from ..recording.chunks import chunks
+from ..recording.elf import Elf
 from ..recording.log import Log
 from .actions import FAULT, Actions, Checks
 from .facts import Facts
 from .findings import Findings
-from .heap import STORES, Heap, Hook
+from .heap import STORES, Heap, Hook, hooks_of
 from .judge import Judge
 from .pointers import PointerWords
 from .program import Program
@@ -112,6 +114,14 @@ class Run:
                 self.returned(hart)
             if actions[key](row):
                 self.results[hart.number] = self.stored[hart.number] = None
+
+
+def run_of(log: Log, elf_name: str, named: Elf, takes: Sequence[str] = (), gives: Sequence[str] = ()) -> Run:
+    """The checks of a log, after its last row. `takes` and `gives` are what --alloc and --free name."""
+    program = Program(named)
+    run = Run(log, program, hooks_of(program, takes, gives))
+    run.along(chunks(log.name, elf_name, log=log))
+    return run
 
 
 def key_of(row: bytes, begin: int) -> bytes:

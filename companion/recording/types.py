@@ -182,7 +182,7 @@ class Types:
         return 0
 
     def pointers_in(self, kind: Optional[int]) -> list[tuple[int, int]]:
-        """(offset, what it leads to) of the pointers in a type, without those of unions."""
+        """(offset, what it leads to) of the pointers in a type, without those of unions and those to void."""
         found = self.entry(kind)
         if found is None:
             return []
@@ -198,7 +198,8 @@ class Types:
         if found.tag == POINTER:
             if self.is_a(of, ROUTINE):
                 return [(0, TO_CODE)]
-            return [(0, TO_ALIGNED if self.is_aligned(of) else TO_ANY)]
+            # (into a pointer to void programs put numbers, too)
+            return [(0, TO_ALIGNED if self.is_aligned(of) else TO_ANY)] if self.entry(of) else []
         if found.tag == ARRAY:
             inner, size = self.pointers_in(of), self.size(of)
             count = min(self.size(found.at) // size, MOST_PARTS // len(inner)) if size and inner else 0

@@ -16,6 +16,7 @@ from ..recording.story import STORY_HEAD, Teller, asked_story
 from .analysis import analysed
 from .answer import why_answer
 from .facts import Byte, asked_byte, is_byte
+from .memory_part import MemoryErrors
 from .output import text_in
 from .report import report
 
@@ -62,9 +63,11 @@ def main(words: list[str]) -> int:
         analysis.notes += [note] * bool(note)
         story, teller = asked_story(given, analysis.log, elf), Teller(analysis.named, analysis.places)
         parts = [Part(STORY_HEAD, teller.story(story))] if story else []
-        parts += report(analysis, "--more" in given)
+        head, *others = report(analysis, "--more" in given)
+        errors = MemoryErrors(analysis)
+        parts += [head, *errors.parts(), *others]
         if "--json" in given:
-            put_answer("why", **why_answer(analysis), book=teller.story_answer(story))
+            put_answer("why", **why_answer(analysis), memory=errors.entries(), book=teller.story_answer(story))
     if saved:
         saved.save(page(f"Why {os.path.basename(elf)} ended", parts).encode("utf-8", "backslashreplace"))
     if "--json" in given:

@@ -204,6 +204,16 @@ class MemoryTest(case.Case):
         self.assertEqual([each["text"] for each in self.found(log, elf, "--alloc=take:=12", "--free=give")[0]],
                          [each["text"] for each in found])
 
+    def test_why_tells_it_before_its_suspects(self):
+        self.needs_addr2line()
+        log = self.record("table", "--seed", "1")
+        said = self.says("why", log, self.elf("table"))
+        self.assertRegex(said, r"MEMORY ERRORS.*\n  1\. member-overflow: load of 4, 0 bytes after stations\[\].vehicles \(96 bytes\)\n"
+                         r"     it is in count table.c:35 ")
+        self.assertLess(said.index("MEMORY ERRORS"), said.index("SUSPECTS"))
+        self.assertEqual(json.loads(self.says("why", log, self.elf("table"), "--json"))["memory"][0]["calls"][0]["line"], 35)
+        self.assertNotIn("MEMORY ERRORS", self.says("why", *self.crash("null_route")))
+
     def test_fail_is_a_status(self):
         for which, status in (("b", memory.FOUND), ("g", 0)):
             self.assertEqual(common.companion("memory", self.log("freed", which), self.program, "--fail")[0], status)
