@@ -175,7 +175,7 @@ class Actions(Dict[bytes, Act]):
         found = self.checks.parts.place(one.pc, value.offset)
         if found is None:
             return None
-        below, above = found.low, found.high
+        below, above, begin = found.low, found.high, found.begin
         name = local_name(found.name, self.checks.facts.program.function_of(one.pc))
         last: Optional[Thing] = None
 
@@ -184,6 +184,7 @@ class Actions(Dict[bytes, Act]):
             low = hart.sp if below is None else pointer + below
             if last is None or last.low != low or last.high != pointer + above:
                 last = Thing(low, pointer + above, FRAME, name)
+                last.begin = low if below is None else pointer + begin
                 stacks.keep(hart, last)
             return last
         return thing_at

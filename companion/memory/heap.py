@@ -257,7 +257,8 @@ class Heap:
 
     def move(self, old: Thing, begin: int, awaited: Awaited) -> None:
         """What a block held is in another one now."""
-        memory, size = self.memory, min(old.size, awaited.size or 0)
+        memory = self.memory
+        size = min(old.size, awaited.size or 0, memory.size - begin)
         states = bytes(UNWRITTEN if state in UNDEFINED else GOOD for state in memory.states[old.begin:old.begin + size])
         memory.states[begin:begin + size] = states
         if begin % 4 == 0 and old.begin % 4 == 0:

@@ -129,7 +129,7 @@ class Judge:
                     f"{distance(access, thing.begin, thing.end)} {thing.name} ({thing.size} bytes)")
         if thing.gone:
             return AFTER_RETURN, f"{thing.name} has ended"
-        return STACK, f"{distance(access, thing.low, thing.high)} {thing.name} ({thing.high - thing.low} bytes)"
+        return STACK, f"{distance(access, thing.begin, thing.end)} {thing.name} ({thing.size} bytes)"
 
     def tell(self, access: Access, kind: str, text: str, thing: Optional[Thing]) -> None:
         key = self.key(kind, access.one.pc, thing)

@@ -27,10 +27,12 @@ class Inner(NamedTuple):
 
 
 class Place(NamedTuple):
-    """A place of the frame that a pointer is made to: begin (None: at sp) and end of the variable from there, and its name."""
+    """A place of the frame that a pointer is made to: from `low` (None: sp) to `high` from there it may lead. The variable begins
+    at `begin`, as one may end there whose end is meant."""
     low: Optional[int]
     high: int
     name: str
+    begin: int = 0
 
 
 class Parts:
@@ -199,14 +201,16 @@ class Parts:
         if found is None or found.low is None:
             return None
         offset = base.offset + one.imm - stack.offset       # from sp
-        low, high, width = offset + found.low, offset + found.high, one.size
+        low, high, first, width = offset + found.low, offset + found.high, offset + found.begin, one.size
         name, begin = local_name(found.name, self.program.function_of(one.pc)), -stack.offset
 
         def limit(hart: Hart, address: int) -> Optional[Thing]:
             at = address - hart.sp
             if low <= at and at + width <= high or not -FAR < at - begin < FAR:
                 return None
-            return Thing(hart.sp + low, hart.sp + high, FRAME, name)
+            thing = Thing(hart.sp + low, hart.sp + high, FRAME, name)
+            thing.begin = hart.sp + first
+            return thing
         return limit
 
     def limit(self, one: Operation) -> Optional[Limit]:
@@ -230,7 +234,9 @@ def member_at(begin: int, part: Part, name: str) -> Thing:
 
 def place_of(chosen: list[Local], before: list[Local], offset: int) -> Place:
     names = sorted({each.name for each in chosen if each.name})
-    return Place(min(each.offset for each in chosen + before) - offset, max(each.end for each in chosen) - offset, "/".join(names[:2]))
+    first = min(each.offset for each in chosen)
+    return Place(min([first] + [each.offset for each in before]) - offset, max(each.end for each in chosen) - offset,
+                 "/".join(names[:2]), first - offset)
 
 
 def local_name(name: str, function: str) -> str:

@@ -44,6 +44,7 @@ class Stacks:
             self.set_limit(hart)
             hart.is_own = True
         elif hart.lowest - OWN_BYTES <= new <= hart.top:
+            hart.is_away = False
             if hart.is_own and new > old:
                 self.end_frames(hart, old, new)
             elif hart.is_own and old - new < LARGEST_FRAME:
@@ -51,7 +52,7 @@ class Stacks:
             if new < hart.lowest:
                 self.deepen(hart, new, row, one)
         else:                                   # another stack: of it nothing is known
-            hart.is_own = False
+            hart.is_own, hart.is_away = False, True
             self.memory.fill(hart.lowest, hart.top, GOOD)
         hart.sp = new
 
@@ -83,7 +84,7 @@ class Stacks:
         hart.limit = max(below + parts + [hart.top - OWN_BYTES, 0])
 
     def deepen(self, hart: Hart, new: int, row: bytes, one: Operation) -> None:
-        if new < hart.top - LARGEST or new > self.memory.size:
+        if hart.is_away or new < hart.top - LARGEST or new > self.memory.size:
             return
         hart.lowest, hart.lowest_at = new, hart.event(row, one.pc)
         met = self.met(hart, new) if new < hart.limit and not hart.has_met and self.heap.is_whole else ""

@@ -73,7 +73,7 @@ class Hart:
     returns   the addresses to which the calls that are under way return
     places    things of frames to which pointers were made, outermost first
     sp        the stack pointer, None if it isn't known; top, lowest: of its stack; limit: it may grow down to this for certain
-    is_own    whether what is known of its stack is true (not after a change of stacks)
+    is_own    whether what is known of its stack is true (not after a change of stacks); is_away: it is on another one
     awaited   what an allocator's function that is under way will give"""
 
     def __init__(self, number: int, registers: Tuple[int, ...]) -> None:
@@ -88,7 +88,7 @@ class Hart:
         self.top = self.lowest = self.sp
         self.lowest_at: Optional[Event] = None
         self.limit = 0
-        self.is_own, self.has_met = True, False
+        self.is_own, self.has_met, self.is_away = True, False, False
         self.awaited: Optional[Awaited] = None
 
     def value(self, register: int) -> Optional[int]:

@@ -83,7 +83,7 @@ class Calls:
 
     def words(self):
         names = self.log, self.elf
-        return [(word, *names) for word in ("why", "race", "view", "bucket", "output", "gdb")] + [
+        return [(word, *names) for word in ("why", "race", "view", "bucket", "output", "gdb", "memory")] + [
             ("history", *names, "0x12000"), ("calls", *names, "main"), ("find", *names, "1"), ("compare", self.log, *names),
             ("export", *names, "--lcov", self.new), ("triage", self.folder, "--elfs", self.elf),
             ("again", *names, self.book, self.new), ("shrink", *names, self.book, self.new, self.new + "2"),
@@ -214,7 +214,7 @@ class Work:
 
     def words(self):
         names = self.log, self.elf
-        yield from ((word, *names) for word in ("why", "race", "view", "bucket", "output"))
+        yield from ((word, *names) for word in ("why", "race", "view", "bucket", "output", "memory"))
         yield from (("history", *names, "timers"), ("find", *names, "12345"), ("calls", *names, "fire"),
                     ("compare", self.log, self.log, self.elf), ("export", *names, "--perfetto", self.new))
 

@@ -204,6 +204,15 @@ class MemoryTest(case.Case):
         self.assertEqual([each["text"] for each in self.found(log, elf, "--alloc=take:=12", "--free=give")[0]],
                          [each["text"] for each in found])
 
+    def test_a_stack_of_its_own(self):
+        """A hart that changes its stack to an array hasn't run into that."""
+        elf = common.path("deep.elf")
+        if self.program is None:
+            self.skipTest("riscv64-unknown-elf-gcc isn't installed")
+        source = os.path.join("tests", "companions", "lib", "programs", "deep.c")
+        subprocess.run(["bash", "-c", '. examples/lib/with_names.sh && build_with_names "$@"', "-", elf, source], cwd=common.TOP, check=True)
+        self.assertEqual(self.run_of(common.record("deep", elf, "--seed", "3"), elf).findings.in_order(), [])
+
     def test_why_tells_it_before_its_suspects(self):
         self.needs_addr2line()
         log = self.record("table", "--seed", "1")
