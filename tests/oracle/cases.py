@@ -109,6 +109,8 @@ CASES = [
     Case("heap", ["-O2", G], [], calls("free", "malloc"), library=True),
     Case("heap-stripped", ["-O2", G], [], calls("main"), library=True, is_stripped=True),
     Case("constants", [], ["--limit", "300000"], why(), elf="tests/crashes/jump_shape.elf"),
+    Case("freed", [], [], why(), elf="tests/crashes/use_after_free.elf"),
+    Case("overrun", [], [], why(), elf="tests/crashes/overrun.elf"),
     Case("shop-history", ["-O2", G], [], all_of(ask_history)),
     Case("shop-calls", ["-O1", G], [], all_of(ask_calls)),
     Case("shop-find", ["-O2", G], [], all_of(ask_find)),

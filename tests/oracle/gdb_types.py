@@ -67,8 +67,8 @@ def function(name: str, address: int) -> Dict[str, Any]:
     block = gdb.block_for_pc(address)
     while block is not None and (block.function is None or int(block.start) != address):
         block = block.superblock
-    if block is None or block.function.name != name.split(".")[0]:
-        return {}
+    if block is None or block.function.name != name.split(".")[0] or block.function.symtab.filename.endswith((".S", ".s")):
+        return {}                               # (assembly has no types, whatever DWARF leaves out of it)
     held = registers_at(address)
     parameters = [[each.name, kind_of(each.type), held.get(each.name, "")] for each in block if each.is_argument]
     inlined = [int(place) for place in inlined_places(block.function.name) if place != address]

@@ -92,8 +92,9 @@ def ask_gdb(asked: Asked, draw: random.Random) -> None:
         for name, value in zip(NAMES, one["registers"]):
             asked.same("gdb: registers", [at], (at, name, value), (at, name, state.registers[REGISTER[name]]))
         for address, value in state.words.items():
-            # (gdb may know more: what the session has seen further ahead. Harts of a log that lost rows can have another order.)
-            if value is not None and (asked.recorded.is_whole or asked.recorded.harts == 1):
+            # (gdb may know more: what the session has seen further ahead. The other harts stand where the row is next, not where
+            # it comes in the order of `joint`.)
+            if value is not None and asked.recorded.harts == 1:
                 asked.same("gdb: memory", [at], (at, f"{address:08x}", one["words"][str(address)]), (at, f"{address:08x}", value))
         if asked.program.types["functions"] and asked.recorded.is_whole and one["backs"] and one["is_described"]:
             size = min(len(one["backs"]), len(state.backs))
