@@ -46,9 +46,13 @@ def asked_of(given: argparse.Namespace, server: Server, recorded: building.Recor
     return Asked(server, recorded, machine, names, tally, environment)
 
 
+def asks(given: argparse.Namespace, word: str) -> bool:
+    return not given.only or word in given.only.split(",")
+
+
 def ask_all(given: argparse.Namespace, asked: Asked, seed: int) -> None:
     for word, ask in WORDS.items():
-        if not given.only or word in given.only.split(","):
+        if asks(given, word):
             ask(asked, random.Random(f"{seed} {word}"))
 
 
@@ -78,8 +82,13 @@ class Session:
 
     def try_seed(self, folder: str, seed: int) -> None:
         """A program of a number."""
-        recorded = building.drawn(self.given.program, folder, seed)
-        ask_all(self.given, asked_of(self.given, self.server, recorded, self.tally, random.Random(seed).random() < 0.6), seed)
+        recorded, draw = building.drawn(self.given.program, folder, seed), random.Random(f"{seed} again")
+        asked = asked_of(self.given, self.server, recorded, self.tally, draw.random() < 0.6)
+        ask_all(self.given, asked, seed)
+        if asks(self.given, "compare") and recorded.is_whole and draw.random() < 0.4:
+            other = building.again(self.given.program, recorded, draw)
+            if other.is_whole:
+                ask_compare(asked, asked_of(self.given, self.server, other, self.tally, False))
 
     def try_case(self, folder: str, case: Case) -> None:
         """A program that is kept."""

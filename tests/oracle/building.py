@@ -138,3 +138,13 @@ def drawn(program: str, folder: str, seed: int) -> Recorded:
     if kind < 0.3 and os.path.exists("/usr/include/csmith/csmith.h") and shutil.which("csmith") and has_library():
         return drawn_by_csmith(program, folder, draw)
     return drawn_own(program, folder, draw)
+
+
+def again(program: str, recorded_first: Recorded, draw: random.Random) -> Recorded:
+    """The same program with another input, and if it has several harts with another seed."""
+    first = recorded_first
+    read = bytes(draw.choice(b"abxz ") if draw.random() < 0.2 else byte for byte in INPUT)
+    seed = str(draw.randrange(1000, 2000)) if first.harts > 1 else "1"
+    at = first.options.index("--input")
+    options = [word for place, word in enumerate(first.options) if place not in (0, 1, 2, 3, at, at + 1)]
+    return recorded(program, os.path.dirname(first.log), first.elf, first.named, first.harts, "--seed", seed, *options, read=read, number=1)

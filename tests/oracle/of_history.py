@@ -2,6 +2,7 @@
 from __future__ import annotations
 
 import random
+import re
 from typing import Any, Dict, Iterator, List, NamedTuple, Optional, Tuple
 
 from .asking import Asked
@@ -9,6 +10,7 @@ from .machine import READ, Machine, Row, SystemCall
 from .program import number_text
 
 WORDS: Dict[str, Any] = {"kind": "bytes"}
+FRAMES = 4                  # of a store and the calls over it are told
 Bytes = List[Optional[int]]
 
 
@@ -143,10 +145,14 @@ def ask_history(asked: Asked, draw: random.Random, most: int = 5) -> None:
         ask(asked, index, variable)
         if draw.random() < 0.3:
             ask_changes(asked, index, variable)
+        if draw.random() < 0.3:
+            ask_text(asked, index, variable)
 
 
 def ask_variable(asked: Asked, name: str) -> None:
-    ask(asked, Index(asked.machine), variable_of(asked, name))
+    index, variable = Index(asked.machine), variable_of(asked, name)
+    ask(asked, index, variable)
+    ask_text(asked, index, variable)
 
 
 def ask(asked: Asked, index: Index, variable: Variable) -> None:
@@ -161,6 +167,19 @@ def ask(asked: Asked, index: Index, variable: Variable) -> None:
             at = f"{one['hart']}:{one['count']}"
             for key, value in entry(asked, variable, stored).items():
                 asked.same(f"history: {key}", words, (at, one[key]), (f"{stored.row.hart}:{stored.row.ic}", value))
+
+
+def ask_text(asked: Asked, index: Index, variable: Variable) -> None:
+    """The calls over each store, as the text has them."""
+    words = [variable.name, "--last", "1000000"]
+    lines = [line for line in asked.text("history", *words) if re.match(r"  \d+:\d+ ", line)]
+    true = index.stores(variable.address, variable.size)
+    if asked.same("history: lines", words, len(lines), len(true)):
+        for line, stored in zip(lines, true):
+            pcs = [stored.row.code.pc, *asked.machine.chain(asked.machine.frames[stored.row.number])]
+            chain = "  <  ".join(asked.program.chain(pcs, FRAMES))
+            told = line[-len(chain):] if chain else ""
+            asked.same("history: calls over it", words, (line, told), (line, chain))
 
 
 def ask_changes(asked: Asked, index: Index, variable: Variable) -> None:
