@@ -82,6 +82,6 @@ def parameters_of(said: list[dict[str, Any]], result: Optional[Type]) -> list[Pa
         count = 2 if WORD < each["type"]["size"] <= PAIR else 1
         taken, left = left[:count], left[count:]
         if named:                               # what has no register was optimised out
-            taken = [each["register"]] if each["register"] in ARGUMENTS and count == 1 else []
+            taken = [register for register in each["register"].split() if register in ARGUMENTS]
         found.append(Parameter(each["name"], taken if len(taken) == count else [], each["type"]))
     return found

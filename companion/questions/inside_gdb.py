@@ -71,18 +71,22 @@ def depth_of(block: Any) -> int:
 
 
 def registers_at(address: int) -> dict[str, str]:
-    """{parameter or variable: the register that holds it} at an address, as far as gdb says so."""
+    """{parameter or variable: the registers that hold it} at an address, as far as gdb says so."""
     found: dict[str, str] = {}
     text = gdb.execute(f"info scope *{address:#x}", to_string=True)
     for name, said in re.findall(r"^Symbol (\S+) is (.*?)(?=^Symbol |\Z)", text, re.M | re.S):
-        here = re.match(r"a variable in \$(\w+)", said)
-        for low, high, register in re.findall(r"Range (\w+)-(\w+): a variable in \$(\w+)", said):
+        for low, high, place in re.findall(r"Range (\w+)-(\w+): (a variable in .*)", said):
             # An empty range is what holds before the first row, which may change it at once.
             if int(low, 16) <= address < int(high, 16) or int(low, 16) == address:
-                found.setdefault(name, register)
-        if here:
-            found.setdefault(name, here[1])
+                found.setdefault(name, registers_in(place))
+        if said.startswith("a variable in "):
+            found.setdefault(name, registers_in(said.partition("\n")[0]))
     return found
+
+
+def registers_in(place: str) -> str:
+    """Those of a value's pieces, the lowest bytes first."""
+    return " ".join(re.findall(r"a variable in \$(\w+)", place))
 
 
 def function(name: str) -> dict[str, Any]:

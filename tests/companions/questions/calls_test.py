@@ -166,3 +166,5 @@ class TypedTest(case.Case):
         self.assertEqual(of(4, 12, result=12), [["a1"], ["a2"]])
         self.assertEqual(of(4, *[4] * 8)[-2:], [["a7"], []])
         self.assertEqual(of(4, register="s1"), [[]])
+        self.assertEqual(of(8, register="a2 a3"), [["a2", "a3"]])       # DWARF has a place for each of two pieces
+        self.assertEqual(of(8, register="a2"), [[]])
