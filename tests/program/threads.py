@@ -24,7 +24,7 @@ DRAWS = 64
 # With these no hart of LOOPS ends before its limit, which takes seconds. A run by several threads
 # is stopped long before.
 ENDLESS = 2**31 - 1
-ENDLESS_LIMIT = 40000000
+ENDLESS_LIMIT = 10000000
 # Two harts that hand a word to and fro ten times: hart 0 counts it up if it is even, hart 1 if it
 # is odd.
 HAND_TO_AND_FRO = [
