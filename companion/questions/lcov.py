@@ -32,8 +32,8 @@ def lcov(asked: Asked) -> str:
     for symbol in asked.named.functions:
         frames = asked.places.frames(symbol.address)
         if symbol.kind == FUNCTION and frames and frames[-1].line:
-            made = calls[symbol.address] if symbol.address in stacks.entries.addresses else times.get(symbol.address, 0)
-            functions.setdefault(frames[-1].path, []).extend([f"FN:{frames[-1].line},{symbol.name}", f"FNDA:{made},{symbol.name}"])
+            functions.setdefault(frames[-1].path, []).extend([
+                f"FN:{frames[-1].line},{symbol.name}", f"FNDA:{calls[symbol.address]},{symbol.name}"])
     said = ["TN:"]
     for path, counts in sorted(lines.items()):
         said += [f"SF:{source_of(asked, path)}", *functions.get(path, [])]

@@ -36,8 +36,7 @@ class Asked(NamedTuple):
 
     def stacks(self, more: Iterable[int] = ()) -> Stacks:
         """What follows the calls: it reads each chunk before those who ask it. Functions begin at some more addresses, too."""
-        entries = entries_of(self.named)
-        return Stacks(Entries([*entries.addresses, *more]), self.log.harts)
+        return Stacks(Entries({**dict.fromkeys(more, 0), **entries_of(self.named).sizes}), self.log.harts)
 
     def chunks(self) -> Iterator[bytes]:
         return chunks(self.log.name, self.elf.name, log=self.log)

@@ -7,7 +7,8 @@ from __future__ import annotations
 
 import bisect
 from array import array
-from typing import Iterable, NamedTuple, Optional
+from types import MappingProxyType
+from typing import Mapping, NamedTuple, Optional
 
 from .elf import FUNCTION, Elf
 from .rows import Rows
@@ -17,25 +18,26 @@ MASK = (1 << 32) - 1
 
 
 class Entries:
-    """The first addresses of functions: to jump there from another function is a call."""
+    """The first addresses of functions: to jump there from another function is a call.
 
-    def __init__(self, addresses: Iterable[int] = ()) -> None:
-        self.addresses = set(addresses)
-        self.order = sorted(self.addresses)
+    sizes   {address: the size of the function, 0 if it has none: then it ends with the next one's begin}"""
+
+    def __init__(self, sizes: Mapping[int, int] = MappingProxyType({})) -> None:
+        self.sizes, self.order = sizes, sorted(sizes)
 
     def are_led_to(self, pc: int, target: int) -> bool:
         """Whether a jump leads to a function. One to the first row of its own is a loop."""
-        if target not in self.addresses:
+        if target not in self.sizes:
             return False
         at = bisect.bisect_right(self.order, pc) - 1
-        return at < 0 or self.order[at] != target
+        return at < 0 or self.order[at] != target or 0 < self.sizes[target] <= pc - target
 
 
 def entries_of(elf: Elf) -> Entries:
     """Those of a program. What takes registers back for a function that ends is a part of it, and so is the code that a compiler
     put elsewhere since it is seldom done."""
-    return Entries(symbol.address for symbol in elf.functions if symbol.kind == FUNCTION
-                   and not symbol.name.startswith(RESTORES) and not symbol.name.endswith(COLD))
+    return Entries({symbol.address: symbol.size for symbol in elf.functions if symbol.kind == FUNCTION
+                    and not symbol.name.startswith(RESTORES) and not symbol.name.endswith(COLD)})
 
 
 class Above(NamedTuple):

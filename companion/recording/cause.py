@@ -4,20 +4,19 @@ from __future__ import annotations
 import json
 import re
 from collections import deque
-from typing import Iterable, NamedTuple
+from typing import Deque, Iterable, List, NamedTuple, Tuple
 
 from ..call.errors import NO_INTERVAL, CompanionError
-from .calls import CallTree
+from .calls import Entries
 from .chunks import chunks, rows_between
 from .elf import Elf
 from .log import End, Log, is_fault
 from .recent import FIRST_ROWS, LogFile
+from .stacks import Chunk, Frame, Stacks, call_places
 
 LOOP_ROWS, MOST_FRAMES = 300, 200
 HANG_ROWS = 20000000        # of all harts, for the calls over a loop: one hart's share takes some seconds
 EXITS = "exit", "group"
-# The place of a call, or a return and the place of the next row. No other rows have the letter j.
-GOES = re.compile(rb"j(?<=(\w{8}) \w{8} j)al(?:r? (?:ra|t0),|(r zero,-?\d+\((?:ra|t0)\))(?:[^\n]*\n\d+ \d+ (\w{8}))?)")
 
 
 class Cause(NamedTuple):
@@ -43,68 +42,23 @@ class Cause(NamedTuple):
         return cls(reason, value, pc, tuple(calls))
 
 
-class Piece(NamedTuple):
-    """Rows, how many, and the hart's node before them; whether it returned just before."""
-    text: bytes
-    rows: int
-    node: int
-    returned: bool
-
-
-class HartCalls:
-    """The calls of a hart along chunks of text, of which the last are kept."""
-
-    def __init__(self, hart: int) -> None:
-        self.row, self.rows = b"\n%d " % hart, re.compile(rb"\n%d [^\n]*" % hart)
-        self.tree, self.node, self.returned = CallTree(), 0, False
-        self.pieces: deque[Piece] = deque()
-        self.kept = 0                           # rows in `pieces`
-
-    def take(self, text: bytes) -> None:
-        if text.count(self.row) < text.count(b"\n"):
-            text = b"".join(self.rows.findall(text))
-        self.pieces.append(Piece(text, text.count(b"\n"), self.node, self.returned))
-        self.kept += self.pieces[-1].rows
-        while self.kept - self.pieces[0].rows >= LOOP_ROWS:
-            self.kept -= self.pieces.popleft().rows
-        self.follow(text)
-
-    def follow(self, text: bytes) -> None:
-        """Takes the calls and returns of some rows."""
-        self.arrive(text)
-        for place, is_return, target in GOES.findall(text):
-            if target:
-                self.node = self.tree.returned(self.node, int(target, 16))
-            elif is_return:
-                self.returned = True
-            else:
-                self.node = self.tree.called(self.node, int(place, 16))
-
-    def arrive(self, text: bytes) -> None:
-        """A return ends where the hart's next row is."""
-        if self.returned and text:
-            self.node, self.returned = self.tree.returned(self.node, place_of(text)), False
-
-    def last(self) -> list[tuple[int, int]]:
-        """The node and the place of each of the last rows."""
-        text = b"".join(piece.text for piece in self.pieces)
-        begin = len(text)
-        for _ in range(min(self.kept, LOOP_ROWS)):
-            begin = text.rfind(b"\n", 0, begin)
-        if self.pieces:
-            self.node, self.returned = self.pieces[0].node, self.pieces[0].returned
-            self.follow(text[:begin])
-        found: list[tuple[int, int]] = []
-        for row in self.rows.findall(text, begin):
-            self.arrive(row)
-            found.append((self.node, place_of(row)))
-            self.follow(row)
-        return found
-
-
-def place_of(text: bytes) -> int:
-    """The address of the first row."""
-    return int(text.split(b" ", 3)[2], 16)
+def last_rows(texts: Iterable[bytes], hart: int) -> List[Tuple[Frame, int]]:
+    """The innermost frame and the address of each of a hart's last rows."""
+    head, rows = b"\n%d " % hart, re.compile(rb"\n%d \d+ (\w{8})[^\n]*" % hart)
+    stacks = Stacks(Entries(), 1)
+    kept: Deque[Tuple[Chunk, int]] = deque()
+    size = 0                                    # rows in `kept`
+    for text in texts:
+        if text.count(head) < text.count(b"\n"):
+            text = b"".join(found[0] for found in rows.finditer(text))
+        if text:
+            stacks.take(text)
+            kept.append((stacks.chunk, text.count(b"\n")))
+            size += kept[-1][1]
+        while kept and size - kept[0][1] >= LOOP_ROWS:
+            size -= kept.popleft()[1]
+    found = [(chunk.top(head[1:-1], row.start() + 1), int(row[1], 16)) for chunk, _ in kept for row in rows.finditer(chunk.text)]
+    return found[-LOOP_ROWS:]
 
 
 def ended_hart(log: Log) -> int:
@@ -123,19 +77,16 @@ def ended_hart(log: Log) -> int:
 
 def cause_along(texts: Iterable[bytes], hart: int, end: End) -> Cause:
     """The cause of a hart's end, from chunks of its last rows."""
-    calls = HartCalls(hart)
-    for text in texts:
-        calls.take(text)
+    rows = last_rows(texts, hart)               # which refuses another program's file, too
     if end.reason in EXITS:
         return Cause(end.reason, end.value, 0, ())
-    rows = calls.last()
     if not rows:
         raise CompanionError(f"the log holds no row of hart {hart} (see `list`)", NO_INTERVAL)
     if end.reason == "limit":                   # any row of the loop can be last
-        node, pc = min(rows, key=lambda row: (calls.tree.depth[row[0]], row[1]))
+        top, pc = min(rows, key=lambda row: (row[0][2], row[1]))
     else:                                       # after a jump to an address without code, the jump's place tells more
-        node, pc = rows[-2 if end.reason == "FetchOutside" and len(rows) > 1 else -1]
-    return Cause(end.reason, end.value, pc, tuple(calls.tree.calls(node, MOST_FRAMES).calls))
+        top, pc = rows[-2 if end.reason == "FetchOutside" and len(rows) > 1 else -1]
+    return Cause(end.reason, end.value, pc, tuple(call_places(top, MOST_FRAMES)))
 
 
 def cause_of(log: Log, elf_name: str) -> Cause:

@@ -68,8 +68,8 @@ class StacksTest(case.Case):
 
 
 class FramesTest(unittest.TestCase):
-    def stacks(self, *entries):
-        return stacks.Stacks(Entries(entries), 1)
+    def stacks(self, *entries, size=0):
+        return stacks.Stacks(Entries(dict.fromkeys(entries, size)), 1)
 
     def calls(self, followed, text):
         followed.take(text)
@@ -81,6 +81,8 @@ class FramesTest(unittest.TestCase):
         text = b"\n0 0 00000110 ff1ff06f jal zero,00000100\n0 1 00000100 00000013 addi"
         self.assertEqual(self.calls(self.stacks(0x100, 0x200), text), [])
         self.assertEqual(self.calls(self.stacks(0x100, 0x108), text), ["110"])
+        self.assertEqual(self.calls(self.stacks(0x100, size=0x14), text), [])
+        self.assertEqual(self.calls(self.stacks(0x100, size=0x10), text), ["110"])     # the code behind it is another's
 
     def test_a_jump_by_a_register_is_a_call_if_it_leads_to_a_function(self):
         text = b"\n0 0 00000100 00078067 jalr zero,0(a5)\n0 1 00000%d00 00000013 addi"
