@@ -18,6 +18,7 @@ from ..questions.debugger import PACKAGE, gdb_path
 from ..recording.elf import Elf
 from ..recording.log import Log
 from ..recording.naming import named_elf
+from ..recording.opened import HIGHEST
 from ..recording.recent import FIRST_ROWS, open_log
 from ..why.facts import asked_row
 from .memory import Memory
@@ -50,7 +51,6 @@ serve as both. The session begins where the log does; `continue` goes to the cra
 Companions show; the program proves. What gdb shows is what `debug` says of the log, and ELF of memory that
 nothing touched."""
 FORM = "gdb LOG ELF [--run] [--names ELF] [--at HART:IC] [--rows N] [--port N] [--end] [--trace]"
-HIGHEST = 1 << 41
 SETTINGS = [word for said in ("debuginfod enabled off", "architecture riscv:rv32", "remotetimeout 60", "confirm off",
                                                    "auto-connect-native-target off")
             for word in ("-iex", f"set {said}")]

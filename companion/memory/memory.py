@@ -1,18 +1,14 @@
 """Tells memory errors of a recorded run, each at its first access."""
 from __future__ import annotations
 
-import contextlib
-from contextlib import closing
 from typing import List, Mapping
 
 from ..call.errors import REFUSED, CompanionError
-from ..call.options import AND, read_words, whole
+from ..call.options import AND, read_words
 from ..call.text import number
 from ..recording.answers import put_found
-from ..recording.elf import Elf
 from ..recording.log import Log
-from ..recording.naming import named_elf, places_of
-from ..recording.recent import open_log
+from ..recording.opened import opened
 from .answer import Answer
 from .leaks import leaks_of
 from .run import run_of
@@ -33,7 +29,6 @@ C's allocators (malloc, calloc, realloc, free, ..) are known by their names. A f
 (docs/MEMORY.md); what can't be told is counted as unknown. Companions show; the program proves."""
 FORM = "memory LOG ELF [--alloc FN] [--free FN] [--leaks] [--names ELF] [--rows N] [--json] [--fail]"
 MOST_ROWS = 20000000        # some 40 seconds
-HIGHEST = 1 << 41
 LARGEST_MEMORY = 64 << 20   # bytes of the guest: of each word a tag of eight bytes is kept
 FOUND = 23                  # the status of --fail
 
@@ -50,18 +45,13 @@ def names_in(given: Mapping[str, str], option: str) -> List[str]:
 
 def main(words: List[str]) -> int:
     (log_name, elf_name), given = read_words(words, FORM)
-    rows = whole(given["--rows"], 1, HIGHEST, "--rows") if "--rows" in given else MOST_ROWS
-    with contextlib.ExitStack() as opened:
-        source = opened.enter_context(closing(open_log(log_name)))
-        log = source.end(rows)
-        elf = Elf(elf_name)
-        named = named_elf(elf, given.get("--names", ""))
+    with opened(log_name, elf_name, given) as found:
+        log = found.log(MOST_ROWS)
         if log.memory > LARGEST_MEMORY:
             raise CompanionError(f"memory: the recorded program has {number(log.memory)} bytes of memory, and this can follow "
                                  f"{number(LARGEST_MEMORY)}", REFUSED)
-        places = opened.enter_context(closing(places_of(named)))
-        run = run_of(log, elf.name, named, names_in(given, "--alloc"), names_in(given, "--free"))
-        leaks = leaks_of(run.heap, run.harts, log.name, elf.name) if "--leaks" in given else []
-        answer = Answer(run, places, notes_of(log), leaks)
+        run = run_of(log, found.elf.name, found.named, names_in(given, "--alloc"), names_in(given, "--free"))
+        leaks = leaks_of(run.heap, run.harts, log.name, found.elf.name) if "--leaks" in given else []
+        answer = Answer(run, found.places, notes_of(log), leaks)
         put_found("memory", answer, Answer.lines, Answer.answer, "--json" in given)
     return FOUND if "--fail" in given and (answer.findings or any(leak.unreached for leak in leaks)) else 0

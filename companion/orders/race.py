@@ -1,8 +1,6 @@
 """Groups the races of a log."""
 from __future__ import annotations
 
-import contextlib
-from contextlib import closing
 from typing import Any, Callable, List, Optional
 
 from ..call import streams
@@ -10,13 +8,11 @@ from ..call.errors import CompanionError
 from ..call.options import read_words, whole
 from ..call.text import counted, number
 from ..recording.answers import LONGEST, place_of, put_answer
-from ..recording.elf import Elf, Symbol
+from ..recording.elf import Symbol
 from ..recording.log import At
-from ..recording.naming import named_elf, places_of
+from ..recording.opened import opened
 from ..recording.races import FENCED, ORDERED, TOO_MANY, AccessPair, Group, Races, RacingAccess
-from ..recording.ready import ready
-from ..recording.recent import FIRST_ROWS, LogFile, open_log
-from ..recording.sources import source_folders
+from ..recording.recent import FIRST_ROWS, LogFile
 from ..recording.story import STORY_HEAD, Teller, asked_story
 from ..recording.trace import Trace, read_trace
 from ..why.history import History
@@ -189,22 +185,20 @@ def access_answer(races: Races, access: RacingAccess) -> dict[str, Any]:
 
 def main(words: list[str]) -> int:
     (log_name, elf_name), given = read_words(words, FORM)
-    most, folders = whole(given.get("--max", str(MOST)), 1, 1000000, "--max"), source_folders(given)
-    with contextlib.ExitStack() as opened:
-        source = opened.enter_context(closing(open_log(log_name)))
-        elf = Elf(elf_name)
-        named = named_elf(elf, given.get("--names", ""))
-        races = Races(named, opened.enter_context(closing(places_of(named, folders)))).read(source.harts(), log_name, elf_name, most)
+    most = whole(given.get("--max", str(MOST)), 1, 1000000, "--max")
+    with opened(log_name, elf_name, given) as found:
+        source = found.source
+        races = Races(found.named, found.places).read(source.harts(), log_name, elf_name, most)
         if races.over:
             raise CompanionError(f"races: more than {most} pairs; --max takes up to 1000000", TOO_MANY)
-        judged, teller = judge(source, elf_name, races), Teller(named, races.places)
+        judged, teller = judge(source, elf_name, races), Teller(found.named, races.places)
         story = asked_story(given, source.end(FIRST_ROWS), elf_name) if "--book" in given else None
         if "--json" in given:
             groups = [family_answer(races, judged, family) for family in judged.families()]
             put_answer("race", pairs=races.total, groups=groups, book=teller.story_answer(story))
         else:
             def beside(access: RacingAccess) -> list[str]:
-                return ready(log_name, elf, named, access.hart, access.count)
+                return found.ready(access.hart, access.count)
             told = [STORY_HEAD] + ["  " + line for line in teller.story(story)] if story else []
             streams.put("\n".join(told + report(races, judged, "--more" in given, beside)) + "\n")
     return 0

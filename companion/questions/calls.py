@@ -5,7 +5,7 @@ import operator
 import re
 from collections import deque
 from dataclasses import dataclass, field
-from typing import Any, Callable, Deque, Iterator, List, NamedTuple, Optional, Sequence, Union
+from typing import Any, Callable, Deque, Dict, Iterator, List, NamedTuple, Optional, Sequence, Union
 
 from ..call.errors import REFUSED, CompanionError
 from ..call.options import read_words, whole
@@ -112,10 +112,11 @@ class Arrival(NamedTuple):
 
 
 class WaitingChunk(NamedTuple):
-    """A chunk that waits, its place, and its calls."""
-    chunk: Chunk
+    """A chunk that waits, its place, its calls, and {hart: its last row before it}."""
+    text: bytes
     base: int
     arrivals: List[Arrival]
+    last: Dict[bytes, bytes]
 
 
 class Calls:
@@ -140,6 +141,7 @@ class Calls:
         self.asks: Deque[tuple[int, Call, bool]] = deque()
         self.waiting: Deque[WaitingChunk] = deque()
         self.total = self.waiting_calls = 0
+        self.is_passing = False                 # whether the chunk before the first that waits was passed
 
     @property
     def told(self) -> list[Call]:
@@ -149,9 +151,8 @@ class Calls:
     def take(self, text: bytes) -> None:
         """While later ones may have all calls that are told, only its calls are counted."""
         self.window.add(text)
-        self.stacks.take(text)
-        base = self.window.begins[-1]
-        self.waiting.append(WaitingChunk(self.stacks.chunk, base, sorted(self.arrivals(text), key=lambda each: each.place)))
+        base, last = self.window.begins[-1], dict(self.last)
+        self.waiting.append(WaitingChunk(text, base, list(self.arrivals(text)), last))
         self.waiting_calls += len(self.waiting[-1].arrivals)
         while self.waiting and (self.where or self.is_passed() or self.window.end - self.waiting[0].base > self.window.kept // 2):
             self.take_waiting()
@@ -175,9 +176,9 @@ class Calls:
         self.waiting_calls -= len(first.arrivals)
         if is_passed:
             self.total += len(first.arrivals)
-            self.open.clear()
+            self.is_passing = True
         else:
-            self.follow(*first)
+            self.follow(first)
 
     def arrivals(self, text: bytes) -> Iterator[Arrival]:
         """The calls of the next chunk."""
@@ -212,10 +213,16 @@ class Calls:
             return inlined_call(own, begin) != inlined_call(other, begin)
         return source.call or source.kind == JUMP and not source.ret and self.stacks.entries.are_led_to(source.pc, begin.address)
 
-    def follow(self, chunk: Chunk, base: int, arrivals: List[Arrival]) -> None:
-        """Takes the calls and the returns of a chunk."""
+    def follow(self, first: WaitingChunk) -> None:
+        """Takes the calls and the returns of a chunk. How these calls are nested is known without what was passed before."""
+        if self.is_passing:
+            self.stacks.begin_behind(first.last)
+            self.open.clear()
+            self.is_passing = False
+        self.stacks.take(first.text)
+        chunk, base = self.stacks.chunk, first.base
         moves = {move.place: move for move in chunk.moves()}
-        calls = {each.place: each for each in arrivals}
+        calls = {each.place: each for each in first.arrivals}
         for place in sorted({*moves, *calls}):
             move = moves.get(place)
             if move and not move.jump.frame:

@@ -11,7 +11,8 @@ from ..call.text import counted, number
 from ..recording.answers import place_of, put_found
 from ..recording.chunks import row_at, rows_between
 from ..recording.instruction import NAMES, Instruction
-from .reading import HIGHEST, Asked, asked_of
+from ..recording.opened import HIGHEST
+from .reading import Asked, asked_of
 from .types import words_type
 from .variables import Variable
 from .waiting import Loops

@@ -2,24 +2,19 @@
 from __future__ import annotations
 
 import contextlib
-from contextlib import closing
 from typing import Iterable, Iterator, Mapping, NamedTuple, Protocol, Sequence
 
-from ..call.options import whole
 from ..call.text import number
 from ..recording.calls import Entries, entries_of
 from ..recording.chunks import chunks
 from ..recording.elf import Elf, last_before
 from ..recording.log import Log
-from ..recording.naming import named_elf, places_of
+from ..recording.opened import opened
 from ..recording.places import Places
-from ..recording.sources import source_folders
 from ..recording.ready import ready
-from ..recording.recent import open_log
 from ..recording.stacks import Stacks
 
 MOST_ROWS = 80000000        # are read without --rows
-HIGHEST = 1 << 41
 
 
 class Asked(NamedTuple):
@@ -80,10 +75,5 @@ def read(texts: Iterable[bytes], *readers: Reader) -> None:
 @contextlib.contextmanager
 def asked_of(log_name: str, elf_name: str, given: Mapping[str, str]) -> Iterator[Asked]:
     """What a call asks of: its files, --names and --rows. The most rows that can be given are all."""
-    rows = whole(given["--rows"], 1, HIGHEST, "--rows") if "--rows" in given else MOST_ROWS
-    with contextlib.ExitStack() as opened:
-        source = opened.enter_context(closing(open_log(log_name)))
-        log = source.end(rows) if rows < HIGHEST else source.whole()
-        elf = Elf(elf_name)
-        named = named_elf(elf, given.get("--names", ""))
-        yield Asked(log, elf, named, opened.enter_context(closing(places_of(named, source_folders(given)))))
+    with opened(log_name, elf_name, given) as found:
+        yield Asked(found.log(MOST_ROWS), found.elf, found.named, found.places)

@@ -6,7 +6,7 @@ from __future__ import annotations
 
 import bisect
 import re
-from typing import Any, Dict, List, NamedTuple, Optional, Tuple
+from typing import Any, Dict, List, Mapping, NamedTuple, Optional, Tuple
 
 from .calls import Entries
 from .instruction import JUMP, Instruction
@@ -19,6 +19,7 @@ MOST_FRAMES = 1 << 20                       # are kept of a hart: of more, as of
 NEXT_ROWS = re.compile(rb"j(?<=(\w{8} \w{8}) j)al[^\n]*\n(?=(\d+) (\d+) (\w{8}))")
 TARGETS = re.compile(rb"j(?<=(\w{8} \w{8}) j)al[^\n]*\n(?=\d+ \d+ (\w{8}))")
 LAST_JUMP = re.compile(rb"\n(\d+) \d+ (\w{8} \w{8}) jal[^\n]*\Z")
+KEY = 17                                    # letters of an address and a word
 HEAD = 48                                   # letters of a row: more than hart, count and address have
 
 
@@ -188,6 +189,12 @@ class Stacks:
             if top[2] - self.floors.get(hart, 0) > MOST_FRAMES:
                 self.tops[hart] = inner_half(top)
                 self.floors[hart] = top[2] - MOST_FRAMES // 2
+
+    def begin_behind(self, last: Mapping[bytes, bytes]) -> None:
+        """Begins again behind rows that weren't followed, of which {hart: its last row} is given."""
+        self.tops, self.floors = {}, {}
+        jumps = ((hart, self.jumps[row.split(b" ", 2)[2][:KEY]]) for hart, row in last.items() if b"j" in row)
+        self.waiting = {hart: jump for hart, jump in jumps if jump}
 
     def behind(self, text: bytes, hart: bytes) -> Frame:
         """The innermost frame of the only hart behind a chunk."""

@@ -2,7 +2,6 @@
 from __future__ import annotations
 
 import hashlib
-from contextlib import closing
 from typing import NamedTuple
 
 from ..call import streams
@@ -10,9 +9,8 @@ from ..call.options import read_words
 from ..recording.answers import put_answer
 from ..recording.cause import EXITS, Cause, cause_of_file
 from ..recording.elf import Elf
-from ..recording.naming import named_elf, places_of
+from ..recording.opened import opened
 from ..recording.places import Places
-from ..recording.recent import open_log
 
 HELP = """One line that is the same for logs that ended for the same cause, for sorting many logs.
 
@@ -63,12 +61,8 @@ def bucket_of(cause: Cause, elf: Elf, places: Places) -> Bucket:
 
 def main(words: list[str]) -> int:
     (log_name, elf_name), given = read_words(words, FORM)
-    with closing(open_log(log_name)) as source:
-        elf = Elf(elf_name)
-        named = named_elf(elf, given.get("--names", ""))
-        cause = cause_of_file(source, elf_name)
-        with closing(places_of(named)) as places:
-            bucket = bucket_of(cause, elf, places)
+    with opened(log_name, elf_name, given) as found:
+        bucket = bucket_of(cause_of_file(found.source, elf_name), found.elf, found.places)
     if "--json" in given:
         put_answer("bucket", line=bucket.line(), **bucket._asdict())
     else:

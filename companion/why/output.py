@@ -9,7 +9,7 @@ from typing import Any, Iterable, Iterator, NamedTuple, Optional
 
 from ..call import streams
 from ..call.errors import NO_INTERVAL, CompanionError
-from ..call.options import read_words, whole
+from ..call.options import read_words
 from ..call.text import counted, number
 from ..recording.answers import place_of as code_place, put_answer
 from ..recording.calls import entries_of
@@ -18,9 +18,8 @@ from ..recording.elf import Elf
 from ..recording.instruction import A0
 from ..recording.log import READ_CALL, WRITE_CALL, Log, SystemCall
 from ..recording.memory import Memory, quoted
-from ..recording.naming import named_elf, places_of
+from ..recording.opened import opened
 from ..recording.places import CALLED_FROM, Places
-from ..recording.ready import ready
 from ..recording.recent import open_log
 from ..recording.stacks import Frame, Stacks, call_places
 
@@ -202,23 +201,19 @@ def said_of(places: Places, write: Write) -> str:
 
 def main(words: list[str]) -> int:
     (log_name, elf_name), given = read_words(words, FORM)
-    most = whole(given["--rows"], 1, 1 << 41, "--rows") if "--rows" in given else MOST_ROWS
-    with closing(open_log(log_name)) as source:
-        elf = Elf(elf_name)
-        named = named_elf(elf, given.get("--names", ""))
-        all_rows, log = source.whole(), source.end(most)
-        stacks = Stacks(entries_of(named), log.harts)
+    with opened(log_name, elf_name, given) as found:
+        all_rows, log = found.source.whole(), found.log(MOST_ROWS)
+        stacks = Stacks(entries_of(found.named), log.harts)
         numbers, listed = numbered(all_rows), []
         count = size = unknown = 0
-        with closing(places_of(named)) as places:
-            for write in writes_of(log, elf, stacks, numbers, most):
-                if "--json" in given:
-                    listed.append(write_answer(places, write))
-                else:
-                    hart, at, _ = write.row.split(" ", 2)
-                    beside = ready(log_name, elf, named, int(hart), int(at))
-                    streams.put(said_of(places, write) + "".join(f"     {line}\n" for line in beside))
-                count, size, unknown = count + 1, size + len(write.data), unknown + write.data.count(None)
+        for write in writes_of(log, found.elf, stacks, numbers, found.rows or MOST_ROWS):
+            if "--json" in given:
+                listed.append(write_answer(found.places, write))
+            else:
+                hart, at, _ = write.row.split(" ", 2)
+                beside = found.ready(int(hart), int(at))
+                streams.put(said_of(found.places, write) + "".join(f"     {line}\n" for line in beside))
+            count, size, unknown = count + 1, size + len(write.data), unknown + write.data.count(None)
     before = len(numbers) - count
     if "--json" in given:
         put_answer("output", writes=listed, writes_before=before, dropped_records=all_rows.dropped)
