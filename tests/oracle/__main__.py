@@ -9,6 +9,7 @@ import argparse
 import functools
 import os
 import random
+import resource
 import shutil
 import sys
 import tempfile
@@ -134,7 +135,8 @@ class Session:
         for kind, count in sorted(tally.differing.items()):
             print(f"differs: {kind}: {count:,}")
         total, differing = sum(tally.compared.values()), sum(tally.differing.values())
-        print(f"{total:,} answers of {self.recordings} recordings compared, {differing:,} differ" +
+        used = sum(sum(resource.getrusage(who)[:2]) for who in (resource.RUSAGE_SELF, resource.RUSAGE_CHILDREN))
+        print(f"{total:,} answers of {self.recordings} recordings compared in {used:,.0f} processor seconds, {differing:,} differ" +
               (f"; their files are in {self.folder}" if differing else ""))
         if not differing and not self.given.keep:
             shutil.rmtree(self.folder, ignore_errors=True)

@@ -8,7 +8,7 @@ from collections import Counter
 from typing import Any, Dict, Iterator, List, Tuple
 
 from .asking import Asked
-from .machine import Frame
+from .machine import RESTORES, Frame
 from .program import Place
 
 Where = Tuple[str, str, int]
@@ -94,7 +94,9 @@ def ask_lcov(asked: Asked) -> None:
     same_counts(asked, "export: lcov's lines", "--lcov", {key: times for key, times in told_lines.items() if times}, dict(lines))
     for symbol in asked.program.symbols:
         if symbol.kind == "FUNC" and symbol.name in told_calls:
-            asked.same("export: lcov's functions", ["--lcov"], (symbol.name, told_calls[symbol.name]), (symbol.name, calls[symbol.address]))
+            # (the library's end of functions is a part of each: it is done as often as its first row)
+            true = done[symbol.address] if symbol.name.startswith(RESTORES) else calls[symbol.address]
+            asked.same("export: lcov's functions", ["--lcov"], (symbol.name, told_calls[symbol.name]), (symbol.name, true))
 
 
 def read_lcov(text: str) -> Tuple[Dict[Tuple[str, int], int], Dict[str, int]]:

@@ -96,6 +96,8 @@ def ask_gdb(asked: Asked, draw: random.Random) -> None:
             # it comes in the order of `joint`.)
             if value is not None and asked.recorded.harts == 1:
                 asked.same("gdb: memory", [at], (at, f"{address:08x}", one["words"][str(address)]), (at, f"{address:08x}", value))
-        if asked.program.types["functions"] and asked.recorded.is_whole and one["backs"] and one["is_described"]:
+        # (gdb has its own guess of the library's code that puts registers aside, which is called by t0)
+        is_saving = any(place.function.startswith("__riscv_") for place in asked.program.places(state.pc))
+        if asked.program.types["functions"] and asked.recorded.is_whole and one["backs"] and one["is_described"] and not is_saving:
             size = min(len(one["backs"]), len(state.backs))
             asked.same("gdb: backtrace", [at], (at, one["backs"][:size]), (at, state.backs[:size]))

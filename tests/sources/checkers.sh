@@ -26,6 +26,7 @@ if type -P mypy >/dev/null; then
     MYPYPATH=bench:tests/companions/lib:tests/companions/why:tests/hostile:tests/crashes:tools:. runs 0 mypy --python-version 3.8 \
         --cache-dir "$work/mypy" --explicit-package-bases --check-untyped-defs --no-strict-optional --disable-error-code var-annotated \
         --disable-error-code misc --disable-error-code assignment {bench,tests,tests/*,tests/companions/*}/*.py
+    runs 0 mypy --strict --python-version 3.8 --cache-dir "$work/mypy_oracle" --follow-imports=silent -p tests.oracle
 else
     skips "types of tools and tests: mypy isn't here"
 fi
