@@ -7,10 +7,12 @@ from __future__ import annotations
 
 from typing import Callable, Optional
 
+from .instruction import OP_AMO, OP_AUIPC, OP_IMMEDIATE, OP_LOAD, OP_LUI, OP_REGISTER, OP_STORE
+
 WordAt = Callable[[int], Optional[int]]         # gives the instruction at an address
 
-LOAD, STORE, AMO, FENCE = 0x03, 0x23, 0x2f, 0x0f
-ARITHMETIC = (0x13, 0x33, 0x37, 0x17)
+FENCE = 0x0f            # the opcode
+ARITHMETIC = OP_IMMEDIATE, OP_REGISTER, OP_LUI, OP_AUIPC
 NEAR = 3                # the compiler may put some arithmetic between the access and its fence
 READ, WRITE = 2, 1      # bits of a fence's two sets
 
@@ -21,11 +23,11 @@ def is_fenced(word_at: WordAt, pc: int) -> bool:
     if word is None:
         return False
     kind = word & 127
-    if kind == AMO:
+    if kind == OP_AMO:
         return True
-    if kind == LOAD:
+    if kind == OP_LOAD:
         return bool(near_fence(word_at, pc, 4) >> 24 & READ)
-    if kind == STORE:
+    if kind == OP_STORE:
         return bool(near_fence(word_at, pc, -4) >> 20 & WRITE)
     return False
 
