@@ -10,6 +10,7 @@ from ..call.options import whole
 from ..call.text import clean
 from ..recording.elf import Elf
 from ..recording.log import WRITE_CALL, At, Log, SystemCall
+from ..recording.members import Members
 from ..recording.naming import NO_TOOL, places_of
 from ..recording.places import Frame
 from ..recording.rows import LOADS
@@ -72,6 +73,7 @@ class Facts:
         self.rows, self.writers, self.calls = trace
         self.places = places_of(named, folders)
         self.owns: dict[int, StackFrame | None] = {}
+        self.members = Members(named)
         self.earlier: dict[Asked, Earlier] = {}
         self.notes = self.first_notes()
         if not trace.rows.last:

@@ -67,7 +67,7 @@ def operand_words(facts: Facts, operand: Operand) -> str:
     said = f"{NAMES[operand.register]} is " + ("unknown" if value is None else f"{value:08x}")
     if told is None:
         return said + (f", computed in {facts.where(operand.row)}" if operand.row else "")
-    said += f", from {facts.named.data_name(told.address) or f'{told.address:08x}'}"
+    said += f", from {facts.members.name(told.address) or f'{told.address:08x}'}"
     if told.value != value:
         said += f" (a word of {told.value:08x})"
     latest = writers.word[operand.load]
@@ -126,7 +126,7 @@ def changing_lines(facts: Facts, loop: Loop) -> list[str]:
         return ["  No word that it stores changes." if loop.stores else "  It stores nothing."]
     said = ["  These words still change:"]
     for word in changing[:WORDS]:
-        name, told = facts.named.data_name(word), facts.rows.store_of(latest[word])
+        name, told = facts.members.name(word), facts.rows.store_of(latest[word])
         value = f"{told.value:08x}" if told else ""
         said.append(f"    {word:08x}{f' ({name})' if name else ''}, now {value}, in {facts.where(latest[word])}")
     rest = len(changing) - WORDS

@@ -82,7 +82,7 @@ def bare_of(rows: Rows, held: Sequence[Held], lock: int, changes: Sequence[Setti
 
 
 def name_of(facts: Facts, word: int) -> str:
-    return facts.named.data_name(word) or f"{word:08x}"
+    return facts.members.name(word) or f"{word:08x}"
 
 
 def suspect_of(facts: Facts, guilty: int, bare: list[int], cost: int) -> Suspect:

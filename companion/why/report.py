@@ -146,7 +146,7 @@ def data_words(facts: Analysis, n: int) -> str:
     told = facts.rows.load_of(n)
     if told is None:
         return ""
-    name, text = facts.named.data_name(told.address), as_text(told.value)
+    name, text = facts.members.name(told.address), as_text(told.value)
     return (f" [{name}]" if name else "") + (f" '{text}'" if text else "")
 
 

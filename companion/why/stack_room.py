@@ -119,7 +119,7 @@ def stack_lines(facts: Facts) -> list[str]:
 
 
 def left_words(facts: Facts, hart: int, found: Deepest) -> list[str]:
-    name = facts.named.data_name(found.pointer)
+    name = facts.members.name(found.pointer)
     pointer = f"{found.pointer:08x}" + (f" ({name})" if name else "")
     below = counted(found.room.low - found.pointer, "byte")
     count = number(facts.rows.count_of(found.row))

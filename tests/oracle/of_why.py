@@ -8,8 +8,8 @@ from typing import Any, Dict, List, Optional, Tuple
 from .asking import Asked
 from .machine import NAMES, READ, Machine, Row
 
-NEVER = re.compile(r"from ([\w.]+(?:\+\d+)?)(?: \(a word of \w+\))?, zero from the start: never stored")
-WORD = re.compile(r"from ([\w.]+(?:\+\d+)?)(?: \(a word of \w+\))?, ")
+NEVER = re.compile(r"from ([\w.[\]]+(?:\+\d+)?)(?: \(a word of \w+\))?, zero from the start: never stored")
+WORD = re.compile(r"from ([\w.[\]]+(?:\+\d+)?)(?: \(a word of \w+\))?, ")
 STORED = re.compile(r"(?:, stored (?:last )?|[;,] (?:later )?)in .*? \(hart (\d+) at count ([\d,]+)\)")
 CALLED = re.compile(r"\s+(?:by [^,]+, )?called from (.*)")
 ROW = re.compile(r"\s+(\d+) (\d+) [0-9a-f]{8} ")
@@ -67,11 +67,15 @@ class Bytes:
 
 
 def address_of(asked: Asked, name: str) -> Optional[int]:
-    """Of an object and an offset, or of eight digits."""
-    base, _, offset = name.partition("+")
-    found = [each.address for each in asked.program.symbols if each.name == base and each.kind == "OBJECT"]
-    if len(found) == 1:
-        return found[0] + int(offset or 0)
+    """Of an object, its member by gdb, and an offset, or of eight digits."""
+    path, _, offset = name.partition("+")
+    for base in (path, re.split(r"[.\[]", path)[0]):
+        found = [each.address for each in asked.program.symbols if each.name == base and each.kind == "OBJECT"]
+        told = asked.program.types["variables"].get(base, {"leaves": []})["leaves"]
+        places = [0] * (path == base) + [at for leaf, at, _ in told if leaf == path[len(base):]]
+        if len(found) == 1 and places:
+            place: int = found[0] + places[0] + int(offset or 0)
+            return place
     return int(name, 16) if re.fullmatch("[0-9a-f]{8}", name) else None
 
 

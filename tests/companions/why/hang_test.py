@@ -33,9 +33,9 @@ class HangTest(case.Case):
         first = said[said.index("never went the other way"):].split("\n")[1:6]
         self.assertIn("hang_width.c:92   while (receiver.stored != sender.next) {", first[0])
         self.assertIn("00010500 ffb792e3 bne a5,s11,000104e4, 99 times, last at count 59,972", first[1])
-        self.assertIn("a5 is 00000000, from sender", first[2])
+        self.assertIn("a5 is 00000000, from sender.next", first[2])
         self.assertIn("stored last in prepare hang_width.c:43 (hart 0 at count 51,474)", first[2])
-        self.assertIn("s11 is 00000100, from receiver, stored last in receive hang_width.c:69 (hart 0 at count 51,647)", first[3])
+        self.assertIn("s11 is 00000100, from receiver.stored, stored last in receive hang_width.c:69 (hart 0 at count 51,647)", first[3])
         stopped = said[said.index("never again:"):].split("\n")
         self.assertEqual(stopped[1].strip(), "256 times, last at count 51,647: receive hang_width.c:69   receiver.stored++;")
         self.assertRegex(said, r"still change:\n(.*\n)* +00019608 \(line_is_full\), now 0000000[01], in")
@@ -131,8 +131,8 @@ class HangTest(case.Case):
 
     def test_a_deadlock_is_one_sentence(self):
         self.assertTrue(self.hang("hang_accounts").startswith(
-            "\nHANG\n  Deadlock: hart 0 (close_month hang_accounts.c:73) waits for accounts of hart 1 "
-            "(acquire_both hang_accounts.c:44), hart 1 (acquire_both hang_accounts.c:45) waits for accounts+16 of hart 0 "
+            "\nHANG\n  Deadlock: hart 0 (close_month hang_accounts.c:73) waits for accounts[0].lock of hart 1 "
+            "(acquire_both hang_accounts.c:44), hart 1 (acquire_both hang_accounts.c:45) waits for accounts[1].lock of hart 0 "
             "(close_month hang_accounts.c:71).\n"))
         said = self.hang("hang_kitchen").split("\n")[2]
         self.assertEqual(re.findall(r"hart (\d) \(take hang_kitchen.c:38\) waits for tools\S* of hart (\d) ", said),

@@ -49,7 +49,7 @@ class WhyTest(case.Case):
         found = [item for item in suspects(self.says("why", *self.crash("race_list"), "--more")) if UNLOCKED in item]
         self.assertEqual(len(found), 1)
         self.assertIn(UNLOCKED + " take_one_back race_list.c:61", found[0])
-        self.assertRegex(found[0], r"at [0-9]+ other accesses to \w+(\+\d+)? their hart holds lock, here none")
+        self.assertRegex(found[0], r"at [0-9]+ other accesses to \S+ their hart holds lock, here none")
         self.assertNotIn(UNLOCKED, self.says("why", *self.crash("lock_left_held"), "--more"))
 
     def test_a_count_is_no_lock(self):
