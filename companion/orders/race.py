@@ -130,7 +130,7 @@ def pairs_of(family: list[Group]) -> int:
 def family_word(races: Races, family: list[Group]) -> str:
     """NAME+OFFSET (ADDRESS) of the first word, and how many more there are."""
     word = family[0].word
-    name = races.named.data_name(word)
+    name = races.members.name(word)
     said = f"{name} ({word:08x})" if name else f"{word:08x}"
     return said + (f" and {counted(len(family) - 1, 'more word')}" if len(family) > 1 else "")
 

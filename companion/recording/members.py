@@ -63,7 +63,7 @@ def indices(array: Entry, place: int) -> str:
     """The indices of an array's element. How many the outermost dimension has needn't be known."""
     said, bounds = "", [each for each in array.below if each.tag == SUBRANGE]
     for bound in bounds[:0:-1]:
-        count = bound.number(COUNT) or (bound.number(UPPER) or 0) + 1
+        count = max(1, bound.number(COUNT) or (bound.number(UPPER) or 0) + 1)     # (a forged file can say less)
         said = f"[{place % count}]" + said
         place //= count
     return f"[{place}]" + said

@@ -15,6 +15,7 @@ from . import fences
 from .chunks import check_program
 from .elf import Elf
 from .log import At
+from .members import Members
 from .places import Places
 
 TOO_MANY = 20                       # the program's status if there are more than it was asked for
@@ -92,7 +93,7 @@ class Races:
     over     whether there are more than were asked for: then there are no groups"""
 
     def __init__(self, named: Elf, places: Places) -> None:
-        self.named, self.places = named, places
+        self.named, self.places, self.members = named, places, Members(named)
         self.by_key: dict[tuple[int, str, str, bool], Group] = {}
         self.place_of = lru_cache(maxsize=None)(places.where)
         self.is_fenced = lru_cache(maxsize=None)(partial(fences.is_fenced, named.word))

@@ -23,7 +23,7 @@ class RaceTest(case.Case):
     def test_the_race_behind_the_fault_comes_first(self):
         text = self.says("race", self.tills(), self.elf("tills"), "--names", self.names("tills"))
         first = text[text.index(" 1. "):text.index(" 2. ")]
-        self.assertIn("on shelf+796 (0001159c)   (on the chain of values behind the fault)", first)
+        self.assertIn("on shelf[199] (0001159c)   (on the chain of values behind the fault)", first)
         self.assertIn("hart 0 stores in sell tills.c:38   shelf[last] = 0;", first)
         self.assertIn("hart 1 loads in sell tills.c:37", first)
 

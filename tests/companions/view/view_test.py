@@ -55,7 +55,7 @@ class ViewTest(case.Case):
         self.assertEqual([interval[4] for interval in data["intervals"]], ["call", "call", "LoadOutside"])
         suspect = data["suspects"][0]
         self.assertEqual(data["places"][suspect["place"]][:2], ["put_text", "machine.c:18"])
-        self.assertEqual(suspect["steps"][-1]["about"], "members+576 'rten'")
+        self.assertEqual(suspect["steps"][-1]["about"], "members[20].next 'rten'")
 
     def test_lines_of_source_stand_around_places(self):
         data = data_of(self.says("view", *self.crash("use_after_free")))

@@ -43,7 +43,7 @@ class HangTest(case.Case):
     def test_two_harts_that_wait(self):
         said = self.hang("hang_wakeup")
         self.assertEqual(len(re.findall(r"hart [01] goes round", said)), 2)
-        self.assertIn("from giver, stored last in sleep_until_rung hang_wakeup.c:34 (hart 0", said)
+        self.assertIn("from giver.rung, stored last in sleep_until_rung hang_wakeup.c:34 (hart 0", said)
         self.assertIn(", over 00000001 of ring hang_wakeup.c:27 (hart 1", said)
         self.assertIn("the other value is 0", said)
         self.assertIn("It stores nothing.", said)
