@@ -28,7 +28,7 @@ HELP = """Tells memory errors of a recorded run: each access that isn't to what 
 C's allocators (malloc, calloc, realloc, free, ..) are known by their names. A finding is a statement by definition
 (docs/MEMORY.md); what can't be told is counted as unknown. Companions show; the program proves."""
 FORM = "memory LOG ELF [--alloc FN] [--free FN] [--leaks] [--names ELF] [--rows N] [--json] [--fail]"
-MOST_ROWS = 20000000        # some 40 seconds
+MOST_ROWS = 20000000        # some 20 seconds
 LARGEST_MEMORY = 64 << 20   # bytes of the guest: of each word a tag of eight bytes is kept
 FOUND = 23                  # the status of --fail
 

@@ -1,23 +1,25 @@
 #!/usr/bin/env bash
 # Tries `zelkuma memory` on tests of AddressSanitizer and memcheck: tests/sanitizers/run.sh FOLDER
 #
-# FOLDER gets the sources of Debian's packages gcc-12-source and, if apt knows sources, valgrind, and then of each test its
-# ELF file and its log. Tests that need threads, shared libraries or signals don't build for this machine, which is said.
+# FOLDER gets the sources of Debian's packages gcc-12-source and valgrind, and then of each test its ELF file and its log. Tests that need threads, shared libraries or signals don't build for this machine, which is said.
 # Needs apt-get, riscv64-unknown-elf-gcc and picolibc. It prints a line for each test, and last a table.
 set -eu
 top=$(cd "$(dirname "$0")/../.." && pwd)
 to=$(mkdir -p "$1" && cd "$1" && pwd)
 cd "$to"
 if [ ! -d gcc ]; then
-    [ -e gcc-12-source_*.deb ] || apt-get download -q gcc-12-source
+    compgen -G 'gcc-12-source_*.deb' >/dev/null || apt-get download -q gcc-12-source
     dpkg-deb --fsys-tarfile gcc-12-source_*.deb | tar xf - --wildcards './usr/src/gcc-12/gcc-*.tar.xz'
     mkdir gcc
     tar xf usr/src/gcc-12/gcc-*.tar.xz -C gcc --strip-components=3 --wildcards '*/gcc/testsuite/c-c++-common/asan/*' \
         '*/gcc/testsuite/gcc.dg/asan/*'
     rm -r usr
 fi
-if [ ! -d valgrind ] && apt-get source -q --download-only valgrind 2>/dev/null; then
-    mkdir valgrind
-    tar xf valgrind_*.orig.tar.* -C valgrind --strip-components=1 --wildcards '*/memcheck/tests/*'
+if [ ! -d valgrind ]; then
+    mkdir -p lists/partial valgrind
+    echo "deb-src [signed-by=/usr/share/keyrings/debian-archive-keyring.gpg] http://deb.debian.org/debian bookworm main" >sources.list
+    apt=(apt-get -q -o "Dir::Etc::SourceList=$to/sources.list" -o Dir::Etc::SourceParts=/dev/null -o "Dir::State::lists=$to/lists")
+    "${apt[@]}" update && "${apt[@]}" source --download-only valgrind
+    tar xf valgrind_*.orig.tar.* -C valgrind --strip-components=1 --wildcards '*/memcheck/*' '*/include/*.h' '*/tests/*.h'
 fi
 python3 "$top/tests/sanitizers/tries.py" "$to"

@@ -1,4 +1,4 @@
-"""Builds each test, records it, and holds what `memory` tells against what the test says: tries.py FOLDER.
+"""Builds each test, records it, and holds what `memory` tells against what the test says: tries.py FOLDER [gcc | memcheck].
 
 A test of GCC says by dg-shouldfail that it has an error, and by dg-output its kind and the line of its first frame. One of
 memcheck has its errors in NAME.stderr.exp. A test that says of no error has to be silent."""
@@ -16,17 +16,19 @@ TOP = os.path.dirname(os.path.dirname(os.path.dirname(os.path.abspath(__file__))
 PROGRAM = os.environ.get("ZELKUMA_PROGRAM", os.path.join(TOP, "release", "zelkuma-x86_64-linux"))
 GCC = "riscv64-unknown-elf-gcc", "--specs=picolibc.specs", "-mabi=ilp32", "-mstrict-align", "-march=rv32im", "-g", "-w"
 LIMIT, PATIENCE_S, FIRST = "2000000", 120, 3
+INCLUDED = "valgrind", "valgrind/include", "valgrind/memcheck"
 ANY = "an error"            # of a kind that the test doesn't say
 HEAD = re.compile(r"AddressSanitizer:? ([a-z-]+)")
 FRAME = re.compile(r"(?:#0|#1)[^\n]*?([\w+-]+\.c):(\d+)")
 
 
 class Test(NamedTuple):
-    """`kind` is nothing if the test has no error; `lines` are those of its first frames, if it says them."""
+    """`kind` is nothing if the test has no error; `lines` are those of its frames, if it says them; `levels` what it is built by."""
     name: str
     source: str
     kind: str
     lines: frozenset[int]
+    levels: tuple[str, ...]
 
 
 def gcc_tests(folder: str) -> Iterator[Test]:
@@ -43,7 +45,7 @@ def gcc_tests(folder: str) -> Iterator[Test]:
             kind = HEAD.search(told)
             is_bad = "dg-shouldfail" in text or kind is not None     # (some continue after an error, and end well)
             lines = frozenset(int(line) for file, line in FRAME.findall(told.replace("\\", "")) if file == name)
-            yield Test("gcc/" + name, path, (kind[1] if kind else ANY) if is_bad else "", lines)
+            yield Test("gcc/" + name, path, (kind[1] if kind else ANY) if is_bad else "", lines, ("-O0", "-O2"))
 
 
 def memcheck_tests(folder: str) -> Iterator[Test]:
@@ -56,7 +58,8 @@ def memcheck_tests(folder: str) -> Iterator[Test]:
                 ("Invalid read", "invalid-access"), ("Invalid write", "invalid-access"), ("Invalid free", "invalid-free"),
                 ("uninitialised", "use-of-uninitialized-value"), ("overlap", "memcpy-param-overlap"),
                 ("definitely lost in", "memory-leak")) if words in text), "")
-            yield Test("memcheck/" + name, path, kind, frozenset(int(line) for line in re.findall(re.escape(name) + r":(\d+)\)", text)))
+            yield Test("memcheck/" + name, path, kind, frozenset(int(line) for line in re.findall(re.escape(name) + r":(\d+)\)", text)),
+                       ("-O0",))
 
 
 def built(test: Test, folder: str, level: str) -> str:
@@ -64,7 +67,7 @@ def built(test: Test, folder: str, level: str) -> str:
     elf = os.path.join(folder, test.name.replace("/", "-")[:-2] + level + ".elf")
     if not os.path.exists(elf):
         parts = [os.path.join(TOP, "examples", "picolibc", name) for name in ("start.S", "machine.c")]
-        done = subprocess.run([*GCC, level, "-I", os.path.join(folder, "include"), "-static", "-nostartfiles", "-T",
+        done = subprocess.run([*GCC, level, *(f"-I{os.path.join(folder, part)}" for part in INCLUDED), "-static", "-nostartfiles", "-T",
                                os.path.join(TOP, "examples", "picolibc", "program.ld"), "-Wl,--build-id=none", "-z", "max-page-size=4096",
                                "-march=rv32ima", "-o", elf, *parts, test.source], stderr=subprocess.PIPE, stdout=subprocess.PIPE)
         if done.returncode:
@@ -87,17 +90,18 @@ def tried(test: Test, elf: str) -> tuple[str, str]:
     first = "; ".join(f"{each['kind']} {each['calls'][0]['line'] if each['calls'] else '?'}" for each in found[:FIRST])
     if not test.kind:
         return ("false" if found else "silent as it should be"), first
-    lines = {each["line"] for one in found[:FIRST] for each in one["calls"]}
+    lines = {each["line"] for one in found[:FIRST] for each in one["calls"][:2]}
     if test.lines and lines & test.lines or not test.lines and any(test.kind == ANY or each["kind"].split("-")[0] == test.kind.split("-")[0] for each in found[:FIRST]):
         return "named", first
     return ("another line" if found else "not told"), first
 
 
-def main(folder: str) -> None:
+def main(folder: str, only: str = "") -> None:
     tests = [*gcc_tests(os.path.join(folder, "gcc")), *memcheck_tests(os.path.join(folder, "valgrind", "memcheck", "tests"))]
+    tests = [test for test in tests if test.name.startswith(only)]
     ends: Counter[str] = Counter()
     for test in tests:
-        for level in ("-O0", "-O2"):
+        for level in test.levels:
             elf = built(test, folder, level)
             try:
                 end, told = tried(test, elf) if elf else ("doesn't build", "")
@@ -111,4 +115,4 @@ def main(folder: str) -> None:
 
 
 if __name__ == "__main__":
-    main(sys.argv[1])
+    main(*sys.argv[1:])
