@@ -65,9 +65,11 @@ class Actions(Dict[bytes, Act]):
         pc, word = int(key[:8], 16), 0 if key[9:10] == b"-" else int(key[9:], 16)
         hook = self.checks.heap.hooks.get(pc)
         if hook is not None:
-            hart, call, told = self.hart, self.checks.heap.call, hook
+            hart, call, told, one = self.hart, self.checks.heap.call, hook, self.checks.operation(pc, word)
 
             def take(row: bytes) -> bool:
+                if hart.undefined:
+                    self.checks.undefined.used(hart, one, row, (A0 + told.argument,), f"what {told.name} is given depends")
                 call(hart, told, row)
                 return True
             found: Act = take

@@ -151,12 +151,14 @@ class Heap:
                       when, inside)
         elif tag is not None and tag.kind in (GLOBAL, FRAME):
             self.tell(NO_BLOCK, f"{address:08x} is {verb}: it is in {tag.name}", when, tag)
+        elif address >= self.memory.size:
+            self.tell(NO_BLOCK, f"{address:08x} is {verb}: memory ends at {self.memory.size:08x}", when, None)
         else:
             self.findings.unknown["blocks given back that no row of the log took"] += 1
         return None
 
-    def tell(self, kind: str, text: str, when: Event, thing: Thing) -> None:
-        self.findings.add((kind, when.pcs[:1], thing.taken), Finding(kind, text, when, thing))
+    def tell(self, kind: str, text: str, when: Event, thing: Optional[Thing]) -> None:
+        self.findings.add((kind, when.pcs[:1], thing.taken if thing else None), Finding(kind, text, when, thing))
 
     def returned(self, hart: Hart, row: Optional[bytes], stored: Optional[bytes]) -> None:
         """The function has returned: `row` wrote a0, and `stored` what posix_memalign gives."""

@@ -70,6 +70,8 @@ class Judge:
         self.made: set[int] = set()
         self.limited: set[int] = set()
         self.anchors: set[Hashable] = set()
+        entries = [self.program.entries.get(at) for at in heap.hooks]
+        self.own_units = {entry.unit if entry else None for entry in entries}
         self.searches = 0
 
     def load(self, access: Access, thing: Optional[Thing]) -> int:
@@ -101,6 +103,14 @@ class Judge:
                 return
         memory.fill(address, address + size, GOOD)
 
+    def is_allocators(self, pc: int) -> bool:
+        """Whether a function is of a file that has an allocator's function: its headers are beside blocks."""
+        first = self.program.function_at(pc).first
+        entry = self.program.entries.get(first)
+        if entry is None:
+            return None in self.own_units and not BY_WORDS.fullmatch(self.program.function_of(pc))
+        return entry.unit in self.own_units
+
     def is_by_words(self, access: Access, has_good: bool) -> bool:
         return (has_good and access.size == 4 and access.address % 4 == 0
                 and bool(BY_WORDS.fullmatch(self.program.function_of(access.one.pc))) and self.program.is_library(access.one.pc))
@@ -109,6 +119,9 @@ class Judge:
 
     def outside(self, access: Access, thing: Thing) -> bool:
         """Whether it is wrong, or nothing can be said."""
+        if thing.kind == BLOCK and access.address < thing.begin and self.is_allocators(access.one.pc):
+            self.findings.unknown[HEADERS] += 1
+            return True
         if thing.gone is None and thing.kind != NULL and not access.is_store:
             if self.is_by_words(access, thing.low - 3 <= access.address < thing.high):
                 self.findings.unknown["words past an end that a library's function read"] += 1
@@ -239,6 +252,8 @@ class Judge:
                 self.tell(access, REGISTER, f"{access.verb}, over the {what} of {self.program.function_of(at)}", None)
         elif ENDED in states:
             self.tell(access, AFTER_RETURN, f"{access.verb} at {access.address:08x}, in a frame that has ended", None)
+        elif self.is_allocators(access.one.pc):
+            self.findings.unknown[HEADERS] += 1
         else:
             block = self.heap.near(access.address)
             if block is not None:
@@ -249,6 +264,7 @@ class Judge:
         return kind, f"{access.verb}, {text}"
 
 
+HEADERS = "accesses beside blocks by functions of an allocator's file"
 ANCHORED = "accesses that a compiler may have meant for an object beside"
 
 

@@ -51,6 +51,9 @@ CASES = (
     ("leak", findings.LEAK, "1 block of 8 bytes, 1 of them reached by no pointer, taken in leak", ""),
     ("overlapping", findings.OVERLAP, "memcpy of 8 bytes between places that have 1 bytes in common", "memcpy, called in overlapping"),
     ("lends", findings.FREED, "store of 1, 0 bytes into a block of 8 bytes that was given back", "set"),
+    ("freed_nowhere", findings.NO_BLOCK, "87654320 is given back: memory ends at 00100000", "work"),
+    ("unwritten_size", findings.UNINITIALIZED, "what malloc is given depends on bytes that nobody wrote, of size of unwritten_size",
+     "malloc, called in unwritten_size"),
 )
 NUMBERS = {name: at for at, (name, *_) in enumerate(CASES)}
 programs = {}

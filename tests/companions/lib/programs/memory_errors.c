@@ -56,6 +56,7 @@ NOINLINE static void heap_after(unsigned bad)
 NOINLINE static void heap_before(unsigned bad)
 {
     char *text = malloc(8);
+    sink = size_of(text);
     set(text, 0 - bad, 1);
     free(text);
 }
@@ -285,10 +286,23 @@ static void gives_back(void)
     __atomic_store_n(&turn, 3, __ATOMIC_SEQ_CST);
 }
 
+NOINLINE static void freed_nowhere(unsigned bad)
+{
+    free(bad ? (void *)0x87654320 : 0);
+}
+
+NOINLINE static void unwritten_size(unsigned bad)
+{
+    unsigned size;
+    fill(&size, bad ? 1000 : 10);
+    free(malloc(size & 63));
+}
+
 static void (*const cases[])(unsigned) = {
     heap_after, heap_before, heap_by_copy, freed, freed_twice, freed_inside, freed_global, failed, resized, aligned, global_after,
     member_after, block_member_after, stack_after, after_return, depth, over_return_address, no_pointer, unwritten_block,
-    unwritten_local, unwritten_copied, unwritten_out, leak, overlapping, lends};
+    unwritten_local, unwritten_copied, unwritten_out, leak, overlapping, lends, freed_nowhere,
+    unwritten_size};
 
 static void work(int hart)
 {

@@ -24,6 +24,11 @@ __attribute__((noipa)) void *malloc(size bytes)
     return &block->next;
 }
 
+size size_of(void *memory)
+{
+    return *(size *)((char *)memory - 4);
+}
+
 char *copy(char *to, const char *from, size bytes)
 {
     for (size i = 0; i < bytes; i++)
