@@ -80,5 +80,6 @@ tries tests/sources/stale.py
 tries tests/sources/promised.py
 tries tests/sources/examples.sh
 tries tests/companions.sh "$program"
+tries tests/oracle/quick.sh "$program"
 wait
 tell

@@ -146,7 +146,7 @@ class Session:
 def main(words: List[str]) -> int:
     given = options(words)
     if not building.has_tools():
-        print("skipped: there is no RISC-V compiler here")
+        print("skipped: a RISC-V compiler with its tools, or a gdb for RISC-V, isn't here")
         return 77
     session = Session(given)
     session.cases(given.case)

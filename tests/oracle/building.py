@@ -9,6 +9,7 @@ from dataclasses import dataclass, field
 from typing import List
 
 from . import sources
+from .program import ADDR2LINE, GDB, NM
 
 HERE = os.path.dirname(os.path.abspath(__file__))
 TOP = os.path.dirname(os.path.dirname(HERE))
@@ -42,7 +43,7 @@ class Recorded:
 
 
 def has_tools() -> bool:
-    return all(map(shutil.which, (GCC, STRIP, "riscv64-unknown-elf-nm", "riscv64-unknown-elf-addr2line")))
+    return all(map(shutil.which, (GCC, STRIP, NM, ADDR2LINE, GDB)))
 
 
 def has_library() -> bool:

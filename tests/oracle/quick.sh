@@ -1,5 +1,5 @@
 #!/usr/bin/env bash
-# What companions say beside the oracle, with fixed numbers: tests/oracle/quick.sh [PROGRAM]. It asks of all kept programs and of a
-# drawn one, which takes about a processor minute. Others by `python3 -m tests.oracle --help`.
+# What companions say of the kept programs, beside the oracle: tests/oracle/quick.sh [PROGRAM]. It takes two to three processor
+# seconds a program. Others are drawn by `python3 -m tests.oracle`.
 cd "$(dirname "$0")/../.." || exit 1
-exec python3 -B -m tests.oracle --case all --seed 1 --recordings 1 --program "${1:-$PWD/release/zelkuma-x86_64-linux}"
+exec python3 -B -m tests.oracle --case all --recordings 0 --program "${1:-$PWD/release/zelkuma-x86_64-linux}"
