@@ -14,13 +14,15 @@ commit_of_tree() {
 }
 
 tell_version() {
-    local digest=unknown word rest kits=() is_shipped=''
+    local digest=unknown word rest kits=() is_shipped='' other=''
     ! hash sha256sum 2>/dev/null || read -r digest _ < <(sha256sum <"$program")
     while read -r word rest; do
         [ "$word" != kit ] || kits+=("$rest")
         [ "$word $rest" != "program $digest" ] || is_shipped=1
     done <"$top/release/STAMP"
-    echo "zelkuma $(<"$top/VERSION")"
+    [ -n "$is_shipped" ] || other=" with another program than the shipped one"
+    [ "$digest" != unknown ] || other="; whether its program is the shipped one isn't known"
+    echo "zelkuma $(<"$top/VERSION")$other"
     echo "program $digest $program"
     if [ -n "$is_shipped" ]; then
         printf 'kit %s\n' "${kits[@]}"

@@ -3,9 +3,10 @@ from __future__ import annotations
 
 import contextlib
 import os
+import resource
 import signal
 import subprocess
-from typing import Any, Callable, Mapping, Sequence
+from typing import Any, Callable, ClassVar, Mapping, Optional, Sequence
 
 from .errors import CompanionError
 from .streams import on_interrupt, uninterrupted
@@ -17,7 +18,6 @@ except (ImportError, OSError):                  # a python without it can't ask 
     prctl = None
 FAILED = 1
 SET_DEATH_SIGNAL = 1        # PR_SET_PDEATHSIG of prctl(2)
-leads_group = False
 
 
 def tie(parent: int, how: int = signal.SIGKILL) -> None:
@@ -28,13 +28,6 @@ def tie(parent: int, how: int = signal.SIGKILL) -> None:
         os._exit(1)
 
 
-def lead_group() -> None:
-    """This process leads a group, which its parent ends as a whole. What it starts needs no python of its own to end with it."""
-    global leads_group
-    os.setpgid(0, 0)
-    leads_group = True
-
-
 def follow(parent: int) -> None:
     """Of a new process: signals end it, and so does the end of the one that started it."""
     on_interrupt(signal.SIG_DFL)
@@ -43,7 +36,7 @@ def follow(parent: int) -> None:
 
 def start(words: Sequence[str], **streams: Any) -> subprocess.Popen[bytes]:
     """A process that the system kills when this one ends, also if this one is killed. Signals wait until it is known here."""
-    if leads_group:
+    if Group.own:                               # its guard ends it, wherever this process is ended
         return subprocess.Popen(words, **streams)
     parent = os.getpid()
 
@@ -53,6 +46,21 @@ def start(words: Sequence[str], **streams: Any) -> subprocess.Popen[bytes]:
 
     with uninterrupted() as before:
         return subprocess.Popen(words, preexec_fn=prepare, **streams)
+
+
+def run(words: Sequence[str], seconds: float, most: Mapping[int, int], **streams: Any) -> tuple[int, bytes]:
+    """The status and the output of such a process. `most` limits what it takes, by the numbers of setrlimit. TimeoutExpired
+    after so many seconds."""
+    process = start(words, stdin=subprocess.DEVNULL, stdout=subprocess.PIPE, **streams)
+    try:
+        for number, limit in most.items():
+            with contextlib.suppress(ProcessLookupError):
+                resource.prlimit(process.pid, number, (limit, limit))
+        out, _ = process.communicate(timeout=seconds)
+        return process.returncode, out
+    finally:
+        process.kill()                          # nothing of one that has ended
+        process.wait()
 
 
 class Process:
@@ -135,8 +143,14 @@ class Group(Guard):
     """Processes that end with this one. To start one of them is cheaper than by `start`, since no python runs in it first; so
     it is for many short ones."""
 
+    own: ClassVar[Optional[Group]] = None       # which this process is in: what it starts needs no python of its own to end with it
+
     def __init__(self) -> None:
         super().__init__(lambda: os.killpg(0, signal.SIGKILL))
+
+    def join(self) -> None:
+        os.setpgid(0, self.pid)
+        Group.own = self
 
     def start(self, words: Sequence[str], said: str, err: str, environment: Mapping[str, str]) -> Process:
         """A process whose output and err go into files."""

@@ -4,7 +4,7 @@ from __future__ import annotations
 import html
 from typing import NamedTuple, Sequence
 
-from .saving import PAGE_MARK
+from .kinds import PAGE_MARK
 from .text import clean
 from .version import version
 

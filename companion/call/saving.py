@@ -1,35 +1,27 @@
 """Files that a companion saves under a name of its user's: what may be overwritten, and how. No other module does it.
 
 A new file takes the old one's place in one step, with its owner, mode and extended attributes. If that can't be, or the
-old file has further hard links, it is written in place."""
+old file has further hard links, it is written in place. Signals wait while that is done."""
 from __future__ import annotations
 
+import contextlib
+import functools
 import io
 import os
 import shutil
 import stat
 from dataclasses import dataclass
-from typing import BinaryIO, Callable, NamedTuple, NoReturn, Optional, Sequence
+from typing import BinaryIO, NoReturn, Optional, Sequence, Tuple
 
 from .errors import REFUSED, UNREADABLE, UNWRITABLE, CompanionError
+from .kinds import ELF_MAGIC, Kind
 from .scratch import Scratch
+from .streams import uninterrupted
 
-HEAD_BYTES = 4096
-ELF_MAGIC, LOG_MAGIC = b"\x7fELF", b"BUGNETLG"
-PAGE_MARK = '<meta name="generator" content="zelkuma">'
-MOST_HARTS = 16
 ENTER_AND_WRITE = os.W_OK | os.X_OK
-
-
-class Kind(NamedTuple):
-    """What a file is called, and whether one that begins so is of this kind: no other is overwritten, but an empty one."""
-    name: str
-    fits: Callable[[bytes], bool]
-
-
-LOG = Kind("a log", lambda head: head.startswith(LOG_MAGIC))
-TURNS = Kind("a list of turns", lambda head: max(head) < MOST_HARTS)
-PAGE = Kind("a page of zelkuma", lambda head: PAGE_MARK.encode() in head)
+NULL = os.makedev(1, 3)     # the device /dev/null
+OUT, ERR = 1, 2
+OPEN_FILES = "/dev/fd/", "/proc/self/fd/"       # names in them are what the call was given open, as by >(..) of a shell
 
 
 @dataclass(frozen=True)
@@ -65,16 +57,28 @@ class Target:
         if not os.access(self.path, os.W_OK):
             self.refuse("it may not be written", UNREADABLE)
         if stat.S_ISREG(old.st_mode):
-            self.check_head()
+            self.check_content(old)
+        elif not (self.is_open(old) or old.st_rdev == NULL):
+            self.refuse("it is a pipe or a device", UNREADABLE)
         return old
 
-    def check_head(self) -> None:
+    def check_content(self, old: os.stat_result) -> None:
         with open(self.path, "rb") as file:
-            head = file.read(HEAD_BYTES)
-        if head.startswith(ELF_MAGIC):
+            head = file.read(len(ELF_MAGIC))
+        if head == ELF_MAGIC:
             self.refuse("it is an ELF file, which would be lost")
-        if head and not self.kind.fits(head):
+        if head and not fits(self.kind, self.path, (old.st_dev, old.st_ino, old.st_size, old.st_mtime_ns, old.st_ctime_ns)):
             self.refuse(f"it isn't {self.kind.name}, and would be lost; remove it first, or give another name")
+
+    def is_open(self, old: os.stat_result) -> bool:
+        """Whether it is a stream that the call was started with: one by its name alone could wait for a reader."""
+        if self.name.startswith(OPEN_FILES):
+            return True
+        for number in (OUT, ERR):
+            with contextlib.suppress(OSError):
+                if os.path.samestat(os.fstat(number), old):
+                    return True
+        return False
 
     def folder(self) -> str:
         return os.path.dirname(os.path.abspath(self.path))
@@ -98,32 +102,66 @@ class Target:
                 self.write_in_place(file, old)
 
     def save(self, data: bytes) -> None:
+        save_together([(self, data)])
+
+    def is_in_place(self) -> bool:
+        """Whether there is no file beside it that could take its place."""
         old = self.check()
-        if old is not None and not (stat.S_ISREG(old.st_mode) and os.access(self.folder(), ENTER_AND_WRITE)):
-            self.write_in_place(io.BytesIO(data), old)
-            return
-        with self.scratch() as folder:
-            made = os.path.join(folder, "made")
-            try:
-                with open(made, "wb") as file:
-                    file.write(data)
-            except OSError as error:
-                self.refuse(error.strerror or str(error), UNWRITABLE)
-            self.take(made)
+        return old is not None and not (stat.S_ISREG(old.st_mode) and os.access(self.folder(), ENTER_AND_WRITE))
 
     def write_in_place(self, source: BinaryIO, old: os.stat_result) -> None:
         """The room for a longer file is made sure of first, so that want of it loses nothing."""
         length = source.seek(0, os.SEEK_END)
         source.seek(0)
         try:
-            with open(os.open(self.path, os.O_WRONLY), "wb") as file:
+            # (a pipe without a reader is refused, and isn't waited for)
+            file = os.open(self.path, os.O_WRONLY | os.O_NONBLOCK)
+            os.set_blocking(file, True)
+            with open(file, "wb") as opened, contextlib.ExitStack() as waiting:
                 if stat.S_ISREG(old.st_mode):
-                    make_room(file.fileno(), length, old.st_size)
-                shutil.copyfileobj(source, file)
+                    waiting.enter_context(uninterrupted())
+                    make_room(file, length, old.st_size)
+                shutil.copyfileobj(source, opened)
                 if stat.S_ISREG(old.st_mode):
-                    file.truncate()
+                    opened.truncate()
         except OSError as error:
             self.refuse(f"it takes no more: {error.strerror or error}", UNWRITABLE)
+
+
+def save_together(files: Sequence[Tuple[Target, bytes]]) -> None:
+    """Saves files that belong together: a signal that comes meanwhile leaves all old ones, or all new ones."""
+    with contextlib.ExitStack() as opened:
+        made = []
+        for place, data in files:
+            if place.is_in_place():
+                old = place.check()
+                assert old
+                place.write_in_place(io.BytesIO(data), old)
+            else:
+                made.append((place, os.path.join(opened.enter_context(place.scratch()), "made")))
+                write(place, made[-1][1], data)
+        take_together(made)
+
+
+def write(place: Target, name: str, data: bytes) -> None:
+    try:
+        with open(name, "wb") as file:
+            file.write(data)
+    except OSError as error:
+        place.refuse(error.strerror or str(error), UNWRITABLE)
+
+
+def take_together(files: Sequence[Tuple[Target, str]]) -> None:
+    """The same of files that are in folders of `scratch`."""
+    with uninterrupted():
+        for place, name in files:
+            place.take(name)
+
+
+@functools.lru_cache(maxsize=None)
+def fits(kind: Kind, path: str, _what: Tuple[int, ...]) -> bool:
+    """Whether a file is of a kind. It is read whole, so of the same file this is asked once."""
+    return kind.fits(path)
 
 
 def target(name: str, kind: Kind, others: Sequence[str]) -> Target:

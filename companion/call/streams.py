@@ -7,12 +7,15 @@ import os
 import signal
 import sys
 import time
-from typing import Any, ClassVar, Iterable, Iterator, Optional
+from typing import Any, Callable, ClassVar, Iterable, Iterator, Optional
 
 from .errors import UNWRITABLE, CompanionError
 
 STOPS = signal.SIGINT, signal.SIGTERM, signal.SIGHUP        # Ctrl-C, `kill`, the end of the terminal
+# Those that this process wasn't started to ignore. Nothing else tells it: what is ignored later is so for a moment.
+HEARD = tuple(stop for stop in STOPS if signal.getsignal(stop) is not signal.SIG_IGN)
 PAUSE, SILENCE = 0.2, 1.0   # seconds between two lines of progress, and before the first
+LAST_S = 0.3                # after a signal the call cleans up for so long: it has to end within half a second
 
 
 def prepare() -> None:
@@ -71,13 +74,10 @@ def working(text: str) -> Iterator[None]:
     if not progress.is_shown:
         yield
         return
-    before = signal.signal(signal.SIGALRM, lambda *_: progress.tell(f"{text}: {time.monotonic() - began:.0f} s"))
-    signal.setitimer(signal.ITIMER_REAL, SILENCE, PAUSE)
     try:
-        yield
+        with alarm(SILENCE, lambda *_: progress.tell(f"{text}: {time.monotonic() - began:.0f} s"), PAUSE):
+            yield
     finally:
-        signal.setitimer(signal.ITIMER_REAL, 0)
-        signal.signal(signal.SIGALRM, before)
         progress.clear()
 
 
@@ -115,25 +115,58 @@ def show(text: str) -> None:
         pass
 
 
-def give_up() -> None:
-    """What is left to write can't be written: python must not try it again when it ends."""
-    os.close(0)                                 # so there is a number for one more, however few there may be
-    null = os.open(os.devnull, os.O_RDWR)
-    for number in (1, 2):
-        os.dup2(null, number)
-
-
 def on_interrupt(handler: Any) -> None:
     """Sets what each of STOPS does, unless this process was started to ignore it."""
-    for stop in STOPS:
-        if signal.getsignal(stop) is not signal.SIG_IGN:
-            signal.signal(stop, handler)
+    for stop in HEARD:
+        signal.signal(stop, handler)
+
+
+@contextlib.contextmanager
+def stopping(handler: Callable[[int, object], None]) -> Iterator[None]:
+    """Until the end of it `handler` hears of a signal, and ends the work in its own way. A second one ends the call at once."""
+    def first(number: int, frame: object) -> None:
+        on_interrupt(interrupt)
+        handler(number, frame)
+
+    before = [(stop, signal.getsignal(stop)) for stop in HEARD]
+    on_interrupt(first)
+    try:
+        yield
+    finally:
+        for stop, old in before:
+            signal.signal(stop, old)
+
+
+class Stop:
+    """The signal that has ended this call, or 0."""
+    number: ClassVar[int] = 0
 
 
 def interrupt(number: int, _: object) -> None:
-    """Ends the call. What comes after the first doesn't break off what has to be done at the end."""
-    on_interrupt(signal.SIG_IGN)
+    """Ends the call. What has to be done at the end is done, unless it takes too long or another signal comes. What python doesn't
+    raise, as within a destructor, ends it then, too. Guards and the system end its children and remove its folders."""
+    Stop.number = number
+    on_interrupt(end_now)
+    signal.signal(signal.SIGALRM, end_now)
+    signal.setitimer(signal.ITIMER_REAL, LAST_S)
     raise KeyboardInterrupt(number)
+
+
+def end_now(*_: object) -> None:
+    os._exit(128 + Stop.number)
+
+
+@contextlib.contextmanager
+def alarm(seconds: float, handler: Callable[[int, object], None], again: float = 0) -> Iterator[None]:
+    """Calls `handler` after so many seconds, and then each `again`, until the end of it; not once a signal has ended the call."""
+    before = signal.signal(signal.SIGALRM, handler)
+    signal.setitimer(signal.ITIMER_REAL, seconds, again)
+    try:
+        yield
+    finally:
+        if not Stop.number:
+            signal.setitimer(signal.ITIMER_REAL, 0)
+            signal.signal(signal.SIGALRM, before)
 
 
 def interrupted(stop: KeyboardInterrupt) -> int:
@@ -143,8 +176,8 @@ def interrupted(stop: KeyboardInterrupt) -> int:
 
 @contextlib.contextmanager
 def uninterrupted() -> Iterator[set[Any]]:
-    """Each of STOPS waits until the end of it. Gives the signals that waited before."""
-    before = signal.pthread_sigmask(signal.SIG_BLOCK, STOPS)
+    """Each of STOPS waits until the end of it, and so does the end of the call. Gives the signals that waited before."""
+    before = signal.pthread_sigmask(signal.SIG_BLOCK, (*STOPS, signal.SIGALRM))
     try:
         yield before
     finally:

@@ -3,7 +3,6 @@ from __future__ import annotations
 
 import importlib
 import os
-import signal
 import sys
 
 from . import streams
@@ -82,16 +81,14 @@ def guarded(words: list[str]) -> int:
 
 
 def main(words: list[str]) -> None:
-    """Ends the process with the status of a word."""
+    """Ends the process with the status of a word: at once, whatever the environment asks of python."""
     streams.prepare()
     try:
         streams.on_interrupt(streams.interrupt)
         status = guarded(words)
-        streams.on_interrupt(signal.SIG_IGN)
     except KeyboardInterrupt as stop:           # it came while another way to fail was told
         status = streams.interrupted(stop)
-    streams.give_up()
-    sys.exit(status)
+    os._exit(status)
 
 
 def console() -> None:

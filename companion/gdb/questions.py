@@ -6,6 +6,7 @@ import sys
 from typing import Sequence
 
 from ..call import PACKAGE
+from ..call.children import run
 
 PATIENCE = 50               # seconds; gdb waits for 60
 LONGEST = 1 << 18           # bytes of an answer
@@ -23,10 +24,9 @@ class Questions:
     def answer(self, word: str, words: Sequence[str]) -> str:
         asked = ["--row", *words] if word == "why" and words else list(words)
         try:
-            done = subprocess.run([sys.executable, PACKAGE, word, *self.names, *(asked if word == "why" else []), "--", *self.files,
-                                   *([] if word == "why" else asked)], stdin=subprocess.DEVNULL, stdout=subprocess.PIPE,
-                                  stderr=subprocess.STDOUT, timeout=PATIENCE, check=False)
+            _, out = run([sys.executable, PACKAGE, word, *self.names, *(asked if word == "why" else []), "--", *self.files,
+                          *([] if word == "why" else asked)], PATIENCE, {}, stderr=subprocess.STDOUT)
         except subprocess.TimeoutExpired:
             return f"it takes longer than {PATIENCE} seconds: ask `zelkuma {word}` at a shell\n"
-        said = done.stdout.decode("utf-8", "replace")
+        said = out.decode("utf-8", "replace")
         return said if len(said) <= LONGEST else said[:LONGEST] + "\n.. more at a shell\n"

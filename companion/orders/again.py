@@ -9,8 +9,9 @@ from typing import Mapping
 from ..call import program, streams
 from ..call.errors import BAD_LOG, CompanionError
 from ..call.files import check_regular
+from ..call.kinds import LOG, TURNS
 from ..call.options import read_words, whole
-from ..call.saving import LOG, TURNS, Target, target
+from ..call.saving import Target, target
 from ..call.text import counted, number
 from ..recording.book import DIFFERS, check_book
 from .record import ENDS, Quick, last_line, refusal

@@ -11,8 +11,9 @@ from ..call import program
 from ..call.children import Group, Process
 from ..call.errors import REFUSED, UNREADABLE, CompanionError
 from ..call.files import check_regular
+from ..call.kinds import LOG, TURNS
 from ..call.options import decimal, parse
-from ..call.saving import LOG, TURNS, Target, target
+from ..call.saving import Target, target
 from ..call.scratch import Scratch
 
 RECORD_FORM = "[OPTION..] ELF LOG BOOK, as for record, but for --seed"

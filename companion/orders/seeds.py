@@ -3,13 +3,13 @@ from __future__ import annotations
 
 import contextlib
 import os
-import signal
 from typing import Mapping, Optional, Sequence
 
 from ..call import streams
 from ..call.errors import NO_INTERVAL, REFUSED, CompanionError
+from ..call.kinds import LOG, TURNS
 from ..call.options import read_words, whole
-from ..call.saving import LOG, TURNS, Target, target
+from ..call.saving import Target, target
 from ..call.text import number
 from ..recording.answers import LONGEST, put_answer
 from ..recording.elf import Elf
@@ -151,13 +151,13 @@ def tell_json(search: TrialSearch, short: Optional[Shrunk], difference: Optional
                shrunk=short.answer if short else None, compared=difference)
 
 
-def find(search: TrialSearch, is_json: bool, shrinks: bool, good: Sequence[Target]) -> None:
-    """Searches, saves what was found, and tells how the runs ended: as text also those before a refusal."""
+def find(search: TrialSearch, is_json: bool, shrinks: bool, good: Sequence[Target]) -> int:
+    """Searches, saves what was found, and tells how the runs ended: as text also those before a refusal. The status of a signal
+    that has ended the shrinking, or 0."""
     short = difference = None
     try:
         search.run()
     finally:
-        streams.on_interrupt(signal.SIG_IGN)
         try:
             for trial in [search.found] if search.found else search.kept.values():
                 trial.save()
@@ -172,6 +172,7 @@ def find(search: TrialSearch, is_json: bool, shrinks: bool, good: Sequence[Targe
         difference = tell_difference(short, search.words, good, is_json)
     if is_json:
         tell_json(search, short, difference)
+    return short.status if short else 0
 
 
 def status_of(search: TrialSearch, names: Sequence[str]) -> int:
@@ -237,5 +238,5 @@ def main(words: list[str]) -> int:
         os.makedirs(record.folder, exist_ok=True)
     with contextlib.ExitStack() as opened:
         search = TrialSearch(record, numbers, kinds, until, jobs, [opened.enter_context(folder) for folder in record.scratch()])
-        find(search, "--json" in options, bool(shrinks), good)
-    return status_of(search, [name for name, kind in KINDS.items() if kind in kinds])
+        stopped = find(search, "--json" in options, bool(shrinks), good)
+    return stopped or status_of(search, [name for name, kind in KINDS.items() if kind in kinds])

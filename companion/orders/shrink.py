@@ -7,8 +7,9 @@ from typing import Mapping, Sequence
 from ..call import streams
 from ..call.errors import REFUSED, CompanionError
 from ..call.files import check_regular
+from ..call.kinds import LOG, TURNS
 from ..call.options import decimal, parse, read_words, whole
-from ..call.saving import LOG, TURNS, target
+from ..call.saving import target
 from ..recording.answers import put_answer
 from ..recording.book import check_book
 from ..recording.elf import Elf

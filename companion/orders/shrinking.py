@@ -1,8 +1,8 @@
 """Shrinks a recording: searches, saves the shortest that is found, and tells its switches."""
 from __future__ import annotations
 
+import contextlib
 import os
-import signal
 from contextlib import closing
 from dataclasses import dataclass
 from pathlib import Path
@@ -10,7 +10,7 @@ from typing import Any, Mapping, NamedTuple, Optional, Sequence
 
 from ..call import streams
 from ..call.errors import NO_INTERVAL, CompanionError
-from ..call.saving import Target
+from ..call.saving import Target, save_together
 from ..call.scratch import Scratch
 from ..call.text import counted, number
 from ..recording.answers import LONGEST
@@ -71,46 +71,42 @@ class Shrunk(NamedTuple):
 
 def shrink(asked: ShrinkInput) -> Shrunk:
     with Scratch(MEMORY_FOLDER if os.access(MEMORY_FOLDER, os.W_OK) else "") as folder, Quick(folder) as quick:
-        found, made, signals = search(asked, quick)
-        save(made, (asked.new_log, asked.new_book))
-        nearest = found.nearest_good() if asked.good else None
+        found, made, status = search(asked, quick)
+        nearest = found.nearest_good() if asked.good and not status else None
         if nearest:
             save(nearest.made, asked.good)
         with closing(places_of(asked.named, asked.folders)) as places:
             told = Told(found, made, Teller(asked.named, places), asked)
-            said = Shrunk(told.lines(), told.answer(), signals.status, nearest)
+            said = Shrunk(told.lines(), told.answer(), status, nearest)
     if found.tries.is_ended():
         streams.say("the search was ended before it was done: the list may be longer than it need be")
     return said
 
 
 def save(made: Recording, targets: Sequence[Target]) -> None:
-    for name, place in zip((made.log, made.book), targets):
-        place.save(Path(name).read_bytes())
+    save_together([(place, Path(name).read_bytes()) for name, place in zip((made.log, made.book), targets)])
 
 
 class Signals:
-    """Ends a search on Ctrl-C, TERM, HUP and when its time is over.
+    """Ends a search on Ctrl-C, TERM, HUP and when its time is over. By `with`, around the saving of what was found too.
 
     status  to end with"""
 
     def __init__(self, tries: Tries, seconds: int) -> None:
-        self.tries, self.seconds, self.status = tries, seconds, 0
+        self.tries, self.status, self.opened = tries, 0, contextlib.ExitStack()
+        self.seconds = seconds
 
     def come(self, which: int, _frame: object) -> None:
         self.status = 128 + which if which in streams.STOPS else 0
         self.tries.stop()
 
     def __enter__(self) -> Signals:
-        streams.on_interrupt(self.come)
-        signal.signal(signal.SIGALRM, self.come)
-        signal.alarm(self.seconds)
+        self.opened.enter_context(streams.stopping(self.come))
+        self.opened.enter_context(streams.alarm(self.seconds, self.come))
         return self
 
     def __exit__(self, *_: object) -> None:
-        """From here on nothing ends the call before all is saved."""
-        signal.alarm(0)
-        streams.on_interrupt(signal.SIG_IGN)
+        self.opened.close()
 
 
 def offset_of(log: Log, elf: Elf, byte: Byte) -> int:
@@ -124,15 +120,17 @@ def offset_of(log: Log, elf: Elf, byte: Byte) -> int:
                          NO_INTERVAL)
 
 
-def search(asked: ShrinkInput, quick: Quick) -> tuple[Search, Recording, Signals]:
-    """Searches, and makes the recording of the shortest list that is found."""
+def search(asked: ShrinkInput, quick: Quick) -> tuple[Search, Recording, int]:
+    """Searches, and saves the recording of the shortest list that is found. A signal ends the search alone: its status."""
     offset = offset_of(load_log(asked.log), asked.elf, asked.byte) if asked.byte else None
     tries = Tries(asked.options, Ends(quick, asked.elf, offset), len(os.sched_getaffinity(0)))
     found = Search(tries, tries.record(pieces_of(Path(asked.book).read_bytes())))
     with Signals(tries, asked.seconds) as signals:
         found.run()
-    tries.options = dict(asked.options)
-    return found, tries.record(found.best), signals
+        tries.options = dict(asked.options)
+        made = tries.record(found.best)
+        save(made, (asked.new_log, asked.new_book))
+    return found, made, signals.status
 
 
 class Told:

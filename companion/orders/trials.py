@@ -12,6 +12,7 @@ from typing import Callable, Iterator, NamedTuple, Optional, Sequence
 
 from ..call import streams
 from ..call.children import Forked, Process
+from ..call.saving import take_together
 from ..recording.cause import Cause, cause_of_file
 from ..recording.elf import Elf
 from ..recording.naming import places_of
@@ -97,9 +98,7 @@ class Trial:
             Path(name).unlink(missing_ok=True)
 
     def save(self) -> None:
-        for name, target in zip(self.outputs, self.words.targets(self.plan)):
-            if os.path.exists(name):
-                target.take(name)
+        take_together([(place, name) for name, place in zip(self.outputs, self.words.targets(self.plan)) if os.path.exists(name)])
 
 
 class Buckets:
@@ -243,8 +242,7 @@ class TrialSearch:
         self.progress.tell(", ".join(said))
 
     def run(self) -> None:
-        with self.quick, closing(self.buckets), self.progress:
-            streams.on_interrupt(self.stop)
+        with streams.stopping(self.stop), self.quick, closing(self.buckets), self.progress:
             try:
                 self.start()
                 while self.running:

@@ -1,22 +1,27 @@
 """Asks gdb what DWARF says of a name. Without a gdb that has Python there are the ELF file's symbols alone."""
 from __future__ import annotations
 
+import itertools
 import json
 import os
 import resource
 import shutil
 import subprocess
-from typing import Any, Optional
+from typing import Any, Optional, Set
 
 from ..call import streams
+from ..call.children import run
 from ..recording.elf import Elf
 
 GDBS = ("gdb-multiarch", "riscv64-unknown-elf-gdb", "riscv32-unknown-elf-gdb")
 PACKAGE = "gdb-multiarch"
-PATIENCE = 20               # seconds that gdb may take
-MOST_MEMORY = 1 << 30       # bytes of gdb, whatever an ELF file says
+PATIENCE_S = 20             # by the clock that gdb may take
+# Of gdb, whatever an ELF file says: seconds of processor time (it takes 0.4), and bytes of data (44 MB).
+MOST = {resource.RLIMIT_CPU: 5, resource.RLIMIT_DATA: 320 << 20, resource.RLIMIT_CORE: 0}
+given_up: Set[str] = set()  # ELF files of which it isn't asked any more
 # An ELF file can name scripts to run and servers to ask: gdb does neither.
-QUIET = ("-nx", "-batch", "-iex", "set auto-load off", "-iex", "set debuginfod enabled off", "-iex", "set confirm off")
+QUIET = ("-nx", "-batch", *itertools.chain.from_iterable(("-iex", line) for line in (
+    "set auto-load off", "set debuginfod enabled off", "set confirm off", "maintenance set worker-threads 0")))
 
 
 def gdb_path() -> str:
@@ -25,27 +30,26 @@ def gdb_path() -> str:
     return next((name for name in ([named] if named else GDBS) if shutil.which(name)), "")
 
 
-def limit_memory() -> None:
-    resource.setrlimit(resource.RLIMIT_AS, (MOST_MEMORY, MOST_MEMORY))
-
-
 def ask_gdb(elf: Elf, **asked: str) -> Optional[dict[str, Any]]:
-    """What gdb answers, or None if it can't be asked, which is said."""
+    """What gdb answers, or None if it can't be asked, which is said once."""
+    if elf.name in given_up:
+        return None
     gdb, mark = gdb_path(), f"answer {int.from_bytes(os.urandom(8), 'little'):x} "
     if not gdb:
+        given_up.add(elf.name)
         streams.say(f"no gdb is here, so names are those of symbols, without types; Debian has it in {PACKAGE}")
         return None
     words = [gdb, *QUIET, "-x", os.path.join(os.path.dirname(os.path.abspath(__file__)), "inside_gdb.py"), os.path.abspath(elf.name)]
     try:
-        done = subprocess.run(words, stdin=subprocess.DEVNULL, stdout=subprocess.PIPE, stderr=subprocess.DEVNULL, timeout=PATIENCE,
-                              preexec_fn=limit_memory, check=False,
-                              env={**os.environ, "ZELKUMA_ASKED": json.dumps({"mark": mark, **asked})})
-        _, found, said = done.stdout.decode("utf-8", "replace").rpartition(mark)
+        status, out = run(words, PATIENCE_S, MOST, stderr=subprocess.DEVNULL,
+                          env={**os.environ, "ZELKUMA_ASKED": json.dumps({"mark": mark, **asked})})
+        _, found, said = out.decode("utf-8", "replace").rpartition(mark)
         if found:
             answer: dict[str, Any] = json.loads(said)
             return answer
-        why = f"it ended with {done.returncode}"
+        why = f"it ended with {status}"
     except (OSError, ValueError, subprocess.TimeoutExpired) as error:
         why = str(error).split(" Command", 1)[0] if not isinstance(error, subprocess.TimeoutExpired) else "it took too long"
+    given_up.add(elf.name)
     streams.say(f"{gdb} can't be asked: {why}; names are those of symbols, without types")
     return None

@@ -5,8 +5,9 @@ from typing import Callable, Dict
 
 from ..call import streams
 from ..call.errors import REFUSED, CompanionError
+from ..call.kinds import text_kind
 from ..call.options import read_words
-from ..call.saving import Kind, target
+from ..call.saving import target
 from ..call.text import number
 from .callgrind import callgrind
 from .lcov import lcov
@@ -27,7 +28,11 @@ FILE is overwritten if it is such a file. Companions show; the program proves.""
 FORM = "export LOG ELF --callgrind FILE | --lcov FILE | --perfetto FILE [--names ELF] [--rows N]"
 Maker = Callable[[Asked], str]
 MAKERS: Dict[str, Maker] = {"--callgrind": callgrind, "--lcov": lcov, "--perfetto": perfetto}
-HEADS = {"--callgrind": b"# callgrind format", "--lcov": b"TN:", "--perfetto": b'{"traceEvents"'}
+# Each says that zelkuma made it: other tools make files of these kinds, too.
+KINDS = {option: text_kind(f"a file of export {option}", *known) for option, known in {
+    "--callgrind": ("# callgrind format\nversion: 1\ncreator: zelkuma\n", "\n", "\ncreator: "),
+    "--lcov": ("TN:zelkuma\n", "\n", "TN:"),
+    "--perfetto": (r'\{"otherData": \{"creator": "zelkuma"', "}\n", "\n")}.items()}
 
 
 def main(words: list[str]) -> int:
@@ -36,8 +41,7 @@ def main(words: list[str]) -> int:
     if len(chosen) != 1:
         raise CompanionError(f"one of {', '.join(MAKERS)} has to be given; the words are: {FORM}", REFUSED)
     option = chosen[0]
-    kind = Kind(f"a file of export {option}", lambda head: head.startswith(HEADS[option]))
-    saved = target(given[option], kind, [log_name, elf_name, given.get("--names", "")])
+    saved = target(given[option], KINDS[option], [log_name, elf_name, given.get("--names", "")])
     with asked_of(log_name, elf_name, given) as asked:
         saved.save(MAKERS[option](asked).encode("utf-8", "backslashreplace"))
         for line in asked.left_out():

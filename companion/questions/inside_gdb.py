@@ -54,6 +54,8 @@ def is_signed(plain: Any) -> bool:
 def variable(name: str) -> dict[str, Any]:
     """The address and the type of a variable or a part of it."""
     place = gdb.parse_and_eval(f"&({name})")
+    if not place.type.target().sizeof:          # of a symbol without DWARF, or of a declaration
+        raise ValueError("its size isn't known")
     return {"address": int(place) & 0xffffffff, "type": Types().told(place.type.target())}
 
 

@@ -34,7 +34,7 @@ def lcov(asked: Asked) -> str:
         if symbol.kind == FUNCTION and frames and frames[-1].line:
             functions.setdefault(frames[-1].path, []).extend([
                 f"FN:{frames[-1].line},{symbol.name}", f"FNDA:{calls[symbol.address]},{symbol.name}"])
-    said = ["TN:"]
+    said = ["TN:zelkuma"]
     for path, counts in sorted(lines.items()):
         said += [f"SF:{source_of(asked, path)}", *functions.get(path, [])]
         said += [f"DA:{line},{count}" for line, count in sorted(counts.items())]

@@ -102,5 +102,5 @@ def perfetto(asked: Asked) -> str:
              for pid in (PROCESS, WAITS) for hart in range(asked.log.harts)]
     names += [{"name": "process_name", "ph": "M", "pid": pid, "tid": 0, "args": {"name": name}}
               for pid, name in ((PROCESS, "harts"), (ORDER, "order of joint"), (WAITS, "waits"))]
-    return json.dumps({"traceEvents": names + events.events + list(turns.events()), "displayTimeUnit": "ns",
-                       "otherData": {"events left out": events.left_out}}) + "\n"
+    return json.dumps({"otherData": {"creator": "zelkuma", "events left out": events.left_out}, "displayTimeUnit": "ns",
+                       "traceEvents": names + events.events + list(turns.events())}) + "\n"

@@ -30,6 +30,23 @@ def words_type(size: int) -> Type:
     return {"kind": "words" if size > 4 else "bytes", "name": "", "size": size}
 
 
+def bounded(of: Type) -> Type:
+    """A type whose parts lie within it, whatever an ELF file says: one of which they don't is told as bytes."""
+    size = of["size"]
+    if of["kind"] == "array":
+        part = bounded(of["of"])
+        return {**of, "of": part} if 0 <= of["count"] * part["size"] <= size else words_type(size)
+    if of["kind"] == "fields":
+        fields: list[Dict[str, Any]] = [{**field, "type": bounded(field["type"])} for field in of["fields"]]
+        return {**of, "fields": fields} if all(field["at"] >= 0 and end_of(field) <= size for field in fields) else words_type(size)
+    return of
+
+
+def end_of(field: Dict[str, Any]) -> int:
+    size = (field["bit"] + field["bits"] + 7) // 8 if "bits" in field else field["type"]["size"]
+    return int(field["at"] + size)
+
+
 def leaves(of: Type, first: int, end: int, path: str = "", at: int = 0) -> Iterator[Leaf]:
     """The parts of a type, put at a place, that have a byte of those from `first` up to `end`."""
     if of["kind"] == "array" and of["of"]["size"]:
@@ -86,24 +103,24 @@ def number_text(leaf: Leaf, number: int, width: int) -> str:
     return f"{number} ({plain:08x})" if abs(number) >= TOLD_IN_HEX else str(number)
 
 
-def python_value(of: Type, data: bytes) -> Any:
-    """The value of a type as one of Python: a number, bytes of letters, a list or a dict."""
-    data = data[:of["size"]]
+def python_value(of: Type, data: bytes, begin: int = 0) -> Any:
+    """The value of a type as one of Python: a number, bytes of letters, a list or a dict. It begins at a place of the data."""
     if of["kind"] == "array":
         part = of["of"]
         if part["size"] == 1 and "char" in part["name"]:
-            return data
-        return [python_value(part, data[at:]) for at in range(0, of["count"] * part["size"], part["size"] or 1)]
+            return data[begin:begin + of["size"]]
+        return [python_value(part, data, begin + i * part["size"]) for i in range(of["count"] if part["size"] else 0)]
     if of["kind"] == "fields":
-        return {field["name"]: field_value(field, data[field["at"]:]) for field in of["fields"]}
+        return {field["name"]: field_value(field, data, begin + field["at"]) for field in of["fields"]}
+    data = data[begin:begin + of["size"]]
     if of["kind"] == "float" and len(data) in FLOATS:
         return struct.unpack(FLOATS[len(data)], data)[0]
     number = int.from_bytes(data, "little", signed=bool(of.get("signed")))
     return number if of["kind"] != "words" else data
 
 
-def field_value(field: Dict[str, Any], data: bytes) -> Any:
+def field_value(field: Dict[str, Any], data: bytes, begin: int) -> Any:
     if "bits" not in field:
-        return python_value(field["type"], data)
-    number = int.from_bytes(data[:8], "little") >> field["bit"] & (1 << field["bits"]) - 1
+        return python_value(field["type"], data, begin)
+    number = int.from_bytes(data[begin:begin + 8], "little") >> field["bit"] & (1 << field["bits"]) - 1
     return signed(field["type"], number, field["bits"])

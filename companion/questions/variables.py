@@ -6,17 +6,18 @@ import os
 import re
 from typing import NamedTuple, Optional
 
-from ..call.errors import MISSING, REFUSED, CompanionError
+from ..call.errors import BAD_ELF, MISSING, REFUSED, CompanionError
 from ..call.text import clean, counted
 from ..recording.elf import FUNCTION, Elf, Symbol
 from .debugger import ask_gdb
-from .types import Type, words_type
+from .types import Type, bounded, words_type
 
 ADDRESS = re.compile(r"(?:0x([0-9a-f]{1,8})|([0-9a-f]{8}))(?::(\d{1,7}))?", re.I)
 OFFSET = re.compile(r"(.+)\+(\d{1,7})(?::(\d{1,7}))?")
 # A variable and its parts. gdb's own commands, functions and `$` have no place in it.
 PART = re.compile(r"(?:'[\w./\-]+'::)?[\w.]+(?:::\w+)*(?:\.\w+|\[\d+\])*")
-WORD, MOST_BYTES, NEAR = 4, 1 << 26, 5
+WORD, NEAR = 4, 5
+MOST_BYTES = 1 << 22        # of a variable: each word of it that is followed takes 250 bytes of memory
 
 
 class Variable(NamedTuple):
@@ -52,10 +53,21 @@ def variable_of(elf: Elf, name: str) -> Variable:
     if elf.symbols and PART.fullmatch(name):
         answer = ask_gdb(elf, variable=name)
         if answer and "address" in answer:
-            return Variable(name, answer["address"], answer["type"])
+            variable = Variable(name, answer["address"], bounded(answer["type"]))
+            if is_in_symbol(elf, variable):
+                return variable
+            if found is None:
+                raise CompanionError(f"what DWARF says of {clean(name)} can't be: {counted(variable.size, 'byte')} at "
+                                     f"{variable.address:08x}", BAD_ELF)
     if found is None:
         raise CompanionError(not_found(elf, name, elf.objects), MISSING)
     return Variable(name, found.address, words_type(length(found.size or WORD)))
+
+
+def is_in_symbol(elf: Elf, variable: Variable) -> bool:
+    """Whether what DWARF says of a variable can be: it has bytes, and a symbol has all of them if one has the first."""
+    ends = [item.address + item.size for item in elf.objects if item.address <= variable.address < item.address + item.size]
+    return 1 <= variable.size <= MOST_BYTES and (not ends or variable.end <= max(ends))
 
 
 def length(size: int) -> int:

@@ -2,11 +2,12 @@
 from __future__ import annotations
 
 import json
+import re
 import time
 from typing import Any
 from xml.sax.saxutils import escape, quoteattr
 
-from ..call.saving import Kind
+from ..call.kinds import text_kind
 from ..call.text import clean, counted
 from ..recording.answers import LONGEST, VERSION
 from ..recording.cause import EXITS
@@ -15,8 +16,8 @@ from .table import Group, Table
 
 JSON_BEGINS = '{"answer": "triage"'
 JUNIT_BEGINS = '<?xml version="1.0" encoding="utf-8"?>\n<testsuite name="zelkuma triage"'
-JSON = Kind("an answer of triage", lambda head: head.startswith(JSON_BEGINS.encode()))
-JUNIT = Kind("a report of triage", lambda head: head.startswith(JUNIT_BEGINS.encode()))
+JSON = text_kind("an answer of triage", re.escape(JSON_BEGINS), "}\n", "\n")
+JUNIT = text_kind("a report of triage", re.escape(JUNIT_BEGINS), "</testsuite>\n", "<testsuite ")
 
 
 def json_text(table: Table) -> str:

@@ -11,7 +11,7 @@ from multiprocessing.connection import Connection, wait
 from typing import Any, Generator, Iterable, NoReturn, Optional
 
 from ..call import streams
-from ..call.children import lead_group, tie
+from ..call.children import Group, tie
 from .work import MOST_SECONDS, TOO_LONG, UNREAD, WHY_SECONDS, Answer, Task, Work, limit_memory
 
 # A process that says nothing is ended once its group has taken no processor time for so many seconds by the clock. What takes
@@ -36,8 +36,6 @@ class Worker:
             if not self.pid:
                 serve(theirs, parent, before)
         theirs.close()
-        with contextlib.suppress(OSError):      # it has done so itself
-            os.setpgid(self.pid, self.pid)
 
     def give(self, task: Task) -> None:
         self.task, self.moved = task, time.monotonic()
@@ -55,20 +53,21 @@ class Worker:
         return STUCK if time.monotonic() - self.moved > PATIENCE else ""
 
     def end(self, how: int) -> None:
-        os.killpg(self.pid, how)
+        os.kill(self.pid, how)
         os.waitpid(self.pid, 0)
         self.ours.close()
 
 
 def serve(pipe: Connection, parent: int, signals: set[Any]) -> NoReturn:
-    """The process of a worker. Whatever ends it by a signal lets it clean up, and so does its parent's end."""
+    """The process of a worker. Whatever ends it by a signal lets it clean up, and so does its parent's end. Its group ends what it
+    has started: a signal can come between a start and the moment in which the process is known here."""
     work = Work()
     try:
         streams.on_interrupt(streams.interrupt)
         signal.signal(signal.SIGTERM, streams.interrupt)
-        signal.pthread_sigmask(signal.SIG_SETMASK, signals)
         tie(parent, signal.SIGTERM)
-        lead_group()
+        Group().join()
+        signal.pthread_sigmask(signal.SIG_SETMASK, signals)
         limit_memory()
         while True:
             pipe.send(work.answer(pipe.recv()))

@@ -8,15 +8,16 @@ import os
 import struct
 from typing import Iterable, Iterator, NamedTuple, Sequence
 
-from ..call.errors import MISSING, CompanionError
-from ..call.saving import Kind, target
+from ..call.errors import MISSING, UNREADABLE, CompanionError
+from ..call.kinds import text_kind
+from ..call.saving import target
 
 MAGIC, LONGEST_HEAD, DIGEST = b"BUGNETLG", 136, 32
 DIGEST_AT = {1: 48, 2: 60}      # the place of its program's digest in a log's head, by version
 ELF_HEAD = struct.Struct("<6s10xHH")
 A_PROGRAM = b"\x7fELF\1\1", 2, 243              # of 32 bits, that can be run, for RISC-V
 CACHE_BEGINS = '{"zelkuma": "digests of ELF files"'
-CACHE = Kind("a cache of zelkuma", lambda head: head.startswith(CACHE_BEGINS.encode()))
+CACHE = text_kind("a cache of zelkuma", CACHE_BEGINS, "}\n", "\n")
 MOST_LOGS = 100000
 
 
@@ -42,6 +43,8 @@ def files_below(folders: Iterable[str]) -> Iterator[str]:
             raise CompanionError(f"missing: {folder}", MISSING)
         if os.path.isfile(folder):
             yield folder
+        elif not os.path.isdir(folder):
+            raise CompanionError(f"{folder} is neither a folder nor a file", UNREADABLE)
         for path, inner, names in os.walk(folder):
             inner.sort()
             yield from (os.path.join(path, name) for name in sorted(names) if os.path.isfile(os.path.join(path, name)))
@@ -73,8 +76,8 @@ def cache_name() -> str:
 
 
 class Store:
-    """The programs below folders. What was found is remembered in a file, which can be deleted: a digest holds as long as the
-    file has the same size and the same time."""
+    """The programs below folders. What was found is remembered in a file, which can be deleted. A digest holds as long as
+    the name leads to the same file, with the same size and times."""
 
     def __init__(self, folders: Sequence[str]) -> None:
         self.folders = folders
@@ -106,15 +109,17 @@ class Store:
         """Of a program; nothing of another file."""
         with contextlib.suppress(OSError), open(name, "rb") as file:
             there = os.fstat(file.fileno())
+            about = [there.st_dev, there.st_ino, there.st_size, there.st_mtime_ns, there.st_ctime_ns]
             known = self.known.get(name)
-            if isinstance(known, list) and known[:2] == [there.st_size, there.st_mtime_ns] and len(known) == 3:
-                return str(known[2])
+            if isinstance(known, list) and known[:-1] == about:
+                return str(known[-1])
             head = file.read(ELF_HEAD.size)
             if len(head) == ELF_HEAD.size and ELF_HEAD.unpack(head) == A_PROGRAM:
                 found = hashlib.sha256(head)
                 for piece in iter(lambda: file.read(1 << 20), b""):
                     found.update(piece)
-                self.known[name], self.is_new = [there.st_size, there.st_mtime_ns, found.hexdigest()], True
+                self.known[name] = [*about, found.hexdigest()]
+                self.is_new = True
                 return found.hexdigest()
         return ""
 

@@ -10,7 +10,8 @@ from ..call import streams
 from ..call.errors import MISSING, CompanionError
 from ..call.options import read_words
 from ..call.page import Part, page
-from ..call.saving import PAGE, Target, target
+from ..call.kinds import PAGE
+from ..call.saving import Target, target
 from ..call.text import clean, counted, number
 from ..recording.cause import EXITS
 from .forms import JSON, JUNIT, json_text, junit_text

@@ -1,6 +1,7 @@
 """Histories of variables and calls of functions for the page: of those that what it tells of begins with."""
 from __future__ import annotations
 
+import contextlib
 from typing import Any, Iterable, Iterator, Optional, Sequence, Union
 
 from ..call.errors import CompanionError
@@ -28,10 +29,10 @@ def variables_of(named: Elf, words: Iterable[int]) -> list[Variable]:
         if not any(each.address < word + 4 and word < each.end for each in found.values()):
             symbol = named.object_at(word)
             name = symbol.name if symbol and symbol.size <= LARGEST else named.data_name(word) or f"{word:08x}"
-            try:
-                found[word] = variable_of(named, name)
-            except CompanionError:              # a name that can't be asked of
-                found[word] = variable_of(named, f"{word:08x}")
+            by_name = None
+            with contextlib.suppress(CompanionError):       # a name that can't be asked of
+                by_name = variable_of(named, name)
+            found[word] = by_name if by_name and by_name.size <= LARGEST else variable_of(named, f"{word:08x}")
     return list(found.values())
 
 

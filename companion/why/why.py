@@ -6,9 +6,10 @@ from contextlib import closing
 
 from ..call import streams
 from ..call.errors import REFUSED, CompanionError
+from ..call.kinds import PAGE
 from ..call.options import read_words, whole
 from ..call.page import Part, page
-from ..call.saving import PAGE, target
+from ..call.saving import target
 from ..call.text import number
 from ..recording.answers import put_answer
 from ..recording.sources import source_folders

@@ -106,8 +106,6 @@ def in_child(words, folder):
         signal.alarm(SECONDS)
         try:
             call.main(words)
-        except SystemExit as ended:
-            os._exit(int(ended.code or 0))
         except BaseException:                   # a traceback is what this program looks for
             import traceback
             traceback.print_exc()

@@ -11,6 +11,7 @@ PATH=$SYSTEM
 case $1 in
 list) sed 1d "$2" && exit ;;
 joint) cat && exit 12 ;;
+check) exit ;;
 esac
 echo "began $$" >>"$RT_CALLS"
 [ -z "${SLEEPS-}" ] || exec sleep "$SLEEPS"

@@ -15,6 +15,7 @@ cp -r "$top/"{zelkuma,crates.txt,tools,companion,python} "$sources"
 cp "$top/VERSION" "$sources"
 cp "$top/release/"{STAMP,COMMIT} "$sources/release"
 cp "$program" "$sources/release/zelkuma-x86_64-linux"
+(cd "$sources/release" && sha256sum zelkuma-x86_64-linux >SHA256SUMS)
 echo 'import os, sys; print(os.environ["ZELKUMA_PROGRAM"], *sys.argv[1:]); sys.exit(5)' >"$sources/companion/__main__.py"
 touch "$sources/companion/__pycache__/stale.pyc" "$sources/companion/stray.py" "$sources/tools/launcher/"{stray.sh,.run.sh.swp}
 
@@ -73,7 +74,7 @@ if [ -n "$python" ]; then
     equals "$work/made/$manual" "$prefix/$manual"
     equals "$work/made/$completion" "$prefix/$completion"
 fi
-{ cat "$top/tools/files.txt" && echo zelkuma; } | LC_ALL=C sort >"$work/wanted"
+{ cat "$top/tools/files.txt" && echo laid.txt && echo zelkuma; } | LC_ALL=C sort >"$work/wanted"
 files_in "$prefix/lib/zelkuma" >"$work/files"
 equals "$work/wanted" "$work/files"
 [ "$(find "$prefix" -type f -perm 755 -printf '%P\n' | sort | xargs)" = "bin/zelkuma lib/zelkuma/zelkuma" ] ||
@@ -114,21 +115,106 @@ everything "$work/checkout" >"$work/after"
 equals "$work/before" "$work/after"
 
 what="what an earlier version laid"
-# (the first had no list; the other's list also names what isn't its own)
-for list in "" "tools/files.txt" ; do
-    older=$work/older${list:+2}
+# (the first had no list, later ones had one of lib/zelkuma alone; a list also names what isn't its own)
+for older in none tools/files.txt laid.txt; do
+    list=$older older=$work/older-${older##*/}
     runs 0 "$sources/zelkuma" install "$older"
     touch "$older/bin/other"
     (cd "$older/lib/zelkuma" && touch companion/gone.py tools/launcher/gone.sh mine)
-    if [ -z "$list" ]; then
-        rm "$older/lib/zelkuma/tools/files.txt"
-    else
-        printf '%s\n' companion/gone.py tools/launcher/gone.sh ../../bin/other "$older/bin/other" >>"$older/lib/zelkuma/tools/files.txt"
-    fi
+    case $list in
+    none) rm "$older/lib/zelkuma/"{laid.txt,tools/files.txt} ;;
+    tools/files.txt)
+        rm "$older/lib/zelkuma/laid.txt"
+        printf '%s\n' companion/gone.py tools/launcher/gone.sh ../../bin/other "$older/bin/other" >>"$older/lib/zelkuma/$list"
+        ;;
+    *)
+        printf '%s\n' lib/zelkuma/companion/gone.py lib/zelkuma/tools/launcher/gone.sh bin/other lib/zelkuma/../../bin/other \
+            "$older/bin/other" >>"$older/lib/zelkuma/$list"
+        ;;
+    esac
     runs 0 "$sources/zelkuma" install "$older"
     { cat "$work/whole" && echo bin/other && echo lib/zelkuma/mine; } | LC_ALL=C sort >"$work/more"
     files_in "$older" >"$work/files"
     equals "$work/more" "$work/files"
+done
+
+what="files of these names that aren't zelkuma's"
+for name in ${python:+"$manual" "$completion"} lib/zelkuma/companion/why/why.py; do
+    for version in none older; do
+        rm -rf "$work/taken"
+        [ "$version" = none ] || runs 0 "$sources/zelkuma" install "$work/taken"
+        mkdir -p "$work/taken/${name%/*}"
+        [ "$version" = none ] || sed -i "\\|^$name\$|d" "$work/taken/lib/zelkuma/laid.txt"
+        [[ $version$name != nonelib/* ]] || : >"$work/taken/lib/zelkuma/laid.txt"
+        echo mine >"$work/taken/$name"
+        everything "$work/taken" >"$work/before"
+        runs 2 "$sources/zelkuma" install "$work/taken"
+        says "zelkuma: install: '$work/taken'/$name isn't zelkuma's; remove it first"
+        everything "$work/taken" >"$work/after"
+        equals "$work/before" "$work/after"
+        [ "$version" = none ] || runs 0 "$sources/zelkuma" uninstall "$work/taken"
+        [ "$(<"$work/taken/$name")" = mine ] || fails "uninstall took it"
+    done
+done
+
+what="a program that was changed"
+printf x >>"$sources/release/zelkuma-x86_64-linux"
+runs 1 "$sources/zelkuma" install "$work/changed"
+has err "zelkuma: install: release/SHA256SUMS isn't of the program"
+[ ! -e "$work/changed" ] || fails "a folder was made"
+runs 0 "$sources/zelkuma" --version
+[ "$(head -n 1 "$work/out")" = "zelkuma $(<"$top/VERSION") with another program than the shipped one" ] || fails "it doesn't say so first"
+ZELKUMA_PROGRAM=$program runs 0 "$sources/zelkuma" install "$work/changed"
+runs 0 "$sources/zelkuma" uninstall "$work/changed"
+cp "$program" "$sources/release/zelkuma-x86_64-linux"
+
+what="an installation that is killed"
+# Commands that kill their whole group at the call that is counted down to.
+mkdir "$work/killers"
+for name in install mv rm mkdir find; do
+    printf '#!/bin/bash\nleft=$(<%q) && echo $((left - 1)) >%q\n[ "$left" -gt 0 ] || kill -KILL 0\nexec %q "$@"\n' \
+        "$work/left" "$work/left" "$(type -P "$name")" >"$work/killers/$name"
+done
+chmod +x "$work/killers/"*
+# Kills a call after N such commands: whether it had so many.
+is_killed() { # N WORD..
+    echo "$1" >"$work/left"
+    { PATH=$work/killers:$PATH setsid -w "${@:2}" >"$work/out" 2>"$work/err" </dev/null; } 2>/dev/null
+    [ "$(<"$work/left")" -lt 0 ]
+}
+small=$work/small
+cp -r "$sources" "$small"
+grep -E '^(VERSION|release/|tools/|companion/__)' "$sources/tools/files.txt" >"$small/tools/files.txt"
+runs 0 "$small/zelkuma" install "$work/small-one"
+files_in "$work/small-one" >"$work/small-whole"
+files=$(wc -l <"$small/tools/files.txt") half=$work/half
+for over in nothing older same; do
+    # (two commands a file: the first of the list, the mark, the script; the last of the help, the program, what is to go)
+    for moment in 0 1 2 3 4 6 $((RANDOM % (2 * files))) $((2 * files + 7)) $((2 * files + 12)) $((2 * files + 14)); do
+        rm -rf "$half" && mkdir "$half"
+        [ "$over" = nothing ] || runs 0 "$small/zelkuma" install "$half"
+        if [ "$over" = older ]; then
+            echo older >"$half/lib/zelkuma/VERSION" && touch "$half/lib/zelkuma/companion/gone.py"
+            echo lib/zelkuma/companion/gone.py >>"$half/lib/zelkuma/laid.txt"
+        fi
+        is_killed "$moment" "$small/zelkuma" install "$half" || continue
+        if [[ -e $half/bin/zelkuma && ! -e $half/lib/zelkuma/unfinished ]]; then
+            runs 0 "$half/bin/zelkuma" list "$work/LOG"
+            equals "$work/list" "$work/out"
+            [ "$(<"$half/lib/zelkuma/VERSION")" != older ] || [ -e "$half/lib/zelkuma/companion/gone.py" ] || fails "it is of two versions"
+        elif [ -e "$half/bin/zelkuma" ]; then
+            runs 1 "$half/bin/zelkuma" list "$work/LOG"
+            says "zelkuma: this installation isn't finished: call 'zelkuma install PREFIX' again, or 'zelkuma uninstall PREFIX'"
+        fi
+        cp -r "$half" "$work/half2"
+        runs 0 "$small/zelkuma" install "$half"
+        files_in "$half" >"$work/files"
+        equals "$work/small-whole" "$work/files"
+        ! is_killed $((RANDOM % 9)) "$small/zelkuma" uninstall "$half" || runs 0 "$small/zelkuma" uninstall "$half"
+        [ ! -e "$work/half2/lib/zelkuma" ] || runs 0 "$small/zelkuma" uninstall "$work/half2"
+        [ -z "$(files_in "$half")$(files_in "$work/half2")" ] || fails "it left $(files_in "$half") $(files_in "$work/half2"), $moment over $over"
+        rm -rf "$work/half2"
+    done
 done
 
 what="a machine without Python, to which one with it has laid"
@@ -144,6 +230,7 @@ files_in "$work/plain" >"$work/files"
 equals "$work/fewer" "$work/files"
 
 what="taking it away"
+older=$work/older-none
 runs 0 "$older/bin/zelkuma" uninstall "$older"
 laid_under "$older" | grep -v /lib/zelkuma >"$work/wanted"
 equals "$work/wanted" "$work/out"

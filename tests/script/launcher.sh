@@ -1,10 +1,11 @@
 #!/usr/bin/env bash
 # Tries what the script zelkuma does with the words of a call before the program runs, and its advice after it:
-# tests/script/launcher.sh PROGRAM. It takes some seconds. Of the system the script has bash, stat and readlink alone.
+# tests/script/launcher.sh PROGRAM. It takes some seconds. Of the system the script has bash, stat, readlink and tr alone.
 program=$(readlink -f "$1")
 . "$(dirname "$0")/small_tree.sh"
-only bash stat readlink
+only bash stat readlink tr
 cp "$program" "$shipped"
+mkdir -p "$tree/companion/call" && cp "$top/companion/call/book_file.py" "$tree/companion/call"
 mkdir "$work/here" "$work/here/folder"
 chmod -R a+rX "$work"
 cd "$work/here" || exit 1
@@ -116,6 +117,42 @@ refuses 2 "BOOK would destroy LOG: 'to-LOG' and 'LOG' are one file" record ELF L
 refuses 3 "LOG can't be saved: the link 'to-nowhere' leads nowhere" record ELF to-nowhere BOOK
 refuses 3 "BOOK can't be saved: the link 'loop' leads nowhere" record ELF LOG loop
 
+head -c 32768 /dev/zero | cat - notes >image.iso
+printf '\n%.0s' {1..25} >lines
+{ printf BUGNETLG && head -c 504 /dev/zero && cat L; } >archive.tar
+{ cat L && echo more; } >longer
+head -c -1 L >shorter
+truncate -s 2M hole
+records ELF LOG BOOK
+mkfifo pipe
+# with python3, with tr alone, and without both
+for commands in ls tr ""; do
+    what="other files that begin as older ones do, with '$commands'"
+    # shellcheck disable=SC2086
+    only bash stat readlink $commands
+    [ "$commands" != ls ] || ln -s "${terminal[0]}" "$work/few/python3"
+    for file in archive.tar longer shorter L.gz; do
+        [ -e "$file" ] || gzip -c L >L.gz
+        refuses 2 "LOG would destroy '$file', which is no older LOG; remove it first, or give another name" record ELF "$file" BOOK
+        refuses 2 "NEW would destroy '$file', which is no older NEW; remove it first, or give another name" convert L "$file"
+    done
+    for file in image.iso $([ "$commands" != ls ] || echo lines hole); do
+        refuses 2 "BOOK would destroy '$file', which is no older BOOK; remove it first, or give another name" record ELF LOG "$file"
+    done
+    for device in /dev/full /dev/zero; do
+        refuses 3 "LOG can't be saved: '$device' is neither a file nor a pipe" record ELF $device BOOK
+    done
+    [ -n "$commands" ] || refuses 2 "BOOK would destroy 'BOOK', which is no older BOOK; remove it first, or give another name" record ELF LOG BOOK
+    [ -z "$commands" ] || records ELF LOG BOOK
+done
+only bash stat readlink tr
+for signal in INT TERM HUP; do
+    # a pipe that nobody reads
+    runs $((128 + $(kill -l $signal))) bash -c 'env --default-signal "$0" record --seed 1 --limit 2000 ELF pipe BOOK & sleep 1; kill -s "$1" $!; wait $!' \
+        "$zelkuma" "$signal"
+done
+rm pipe archive.tar longer shorter image.iso lines hole L.gz
+
 what="what is not refused"
 records ELF LOG BOOK
 records ELF LOG BOOK
@@ -154,7 +191,7 @@ if ! with_attributes listed 2>/dev/null; then
 else
     all=$(attributes listed) tools=$(type -P getfattr)
     for more in ls ${tools:+getfattr}; do
-        only bash stat readlink ln rm "$more"
+        only bash stat readlink tr ln rm "$more"
         keeps 0 "$zelkuma" convert LOG listed
         "$program" check listed | cmp -s - "$work/out" || fails "another file was saved"
         keeps 11 "$zelkuma" record --seed 1 --limit 2000 ELF listed BOOK
@@ -166,8 +203,26 @@ else
         [ ! -s "$work/err" ] || fails "it says something where err is no terminal"
         err_is_terminal
     done
-    only bash stat readlink
+    only bash stat readlink tr
 fi
+
+if with_attributes listed 2>/dev/null; then
+    python3 -c 'import os; os.removexattr("listed", "system.posix_acl_access")'
+    all=$(attributes listed)
+    only bash stat readlink tr ln rm
+    ln -s "${terminal[0]}" "$work/few/python3"
+    keeps 0 "$zelkuma" convert LOG listed
+    only bash stat readlink tr
+fi
+
+what="what the caller's shell and python are set to"
+for options in errexit noclobber noglob keyword posix pipefail errexit:noclobber; do
+    runs 11 env SHELLOPTS=$options "$zelkuma" record --seed 1 --limit 2000 ELF LOG BOOK
+    runs 2 env SHELLOPTS=$options "$zelkuma" list
+    has err "LOG is missing"
+done
+runs 2 env POSIXLY_CORRECT=1 "$zelkuma" list
+has err "LOG is missing"
 
 what="turns that the environment names"
 odd=(bursts sleeper: bursts:x sleeper:-1 bursts:18446744073709551616 list:LOG $'book:\xff' $'bursts:\xff')

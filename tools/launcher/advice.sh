@@ -58,8 +58,6 @@ advise() { # STATUS
     7) advise_on_log ;;
     9 | 13 | 14 | 20) advise_that "${advice[$1]}" ;;
     10 | 11) advise_on_recording "$1" ;;
-    1 | 126 | 127 | 132)
-        advise_that "${program@Q} can't run here: it is for Linux on x86-64-v2 with glibc 2.34 or later; see 'zelkuma build --help'"
-        ;;
+    1 | 126 | 127 | 132) advise_that "${program@Q} can't run here: it is for Linux on x86-64-v2 with glibc 2.34 or later; see 'zelkuma build --help'" ;;
     esac
 }

@@ -18,9 +18,7 @@ read_head() { # FILE [COUNT]
 # has no option for it.
 become_program() { # WORD..
     trap - INT QUIT
-    if hash setpriv 2>/dev/null && [ ! -L "${BASH_CMDS[setpriv]}" ]; then
-        exec setpriv --pdeathsig KILL "$program" "$@"
-    fi
+    ! hash setpriv 2>/dev/null || [ -L "${BASH_CMDS[setpriv]}" ] || exec setpriv --pdeathsig KILL "$program" "$@"
     exec "$program" "$@"
 }
 

@@ -9,28 +9,32 @@ find_place() { # NAME FILE
     folder=${place%/*}/
 }
 
-# Whether a file that begins with `head` is of the kind that is saved: a log or, as BOOK, a list of turns.
-is_older() { # NAME
-    local LC_ALL=C
-    [[ -z $head || ($1 != BOOK && $head == BUGNETLG*) || ($1 == BOOK && $head != *[!$'\x01'-$'\x0f']*) ]]
-}
+# Whether a file is of the kind that is saved, by its whole content: a log says the program, a list of turns the companions.
+# Without python3 that is a file whose bytes are all below 16.
+is_older() { # NAME FILE
+    [ -s "$2" ] || return 0
+    [ "$1" = BOOK ] || { "$program" check -- "$2"; return; }
+    python3 -I -S -B "$top/companion/call/book_file.py" "$2" || { [ $? -ne 3 ] && type -P tr && ! tr -d '\0-\17' <"$2" | read -r -N 1; }
+} &>/dev/null
 
 # Gives a file that has extended attributes, as an access list, a further name until the call is over. The program can't see
 # them, and would replace the file; one with further names it writes in place.
 hold_attributes() { # FILE
     local kept file further
-    kept=$(getfattr -m '^(user|system|trusted)[.]' -- "$1" || ls -dlL -- "$1")
+    kept=$(getfattr -m '^(user|system|trusted)[.]' -- "$1" ||
+        python3 -I -S -c "import os; print(*('# ' + n for n in os.listxattr(os.sys.argv[1]) if n[:8] != 'security'))" "$1" || ls -dlL -- "$1")
     [[ $kept == "# "* || $kept == ??????????+* ]] || return 0
     file=$(readlink -f -- "$1")
     further=${file%/*}/.zelkuma-held-$$-${#held[@]}
     trap 'rm -f -- "${held[@]}"' EXIT
-    ! ln -- "$file" "$further" || held+=("$further")
+    held+=("$further") && ln -- "$file" "$further" || : # a signal may come right after it
 } 2>/dev/null
 
 # Stops if a file that is there can't be written, or is one of those that would be missed.
 check_old_target() { # NAME FILE
     [ ! -d "$2" ] || stop 3 "$1 can't be saved: ${2@Q} is a folder"
     [ -w "$2" ] || stop 3 "$1 can't be saved: ${2@Q} may not be written"
+    [[ -f $2 || -p $2 || $2 -ef /dev/null ]] || stop 3 "$1 can't be saved: ${2@Q} is neither a file nor a pipe"
     [ -f "$2" ] || return 0
     [ ! "$2" -ef "${names[0]}" ] || stop 2 "$1 would destroy ${wanted[0]}: ${2@Q} and ${names[0]@Q} are one file"
     [[ -z ${values[input]-} || ! $2 -ef ${values[input]} ]] ||
@@ -40,7 +44,7 @@ check_old_target() { # NAME FILE
     [[ $1 != BOOK || ! $2 -ef ${names[1]} ]] || stop 2 "BOOK would destroy LOG: ${2@Q} and ${names[1]@Q} are one file"
     read_head "$2"
     [[ $head != $'\x7fELF'* ]] || stop 2 "$1 would destroy ${2@Q}, which is an ELF file; the order is ${wanted[*]}"
-    is_older "$1" || stop 2 "$1 would destroy ${2@Q}, which is no older $1; remove it first, or give another name"
+    is_older "$1" "$2" || stop 2 "$1 would destroy ${2@Q}, which is no older $1; remove it first, or give another name"
     hold_attributes "$2"
 }
 

@@ -122,6 +122,46 @@ def case_who_is_killed_takes_its_processes_and_folders_along(recordings):
         calls.check_clean(words)
 
 
+LOSES_A_CHILD = """import os, signal, sys, time
+sys.path.insert(0, sys.argv[1])
+from companion.call import children
+from companion.triage import pool, work
+class Popen(children.subprocess.Popen):
+    def __init__(self, *words, **streams):
+        super().__init__(*words, **streams)
+        os.kill(os.getppid(), signal.SIGKILL)
+        time.sleep(600)                         # until the system ends it
+children.subprocess.Popen = Popen
+pool.Work.answer = lambda self, task: children.start(["sleep", "600"])
+list(pool.answers([work.Task("", "")], 1))
+"""
+
+
+def case_who_is_killed_while_a_child_starts_takes_it_along(recordings):
+    """A process of `triage` that is ended then doesn't know of the child: its group has to end it."""
+    process = subprocess.Popen([sys.executable, "-c", LOSES_A_CHILD, os.path.dirname(COMPANION)], start_new_session=True,
+                               stdout=subprocess.PIPE)
+    process.communicate(timeout=BOUND)          # the child has its output as long as it runs
+
+
+SWALLOWS = """import os, signal, sys, time
+sys.path.insert(0, sys.argv[1])
+from companion.call import streams
+class Closed:
+    def __del__(self):
+        os.kill(os.getpid(), signal.SIGTERM)
+streams.on_interrupt(streams.interrupt)
+Closed()
+time.sleep(600)
+"""
+
+
+def case_a_signal_that_python_forgets_ends_all(recordings):
+    """What is raised in a destructor goes no further."""
+    done = subprocess.run([sys.executable, "-c", SWALLOWS, os.path.dirname(COMPANION)], stderr=subprocess.PIPE, timeout=BOUND, check=False)
+    assert done.returncode == 143 and b"KeyboardInterrupt" in done.stderr, done
+
+
 def case_a_large_log_leaves_no_folder(recordings):
     """The end of one is a log of its own."""
     calls = Calls(recordings, "large")
@@ -186,6 +226,35 @@ def case_what_seeds_has_found_is_kept(recordings):
         assert process.returncode == status and out.startswith(b"sleeper 0: status 0\n") and err == b"", (out, err)
         assert re.search(rb"\n0 +1 +sleeper 0 +-\n\Z", out), out
         assert content(calls.new) == b"BUGNETLG" and sorted(os.listdir(calls.folder)) == ["BOOK", "LOG", "NEW", "NEW2", "program"]
+
+
+def shrinks(process):
+    """Whether it makes a try of a search."""
+    return any(re.search(rb"/[1-9][0-9]*\.log\0", content_of(f"/proc/{child}/cmdline")) for child in below(process))
+
+
+def content_of(name):
+    try:
+        return content(name)
+    except OSError:
+        return b""
+
+
+def case_a_signal_ends_what_seeds_shrink(recordings):
+    """What was found by then is saved."""
+    log, book = recordings.path("shrunk"), recordings.path("shrunk.book")
+    elf = os.path.join(EXAMPLES, "buffers.elf")
+    for option, (number, status) in zip(("--shrink", "--compare", "--shrink"), STATUSES.items()):
+        process = subprocess.Popen([sys.executable, COMPANION, "seeds", option, "--only", "sleepers", "20", "20", "--", "--format", "2",
+                                    "--harts", "4", "--limit", "1000000", elf, log, book],
+                                   stdout=subprocess.PIPE, stderr=subprocess.PIPE, start_new_session=True)
+        awaits(lambda: process.poll() is not None or shrinks(process.pid))
+        began = below(process.pid)
+        process.send_signal(number)
+        _, err = process.communicate(timeout=BOUND)
+        assert process.returncode == status and b"the search was ended before it was done" in err, (process.returncode, err)
+        awaits(lambda: not any(map(is_running, began)))
+        assert subprocess.run([PROGRAM, "audit", log, elf, book], stdout=subprocess.PIPE, check=True).stdout == b"agree\n"
 
 
 def case_the_end_of_the_terminal_can_be_ignored(recordings):

@@ -40,7 +40,9 @@ class OutputsTest(case.Case):
 
     def test_a_page_that_takes_nothing_is_13(self):
         log, elf = self.crash("race_settings")
-        self.assertIn("takes no more", self.refuses(13, "why", log, elf, "--html", "/dev/full"))
+        status, _, err = self.shell('"$@" --html /dev/stdout >/dev/full', ("why", log, elf))
+        self.assertEqual((status, "takes no more" in err), (13, True), err)
+        self.assertIn("it is a pipe or a device", self.refuses(3, "why", log, elf, "--html", "/dev/full"))
 
     def test_a_reader_that_ends_is_13_without_a_word(self):
         for words in self.words():
@@ -81,7 +83,7 @@ class OutputsTest(case.Case):
         plain = self.says("bucket", log, elf)
         for environment in ({"PYTHONOPTIMIZE": "2"}, {"PYTHONDEVMODE": "1"}, {"TMPDIR": "/nowhere"}, {"LC_ALL": "C"},
                             {"PYTHONWARNINGS": "always"}, {"PYTHONIOENCODING": "ascii"}, {"PYTHONUNBUFFERED": "1"},
-                            {"HOME": "/nowhere"}, {"PYTHONSAFEPATH": "1"}):
+                            {"HOME": "/nowhere"}, {"PYTHONSAFEPATH": "1"}, {"PYTHONINSPECT": "1"}):
             self.assertEqual(common.companion("bucket", log, elf, environment=environment), (0, plain, ""), environment)
             status, said, err = common.companion("why", log, elf, environment=environment)
             self.assertEqual((status, err, said[:6]), (0, "", "FAULT\n"), environment)

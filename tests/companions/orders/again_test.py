@@ -75,7 +75,7 @@ def case_refusals(recordings):
     _, first_book = recorded(recordings, "first", "--seed=1", "--harts=2", COUNTER)
     second, _ = recorded(recordings, "second", "--seed=2", "--harts=2", COUNTER)
     elf, source = shutil.copy(WORDS, recordings.path("elf")), ["--input", __file__]
-    new, link = recordings.write("new", b"BUGNETLG of before"), recordings.path("link")
+    new, link = shutil.copy(second, recordings.path("new")), recordings.path("link")
     os.link(book, link)
     before = {name: content(name) for name in (log, book, elf, new)}
     for status, words in (

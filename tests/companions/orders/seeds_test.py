@@ -90,11 +90,13 @@ def case_other_ends(recordings):
 
 def case_none_is_found(recordings):
     folder = Folder(recordings, "none")
-    recordings.write("none/LOG", b"BUGNETLG of before")
+    log, _ = recordings.example("counter", "--limit", "2000")
+    os.rename(log, folder.log)
+    before = content(folder.log)
     status, out, err = seeds("--only", "seeds", "1", "2", "--", "--harts", "2", HAND_OVER, folder.log, folder.book)
     assert status == NOT_FOUND and err == "zelkuma: none of seeds from 1 to 2 ends with status 10\n", err
     assert out.startswith(HEAD) and rows(out) == [["0", "2", "seed 1", "-"]], out
-    assert content(folder.log) == b"BUGNETLG of before" and folder.names() == ["LOG"]
+    assert content(folder.log) == before and folder.names() == ["LOG"]
 
 
 def case_without_a_list_of_turns(recordings):
@@ -272,6 +274,7 @@ def trials(folder):
 def program_of(recordings, name, line, status=0):
     """A script in place of the program: after a line of its own it saves LOG and BOOK, and ends with a status."""
     script = recordings.write(name, f"""#!/bin/bash
+[ "$1" != check ] || exit 0
 {line}
 printf BUGNETLG >"${{@: -2:1}}"
 printf '\\0' >"${{@: -1}}"

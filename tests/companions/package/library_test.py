@@ -63,6 +63,9 @@ class LibraryTest(case.Case):
             {"name": "a", "at": 0, "type": INT}, {"name": "b", "at": 4, "type": INT, "bit": 1, "bits": 3},
             {"name": "c", "at": 8, "type": {"kind": "array", "name": "", "size": 4, "count": 4, "first": 0, "of": CHAR}}]}
         self.assertEqual(python_value(pair, b"\xfe\xff\xff\xff\x0e\0\0\0abc\0"), {"a": -2, "b": -1, "c": b"abc\0"})
+        self.assertEqual(python_value({"kind": "array", "name": "", "size": 24, "count": 2, "first": 0, "of": pair},
+                                      b"\xfe\xff\xff\xff\x0e\0\0\0abc\0" + b"\1\0\0\0\0\0\0\0xyz\0"),
+                         [{"a": -2, "b": -1, "c": b"abc\0"}, {"a": 1, "b": 0, "c": b"xyz\0"}])
         self.assertEqual(python_value({"kind": "array", "name": "", "size": 8, "count": 2, "first": 0, "of": INT}, b"\1\0\0\0\2\0\0\0"), [1, 2])
 
     def test_an_installed_program_is_found(self):

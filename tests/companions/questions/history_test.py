@@ -2,18 +2,23 @@
 import json
 import os
 import re
+import shutil
 import subprocess
 import unittest
+from unittest import mock
 
 import case
 import common
 
-from companion.questions import debugger, history
-from companion.questions.types import Leaf, leaves, value_text, words_type
+from companion.call.errors import CompanionError
+from companion.questions import debugger, history, variables
+from companion.questions.types import Leaf, bounded, leaves, value_text, words_type
+from companion.recording.elf import Elf
 
 WIDTHS = {"sb": 1, "sh": 2}
 LINE = re.compile(r"^  (\d+):(\d+) +(\S.*)$", re.M)
 NO_GDB = {"ZELKUMA_GDB": "/nowhere/gdb"}
+STRIP = "riscv64-unknown-elf-strip"
 
 
 def stores_of(log, elf, first, size):
@@ -181,6 +186,32 @@ class NamesTest(case.Case):
         self.assertIn("HISTORY of orders (256 bytes at 00011498): 400 stores; the last 100", said)
         self.assertEqual(told(said), [row[:2] for row in stores_of(log, elf, 0x11498, 256)[-100:]])
 
+    def test_a_symbol_without_dwarf_has_its_own_size(self):
+        """gdb knows its address then, and says that it has no bytes."""
+        if not shutil.which(STRIP):
+            self.skipTest(f"{STRIP} isn't here")
+        log, elf, plain = self.record("heap", "--seed", "1"), self.elf("heap"), common.path("plain.elf")
+        subprocess.run([STRIP, "--strip-debug", "-o", plain, elf], check=True)
+        rows = stores_of(log, elf, 0x11498, 256)
+        for environment in ({}, NO_GDB):
+            status, said, _ = common.companion("history", log, elf, "orders", "--names", plain, "--last", "1000", environment=environment)
+            self.assertEqual((status, told(said)), (0, [row[:2] for row in rows]), said)
+            self.assertIn("HISTORY of orders (256 bytes at 00011498): 400 stores", said)
+
+    def test_what_dwarf_says_is_within_the_symbol(self):
+        """Whatever an ELF file says takes no more memory than its symbol does."""
+        elf = Elf(self.elf("heap"))
+        for size in (1 << 31, 300, 0):
+            said = {"address": 0x11498, "type": {"kind": "array", "name": "char [..]", "size": size, "count": size, "first": 0, "of": CHAR}}
+            with mock.patch.object(variables, "ask_gdb", lambda *_, said=said, **__: said):
+                found = variables.variable_of(elf, "orders")
+                self.assertEqual((found.address, found.size, found.type), (0x11498, 256, words_type(256)), size)
+                with self.assertRaises(CompanionError) as refused:
+                    variables.variable_of(elf, "orders[1]")
+                self.assertEqual(refused.exception.status, 6)
+        with self.assertRaises(CompanionError):
+            variables.variable_of(elf, f"orders+0:{variables.MOST_BYTES + 1}")
+
 
 INT = {"kind": "int", "name": "int", "size": 4, "signed": True}
 CHAR = {"kind": "int", "name": "unsigned char", "size": 1, "signed": False}
@@ -203,6 +234,15 @@ class TypesTest(unittest.TestCase):
         self.assertEqual(paths(many, 8 * 9 + 7, 80), ["[9].letters[3]"])
         self.assertEqual(paths(words_type(11), 9, 10), ["+8"])
         self.assertEqual(list(leaves(many, 80, 90)), [])
+
+    def test_parts_outside_of_their_whole_are_bytes(self):
+        many = {"kind": "array", "name": "", "size": 80, "count": 10, "first": 0, "of": PAIR}
+        self.assertEqual((bounded(PAIR), bounded(many)), (PAIR, many))
+        for wrong in ({**many, "count": 1 << 31}, {**many, "count": -1}, {**PAIR, "size": 7}, {**PAIR, "fields": [{"name": "a", "at": -4, "type": INT}]},
+                      {**PAIR, "fields": [{"name": "a", "at": 7, "type": INT, "bit": 7, "bits": 2}]}):
+            self.assertEqual(bounded(wrong), words_type(wrong["size"]), wrong)
+        inner = {"kind": "fields", "name": "", "size": 80, "fields": [{"name": "a", "at": 0, "type": {**many, "count": 11}}]}
+        self.assertEqual(bounded(inner)["fields"][0]["type"], words_type(80))
 
     def test_values(self):
         self.assertEqual(self.values("int", b"\xff\xff\xff\xff", signed=True), "-1")

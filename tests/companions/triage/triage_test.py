@@ -171,12 +171,24 @@ class TriageTest(case.Case):
         known = json.loads(content(cache))["files"]
         for name in (USED, FREED):
             elf = os.path.join(self.fleet.elfs, name + ".elf")
-            self.assertEqual(known[os.path.abspath(elf)][2], hashlib.sha256(content(elf)).hexdigest())
+            self.assertEqual(known[os.path.abspath(elf)][-1], hashlib.sha256(content(elf)).hexdigest())
         counts = [one["count"] for one in self.answer["buckets"]]
         for data in (b"{", b"[]", b'{"files": {"a": 7}}', b'{"files": 7}'):
             written(cache, data)
             self.assertEqual([one["count"] for one in self.fleet.answer()[0]["buckets"]], counts)
         self.assertEqual([one["count"] for one in self.fleet.answer(environment={"XDG_CACHE_HOME": "/dev/null"})[0]["buckets"]], counts)
+
+    def test_another_program_in_the_place_of_one(self):
+        """It has the same size and time, as of an archive; digests aren't those that are remembered."""
+        fleet = Fleet("exchanged")
+        elf, log = fleet.elf(USED), common.crash(USED)[0]
+        fleet.add("log", log)
+        about = os.stat(elf)
+        self.assertEqual(len(fleet.answer()[0]["buckets"]), 1)
+        other = written(elf + ".new", content(elf)[:-1] + bytes([content(elf)[-1] ^ 1]))
+        os.utime(other, ns=(about.st_atime_ns, about.st_mtime_ns))
+        os.replace(other, elf)
+        self.assertEqual(fleet.answer()[0]["buckets"], [])
 
     def test_a_program_that_was_built_anew(self):
         """What is remembered of a file holds no longer once that is another."""
@@ -193,6 +205,7 @@ class TriageTest(case.Case):
                 ("no --elfs", 2, [self.fleet.logs]), ("no folder", 2, ["--elfs", self.fleet.elfs]),
                 ("no such folder", 4, [path("nowhere"), "--elfs", self.fleet.elfs]),
                 ("no such --elfs", 4, [self.fleet.logs, "--elfs", path("nowhere")]),
+                ("a device for --elfs", 3, [self.fleet.logs, "--elfs", "/dev/null"]),
                 ("no log", 4, [CRASHES, "--elfs", self.fleet.elfs]),
                 ("a log as the answer", 2, [self.fleet.logs, "--elfs", self.fleet.elfs, "--json", log]),
                 ("an ELF file as the page", 2, [self.fleet.logs, "--elfs", self.fleet.elfs, "--html", common.example("sort")])):

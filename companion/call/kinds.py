@@ -1,0 +1,48 @@
+"""The kinds of files that a call may replace. Each is known by its whole content: how it begins and ends, and that nothing else of
+its kind, as another tool's, was put to it. What a user has put into the middle of a text can't be told."""
+from __future__ import annotations
+
+import mmap
+import re
+from typing import Callable, NamedTuple
+
+from . import program
+from .book_file import is_book
+from .errors import CompanionError
+
+ELF_MAGIC = b"\x7fELF"
+PAGE_MARK = '<meta name="generator" content="zelkuma">'
+
+
+class Kind(NamedTuple):
+    """What a file is called, and whether a file of a name is one."""
+    name: str
+    fits: Callable[[str], bool]
+
+
+def text_kind(name: str, begins: str, ends: str, once: str) -> Kind:
+    """A text that begins with a pattern and ends so; `once` comes in it once."""
+    head, tail, mark = re.compile(begins.encode()), ends.encode(), once.encode()
+
+    def fits(file_name: str) -> bool:
+        with open(file_name, "rb") as file, mmap.mmap(file.fileno(), 0, access=mmap.ACCESS_READ) as text:
+            first = text.find(mark)
+            return bool(head.match(text) and text[-len(tail):] == tail and first >= 0 and text.find(mark, first + 1) < 0
+                        and text.find(b"\0") < 0)
+
+    return Kind(name, fits)
+
+
+def is_log(name: str) -> bool:
+    """Whether the program says that it is a whole log."""
+    try:
+        program.output("check", name)
+    except CompanionError:
+        return False
+    return True
+
+
+LOG = Kind("a whole log", is_log)
+TURNS = Kind("a list of turns", is_book)
+PAGE = text_kind("a page of zelkuma", r'<!doctype html>\s*<html lang="en">\s*<head>\s*<meta charset="utf-8">\s*' + PAGE_MARK,
+                 "</html>\n", "<!doctype html>")
