@@ -92,8 +92,8 @@ def ask_gdb(asked: Asked, draw: random.Random) -> None:
         for name, value in zip(NAMES, one["registers"]):
             asked.same("gdb: registers", [at], (at, name, value), (at, name, state.registers[REGISTER[name]]))
         for address, value in state.words.items():
-            # (gdb may know more: what the session has seen further ahead. The other harts stand where the row is next, not where
-            # it comes in the order of `joint`.)
+            # (gdb may know more: what the session has seen further ahead. Of several harts the others stand as they are once the row
+            # is its hart's next, and not as they are at its place in the order of `joint`.)
             if value is not None and asked.recorded.harts == 1:
                 asked.same("gdb: memory", [at], (at, f"{address:08x}", one["words"][str(address)]), (at, f"{address:08x}", value))
         # (gdb has its own guess of the library's code that puts registers aside, which is called by t0)
