@@ -218,12 +218,12 @@ class MemoryTest(case.Case):
 
     def test_why_tells_it_before_its_suspects(self):
         self.needs_addr2line()
-        log = self.record("table", "--seed", "1")
-        said = self.says("why", log, self.elf("table"))
-        self.assertRegex(said, r"MEMORY ERRORS.*\n  1\. member-overflow: load of 4, 0 bytes after stations\[\].vehicles \(96 bytes\)\n"
-                         r"     it is in count table.c:35 ")
+        log, elf = self.crash("libc_end_of_block")
+        said = self.says("why", log, elf)
+        self.assertRegex(said, r"MEMORY ERRORS.*\n  1\. heap-buffer-overflow: store of 1, 0 bytes after a block of 14 bytes\n"
+                         r"     it is in join libc_end_of_block.c:36 ")
         self.assertLess(said.index("MEMORY ERRORS"), said.index("SUSPECTS"))
-        self.assertEqual(json.loads(self.says("why", log, self.elf("table"), "--json"))["memory"][0]["calls"][0]["line"], 35)
+        self.assertEqual(json.loads(self.says("why", log, elf, "--json"))["memory"][0]["calls"][0]["line"], 36)
         self.assertNotIn("MEMORY ERRORS", self.says("why", *self.crash("null_route")))
 
     def test_fail_is_a_status(self):
