@@ -59,6 +59,7 @@ tries tests/script/zelkuma.sh
 tries tests/script/shipped.sh
 tries tests/script/calls.sh
 tries tests/script/launcher.sh "$program"
+tries tests/script/slips.py "$program"
 tries tests/pages/help.sh "$program"
 tries tests/sources/definitions.sh
 tries tests/pages/prose.py
@@ -69,11 +70,14 @@ tries tests/program/read_log.sh "$program"
 tries tests/program/limits.sh "$program"
 tries tests/program/threads.py "$program"
 tries tests/pages/documents.py "$program" README.md examples/README.md docs/COMMANDS.md tests/pages/examples.md
-if command -v riscv64-unknown-elf-addr2line riscv64-linux-gnu-addr2line llvm-addr2line >/dev/null; then
+if command -v {riscv64-unknown-elf-,riscv64-linux-gnu-,llvm-,}addr2line >/dev/null; then
     tries tests/pages/documents.py "$program" docs/{GUIDE,WHY,SHRINK,VIEW,GDB,PYTHON}.md
 else
-    echo "skipped: the examples of docs/, which show lines: there is no addr2line"
+    echo "skipped: the examples of docs/, which show lines: there is no addr2line: apt-get install binutils"
 fi
+for missing in addr2line gdb addr2line,gdb; do
+    tries tests/pages/documents.py --without "$missing" "$program" README.md docs/COMMANDS.md
+done
 tries tests/sources/checkers.sh
 tries tests/sources/named.py
 tries tests/sources/stale.py

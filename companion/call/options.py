@@ -2,7 +2,7 @@
 from __future__ import annotations
 
 import re
-from typing import Dict, List, Mapping, NoReturn, Sequence, Tuple
+from typing import Dict, Iterable, List, Mapping, NoReturn, Sequence, Tuple, Union
 
 from .errors import REFUSED, CompanionError
 
@@ -11,8 +11,25 @@ TIMES = {"": 1, "K": 1 << 10, "M": 1 << 20, "G": 1 << 30}
 Words = Tuple[List[str], Dict[str, str]]    # names, and {option: its value}; of one without a value that is empty
 
 
-def parse(words: Sequence[str], known: Mapping[str, bool], names: range, form: str) -> Words:
-    """`known` says of each option if it takes a value; `names` how many names there may be; `form` is shown if the words are refused."""
+def near(word: str, known: Iterable[str]) -> str:
+    """What may have been meant by a word that isn't known."""
+    import difflib                      # which only a refusal needs
+    found = difflib.get_close_matches(word, list(known), 1)
+    return f" (did you mean {found[0]}?)" if found else ""
+
+
+def wrong_names(found: Sequence[str], names: Union[range, Sequence[str]]) -> str:
+    """Which name is missing or too many, if the names are known."""
+    if isinstance(names, range):
+        return f"{len(found)} names are given"
+    if len(found) < len(names):
+        return f"{names[len(found)]} is missing"
+    return f"{found[len(names)]!r} is too many"
+
+
+def parse(words: Sequence[str], known: Mapping[str, bool], names: Union[range, Sequence[str]], form: str) -> Words:
+    """`known` says of each option if it takes a value; `names` the names, or how many there may be; `form` is shown if the words
+    are refused."""
     def refuse(why: str) -> NoReturn:
         raise CompanionError(f"{why}; the words are: {form}", REFUSED)
 
@@ -27,7 +44,7 @@ def parse(words: Sequence[str], known: Mapping[str, bool], names: range, form: s
         elif not word.startswith("--"):
             found.append(word)
         elif option not in known or (option in given and option not in REPEATED):
-            refuse(f"option {option} is {'given twice' if option in given else 'unknown'}")
+            refuse(f"option {option} is " + ("given twice" if option in given else f"unknown{near(option, known)}"))
         elif not known[option]:
             if equals:
                 refuse(f"option {option} takes no value")
@@ -37,8 +54,8 @@ def parse(words: Sequence[str], known: Mapping[str, bool], names: range, form: s
                 refuse(f"option {option} needs a value")
             value = value if equals else left.pop(0)
             given[option] = given[option] + AND + value if option in given else value
-    if len(found) not in names:
-        refuse(f"{len(found)} names are given")
+    if len(found) not in (names if isinstance(names, range) else [len(names)]):
+        refuse(wrong_names(found, names))
     return found, given
 
 
@@ -48,7 +65,7 @@ def read_words(words: Sequence[str], form: str, *more: str) -> Words:
     known = {option: bool(value) for option, value in re.findall(r"(--[a-z][a-z-]*)( [^]| ]+)?", form)}
     known.update(dict.fromkeys(more, True))
     names = re.sub(r"\[[^]]*\]|--.*", "", form).split()[1:]
-    return parse(words, known, range(1, 1000) if names[-1].endswith("..") else range(len(names), len(names) + 1), form)
+    return parse(words, known, range(1, 1000) if names[-1].endswith("..") else names, form)
 
 
 def decimal(text: str) -> str:

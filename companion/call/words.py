@@ -6,7 +6,9 @@ import os
 import sys
 
 from . import streams
+from .advice import advised
 from .errors import MISSING, NO_MEMORY, REFUSED, UNREADABLE, UNWRITABLE, CompanionError
+from .options import near
 
 HELP = """The companions: they show what the proved program says, in names, lines and pictures.
 
@@ -44,7 +46,7 @@ def run(words: list[str]) -> int:
         streams.put(HELP + "\n\n" + "".join(f"    {word:<7} {what}\n" for word, (_, what) in WORDS.items()))
         return 0 if words else REFUSED
     if words[0] not in WORDS:
-        raise CompanionError(f"no companion is called {words[0]!r}: {', '.join(WORDS)}", REFUSED)
+        raise CompanionError(f"no companion is called {words[0]!r}{near(words[0], WORDS)}: {', '.join(WORDS)}", REFUSED)
     module = importlib.import_module(f"..{WORDS[words[0]][0]}.{words[0]}", __package__)
     if words[1:] in (["-h"], ["--help"]):
         streams.put(module.HELP + "\n")
@@ -58,7 +60,7 @@ def guarded(words: list[str]) -> int:
     try:
         return run(words)
     except CompanionError as error:
-        streams.say(error)
+        streams.say(advised(str(error)))
         return error.status
     except KeyboardInterrupt as stop:
         return streams.interrupted(stop)

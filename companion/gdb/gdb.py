@@ -92,7 +92,7 @@ def main(words: list[str]) -> int:
     (log_name, elf_name), options = read_words(words, FORM)
     port = whole(options["--port"], 0, 65535, "--port") if "--port" in options else None
     rows = whole(options["--rows"], 1, HIGHEST, "--rows") if "--rows" in options else 0
-    at = asked_row(options["--at"]) if "--at" in options else None
+    at = asked_row(options["--at"], "--at") if "--at" in options else None
     with contextlib.ExitStack() as opened:
         source, elf = opened.enter_context(closing(open_log(log_name))), Elf(elf_name)
         named_elf(elf, options.get("--names", ""))

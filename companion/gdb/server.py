@@ -167,7 +167,7 @@ class Server:
 
     def goto(self, text: str) -> str:
         try:
-            place = asked_row(text)
+            place = asked_row(text, "the row")
             self.session.go_to_row(place)
         except CompanionError as error:
             return f"{error}\n"

@@ -53,7 +53,7 @@ class RecordWords:
     is_lean  whether no BOOK is saved"""
 
     def __init__(self, words: Sequence[str], folder: str = "") -> None:
-        self.names, options = parse(words, RECORD_OPTIONS, range(1, 2) if folder else range(2, 4), ELF_FORM if folder else RECORD_FORM)
+        self.names, options = parse(words, RECORD_OPTIONS, ["ELF"] if folder else range(2, 4), ELF_FORM if folder else RECORD_FORM)
         self.folder, self.is_lean = folder, "--lean" in options
         self.has_one_hart = decimal(options.get("--harts", "1")) == "1"
         if "--seed" in options:

@@ -224,6 +224,8 @@ def check_shrinks(asked: str, record: RecordWords, until: Optional[int]) -> None
 
 def main(words: list[str]) -> int:
     own, rest = split(words)
+    if "--" not in words:
+        raise CompanionError(f"the options of record stand behind --, with ELF LOG BOOK; the words are: {FORM}", REFUSED)
     (low, high), options = read_words(own, FORM, "--jobs")
     numbers, until = numbers_of(low, high, options.get("--part", "1/1")), until_of(options)
     record = RecordWords(rest, options.get("--all", ""))

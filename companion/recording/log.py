@@ -9,7 +9,7 @@ from functools import cached_property
 from typing import Iterator, NamedTuple
 
 from ..call import program
-from ..call.errors import BAD_LOG, CompanionError
+from ..call.errors import BAD_LOG, NO_INTERVAL, CompanionError
 from ..call.files import check_regular
 
 HEADER, FIRST_LOAD, SC_OK, SC_FAILED, EDGE, END = 1, 2, 3, 4, 5, 6
@@ -178,6 +178,20 @@ class Log:
 def runs_of(records: bytes) -> Iterator[bytes]:
     """Each record; FirstLoads that follow each other are one piece, and so are Edges."""
     return (found[0] for found in RUNS.finditer(records))
+
+
+def no_row(name: str, at: At) -> CompanionError:
+    """What to raise of a row that a log doesn't hold: with the counts that it holds of that hart, as `list` tells them."""
+    first: dict[int, int] = {}
+    last: dict[int, int] = {}
+    with program.Output("list", name) as lines:
+        for line in lines:
+            hart, _, start, end = map(int, line.split()[:4])
+            first.setdefault(hart, start)
+            last[hart] = end
+    told = (f"of hart {at.hart} it holds counts from {first[at.hart]} to {last[at.hart]}" if at.hart in first
+            else f"its harts are {', '.join(map(str, sorted(first)))}")
+    return CompanionError(f"the log holds no row {at.hart}:{at.count}: {told}, as `zelkuma list` tells", NO_INTERVAL)
 
 
 def changed(name: str) -> CompanionError:

@@ -17,8 +17,9 @@ from ..call.text import clean
 from .elf import Elf
 from .sources import Sources
 
-PACKAGE = "binutils-riscv64-unknown-elf"        # of Debian, with the first of these
-TOOLS = ("riscv64-unknown-elf-addr2line", "riscv64-linux-gnu-addr2line", "llvm-addr2line")
+PACKAGE = "binutils"    # of Debian, with the last of these: it reads lines of all machines
+TOOLS = tuple(f"{prefix}addr2line" for prefix in (
+    "riscv64-unknown-elf-", "riscv32-unknown-elf-", "riscv-none-elf-", "riscv32-esp-elf-", "riscv64-linux-gnu-", "llvm-", ""))
 AT_ONCE = 100               # so many questions fit into a pipe, whatever the answers' length
 # The seconds that a tool may take altogether: so many, and more for each address, which is a hundred times what it needs.
 PATIENCE, PATIENCE_EACH = 15.0, 0.005

@@ -13,9 +13,9 @@ import struct
 from typing import Iterator, Optional
 
 from ..call import program, streams
-from ..call.errors import NO_INTERVAL, UNREADABLE, CompanionError
+from ..call.errors import UNREADABLE, CompanionError
 from ..call.scratch import Scratch
-from .log import END, FIRST_FAULT, HEAD_2, HEADER, REASONS, SEAL, SIZES, At, End, Log, changed, check, load_log, runs_of
+from .log import END, FIRST_FAULT, HEAD_2, HEADER, REASONS, SEAL, SIZES, At, End, Log, changed, check, load_log, no_row, runs_of
 
 VERSION_1, LARGEST_SMALL = 1, 1 << 20   # a file of version 1 that is larger isn't read whole
 SETTINGS, BLOCK = 92, 4096                      # bytes of a head up to its count of dropped records; of a block's records
@@ -70,7 +70,7 @@ class LogFile:
                 return self.end_of_file(rows, asked)
             last = LastRecords(data, rows, asked)
             if last.asked:
-                raise CompanionError(f"the log holds no row {last.asked.hart}:{last.asked.count}", NO_INTERVAL)
+                raise no_row(self.name, last.asked)
             if not last.unread:
                 return self.whole()
             sealed = b"".join(sealed_blocks(data[:SETTINGS], last.dropped, last.records()))

@@ -9,7 +9,7 @@ from ..call.errors import NO_INTERVAL, REFUSED, CompanionError
 from ..call.options import whole
 from ..call.text import clean
 from ..recording.elf import Elf
-from ..recording.log import WRITE_CALL, At, Log, SystemCall
+from ..recording.log import WRITE_CALL, At, Log, SystemCall, no_row
 from ..recording.members import Members
 from ..recording.naming import NO_TOOL, places_of
 from ..recording.places import Frame
@@ -187,7 +187,7 @@ class Facts:
 def find_starts(log: Log, trace: Trace, row: str) -> list[int]:
     """The rows that a history begins with."""
     if row:
-        return [find_row(trace, asked_row(row))]
+        return [find_row(log, trace, asked_row(row))]
     if trace.rows.fault:
         return [trace.rows.fault.row]
     harts = limited(log, trace)
@@ -223,12 +223,12 @@ def writer_of(trace: Trace, byte: Written) -> int:
     return trace.writers.store_before(byte.call.address + byte.place, row) or row
 
 
-def asked_row(row: str) -> At:
-    """The instruction that --row names."""
+def asked_row(row: str, option: str = "--row") -> At:
+    """The instruction that an option names."""
     hart, colon, count = row.partition(":")
     if not colon:
-        raise CompanionError(f"--row has to be HART:COUNT, not {row!r}", REFUSED)
-    return At(whole(hart, 0, 255, "the hart of --row"), whole(count, 0, 1 << 41, "the count of --row"))
+        raise CompanionError(f"{option} has to be HART:COUNT, not {row!r}", REFUSED)
+    return At(whole(hart, 0, 255, f"the hart of {option}"), whole(count, 0, 1 << 41, f"the count of {option}"))
 
 
 def is_byte(text: str) -> bool:
@@ -243,8 +243,8 @@ def asked_byte(text: str) -> Byte:
                 whole(place, 0, 1 << 31, "the byte of --output N:BYTE") if colon else 0)
 
 
-def find_row(trace: Trace, at: At) -> int:
+def find_row(log: Log, trace: Trace, at: At) -> int:
     n = trace.rows.row_of(at.hart, at.count)
     if not n:
-        raise CompanionError(f"the log holds no row {at.hart}:{at.count}", NO_INTERVAL)
+        raise no_row(log.shown, at)
     return n

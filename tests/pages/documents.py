@@ -1,7 +1,7 @@
 #!/usr/bin/env python3
 """Runs the examples of documents, and compares what they print with what the documents say.
 
-tests/pages/documents.py [--write] PROGRAM DOCUMENT..
+tests/pages/documents.py [--write] [--without NAME,..] PROGRAM DOCUMENT..
 
 An example can be pasted: a block ```sh has commands, and a block ```text right after it what out and err have to get
 from them; without such a block that is nothing. A block whose first line begins with a prompt ('$ ') can't be pasted,
@@ -10,7 +10,8 @@ and is refused.
 All examples of a document run in one bash, one after another, as those of a new user: with a PATH of /usr/bin:/bin, no
 other variables but HOME, and another folder for /tmp/. Their folder has what a checkout has, but for the crates, and
 PROGRAM as the shipped one. A line '...' represents any lines. A block after a line '<!-- not run -->' isn't
-run, nor one after '<!-- needs NAME.. -->' if there is no command or file NAME, which is said. With --write the document gets what was printed, if it differs.
+run, nor one after '<!-- needs NAME.. -->' if there is no command or file NAME, which is said. With --write the document gets what was printed, if it differs. Of `addr2line` and `gdb` any
+will do, of whatever machine; --without hides all of these, so that a page is tried as it is for a reader who lacks them.
 """
 import os
 import re
@@ -21,6 +22,10 @@ import tempfile
 
 TOP = os.path.dirname(os.path.dirname(os.path.dirname(os.path.realpath(__file__))))
 END = "\x01"
+KINDS = {                   # of a tool that has a name for each machine
+    "addr2line": re.compile(r"(.*-)?addr2line(-[0-9.]+)?"),
+    "gdb": re.compile(r"(.*-)?gdb(-multiarch)?|gdbserver"),
+}
 NEW_PATH = "/usr/bin:/bin"
 if not os.path.exists("/usr/bin/python3"):
     NEW_PATH += f":{os.path.dirname(sys.executable)}"
@@ -36,12 +41,28 @@ class Step:
         return f"\n```text\n{printed}```\n" if self.fence and printed else printed
 
 
+def is_here(tool):
+    """Whether a tool is found, under its own name or that of another machine."""
+    if tool in KINDS:
+        return any(KINDS[tool].fullmatch(name) for folder in NEW_PATH.split(":") if os.path.isdir(folder) for name in os.listdir(folder))
+    return shutil.which(tool, path=NEW_PATH) is not None
+
+
+def path_without(kinds, folder):
+    """A folder with all the commands of the path but those of some kinds."""
+    for place in NEW_PATH.split(":"):
+        for name in os.listdir(place) if os.path.isdir(place) else ():
+            if not any(KINDS[kind].fullmatch(name) for kind in kinds) and not os.path.lexists(f"{folder}/{name}"):
+                os.symlink(f"{place}/{name}", f"{folder}/{name}")
+    return folder
+
+
 def is_run(before, name):
     """Whether the block that comes after this text is run. Says what it needs, if that isn't there."""
     before = before.rstrip()
     needs = re.search(r"<!-- needs ([^>]+) -->$", before)
     for need in needs[1].split() if needs else ():
-        if not shutil.which(need, path=NEW_PATH) and not os.path.exists(need):
+        if not is_here(need) and not os.path.exists(need):
             print(f"skipped: the example at line {before.count(chr(10)) + 2} of {name}: there is no {need}")
             return False
     return not before.endswith("<!-- not run -->")
@@ -124,8 +145,13 @@ def try_document(name, program, writes):
 
 
 def main(words):
+    global NEW_PATH
     writes = words[:1] == ["--write"]
     program, *documents = words[writes:]
+    if program == "--without":
+        with tempfile.TemporaryDirectory() as folder:
+            NEW_PATH = path_without(documents[0].split(","), folder)
+            return main(documents[1:])
     if not os.access(program, os.X_OK):
         print(f"there is no program {program}: build it first")
         return 1

@@ -5,7 +5,7 @@
 # tests/pages/help.sh PROGRAM
 . "$(dirname "$0")/../asserts.sh"
 program=$(readlink -f -- "${1:?the words are PROGRAM}")
-made=(tools/help/{page.txt,each.txt,words.sh} tools/files.txt docs/COMMANDS.md)
+made=(tools/help/{page.txt,each.txt,words.sh} companion/call/advice.py tools/files.txt docs/COMMANDS.md)
 
 # A tree with the help's source, the document whose tables are made, and the files that are listed.
 tree=$work/tree

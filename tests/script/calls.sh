@@ -32,12 +32,12 @@ err_is_terminal
 
 what="words and statuses"
 export STATUS
-for STATUS in 0 3 4 5 8 12 15 16 17 18 19 21; do
+for STATUS in 0 3 4 12 18; do
     runs "$STATUS" "$zelkuma" slice "a LOG" '' '*' '$x' --=
     [ "$(cat "$work/out")" = '<slice><a LOG><><*><$x><--=>' ] || fails "the words aren't those of the call"
     [ "$(cat "$work/err")" = "a line of err" ] || fails "there is more on err"
 done
-for STATUS in 2 6 7 9 13 14 20; do
+for STATUS in 2 5 6 7 8 9 13 14 15 16 17 19 20 21; do
     runs "$STATUS" "$zelkuma" races LOG ELF 9
     [ "$(sed -n 1p "$work/err")" = "a line of err" ] || fails "the program's line isn't the first one"
     [ "$(sed 1d "$work/err" | grep -c '^zelkuma: ')" -eq 1 ] && [ "$(wc -l <"$work/err")" -eq 2 ] ||

@@ -221,6 +221,12 @@ def table_statuses(table: Table) -> Lines:
         yield from (row(entry.first, *cells) for cells in rows)
 
 
+def table_kinds(table: Table) -> Lines:
+    """Those of ELF files: docs/FORMAT.md has those of logs."""
+    return (row(cell_of(entry.name), f"{entry.last('cause')}. {capital(entry.last('advice'))}")
+            for entry in table if entry.name.startswith("elf"))
+
+
 # What the script knows, as elements of arrays in bash. The value of an option is N (a number), FILE, or for one without a
 # value `flag`.
 
@@ -259,6 +265,37 @@ def words_advice(table: Table) -> Lines:
     return (element(entry.first, text) for entry in table for text in entry.all("advice"))
 
 
+def told(entry: Entry) -> Iterator[Tuple[str, str]]:
+    """Of each name of a refused file, without the values behind it, what is wrong and what to do."""
+    for name in entry.name.split(", "):
+        yield re.sub(" [A-Z]{2,}.*", "", name), f"{entry.last('cause')}: {entry.last('advice')}"
+
+
+def words_kinds(table: Table) -> Lines:
+    return (element(*pair) for entry in table for pair in told(entry))
+
+
+def words_limits(table: Table) -> Lines:
+    """The ranges of options, by their names as they are typed."""
+    return (element(entry.first, text) for entry in table for text in entry.all("range") if text and entry.rest == "N")
+
+
+# What the companions know: the same advice, as entries of a dictionary in Python.
+
+def pair(key: str, text: str) -> str:
+    lines = textwrap.wrap(text.replace("`", "'").replace('"', "'"), 90, break_on_hyphens=False)
+    return f'    "{key}": (\n' + "\n".join(f'        "{line} "' for line in lines)[:-2] + '"),'
+
+
+def advice_statuses(table: Table) -> Lines:
+    """By the beginning of the line on err."""
+    return (pair(re.sub(" ?[A-Z]{2,}.*", "", entry.last("line").strip("`")), text) for entry in table for text in entry.all("advice"))
+
+
+def advice_kinds(table: Table) -> Lines:
+    return (pair(*each) for entry in table for each in told(entry))
+
+
 def words_companions(table: Table) -> Lines:
     yield f'companions=" {" ".join(entry.first for entry in table)} "'
 
@@ -291,6 +328,7 @@ def filled(kind: str) -> str:
 
 def heads_of(form: str, first: str) -> List[str]:
     return {"words": [first, "what it does"], "options": ["option", "what it sets", "range", "without it"],
+            "kinds": ["line on err", "what is wrong, what to do"],
             "statuses": ["status", "line on err, after `bugnet: `", "cause, and what to do"]}[form]
 
 
@@ -331,6 +369,7 @@ def kept() -> Dict[str, str]:
         "tools/help/page.txt": filled("page"),
         "tools/help/each.txt": filled("each"),
         "tools/help/words.sh": filled("words"),
+        "companion/call/advice.py": filled("advice"),
         "tools/files.txt": listed(),
         "docs/COMMANDS.md": renewed("docs/COMMANDS.md", document.read_text(encoding="utf-8")),
     }

@@ -31,18 +31,59 @@ declare -A takes=(
 [audit.input]="FILE"
 )
 companions=" names why race view gdb bucket triage output seeds again shrink memory history calls find compare export "
-# The ranges of names that are numbers.
+# The ranges of names that are numbers, and of options.
 declare -A ranges=(
 [HART]="0 to 18446744073709551615"
 [INTERVAL]="0 to 18446744073709551615"
 [MAX]="1 to 1000000"
 [IC]="0 to 18446744073709551615"
 [SEED]="0 to 18446744073709551615"
+[--seed]="0 to 18446744073709551615"
+[--format]="1 to 2; 2 keeps the interval of a crash"
+[--harts]="1 to 8, with '--format 2' 1 to 16"
+[--interval]="1 to 10000000"
+[--limit]="1 to 1099511627776"
+[--log-size]="16384 to 268435456"
+[--memory]="65536 to 67108864, a multiple of 4096"
+[--sets]="1 to 1024, a power of two"
+[--ways]="1 to 16"
+[--line]="1 to 16, a power of two"
+[--sets2]="1 to 4096, a power of two; needs '--format 2'"
+[--ways2]="1 to 16; needs '--sets2', and is needed by it"
 )
 # What to do after a status.
 declare -A advice=(
+[5]="the limits are 67108864 bytes for ELF, 272629760 for LOG, 1073741824 for BOOK, 16777216 for the input"
+[8]="the first SHA-256 is that of the program that LOG recorded, the second that of ELF; give that very file ('sha256sum'): a rebuilt one is another, and a copy with names goes to '--names'"
 [9]="free some; a recording needs less with '--lean', '--seed N', or a smaller '--limit' or '--log-size'"
 [13]="the disk is full, or the pipe's reader ended early, as 'head' does"
 [14]="'zelkuma list LOG' tells the intervals that LOG holds"
+[15]="ask for LOG as it was saved"
+[16]="give this LOG's BOOK and '--input'"
+[17]="give this LOG's BOOK"
+[19]="copy LOG again"
 [20]="give a greater MAX, up to 1000000"
+)
+# What is wrong with a file that is refused, and what to do.
+declare -A kinds=(
+[elf: NotElf]="it isn't an ELF file: give the linked program"
+[elf: NotRv32]="it is for another machine: build it with '-march=rv32ima -mabi=ilp32 -static'"
+[elf: NotStatic]="it isn't linked, or is shared or position-independent: link it, with '-static -no-pie'"
+[elf: NeedsCompressed]="it has compressed instructions: build it and its libraries with '-march=rv32ima', without c"
+[elf: NeedsE]="it has 16 registers: build it with '-march=rv32ima'"
+[elf: Outside]="a segment is outside of the memory, which begins at 4,096: give a larger '--memory', or link it lower"
+[elf: SegmentsTouch]="two of its segments share a word: align sections to 4 bytes in the linker script"
+[elf: EntryOutside]="its entry isn't an aligned word of code: say 'ENTRY(_start)' in the linker script"
+[elf: NoSegment]="it has nothing to load: link it with loaded code"
+[elf: TooMany]="it has more than 64 program headers: join sections in the linker script"
+[elf: Truncated]="its headers name more bytes than it has: copy it again"
+[log: Short]="it is empty or cut off: copy it again"
+[log: BadMagic]="it is no log that 'zelkuma record' saved: give LOG before ELF, unpacked"
+[log: BadVersion]="it is of an unknown version: read it with the version that recorded it"
+[log: BadHead]="a setting in it is out of range: copy it again"
+[log: LengthDiffers]="it was cut off, or something was added: copy it again, as a binary file"
+[log: DigestDiffers]="bytes have changed: copy it again, as a binary file"
+[log: BadBlock]="bytes have changed, or it was cut off: copy it again; 'zelkuma salvage LOG NEW' may save its end"
+[log: BadRecord]="its records are wrong: record again"
+[log: BadOrder]="its records are wrong: record again"
 )

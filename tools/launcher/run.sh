@@ -1,5 +1,4 @@
-# Runs the program, and if err is a terminal gives advice after it if it refuses or fails. What the program prints and its status stay its
-# own. Read by the script zelkuma, which has set `top` and `program`.
+# Runs the program, and gives advice after it if it refuses or fails. What the program prints and its status stay its own. Read by the script zelkuma, which has set `top` and `program`.
 
 . "$top/tools/launcher/words.sh"
 
@@ -53,8 +52,8 @@ run() { # WORD..
         read_words
         [ -n "$complaint" ] || { check_schedule && check_targets; }
     fi
-    # who reads err elsewhere wants the program's own lines
-    [[ -t 2 || ${#held[@]} -gt 0 ]] || exec "$program" "${words[@]}"
+    # nobody reads advice there
+    [[ ! /dev/fd/2 -ef /dev/null || ${#held[@]} -gt 0 ]] || exec "$program" "${words[@]}"
     for signal in HUP INT QUIT TERM USR1 USR2 ALRM; do
         # shellcheck disable=SC2064 # it is this signal
         trap "pass_on $signal" "$signal"
@@ -74,7 +73,7 @@ run() { # WORD..
     [ ${#held[@]} -eq 0 ] || rm -f -- "${held[@]}"
     # whatever becomes of the advice (nobody may read err any more), the status is the program's; with format 2 a log has
     # the end of its run
-    [[ ! -t $err || $status -eq 0 || ($status == 1[01] && ${values[format]-} == 2) ]] ||
+    [[ $status -eq 0 || ($status == 1[01] && ${values[format]-} == 2) ]] ||
         (. "$top/tools/launcher/advice.sh" && advise "$status")
     if [ "$status" -gt 128 ]; then
         # ends as a program ends that a signal has killed

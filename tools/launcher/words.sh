@@ -16,6 +16,29 @@ is_number() { # WORD LOW HIGH
     [[ $1 =~ ^\+?0*([0-9]+)$ ]] && is_most "$2" "${BASH_REMATCH[1]}" && is_most "${BASH_REMATCH[1]}" "$3"
 }
 
+# Whether a word is another but for one slip: a letter more, less or other, two that changed places, an end left out.
+is_near() { # WORD RIGHT
+    local word=$1 right=$2
+    [[ ${#word} -lt 3 || $right != "$word"?* ]] || return 0
+    while [[ -n $word && ${word:0:1} == "${right:0:1}" ]]; do word=${word:1} right=${right:1}; done
+    while [[ -n $word && -n $right && ${word: -1} == "${right: -1}" ]]; do word=${word%?} right=${right%?}; done
+    [[ ${#word}${#right} == [01][01] || (${#word} -eq 2 && $right == "${word:1}${word:0:1}") ]]
+}
+
+# Sets `near` to what may have been meant by a command, or by an option of a command.
+find_near() { # WORD [COMMAND]
+    local candidate
+    near=
+    # shellcheck disable=SC2086 # they are parted at their spaces
+    for candidate in "${!takes[@]}" ${companions//[[:space:]]/.. }build. install. uninstall. help.; do
+        candidate=${candidate%%..}
+        [[ ${2-} == "${candidate%%.*}" || (-z ${2-} && $candidate != *.?*) ]] || continue
+        candidate=${candidate#"${2-}"}
+        ! is_near "$1" "${candidate//./}" || near+=" or ${2:+--}${candidate//./}"
+    done
+    near=${near:+"; did you mean${near# or}?"}
+}
+
 # A number with K, M or G after it (1024 times, each), or 0x before it, in decimal; sets `decimal`. A word that is none,
 # and one that is too large, stay as they are. companion/call/options.py reads them alike: tests/script/numbers.txt.
 to_decimal() { # WORD
@@ -36,7 +59,8 @@ read_option() { # COMMAND
     name=${option%%=*}
     kind=${takes[$1.$name]-}
     if [[ ${words[at]} != --* || -z $name || -z $kind ]]; then
-        complain "$1 has no option ${words[at]@Q}"
+        find_near "$name" "$1"
+        complain "$1 has no option ${words[at]@Q}$near"
         return
     fi
     [ -z "${values[$name]+given}" ] || complain "--$name is given twice"
@@ -48,6 +72,9 @@ read_option() { # COMMAND
         head=--$name=
     elif ((at + 1 < ${#words[@]})) && [[ ${words[at + 1]} != -?* ]]; then
         at=$((at + 1))
+    elif [[ $kind == N && ${words[at + 1]-} == -[0-9]* ]]; then
+        complain "--$name takes a number from 0 to 18446744073709551615, and not ${words[at + 1]@Q}"
+        return
     else
         complain "--$name has no value"
         return
@@ -64,7 +91,7 @@ read_option() { # COMMAND
 read_names() { # COMMAND
     local place range
     if ((${#names[@]} > ${#wanted[@]})); then
-        complain "the word ${names[${#wanted[@]}]@Q} is too many: $1 takes ${wanted[*]}"
+        complain "the word ${names[${#wanted[@]}]@Q} is too many: $1 takes ${wanted[*]}$([ "$1" != record ] || echo "; a program has no arguments, and reads what --input names")"
     elif ((${#names[@]} < ${#wanted[@]})); then
         complain "${wanted[${#names[@]}]} is missing: $1 takes ${wanted[*]}"
     fi
@@ -80,8 +107,10 @@ read_words() {
     # shellcheck disable=SC2206 # it is parted at its spaces
     names=() wanted=(${takes[${words[0]}.]-}) complaint='' values=()
     if [ ${#wanted[@]} -eq 0 ]; then
+        [[ ${words[0]} != @(-v|-V|version) ]] || complain "'zelkuma --version' tells the version"
         [[ ${words[0]} != -* ]] || complain "the command comes first, and its options behind it"
-        complain "there is no command ${words[0]@Q}"
+        find_near "${words[0]}"
+        complain "there is no command ${words[0]@Q}$near"
         return
     fi
     for ((at = 1; at < ${#words[@]}; at++)); do

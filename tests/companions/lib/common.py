@@ -12,10 +12,10 @@ TOP = os.path.abspath(os.path.join(os.path.dirname(__file__), "..", "..", ".."))
 COMPANION = os.path.join(TOP, "companion")
 sys.path.insert(0, TOP)
 from companion.call.program import path as program_path      # noqa: E402
+from companion.recording.places import TOOLS                  # noqa: E402
 PROGRAM = program_path()
 EXAMPLES = os.path.join(TOP, "examples")
 CRASHES = os.path.join(TOP, "tests", "crashes")
-TOOLS = "riscv64-unknown-elf-addr2line", "riscv64-linux-gnu-addr2line", "llvm-addr2line"
 scratch = tempfile.TemporaryDirectory()
 os.environ["ZELKUMA_PROGRAM"] = PROGRAM
 

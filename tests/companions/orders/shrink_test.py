@@ -227,7 +227,7 @@ class ShrinkTest(case.Case):
                 (2, [log, elf, book, new[0], new[0]], "are one file"),
                 (3, [log, elf, book, new[0], "/nowhere/NEW"], "there is no folder /nowhere"),
                 (2, [log, elf, book, *new, "--seconds", "x"], "--seconds has to be a number"),
-                (2, [log, elf, book], "3 names are given")):
+                (2, [log, elf, book], "NEWLOG is missing")):
             with self.subTest(said):
                 self.assertIn(said, self.refuses(status, "shrink", *words))
         self.assertFalse(any(map(os.path.exists, new)))
