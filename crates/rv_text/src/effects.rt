@@ -1,10 +1,12 @@
 //! The text of what an instruction changed or read.
-ghost use Rattle.std.specs.Prelude.{◌≡◌, ◌<◌, ◌++◌, OnOk, codes};
+ghost use Rattle.std.specs.Prelude.{◌≡◌, ◌<◌, ◌++◌, Some, OnOk, codes};
+ghost use Rattle.rv_text.specs.Instructions.{hex8};
 ghost use Rattle.rv_text.specs.Rows.{register_text, labelled, changes_text};
 ghost use Rattle.rv_text.specs.Texts.{BeginsWith};
-ghost use Rattle.rv_text.specs.Lines.{label_text, contents_text};
+ghost use Rattle.rv_text.specs.Lines.{label_text, contents_text, accesses_text};
 
 use crate::Text;
+use crate::digits::eight_digits;
 use bn_base::{Addr, Register, Row};
 use std::alloc::AllocError;
 
@@ -119,9 +121,63 @@ fn write_access(label: &str, access: Option<(Addr, u32)>, text: &mut Text) -> Re
     }
 }
 
-/// Appends what the instruction of a row loaded and stored. An error may leave a part of it.
+// The new contents of a register, the word that it was loaded from, and the end of the line: one append in place of six.
 #[inline(always)]
-pub fn write_accesses(row: &Row, text: &mut Text) -> Result<(), AllocError>
+#[tactic(auto, unfolding(crate::specs::Rows::labelled))]
+fn loaded_line(value: u32, addr: Addr, word: u32) -> [u8; 34]
+    ensures { result ≡ hex8 value ++ (labelled (codes " | load ") (Some (addr, word)) ++ codes "\n") }
+{
+    let mut line = *b"........ | load ........=........\n";
+    // The last ones first: so what is before a place is as it was written here.
+    line[25..33].copy_from_slice(&eight_digits(word));
+    line[16..24].copy_from_slice(&eight_digits(addr));
+    line[..8].copy_from_slice(&eight_digits(value));
+    line
+}
+
+// A word that was stored, and the end of the line.
+#[inline(always)]
+#[tactic(auto, unfolding(crate::specs::Rows::labelled))]
+fn stored_line(addr: Addr, word: u32) -> [u8; 27]
+    ensures { result ≡ labelled (codes " | store ") (Some (addr, word)) ++ codes "\n" }
+{
+    let mut line = *b" | store ........=........\n";
+    line[18..26].copy_from_slice(&eight_digits(word));
+    line[9..17].copy_from_slice(&eight_digits(addr));
+    line
+}
+
+// What an instruction changed that loads or stores, but for the register's label, and the end of the line. An error may
+// leave a part of it.
+#[inline(never)]
+fn end_in_parts(row: &Row, text: &mut Text) -> Result<(), AllocError>
+    ensures ok { OnOk result (text.new ≡ text.old ++ (contents_text row.now.reg ++ (accesses_text row.now ++ codes "\n"))) }
+    ensures begins { BeginsWith text.old text.new }
+{
+    write_contents(row.reg, text)?;
+    write_accesses(row, text)?;
+    text.push_str("\n")
+}
+
+/// Appends the new contents of the register that a row writes, if it writes one, what its instruction loaded and stored, and
+/// the end of the line. An error may leave a part of it.
+#[inline(always)]
+#[tactic(auto, unfolding(crate::specs::Rows::labelled))]
+pub fn end_with_accesses(row: &Row, text: &mut Text) -> Result<(), AllocError>
+    ensures ok { OnOk result (text.new ≡ text.old ++ (contents_text row.now.reg ++ (accesses_text row.now ++ codes "\n"))) }
+    ensures begins { BeginsWith text.old text.new }
+{
+    match (row.reg, row.load, row.store) {
+        (Some((_, value)), Some((addr, word)), None) => {
+            text.push_bytes(&loaded_line(value, addr, word))
+        }
+        (None, None, Some((addr, word))) => text.push_bytes(&stored_line(addr, word)),
+        _ => end_in_parts(row, text),
+    }
+}
+
+// What the instruction of a row loaded and stored. An error may leave a part of it.
+fn write_accesses(row: &Row, text: &mut Text) -> Result<(), AllocError>
     ensures ok { OnOk result (text.new ≡ text.old ++ (labelled (codes " | load ") row.now.load ++ labelled (codes " | store ") row.now.store)) }
     ensures begins { BeginsWith text.old text.new }
 {

@@ -6,7 +6,7 @@ ghost use Rattle.rv_text.specs.Lines.{count_text, place_text, label_text, conten
 
 use crate::code::{CodeText, write_labelled};
 use crate::counts::CountText;
-use crate::effects::{end_with_contents, register_of, write_accesses, write_contents};
+use crate::effects::{end_with_accesses, end_with_contents, register_of};
 use crate::{Text, write_row};
 use bn_base::{Addr, Row};
 use std::alloc::{AllocError, Global};
@@ -109,9 +109,7 @@ impl RowLines {
             return self.write_plain(row, word, register, text);
         }
         self.write_code(row.pc, word, register, text)?;
-        write_contents(row.reg, text)?;
-        write_accesses(row, text)?;
-        text.push_str("\n")
+        end_with_accesses(row, text)
     }
 
     // The line of a row with this word, in its parts. An error may leave a part of it.
