@@ -1,6 +1,5 @@
 -- Steps that are told one after another.
 use Rattle.joint_replay.proofs.Common.{◌≡◌, ℕ, suc, ◌+◌, ◌<◌, ◌⊎◌, inl, inr, Bool, true, false, refl, sym, ap, ◌∙◌, subst, arith, List, [], ◌∷◌, ◌++◌, append_assoc, length, slice_get, Option, Some, None, Result, Ok, Err, append-nil, Record, JointError, Readiness, Next, Hart, Lane, Item, Passing, Doing, Ending, Joining, Taken, Walk, Ran, begun, ran, choice, choice_from, readiness, readiness_of, run_for, run_all, stepped_of, RanOut, Steps, item_text, stepped_text, steps_text, slice_get_within}
-use Rattle.hart_replay.specs.declared.error.ReplayError.TheVariants as replay
 use Rattle.joint_replay.specs.declared.error.JointError.TheVariants as why
 use Rattle.joint_replay.specs.declared.kinds.Readiness.TheVariants as is
 use Rattle.joint_replay.specs.declared.kinds.Stepped.{Stepped}

@@ -47,9 +47,10 @@ fn read_result(asked: Asked, row: &Row) -> Option<u32>
     }
 }
 
-/// The bytes that a row's call filled, by the address of the first and how many they are, if it is
-/// a read call that filled some.
-pub(crate) fn filled(asked: Asked, row: &Row) -> Option<(Addr, u32)>
+// The bytes that the call of a row filled. Apart, since few rows are of calls.
+#[cold]
+#[inline(never)]
+fn filled_by_call(asked: Asked, row: &Row) -> Option<(Addr, u32)>
     ensures { (before : HartState) → asked ≡ asked_by before → result ≡ option_map range_of (filled before row.now) }
 {
     match read_result(asked, row) {
@@ -57,6 +58,23 @@ pub(crate) fn filled(asked: Asked, row: &Row) -> Option<(Addr, u32)>
         Some(count) => {
             if asked.file == 0 && (0 < count && count <= 4096) {
                 Some((asked.buffer, count))
+            } else {
+                None
+            }
+        }
+    }
+}
+
+/// The bytes that a row's call filled, by the address of the first and how many they are, if it is
+/// a read call that filled some.
+pub(crate) fn filled(asked: Asked, row: &Row) -> Option<(Addr, u32)>
+    ensures { (before : HartState) → asked ≡ asked_by before → result ≡ option_map range_of (filled before row.now) }
+{
+    match row.word {
+        None => None,
+        Some(word) => {
+            if word == 0x73 {
+                filled_by_call(asked, row)
             } else {
                 None
             }

@@ -324,11 +324,12 @@ impl<'a> Joint<'a> {
         ensures { result ≡ readiness self.now hart }
     {
         let lane = &self.lanes[hart as usize];
-        match lane.coming() {
-            None => Readiness::Done,
-            Some(_) => match lane.point() {
-                None => Readiness::Ready,
-                Some(ic) => self.waits(hart, ic),
+        match lane.point() {
+            // Nearly each step is at a point, and then there is one.
+            Some(ic) => self.waits(hart, ic),
+            None => match lane.coming() {
+                None => Readiness::Done,
+                Some(_) => Readiness::Ready,
             },
         }
     }
