@@ -2,3 +2,4 @@ pub mod Parted
 mod Joined
 mod HexDigits
 mod Counted
+mod Placed
