@@ -207,6 +207,36 @@ impl Plain {
         self.turns += 1;
     }
 
+    // As `store_alone`, of a part of a word: so whether the word before is logged depends on the cache alone.
+    #[inline(always)]
+    fn store_part_alone(&mut self, addr: Addr, width: u8, value: u32)
+        requires asks { AsksHere (parts self.old) 0 (Store addr width value) }
+        requires width { IsTrue (is_aligned addr width) }
+        requires part { (width == 4) ≡ false }
+        requires alone { self.old.start.settings.harts ≡ 1 }
+        requires on { counted self.old.start.settings (hart_in self.old.trace.harts.items 0) (count_up (hart_in self.old.trace.harts.items 0).state.ic) ≡ GoesOn }
+        requires page { IsSpanReady self.old.machine.memory (span (aligned addr) 1 Write) }
+        ensures run { IsTurnedHere (parts self.old) (parts self.new) 0 (Store addr width value) }
+        ensures start { self.new.start ≡ self.old.start }
+        ensures turns { self.new.turns ≡ self.old.turns + 1 }
+        ensures one { IsOneOn (hart_in self.old.trace.harts.items 0) (hart_in self.new.trace.harts.items 0) }
+    {
+        each_turn_moves_on();
+        let want = Want::Store { addr, width, value };
+        let word = self.machine.word_before(&self.start.image, &want);
+        let reply = self.machine.store(0, addr, width, value);
+        let ic = self.trace.harts[0].state.ic;
+        let words = Span {
+            first: addr / 4 * 4,
+            count: 1,
+            mode: Mode::Write,
+        };
+        let answer = self.trace.load_word_alone(self.turns, ic, words, word);
+        self.trace
+            .finish_load(&self.start.settings, &want, reply, answer);
+        self.turns += 1;
+    }
+
     // As `store_alone`, unless the page isn't made: then nothing changes.
     #[inline(always)]
     fn put_alone(&mut self, walk: &Walk, addr: Addr, width: u8, value: u32) -> bool
@@ -217,7 +247,11 @@ impl Plain {
         if !self.machine.is_made(addr) {
             return false;
         }
-        self.store_alone(addr, width, value);
+        if width == 4 {
+            self.store_alone(addr, width, value);
+        } else {
+            self.store_part_alone(addr, width, value);
+        }
         true
     }
 
