@@ -153,6 +153,10 @@ impl<'a> Joint<'a> {
     fn pass_sources(&mut self, moved: HartId)
         ensures { self.new ≡ self.old }
     {
+        // One hart waits for none, as a log that was recorded has no Edges then.
+        if self.lanes.len() == 1 && self.lanes[0].edges().is_empty() {
+            return;
+        }
         for hart in 0..self.harts() {
             self.pass_sources_into(hart, moved);
         }
