@@ -2,4 +2,3 @@ pub mod Parted
 mod Joined
 mod HexDigits
 mod Counted
-mod Placed

@@ -5,12 +5,12 @@ ghost use Rattle.rv_decode.specs.Seen.{seen};
 ghost use Rattle.rv_decode.specs.Table.{decoded};
 ghost use Rattle.rv_text.specs.Rows.{text_or_illegal, word_text};
 ghost use Rattle.rv_text.specs.Texts.{BeginsWith};
-ghost use Rattle.rv_text.specs.Lines.{place_text, label_text, NoneOrText};
+ghost use Rattle.rv_text.specs.Lines.{place_text, label_text, contents_text, NoneOrText};
 
-use crate::effects::label_of;
+use crate::effects::{end_with_contents, label_of};
 use crate::piece::Piece;
 use crate::{Text, write_instr};
-use bn_base::Addr;
+use bn_base::{Addr, Row};
 use rv_decode::{Instr, decode};
 use std::alloc::AllocError;
 use std::marker::Model;
@@ -126,9 +126,9 @@ impl CodeText {
         Ok(())
     }
 
-    /// The text of this pc, word and register, if it is kept.
+    // The text of this pc, word and register, if it is kept.
     #[inline(always)]
-    pub(crate) fn kept(&self, pc: Addr, word: u32, register: u8) -> Option<&Piece>
+    fn kept(&self, pc: Addr, word: u32, register: u8) -> Option<&Piece>
         ensures { IfSome result (λ piece. piece.now ≡ place_text pc word ++ label_text register) }
     {
         if self.pc == pc
@@ -158,6 +158,29 @@ impl CodeText {
         match self.kept(pc, word, register) {
             Some(piece) => piece.append_to(text),
             None => self.renew(pc, word, register, text),
+        }
+    }
+
+    /// Appends the line from its pc on of a row that accesses no word and writes this register, if it writes one; it keeps the
+    /// text of its code. An error may leave a part of it.
+    #[inline(always)]
+    pub fn write_line(
+        &mut self,
+        row: &Row,
+        word: u32,
+        register: u8,
+        text: &mut Text,
+    ) -> Result<(), AllocError>
+        requires { register < 33 }
+        ensures ok { OnOk result (text.new ≡ text.old ++ (place_text row.now.pc word ++ label_text register ++ (contents_text row.now.reg ++ codes "\n"))) }
+        ensures begins { BeginsWith text.old text.new }
+    {
+        match self.kept(row.pc, word, register) {
+            Some(piece) => piece.append_line(row, text),
+            None => {
+                self.renew(row.pc, word, register, text)?;
+                end_with_contents(row, text)
+            }
         }
     }
 }

@@ -78,6 +78,16 @@ pub fn write_contents(reg: Option<(Register, u32)>, text: &mut Text) -> Result<(
     }
 }
 
+/// Appends the new contents of the register that a row writes, if it writes one, and the end of the line. An error may leave
+/// a part of it.
+pub fn end_with_contents(row: &Row, text: &mut Text) -> Result<(), AllocError>
+    ensures ok { OnOk result (text.new ≡ text.old ++ (contents_text row.now.reg ++ codes "\n")) }
+    ensures begins { BeginsWith text.old text.new }
+{
+    write_contents(row.reg, text)?;
+    text.push_str("\n")
+}
+
 // The register that was written and its new contents. An error may leave a part of it.
 #[tactic(auto, unfolding(crate::specs::Rows::register_text, crate::specs::Lines::label_text))]
 fn write_register(reg: Option<(Register, u32)>, text: &mut Text) -> Result<(), AllocError>

@@ -23,7 +23,6 @@ mod names;
 mod operands;
 mod piece;
 mod rows;
-mod start;
 mod text;
 
 pub use endings::{end_with_decimal, end_with_hex8};

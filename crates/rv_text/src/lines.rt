@@ -1,13 +1,12 @@
 //! Lines of many rows, as `write_row` writes them. A replay prints its rows by it.
-ghost use Rattle.std.specs.Prelude.{◌≡◌, ◌<◌, ◌≤◌, ◌+◌, ◌++◌, ◌/◌, ◌%◌, Some, None, length, take, IfSome, OnOk, OnErr, codes};
+ghost use Rattle.std.specs.Prelude.{◌≡◌, ◌<◌, ◌++◌, ◌/◌, ◌%◌, Some, None, OnOk, OnErr, codes};
 ghost use Rattle.rv_text.specs.Rows.{row_text};
 ghost use Rattle.rv_text.specs.Texts.{BeginsWith};
 ghost use Rattle.rv_text.specs.Lines.{count_text, place_text, label_text, contents_text, accesses_text, joined_text};
 
 use crate::code::{CodeText, write_labelled};
 use crate::counts::CountText;
-use crate::effects::{end_with_accesses, register_of};
-use crate::piece::Piece;
+use crate::effects::{end_with_accesses, end_with_contents, register_of};
 use crate::{Text, write_row};
 use bn_base::{Addr, Row};
 use std::alloc::{AllocError, Global};
@@ -43,22 +42,6 @@ fn empty_table(alloc: Global) -> Vec<CodeText> {
     kept
 }
 
-// The line from its pc on of a row whose code has this text, put at a place of the text. An error may leave a part of it.
-#[inline(always)]
-fn put_known(piece: &Piece, row: &Row, at: usize, text: &mut Text) -> Result<(), AllocError>
-    requires { at + 73 ≤ length text.old }
-    ensures ok { OnOk result (text.new ≡ take at text.old ++ (piece.now ++ (contents_text row.now.reg ++ (accesses_text row.now ++ codes "\n")))) }
-    ensures begins { BeginsWith (take at text.old) text.new }
-{
-    if row.load.is_none() && row.store.is_none() {
-        piece.put_line(row, at, text);
-        return Ok(());
-    }
-    let end = piece.put_at(at, text);
-    text.truncate(end);
-    end_with_accesses(row, text)
-}
-
 impl RowLines {
     /// A writer that keeps no text at first.
     pub fn new(alloc: Global) -> RowLines {
@@ -68,20 +51,8 @@ impl RowLines {
         }
     }
 
-    // The text of a pc, a word and a register, if the table has it.
-    #[inline(always)]
-    fn kept(&self, pc: Addr, word: u32, register: u8) -> Option<&Piece>
-        ensures { IfSome result (λ piece. piece.now ≡ place_text pc word ++ label_text register) }
-    {
-        let place = place_of(pc);
-        if place < self.kept.len() {
-            return self.kept[place].kept(pc, word, register);
-        }
-        None
-    }
-
     // The text of a pc, a word and a register, by the table. An error may leave a part of it.
-    #[inline(never)]
+    #[inline(always)]
     fn write_code(
         &mut self,
         pc: Addr,
@@ -100,7 +71,29 @@ impl RowLines {
         write_labelled(pc, word, register, text)
     }
 
-    // The line from its pc on of a row with this word. An error may leave a part of it.
+    // The line from its pc on of a row that accesses no word, by the table. An error may leave a part of it.
+    #[inline(always)]
+    fn write_plain(
+        &mut self,
+        row: &Row,
+        word: u32,
+        register: u8,
+        text: &mut Text,
+    ) -> Result<(), AllocError>
+        requires { register < 33 }
+        ensures ok { OnOk result (text.new ≡ text.old ++ (place_text row.now.pc word ++ label_text register ++ (contents_text row.now.reg ++ codes "\n"))) }
+        ensures begins { BeginsWith text.old text.new }
+    {
+        let place = place_of(row.pc);
+        if place < self.kept.len() {
+            return self.kept[place].write_line(row, word, register, text);
+        }
+        write_labelled(row.pc, word, register, text)?;
+        end_with_contents(row, text)
+    }
+
+    // The line from its pc on of a row with this word, by the table. An error may leave a part of it.
+    #[inline(always)]
     fn write_rest(
         &mut self,
         row: &Row,
@@ -112,31 +105,11 @@ impl RowLines {
         ensures ok { OnOk result (text.new ≡ text.old ++ (place_text row.now.pc word ++ label_text register ++ (contents_text row.now.reg ++ (accesses_text row.now ++ codes "\n")))) }
         ensures begins { BeginsWith text.old text.new }
     {
+        if row.load.is_none() && row.store.is_none() {
+            return self.write_plain(row, word, register, text);
+        }
         self.write_code(row.pc, word, register, text)?;
         end_with_accesses(row, text)
-    }
-
-    // The same, put at a place of the text by the table. Bytes of the text after that place don't count.
-    #[inline(always)]
-    fn put_rest(
-        &mut self,
-        row: &Row,
-        word: u32,
-        register: u8,
-        at: usize,
-        text: &mut Text,
-    ) -> Result<(), AllocError>
-        requires { register < 33 }
-        ensures ok { OnOk result (text.new ≡ take at text.old ++ (place_text row.now.pc word ++ label_text register ++ (contents_text row.now.reg ++ (accesses_text row.now ++ codes "\n")))) }
-        ensures begins { BeginsWith (take at text.old) text.new }
-    {
-        if at <= text.len() && text.len() - at >= 73 {
-            if let Some(piece) = self.kept(row.pc, word, register) {
-                return put_known(piece, row, at, text);
-            }
-        }
-        text.truncate(at);
-        self.write_rest(row, word, register, text)
     }
 
     // The line of a row with this word, in its parts. An error may leave a part of it.
@@ -146,8 +119,8 @@ impl RowLines {
         ensures ok { OnOk result (text.new ≡ text.old ++ joined_text row.now word) }
         ensures begins { BeginsWith text.old text.new }
     {
-        let at = self.count.begin(row.hart, row.ic, text)?;
-        self.put_rest(row, word, register_of(row.reg), at, text)
+        self.count.write(row.hart, row.ic, text)?;
+        self.write_rest(row, word, register_of(row.reg), text)
     }
 
     // The line of a row that has this word and no fault. An error may leave a part of it.

@@ -1,5 +1,5 @@
 //! A short text that is appended often.
-ghost use Rattle.std.specs.Prelude.{◌≡◌, ◌≤◌, ◌+◌, ◌++◌, ◌==◌, ◌⊎◌, [], length, take, codes, OnOk, OnErr};
+ghost use Rattle.std.specs.Prelude.{◌≡◌, ◌≤◌, ◌+◌, ◌++◌, ◌==◌, ◌⊎◌, [], length, take, codes, IfOk, OnOk, OnErr};
 ghost use Rattle.rv_text.specs.Lines.{contents_text};
 
 use crate::text::Text;
@@ -85,30 +85,40 @@ impl Piece {
         Ok(())
     }
 
-    /// Puts it at a place of a text that has room for it there, and gives the place after it.
+    // Appends all 64 bytes to a text, and gives the place of the first that doesn't count.
     #[inline(always)]
-    pub fn put_at(&self, at: usize, text: &mut Text) -> usize
-        requires { at + 73 ≤ length text.old }
-        ensures end { take result text.new ≡ take at text.old ++ self.now }
-        ensures room { result + 9 ≤ length text.new }
+    fn append_all_to(&self, text: &mut Text) -> Result<usize, AllocError>
+        ensures end { IfOk result (λ end. take end text.new ≡ text.old ++ self.now) }
+        ensures room { IfOk result (λ end. end + 9 ≤ length text.new) }
+        ensures err { OnErr result (text.new ≡ text.old) }
     {
-        // Proves that the place after it is no greater than a length.
-        let _length = text.len();
-        text.put_many(at, &self.bytes);
-        at + self.used
+        text.push_bytes(&self.bytes)?;
+        Ok(text.len() - (ROOM - self.used))
     }
 
-    /// Puts it at a place of a text that has room for it there. The contents of the register that a row writes and the end of a
-    /// line follow, and no byte after these is kept.
+    /// Appends it and two bytes to a text. It may take memory for 64 bytes.
     #[inline(always)]
-    pub fn put_line(&self, row: &Row, at: usize, text: &mut Text)
-        requires { at + 73 ≤ length text.old }
-        ensures { text.new ≡ take at text.old ++ (self.now ++ (contents_text row.now.reg ++ codes "\n")) }
+    pub fn append_with(&self, tail: [u8; 2], text: &mut Text) -> Result<(), AllocError>
+        ensures ok { OnOk result (text.new ≡ text.old ++ (self.now ++ tail)) }
+        ensures err { OnErr result (text.new ≡ text.old) }
     {
-        let end = self.put_at(at, text);
+        let end = self.append_all_to(text)?;
+        text.end_with(end, tail);
+        Ok(())
+    }
+
+    /// Appends it, the contents of the register that a row writes and the end of a line to a text. It may take memory for 64
+    /// bytes.
+    #[inline(always)]
+    pub fn append_line(&self, row: &Row, text: &mut Text) -> Result<(), AllocError>
+        ensures ok { OnOk result (text.new ≡ text.old ++ (self.now ++ (contents_text row.now.reg ++ codes "\n"))) }
+        ensures err { OnErr result (text.new ≡ text.old) }
+    {
+        let end = self.append_all_to(text)?;
         match row.reg {
             Some((_, value)) => text.end_line_with(end, value),
             None => text.end_line(end),
         }
+        Ok(())
     }
 }

@@ -1,5 +1,5 @@
 //! Text that grows: replays, reports and the debugger gather their output in it. A failed append changes nothing.
-ghost use Rattle.std.specs.Prelude.{false, ◌≡◌, ◌<◌, ◌++◌, [], ◌==◌, List, ℕ, ◌+◌, ◌≤◌, length, take, drop, codes, OnOk, OnErr, decimal};
+ghost use Rattle.std.specs.Prelude.{false, ◌≡◌, ◌<◌, ◌++◌, [], ◌==◌, List, ℕ, ◌+◌, ◌≤◌, length, take, codes, OnOk, OnErr, decimal};
 ghost use Rattle.std.specs.Fmt.{signed_decimal, digits};
 ghost use Rattle.rv_text.specs.Instructions.{hex8};
 
@@ -108,22 +108,15 @@ impl Text {
         self.push_bytes(&eight_digits(n))
     }
 
-    /// Puts two bytes at a place, over those that are there.
+    /// Puts two bytes at a place, and keeps no byte after them.
     #[inline(always)]
-    pub(crate) fn put_two(&mut self, at: usize, two: [u8; 2])
+    pub(crate) fn end_with(&mut self, at: usize, tail: [u8; 2])
         requires { at + 2 ≤ length self.old }
-        ensures { self.new ≡ take at self.old ++ (two ++ drop (at + 2) self.old) }
+        ensures { self.new ≡ take at self.old ++ tail }
     {
-        self.bytes[at..at + 2].copy_from_slice(&two);
-    }
-
-    /// Puts 64 bytes at a place, over those that are there.
-    #[inline(always)]
-    pub(crate) fn put_many(&mut self, at: usize, bytes: &[u8; 64])
-        requires { at + 64 ≤ length self.old }
-        ensures { self.new ≡ take at self.old ++ (bytes.now ++ drop (at + 64) self.old) }
-    {
-        self.bytes[at..at + 64].copy_from_slice(bytes);
+        self.bytes[at] = tail[0];
+        self.bytes[at + 1] = tail[1];
+        self.bytes.truncate(at + 2);
     }
 
     /// Puts the end of a line at a place, and keeps no byte after it.
