@@ -136,7 +136,7 @@ pub use Rattle.bugnet.specs.Crashes.{CrashesAreShown, HasLine, IsCrash, ShowsCra
 pub use Rattle.bugnet.specs.DebugSessions.{ConvertedHaveTheirLimit, DebugsFiles, DoneSession, PrefixesCanBeDebugged, RecordingsCanBeDebugged, SessionIs, SessionsShowTheRun, ShowsRun, ShowsSession, session_after, session_of}
 pub use Rattle.bugnet.specs.Headline.{Headline, IsReplayed, Part, PrintsRun, RecordingsAreReplayed, RecordingsSayEnds, ReplaysRun, SaysEnd, interval_rows, part_of, run_text}
 pub use Rattle.bugnet.specs.Jointly.{DoneJointly, HasRun, IsJoined, JoinsRun, JointHeadline, PrintsJointly, RecordingsAreJoined, RecordingsCanBeJoined, TellsRun, joint_run, recording_of}
-pub use Rattle.bugnet.specs.Laws.{AreAlike, AreOfOneList, FilesKeepToTheirSize, IsNoRecording, IsNoSession, IsReadOnly, NeedsNoThreads, OneAnswer, OneSession, SchedulesAreWhole, SeedsAreWhole, book_of}
+pub use Rattle.bugnet.specs.Laws.{AreAlike, AreOfOneList, FilesKeepToTheirSize, IsNoRecording, IsNoSession, IsReadOnly, NeedsNoThreads, OneAnswer, OneSession, SchedulesAreWhole, SeedsAreWhole, TakesAlike, book_of}
 pub use Rattle.bugnet.specs.LineAnswers.{AnswersLine}
 pub use Rattle.bugnet.specs.LineCalls.{AnswersDemo, CallsOnly, CallsSo, HasShape, IsSaved, MaySave, RefusedAfter, TellsDemo, TellsRefusal, calls_of, is_printed, is_recorded, is_replayed, line_past, needed_of, needed_roles, past_of}
 pub use Rattle.bugnet.specs.Recordings.{AreScheduled, AreTaken, IsRun, Scheduling, began_by, book_if, end_by, instructions_of, is_fault, is_limit, marks_of, recorded, taken_by}

@@ -1,5 +1,5 @@
 -- What a recording answers after its loads.
-use Rattle.bugnet.proofs.Common.{◌≡◌, ℕ, List, Option, Some, None, ◌∙◌, ap, subst, sym, refl, arith, Bool, inl, inr, Result, Ok, Err, is_some, Counts, Files, Program, checked_by, first_bad, BadSetting, RawSettings, image_of, ElfError, RecordLine, seen_recording, RecordOptions, FileNames, refused, is_clash, IsByProgram, IsRecord, Scheduling, Schedule, names_in, scheduling_by, setting_refusal, refusal_in, IsRecordedRun, FitsLine, HoldsBytes, HasElf, WithFiles, ProgramTells, GivesBy, CauseBy, Answer, Refusal, IsAnswer, Start, RunToTell, IsRecordingBy, taken_by}
+use Rattle.bugnet.proofs.Common.{◌≡◌, ℕ, List, Option, Some, None, ◌∙◌, ap, subst, sym, refl, arith, Bool, inl, inr, Result, Ok, Err, is_some, Counts, Files, Program, checked_by, first_bad, BadSetting, RawSettings, image_of, ElfError, Line, RecordLine, seen_recording, RecordOptions, FileNames, refused, is_clash, IsByProgram, IsRecord, Scheduling, Schedule, names_in, scheduling_by, setting_refusal, refusal_in, IsRecordedRun, FitsLine, HoldsBytes, HasElf, WithFiles, ProgramTells, GivesBy, CauseBy, Answer, Refusal, IsAnswer, Start, RunToTell, IsRecordingBy, TakesAlike, taken_by}
 use Rattle.bugnet.proofs.LineCalls.{mapped}
 
 -- ---- what a recording loads
@@ -56,3 +56,15 @@ record-bytes known names r e h = subst (λ (n : FileNames). WithFiles known (λ 
 pub recorded-as : (r : RecordOptions) (o : Option Schedule) (seed : Option ℕ) (start : Start) (run : RunToTell) → r.seed ≡ seed → IsRecordingBy start (record { seed = seed; lean = r.lean; schedule = taken_by seed o }) run
     → IsRecordingBy start (scheduling_by (seen_recording r) o) run
 recorded-as r o seed start run e h = subst (λ (s : Option ℕ). IsRecordingBy start (record { seed = s; lean = r.lean; schedule = taken_by s o }) run) (sym e) h
+
+-- ---- its schedule
+
+pub takes-itself : (line : Option Line) (schedule : Option Schedule) → TakesAlike line schedule schedule
+takes-itself None schedule = tt
+takes-itself (Some (RecordLine r)) schedule = refl
+takes-itself (Some line) schedule = tt
+
+-- without a seed one takes what is given
+pub takes-given : (seed : Option ℕ) (a b : Option Schedule) → seed ≡ None → taken_by seed a ≡ taken_by seed b → a ≡ b
+takes-given None a b e same = same
+takes-given (Some seed) a b e same = grind arith

@@ -1,9 +1,9 @@
 -- Laws of answers, by their names.
-use Rattle.std.specs.Prelude.{◌≡◌, ℕ, List, Bool, true, false, Option, Some, None, IsSome, option_and_then}
+use Rattle.std.specs.Prelude.{◌≡◌, ℕ, List, Bool, true, false, Option, Some, None, option_and_then}
 use Rattle.bugnet.specs.Common.{sha256, Program, first_bad, RawSettings, Files, Schedule, Line, RecordLine, DebugLine, ConvertLine, SalvageLine, content_of, run_of, seeded, IsWhole, IsRecording, FileNames, Told, Saved}
 use Rattle.bugnet.specs.Sessions.{Commands, IsSession}
 use Rattle.bugnet.specs.Answers.{IsAnswer}
-use Rattle.bugnet.specs.Recordings.{began_by}
+use Rattle.bugnet.specs.Recordings.{began_by, taken_by}
 use Rattle.whole_runs.specs.Scheduled.{scheduled}
 use Rattle.bugnet.specs.Saves.{IsWithin}
 
@@ -53,10 +53,21 @@ abbrev pub IsNoRecording : Option Line → Type 0
 IsNoRecording (Some (RecordLine r)) = ⊥
 IsNoRecording line = Unit {0}
 
--- words that need no threads: all but those of a recording without a seed
-abbrev pub NeedsNoThreads : Option Line → Type 0
-NeedsNoThreads (Some (RecordLine r)) = IsSome r.seed
-NeedsNoThreads line = Unit {0}
+-- a recording needs no threads if a seed or a schedule chooses its turns, or it has one hart
+abbrev pub HasOneOrder : (seed : Option ℕ) → Option Schedule → (harts : ℕ) → Type 0
+HasOneOrder (Some seed) schedule harts = Unit {0}
+HasOneOrder None (Some schedule) harts = Unit {0}
+HasOneOrder None None harts = harts ≡ 1
+
+-- words that need no threads, with the schedule that is given: all but those of other recordings
+abbrev pub NeedsNoThreads : Option Schedule → Option Line → Type 0
+NeedsNoThreads schedule (Some (RecordLine r)) = HasOneOrder r.seed schedule r.settings.harts
+NeedsNoThreads schedule line = Unit {0}
+
+-- words take two schedules alike: only a recording without a seed takes one
+abbrev pub TakesAlike : Option Line → (a b : Option Schedule) → Type 0
+TakesAlike (Some (RecordLine r)) a b = taken_by r.seed a ≡ taken_by r.seed b
+TakesAlike line a b = Unit {0}
 
 -- the list of turns that a seed chooses is legal and finished, if the settings were tested
 abbrev pub SeedsAreWhole : Type 0

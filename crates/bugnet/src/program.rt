@@ -7,7 +7,7 @@ ghost use Rattle.bugnet.specs.Answers.{scheduling_by, names_in, refusal_in, word
 ghost use Rattle.bugnet.specs.LineAnswers.{AnswersLine};
 ghost use Rattle.bugnet.specs.Replies.{RepliesTo, Does, DoesTo};
 ghost use Rattle.bugnet.specs.LineCalls.{AnswersDemo};
-ghost use Rattle.bugnet.specs.Laws.{NeedsNoThreads, IsNoSession, IsNoRecording};
+ghost use Rattle.bugnet.specs.Laws.{NeedsNoThreads, TakesAlike, IsNoSession, IsNoRecording};
 ghost use Rattle.bugnet.specs.Sessions.{reading};
 ghost use Rattle.bugnet.specs.Program.{Runs};
 
@@ -237,67 +237,6 @@ fn keep_recording<S: Store, O: Sink, X: Sink, F: FnOnce(&Start) -> Result<RunToT
     act(alloc, names, &answer, files, out, err)
 }
 
-// The options of a recording without a seed.
-fn unseeded<'a, 'b>(command: &'b Command<'a>) -> Option<&'b RecordOptions<'a>>
-    ensures { MatchOption result (NeedsNoThreads (Some (seen command.now))) (λ options. (seen command.now ≡ RecordLine (seen_recording options.now)) × (options.now.seed ≡ None)) }
-{
-    match command {
-        Command::Record(options) => match options.seed {
-            None => Some(options),
-            Some(_) => None,
-        },
-        _ => None,
-    }
-}
-
-/// Does what a command asks for, other than a recording without a seed. It may neither wait nor start threads, and so it
-/// owes its return: each of these commands ends. A schedule changes nothing of what they do.
-pub fn perform<S: Store, I: Source<O>, O: Sink, X: Sink>(
-    alloc: Global,
-    command: &Command,
-    names: &Names,
-    files: &mut S,
-    input: &mut I,
-    out: &mut O,
-    err: &mut X,
-) -> Result<Status, Refusal>
-    requires named { names.now ≡ names_in (seen command.now) }
-    requires no_threads { NeedsNoThreads (Some (seen command.now)) }
-    ensures { (schedule : Option Schedule) → DoesTo schedule (seen command.now) names.now S.note (reading I.source I.note input.old input.new)
-        (call S.stored O.stream X.stream files.old out.old err.old files.new out.new err.new) result }
-{
-    // Laws:
-    readings_are_unique();
-    sessions_show_the_run();
-    logs_are_contents();
-    saved_files_keep_to_the_limit();
-    converted_files_keep_to_the_limit();
-    files_are_read();
-    refusals_stay();
-    // What `debug` prints depends on what it reads meanwhile, so it has no answer that is made first.
-    match command {
-        Command::Debug { .. } => done(debug_files(alloc, names, files, input, out)),
-        Command::Record(options) => match options.seed {
-            None => unreachable!(),
-            Some(seed) => {
-                let lean = options.lean;
-                keep_recording(
-                    alloc,
-                    options,
-                    names,
-                    files,
-                    out,
-                    err,
-                    |start: &Start| -> Result<RunToTell, AllocError>
-                        ensures { IfOk result (λ r. IsRecordingBy start.now (record { seed = Some seed; lean = lean; schedule = None }) r) }
-                    { recorder::record_by_seed(alloc, start, seed, lean) },
-                )
-            }
-        },
-        _ => reply(alloc, command, names, files, out, err),
-    }
-}
-
 // A schedule that a recording is given, or none. A closure's contract can name it only behind a bound, since its own type
 // has a lifetime.
 trait Given {
@@ -319,16 +258,14 @@ impl Given for Option<Schedule<'_>> {
     }
 }
 
-// Does what the words of a recording without a seed ask for.
-fn keep_unseeded<S: Store, O: Sink, X: Sink, D: Given, G: Gate, R: Threads + Wait + Sync>(
-    rt: &R,
+// Does what the words of a recording without a seed ask for on this thread: by the schedule, or by the turns of one hart.
+fn keep_scheduled<S: Store, O: Sink, X: Sink, D: Given>(
     alloc: Global,
     options: &RecordOptions,
     names: &Names,
     files: &mut S,
     out: &mut O,
     err: &mut X,
-    gate: &G,
     given: &D,
 ) -> Result<Status, Refusal>
     requires named { names.now ≡ names_in (RecordLine (seen_recording options.now)) }
@@ -345,11 +282,112 @@ fn keep_unseeded<S: Store, O: Sink, X: Sink, D: Given, G: Gate, R: Threads + Wai
         err,
         |start: &Start| -> Result<RunToTell, AllocError>
             ensures { IfOk result (λ r. IsRecordingBy start.now (record { seed = None; lean = lean; schedule = D.given given.entry.now }) r) }
-        { recorder::record_unseeded(rt, alloc, start, lean, gate, given.schedule()) },
+        { recorder::record_scheduled(alloc, start, lean, given.schedule()) },
     )
 }
 
-// Does a recording without a seed here, which alone may wait for threads, and any other command by `perform`.
+/// Does what a command asks for, other than a recording whose harts need threads. It may neither wait nor start threads, and
+/// so it owes its return: each of these commands ends. Only a recording without a seed takes the schedule.
+pub fn perform<S: Store, I: Source<O>, O: Sink, X: Sink>(
+    alloc: Global,
+    command: &Command,
+    names: &Names,
+    files: &mut S,
+    input: &mut I,
+    out: &mut O,
+    err: &mut X,
+    schedule: Option<Schedule>,
+) -> Result<Status, Refusal>
+    requires named { names.now ≡ names_in (seen command.now) }
+    requires no_threads { NeedsNoThreads schedule (Some (seen command.now)) }
+    ensures { (given : Option Schedule) → TakesAlike (Some (seen command.now)) schedule.entry given → DoesTo given (seen command.now) names.now S.note (reading I.source I.note input.old input.new)
+        (call S.stored O.stream X.stream files.old out.old err.old files.new out.new err.new) result }
+{
+    // Laws:
+    readings_are_unique();
+    sessions_show_the_run();
+    logs_are_contents();
+    saved_files_keep_to_the_limit();
+    converted_files_keep_to_the_limit();
+    files_are_read();
+    refusals_stay();
+    // What `debug` prints depends on what it reads meanwhile, so it has no answer that is made first.
+    match command {
+        Command::Debug { .. } => done(debug_files(alloc, names, files, input, out)),
+        Command::Record(options) => match options.seed {
+            None => keep_scheduled(alloc, options, names, files, out, err, &schedule),
+            Some(seed) => {
+                let lean = options.lean;
+                keep_recording(
+                    alloc,
+                    options,
+                    names,
+                    files,
+                    out,
+                    err,
+                    |start: &Start| -> Result<RunToTell, AllocError>
+                        ensures { IfOk result (λ r. IsRecordingBy start.now (record { seed = Some seed; lean = lean; schedule = None }) r) }
+                    { recorder::record_by_seed(alloc, start, seed, lean) },
+                )
+            }
+        },
+        _ => reply(alloc, command, names, files, out, err),
+    }
+}
+
+// The options of a recording whose harts need threads: several, whose turns neither a seed nor a schedule chooses.
+fn threaded<'a, 'b>(
+    command: &'b Command<'a>,
+    schedule: Option<Schedule>,
+) -> Option<&'b RecordOptions<'a>>
+    ensures { MatchOption result (NeedsNoThreads schedule.entry (Some (seen command.now)))
+        (λ options. (seen command.now ≡ RecordLine (seen_recording options.now)) × (options.now.seed ≡ None) × (schedule.entry ≡ None)) }
+{
+    match command {
+        Command::Record(options) => match (options.seed, schedule) {
+            (None, None) => {
+                if options.settings.harts == 1 {
+                    None
+                } else {
+                    Some(options)
+                }
+            }
+            _ => None,
+        },
+        _ => None,
+    }
+}
+
+// Does what the words of a recording ask for whose harts run in threads.
+fn keep_threaded<S: Store, O: Sink, X: Sink, G: Gate, R: Threads + Wait + Sync>(
+    rt: &R,
+    alloc: Global,
+    options: &RecordOptions,
+    names: &Names,
+    files: &mut S,
+    out: &mut O,
+    err: &mut X,
+    gate: &G,
+) -> Result<Status, Refusal>
+    requires named { names.now ≡ names_in (RecordLine (seen_recording options.now)) }
+    requires unseeded { options.now.seed ≡ None }
+    ensures { RepliesTo None (RecordLine (seen_recording options.now)) names.now S.note (call S.stored O.stream X.stream files.old out.old err.old files.new out.new err.new) result }
+{
+    let lean = options.lean;
+    keep_recording(
+        alloc,
+        options,
+        names,
+        files,
+        out,
+        err,
+        |start: &Start| -> Result<RunToTell, AllocError>
+            ensures { IfOk result (λ r. IsRecordingBy start.now (record { seed = None; lean = lean; schedule = None }) r) }
+        { recorder::record_threaded(rt, alloc, start, lean, gate) },
+    )
+}
+
+// Does a recording whose harts need threads here, which alone may wait, and any other command by `perform`.
 fn attempt<S: Store, I: Source<O>, O: Sink, X: Sink, G: Gate, R: Threads + Wait + Sync>(
     rt: &R,
     alloc: Global,
@@ -366,9 +404,9 @@ fn attempt<S: Store, I: Source<O>, O: Sink, X: Sink, G: Gate, R: Threads + Wait 
     ensures { DoesTo schedule.entry (seen command.now) names.now S.note (reading I.source I.note input.old input.new)
         (call S.stored O.stream X.stream files.old out.old err.old files.new out.new err.new) result }
 {
-    match unseeded(command) {
-        Some(options) => keep_unseeded(rt, alloc, options, names, files, out, err, gate, &schedule),
-        None => perform(alloc, command, names, files, input, out, err),
+    match threaded(command, schedule) {
+        Some(options) => keep_threaded(rt, alloc, options, names, files, out, err, gate),
+        None => perform(alloc, command, names, files, input, out, err, schedule),
     }
 }
 

@@ -127,28 +127,10 @@ fn recording_of<B: Book>(
     })
 }
 
-// A run of harts in threads of their own. The turns of one hart have one order alone, so it needs no thread.
-fn run_free<G: Gate, R: Threads + Wait + Sync>(
-    rt: &R,
+// A run by the schedule, or without one by the turns of one hart, which are those of any seed.
+fn run_here(
     alloc: Global,
     start: &Start,
-    gate: &G,
-    keeps: bool,
-) -> Result<Listed<LeanBook>, AllocError>
-    ensures { IfOk result (λ run. (list : List ℕ) × IsListed false keeps (began_of start.now) list run []) }
-{
-    if start.settings.harts() == 1 {
-        return run_listed(alloc, start, LeanBook, 0, keeps);
-    }
-    run_threads_listed(rt, alloc, start, LeanBook, gate, keeps)
-}
-
-// A run by the schedule, if there is one.
-fn run_unseeded<G: Gate, R: Threads + Wait + Sync>(
-    rt: &R,
-    alloc: Global,
-    start: &Start,
-    gate: &G,
     schedule: Option<Schedule>,
     keeps: bool,
 ) -> Result<Listed<LeanBook>, AllocError>
@@ -156,7 +138,7 @@ fn run_unseeded<G: Gate, R: Threads + Wait + Sync>(
 {
     match schedule {
         Some(schedule) => run_scheduled(alloc, start, LeanBook, schedule, keeps),
-        None => run_free(rt, alloc, start, gate, keeps),
+        None => run_listed(alloc, start, LeanBook, 0, keeps),
     }
 }
 
@@ -174,18 +156,31 @@ pub fn record_by_seed(
     recording_of(alloc, start, run, lean)
 }
 
-/// The recording of a run without a seed: by a schedule, or else several harts are in threads of their own. As much of a
-/// turn is kept. The only error is running out of memory.
-pub fn record_unseeded<G: Gate, R: Threads + Wait + Sync>(
+/// The recording of a run without a seed on this thread: by a schedule, or the only run of one hart. As much of a turn is
+/// kept. The only error is running out of memory.
+pub fn record_scheduled(
+    alloc: Global,
+    start: &Start,
+    lean: bool,
+    schedule: Option<Schedule>,
+) -> Result<RunToTell, AllocError>
+    ensures { IfOk result (λ r. IsRecordingBy start.now (record { seed = None; lean = lean; schedule = schedule.entry }) r) }
+{
+    let run = run_here(alloc, start, schedule, !lean)?;
+    recording_of(alloc, start, run, lean)
+}
+
+/// The recording of a run whose harts are in threads of their own. As much of a turn is kept. The only error is running out
+/// of memory.
+pub fn record_threaded<G: Gate, R: Threads + Wait + Sync>(
     rt: &R,
     alloc: Global,
     start: &Start,
     lean: bool,
     gate: &G,
-    schedule: Option<Schedule>,
 ) -> Result<RunToTell, AllocError>
-    ensures { IfOk result (λ r. IsRecordingBy start.now (record { seed = None; lean = lean; schedule = schedule.entry }) r) }
+    ensures { IfOk result (λ r. IsRecordingBy start.now (record { seed = None; lean = lean; schedule = None }) r) }
 {
-    let run = run_unseeded(rt, alloc, start, gate, schedule, !lean)?;
+    let run = run_threads_listed(rt, alloc, start, LeanBook, gate, !lean)?;
     recording_of(alloc, start, run, lean)
 }
