@@ -1,19 +1,23 @@
 -- Which words have turns that the environment may name.
-use Rattle.std.specs.Prelude.{◌≡◌, ◌≤◌, ◌<◌, ◌⊎◌, ℕ, false, List, length, Option, Some, None, Result, Ok, Err, IsSomeAnd}
+use Rattle.std.specs.Prelude.{◌≡◌, ◌≤◌, ◌<◌, ◌⊎◌, ◌++◌, ℕ, false, List, length, codes, Option, Some, None, option_map, Result, Ok, Err, IsSomeAnd}
 use Rattle.bn_base.specs.Ranges.{first_bad}
 use Rattle.bn_outside.specs.Counts.{Counts, NoneFell, Rose}
 use Rattle.bn_outside.specs.Files.{Stored}
 use Rattle.bn_outside.specs.StoreCalls.{LoadCall}
 use Rattle.bn_outside.specs.declared.schedule.Schedule.{Schedule}
 use Rattle.bn_outside.specs.declared.schedule.Schedule.TheVariants as schedules
+use Rattle.bn_outside.specs.declared.schedule.Manner.{Manner}
+use Rattle.bn_outside.specs.declared.schedule.Manner.TheVariants.{Bursts, Sleeper}
 use Rattle.bugnet.specs.Command.Record.{is_clash}
-use Rattle.command_words.specs.Words.{Line, RecordLine, RecordingLine}
+use Rattle.command_words.specs.Words.{Line, RecordLine, RecordingLine, number_of}
 use Rattle.log_commands.specs.FileCalls.{Note}
 use Rattle.log_commands.specs.Outside.{WithFiles}
 use Rattle.log_commands.specs.declared.status.Status.{Status}
 use Rattle.log_commands.specs.declared.status.Status.TheVariants.{OutOfMemory, WordsRefused}
 use Rattle.log_commands.specs.declared.status.Status.TheVariants as exit
 use Rattle.log_commands.specs.Statuses.{code}
+use Rattle.bugnet_main.specs.declared.schedule.Said.{Said}
+use Rattle.bugnet_main.specs.declared.schedule.Said.TheVariants as said
 use Rattle.bugnet_main.specs.declared.schedule.Turns.{Turns}
 use Rattle.bugnet_main.specs.declared.schedule.Turns.TheVariants.{OfThreads}
 use Rattle.bugnet_main.specs.declared.schedule.Turns.TheVariants as turns
@@ -40,6 +44,22 @@ IsFor (turns.Listed list) schedule = ⊥
 abbrev pub IsUnasked : Result Turns Status → Type 0
 IsUnasked (Ok turns) = turns ≡ OfThreads
 IsUnasked (Err status) = status ≡ OutOfMemory
+
+-- ---- what a text names
+
+-- turns that a number draws in a manner, if there is a number
+abbrev pub drawn_by : Manner → Option ℕ → Option Said
+drawn_by manner number = option_map (λ n. said.Drawn manner n) number
+
+-- the word of a manner
+abbrev pub word_of : Manner → List ℕ
+word_of Bursts = codes "bursts:"
+word_of Sleeper = codes "sleeper:"
+
+-- a text says a manner and a number, which is one as `--seed` takes it, or the name of a list
+abbrev pub IsSaid : List ℕ → Said → Type 0
+IsSaid text (said.Drawn manner number) = (digits : List ℕ) × (text ≡ word_of manner ++ digits) × (number_of digits ≡ Some number)
+IsSaid text (said.Book name) = text ≡ codes "book:" ++ name.now
 
 -- ---- what is loaded for them
 

@@ -1,8 +1,8 @@
 //! Which turns a recording without a seed takes, as the environment names them.
-ghost use Rattle.std.specs.Prelude.{◌≡◌, IfOk, OnSome};
+ghost use Rattle.std.specs.Prelude.{◌≡◌, ◌++◌, ℕ, List, codes, IfOk, IfSome, IsSome, OnSome};
 ghost use Rattle.bugnet.specs.Command.Record.{is_clash};
-ghost use Rattle.command_words.specs.Words.{command_in, seen_recording};
-ghost use Rattle.bugnet_main.specs.Asked.{AskForTurns, TakesTurns, IsFor, IsUnasked, LoadsList, LoadsFew};
+ghost use Rattle.command_words.specs.Words.{command_in, number_of, seen_recording};
+ghost use Rattle.bugnet_main.specs.Asked.{AskForTurns, TakesTurns, IsFor, IsUnasked, LoadsList, LoadsFew, IsSaid, drawn_by};
 
 use bn_base::Settings;
 use bn_outside::{Manner, Schedule, Sink, Store, send_all};
@@ -58,8 +58,11 @@ enum Said<'a> {
     Book(&'a str),
 }
 
-// Turns that a number draws in this manner, if the text is a number.
-fn drawn<'a>(manner: Manner, text: &str) -> Option<Said<'a>> {
+// Turns that a number draws in this manner, if the text is a number. It is one exactly if `--seed` takes it.
+#[tactic(auto, using(crate::proofs::Numbers::number_read))]
+fn drawn<'a>(manner: Manner, text: &str) -> Option<Said<'a>>
+    ensures { result ≡ drawn_by manner (number_of text.now) }
+{
     match text.parse::<u64>() {
         Ok(number) => Some(Said::Drawn { manner, number }),
         Err(_) => None,
@@ -67,7 +70,12 @@ fn drawn<'a>(manner: Manner, text: &str) -> Option<Said<'a>> {
 }
 
 // What a text says of turns, if it is understood.
-fn said_by(text: &str) -> Option<Said<'_>> {
+fn said_by(text: &str) -> Option<Said<'_>>
+    ensures said { IfSome result (IsSaid text.now) }
+    ensures bursts { (digits : List ℕ) → text.now ≡ codes "bursts:" ++ digits → result ≡ drawn_by Manner.Bursts (number_of digits) }
+    ensures sleeper { (digits : List ℕ) → text.now ≡ codes "sleeper:" ++ digits → result ≡ drawn_by Manner.Sleeper (number_of digits) }
+    ensures book { (name : List ℕ) → text.now ≡ codes "book:" ++ name → IsSome result }
+{
     if let Some(number) = text.strip_prefix("bursts:") {
         return drawn(Manner::Bursts, number);
     }
