@@ -62,7 +62,8 @@ def foreign(log, book, page, draw):
     """{kind: the bytes of such a file}"""
     cut = draw.randrange(len(log) - 1) + 1
     heads = {"png": b"\x89PNG\r\n\x1a\n", "gif": b"GIF89a", "bmp": b"BM", "jpeg": b"\xff\xd8\xff\xe0", "pdf": b"%PDF-1.7\n", "xz": b"\xfd7zXZ\0",
-             "zstd": b"\x28\xb5\x2f\xfd", "bzip2": b"BZh9", "pcap": b"\xd4\xc3\xb2\xa1\2\0\4\0" + bytes(8), "pcapng": b"\n\r\r\n", "sqlite": b"SQLite format 3\0",
+             "zstd": b"\x28\xb5\x2f\xfd", "bzip2": b"BZh9", "pcap": b"\xd4\xc3\xb2\xa1\2\0\4\0" + bytes(8), "pcapng": b"\n\r\r\n",
+             "sqlite": b"SQLite format 3\0",
              "class": b"\xca\xfe\xba\xbe", "wasm": b"\0asm\1\0\0\0", "midi": b"MThd\0\0\0\6\0\1\0\2", "ogg": b"OggS\0\2", "flac": b"fLaC\0\0",
              "elf64": b"\x7fELF\2\1\1\0", "squashfs": b"hsqs", "pickle": b"\x80\4\x95", "icon": b"\0\0\1\0\1\0", "font": b"\0\1\0\0\0\x0c\0\x80"}
     made = {name: head + noise(draw, 16) for name, head in heads.items()}
@@ -72,14 +73,17 @@ def foreign(log, book, page, draw):
         "pcm": zeros(draw) + samples, "pcm of turns": book + samples, "wav": b"RIFF" + bytes(4) + b"WAVEfmt " + zeros(draw) + samples,
         "tar": archive(draw, "notes", text(draw)), "tar of a log": archive(draw, "BUGNETLG", log), "zip": zipped(draw), "gzip": gzip.compress(log),
         "text": text(draw), "notes on turns": book + text(draw), "empty lines": b"\n" * draw.randrange(1, 99), "lines of DOS": b"\r\n" * draw.randrange(1, 99),
-        "lines in UTF-16": b"\n\0" * draw.randrange(1, 99), "text in UTF-16": text(draw).decode().encode("utf-16"), "tabs": b"\t" * draw.randrange(1, 99) + b"\n",
+        "lines in UTF-16": b"\n\0" * draw.randrange(1, 99), "text in UTF-16": text(draw).decode().encode("utf-16"),
+        "tabs": b"\t" * draw.randrange(1, 99) + b"\n",
         "csv": b"0,1,2\n" * 9, "elf": read(ELF), "turns and one more": book + b"\x10", "turns before": b"\x7f" + book,
-        "log cut": log[:cut], "log and more": log + noise(draw), "log twice": log + log, "log damaged": log[:cut] + bytes([log[cut] ^ 1 << draw.randrange(8)]) + log[cut + 1:],
+        "log cut": log[:cut], "log and more": log + noise(draw), "log twice": log + log,
+        "log damaged": log[:cut] + bytes([log[cut] ^ 1 << draw.randrange(8)]) + log[cut + 1:],
         "log of later": log[:8] + b"\x09" + log[9:], "head of a log": b"BUGNETLG" + noise(draw), "named as a log": b"BUGNETLG is a word\n",
         "html": b"<!doctype html>\n<html><body>" + text(draw) + b"</body></html>\n", "page cited": b"<!doctype html>\n<p>" + page + b"</html>\n",
         "page twice": page + page, "page cut": page[:-9], "page and more": page + text(draw), "mark": kinds.PAGE_MARK.encode() + text(draw),
         "xml": b'<?xml version="1.0" encoding="utf-8"?>\n<a/>\n', "junit": b'<?xml version="1.0" encoding="utf-8"?>\n<testsuite name="pytest"></testsuite>\n',
-        "json": b'{"answer": "why"}\n', "lcov": b"TN:\nSF:a.c\nDA:1,1\nend_of_record\n", "callgrind": b"# callgrind format\nversion: 1\ncreator: callgrind-3.19.0\n",
+        "json": b'{"answer": "why"}\n', "lcov": b"TN:\nSF:a.c\nDA:1,1\nend_of_record\n",
+        "callgrind": b"# callgrind format\nversion: 1\ncreator: callgrind-3.19.0\n",
         "trace": b'{"traceEvents": []}\n', "trace of Chrome": b'{"otherData": {"creator": "chrome"}, "traceEvents": []}\n'})
     return made
 

@@ -10,8 +10,9 @@ and is refused.
 All examples of a document run in one bash, one after another, as those of a new user: with a PATH of /usr/bin:/bin, no
 other variables but HOME, and another folder for /tmp/. Their folder has what a checkout has, but for the crates, and
 PROGRAM as the shipped one. A line '...' represents any lines. A block after a line '<!-- not run -->' isn't
-run, nor one after '<!-- needs NAME.. -->' if there is no command or file NAME, which is said. With --write the document gets what was printed, if it differs. Of `addr2line` and `gdb` any
-will do, of whatever machine; --without hides all of these, so that a page is tried as it is for a reader who lacks them.
+run, nor one after '<!-- needs NAME.. -->' if there is no command or file NAME, which is said. With --write the document
+gets what was printed, if it differs. Of `addr2line` and `gdb` any will do, of whatever machine; --without hides all of
+these, so that a page is tried as it is for a reader who lacks them.
 """
 import os
 import re

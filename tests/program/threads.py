@@ -13,6 +13,7 @@ import subprocess
 import sys
 import tempfile
 import time
+from typing import Callable, List
 
 TOP = os.path.dirname(os.path.dirname(os.path.dirname(os.path.realpath(__file__))))
 LOOPS = f"{TOP}/bench/harts.elf"
@@ -171,7 +172,7 @@ def each_hart_of_a_lean_run_has_a_thread(runs):
     return each_hart_has_a_thread(runs, "--lean")
 
 
-TESTS = [
+TESTS: List[Callable[[Recordings], bool]] = [
     seed_zero_is_found,
     workers_take_all_turns,
     no_worker_keeps_to_every_other_turn,

@@ -91,7 +91,9 @@ def tried(test: Test, elf: str) -> tuple[str, str]:
     if not test.kind:
         return ("false" if found else "silent as it should be"), first
     lines = {each["line"] for one in found[:FIRST] for each in one["calls"][:2]}
-    if test.lines and lines & test.lines or not test.lines and any(test.kind == ANY or each["kind"].split("-")[0] == test.kind.split("-")[0] for each in found[:FIRST]):
+    kinds = {each["kind"].split("-")[0] for each in found[:FIRST]}
+    is_of_kind = bool(kinds) and (test.kind == ANY or test.kind.split("-")[0] in kinds)
+    if lines & test.lines if test.lines else is_of_kind:
         return "named", first
     return ("another line" if found else "not told"), first
 

@@ -37,7 +37,7 @@ has err "what was built is the shipped program, byte for byte"
 # Whether a call runs the shipped program, says nothing of its own, and leaves the tree as it was.
 is_run() { # WORD.. that call the script
     everything >"$work/before"
-    runs 5 "$@" list LOG
+    runs 4 "$@" list LOG
     answers list LOG
     [ ! -s "$work/err" ] || fails "err isn't empty"
     builds_nothing
@@ -98,7 +98,7 @@ for name in other ./other "$work/other"; do
     ZELKUMA_PROGRAM=$name runs 6 "$zelkuma" slice a "b c"
     [ "$(cat "$work/out")" = "another: slice a b c" ] || fails "$name isn't run"
 done
-ZELKUMA_PROGRAM='' runs 5 "$zelkuma" list LOG
+ZELKUMA_PROGRAM='' runs 4 "$zelkuma" list LOG
 for name in nowhere "$work" "$top/LICENSE"; do
     ZELKUMA_PROGRAM=$name runs 1 "$zelkuma" list LOG
     has err "^zelkuma: there is no program .* that can be run; 'zelkuma build' makes one from the sources$"

@@ -67,7 +67,7 @@ cat >"$work/kit/program" <<'END'
 [ "$1" = check ] && exit 0
 echo "ran $*" >>"$RT_CALLS"
 echo "words: $*"
-exit 5
+exit 4
 END
 chmod +x "$work/kit/program" "$work/kit/bin/"*
 echo "rattle-kit-13f logic 0" >"$work/kit/named"

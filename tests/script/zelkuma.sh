@@ -45,7 +45,7 @@ has calls "^proves bugnet, $jobs jobs$"
 has calls "^proves side, $((jobs > 1 ? jobs / 2 : 1)) jobs$"
 
 what="the program that was built"
-runs 5 env ZELKUMA_PROGRAM="$built" "$zelkuma" list "a LOG"
+runs 4 env ZELKUMA_PROGRAM="$built" "$zelkuma" list "a LOG"
 answers list a LOG
 
 what="the second build"

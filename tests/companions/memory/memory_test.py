@@ -93,23 +93,24 @@ class Oracle:
 
 
 class MemoryTest(case.Case):
+    built = ""          # the program of all cases; none without a compiler
+
     @classmethod
     def setUpClass(cls):
-        cls.program = None
         if shutil.which("riscv64-unknown-elf-gcc"):
-            cls.program = common.path("memory.elf")
-            subprocess.run(["bash", "-c", '. examples/lib/with_names.sh && build_with_names "$@"', "-", cls.program, *SOURCES],
+            cls.built = common.path("memory.elf")
+            subprocess.run(["bash", "-c", '. examples/lib/with_names.sh && build_with_names "$@"', "-", cls.built, *SOURCES],
                            cwd=common.TOP, check=True)
 
     def log(self, name, which, hart=0):
         """The recording of a case: `which` is b or g."""
-        if self.program is None:
+        if not self.built:
             self.skipTest("riscv64-unknown-elf-gcc isn't installed")
         key = name, which, hart
         if key not in case.logs:
             given = common.written(common.path("given"), chr(ord("a") + NUMBERS[name]) + which + str(hart))
             harts = ["--harts", "2"] if hart or name == "lends" else []
-            case.logs[key] = common.record("-".join(map(str, key)), self.program, "--seed", "3", "--input", given, *harts)
+            case.logs[key] = common.record("-".join(map(str, key)), self.built, "--seed", "3", "--input", given, *harts)
         return case.logs[key]
 
     def found(self, log, elf, *options):
@@ -135,7 +136,7 @@ class MemoryTest(case.Case):
         self.needs_addr2line()
         for name, kind, text, function in CASES:
             with self.subTest(name):
-                said = self.lines_of(self.log(name, "b"), self.program)
+                said = self.lines_of(self.log(name, "b"), self.built)
                 told = re.search(r"(?:1\. |  )%s: (.*)\n(?:     it is in (.*))?" % kind, said)
                 self.assertIsNotNone(told, said)
                 self.assertIn(text, told[1])
@@ -147,23 +148,23 @@ class MemoryTest(case.Case):
                 if hart and name == "lends":
                     continue
                 with self.subTest(name, hart=hart):
-                    self.assertEqual(self.run_of(self.log(name, "g", hart), self.program).findings.in_order(), [])
-        self.assertNotIn("memory-leak", self.lines_of(self.log("leak", "g"), self.program))
+                    self.assertEqual(self.run_of(self.log(name, "g", hart), self.built).findings.in_order(), [])
+        self.assertNotIn("memory-leak", self.lines_of(self.log("leak", "g"), self.built))
 
     def test_another_hart_is_told_the_same(self):
         for name, kind, text, _ in CASES:
             if name in ("leak", "lends"):       # (no finding; of two harts by itself)
                 continue
             with self.subTest(name):
-                found = self.run_of(self.log(name, "b", 1), self.program).findings.in_order()
+                found = self.run_of(self.log(name, "b", 1), self.built).findings.in_order()
                 self.assertEqual((found[0].kind, found[0].when.hart), (kind, 1))
                 self.assertIn(text, found[0].text)
 
     def test_what_another_hart_gave_back(self):
-        found, = self.run_of(self.log("lends", "b"), self.program).findings.in_order()
+        found, = self.run_of(self.log("lends", "b"), self.built).findings.in_order()
         self.assertEqual((found.kind, found.when.hart, found.thing.taken.hart, found.thing.gone.hart), (findings.FREED, 0, 0, 1))
         self.needs_addr2line()
-        self.assertRegex(self.lines_of(self.log("lends", "b"), self.program), r"given back in gives_back .*: another hart\n")
+        self.assertRegex(self.lines_of(self.log("lends", "b"), self.built), r"given back in gives_back .*: another hart\n")
 
     def test_of_a_lost_beginning_nothing_is_told_that_needs_it(self):
         """Each end of a good recording is silent, too."""
@@ -172,22 +173,22 @@ class MemoryTest(case.Case):
             with closing(open_log(log)) as source:
                 for end in (source.end(rows) for rows in (20, 60, 200)):
                     with self.subTest(name, rows=end.rows()):
-                        program = programs.setdefault(self.program, Program(Elf(self.program)))
+                        program = programs.setdefault(self.built, Program(Elf(self.built)))
                         run = Run(end, program, hooks_of(program, [], []))
-                        run.along(chunks(end.name, self.program, log=end))
+                        run.along(chunks(end.name, self.built, log=end))
                         self.assertEqual((run.findings.in_order(), run.is_whole), ([], not end.unread))
 
     def record_in_intervals(self, name):
         """A good recording with a Header each hundred rows, so that an end of it can be read."""
         self.log(name, "g")
         given = common.written(common.path("given"), chr(ord("a") + NUMBERS[name]) + "g0")
-        return common.record(name + "-ends", self.program, "--seed", "3", "--input", given, "--interval", "100")
+        return common.record(name + "-ends", self.built, "--seed", "3", "--input", given, "--interval", "100")
 
     def test_accesses_to_what_was_given_back_are_those_of_a_plain_reading(self):
         for name in ("freed", "resized", "heap_after", "unwritten_copied"):
             log = self.log(name, "b")
-            oracle = Oracle(log, self.program).bad
-            found = [each for each in self.run_of(log, self.program).findings.in_order() if each.kind == findings.FREED]
+            oracle = Oracle(log, self.built).bad
+            found = [each for each in self.run_of(log, self.built).findings.in_order() if each.kind == findings.FREED]
             told = [(each.when.hart, each.when.count) for each in found]
             if name == "resized":               # (the memory of `freed` was taken again: addresses don't tell it)
                 self.assertEqual(told, oracle)
@@ -210,7 +211,7 @@ class MemoryTest(case.Case):
     def test_a_stack_of_its_own(self):
         """A hart that changes its stack to an array hasn't run into that."""
         elf = common.path("deep.elf")
-        if self.program is None:
+        if not self.built:
             self.skipTest("riscv64-unknown-elf-gcc isn't installed")
         source = os.path.join("tests", "companions", "lib", "programs", "deep.c")
         subprocess.run(["bash", "-c", '. examples/lib/with_names.sh && build_with_names "$@"', "-", elf, source], cwd=common.TOP, check=True)
@@ -228,7 +229,7 @@ class MemoryTest(case.Case):
 
     def test_fail_is_a_status(self):
         for which, status in (("b", memory.FOUND), ("g", 0)):
-            self.assertEqual(common.companion("memory", self.log("freed", which), self.program, "--fail")[0], status)
+            self.assertEqual(common.companion("memory", self.log("freed", which), self.built, "--fail")[0], status)
 
     def test_refusals(self):
         log, elf = self.record("heap", "--seed", "10"), self.elf("heap")

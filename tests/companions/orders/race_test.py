@@ -66,7 +66,7 @@ class RaceTest(case.Case):
 
     def test_words_of_one_object_are_one_group(self):
         text = self.says("race", *self.crash("lock_left_held"))
-        self.assertIn(" 1. 8 pairs on accounts (0001935c) and 7 more words\n", text)
+        self.assertIn(" 1. 8 pairs on accounts[0] (0001935c) and 7 more words\n", text)
         self.assertEqual(counts(text), [8])
 
     def test_a_guilty_line_that_races_is_in_the_first_groups(self):

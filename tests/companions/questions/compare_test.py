@@ -39,9 +39,9 @@ class CompareTest(case.Case):
         self.assertEqual([point["place"]["address"] for point in parted["other"]], [good[first][0], bad[first][0]])
         loads = [point["row"].rpartition("=")[2] for point in parted["loads"]]
         self.assertNotEqual(*loads)             # the words of the text that aren't the same
-        for log, giver, load in zip(logs, parted["givers"], parted["loads"]):
+        for log, giver, point in zip(logs, parted["givers"], parted["loads"]):
             rows = [" ".join(row) for row in common.rows(log, self.elf("word_count"))]
-            calls = [row for row in rows[:rows.index(load["row"])] if " ecall | " in row]
+            calls = [row for row in rows[:rows.index(point["row"])] if " ecall | " in row]
             self.assertEqual(giver, calls[-1])  # the `read` call that brought the text
         said = self.says("compare", *logs, self.elf("word_count"))
         self.assertEqual(len(re.findall(r"\n +stored by 0:16 in .*: a read call, a0=0000001[56]\n", said)), 2)

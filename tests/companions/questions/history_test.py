@@ -5,6 +5,7 @@ import re
 import shutil
 import subprocess
 import unittest
+from typing import Any, Dict
 from unittest import mock
 
 import case
@@ -213,9 +214,9 @@ class NamesTest(case.Case):
             variables.variable_of(elf, f"orders+0:{variables.MOST_BYTES + 1}")
 
 
-INT = {"kind": "int", "name": "int", "size": 4, "signed": True}
-CHAR = {"kind": "int", "name": "unsigned char", "size": 1, "signed": False}
-PAIR = {"kind": "fields", "name": "struct pair", "size": 8, "fields": [
+INT: Dict[str, Any] = {"kind": "int", "name": "int", "size": 4, "signed": True}
+CHAR: Dict[str, Any] = {"kind": "int", "name": "unsigned char", "size": 1, "signed": False}
+PAIR: Dict[str, Any] = {"kind": "fields", "name": "struct pair", "size": 8, "fields": [
     {"name": "low", "at": 0, "type": INT, "bit": 0, "bits": 5}, {"name": "high", "at": 0, "type": INT, "bit": 5, "bits": 3},
     {"name": "letters", "at": 4, "type": {"kind": "array", "name": "", "size": 4, "count": 4, "first": 0, "of": CHAR}}]}
 
@@ -236,12 +237,12 @@ class TypesTest(unittest.TestCase):
         self.assertEqual(list(leaves(many, 80, 90)), [])
 
     def test_parts_outside_of_their_whole_are_bytes(self):
-        many = {"kind": "array", "name": "", "size": 80, "count": 10, "first": 0, "of": PAIR}
+        many: Dict[str, Any] = {"kind": "array", "name": "", "size": 80, "count": 10, "first": 0, "of": PAIR}
         self.assertEqual((bounded(PAIR), bounded(many)), (PAIR, many))
         for wrong in ({**many, "count": 1 << 31}, {**many, "count": -1}, {**PAIR, "size": 7}, {**PAIR, "fields": [{"name": "a", "at": -4, "type": INT}]},
                       {**PAIR, "fields": [{"name": "a", "at": 7, "type": INT, "bit": 7, "bits": 2}]}):
             self.assertEqual(bounded(wrong), words_type(wrong["size"]), wrong)
-        inner = {"kind": "fields", "name": "", "size": 80, "fields": [{"name": "a", "at": 0, "type": {**many, "count": 11}}]}
+        inner: Dict[str, Any] = {"kind": "fields", "name": "", "size": 80, "fields": [{"name": "a", "at": 0, "type": {**many, "count": 11}}]}
         self.assertEqual(bounded(inner)["fields"][0]["type"], words_type(80))
 
     def test_values(self):

@@ -84,7 +84,7 @@ class RecentTest(case.Case):
     def test_what_was_not_read_is_said(self):
         log, elf = self.record("wild_store", *SMALL), self.elf("wild_store")
         text = self.says("why", log, elf, "--rows", "500")
-        self.assertRegex(text, r"\nOnly the last [\d,]+ rows were read: [\d,]+ bytes of records before them weren't looked at\.")
+        self.assertRegex(text, r"\nOnly the last [\d,]+ rows of the log were read: [\d,]+ bytes of records before them weren't\.")
         self.assertIn("calls from before the first row that was read", text)
         self.assertNotIn("The log gave up", text)
         self.assertNotIn("Only the last", self.says("why", log, elf))

@@ -1,6 +1,5 @@
 """The calls over a row: those who read text and those who read columns say the same, behind tail calls too."""
 import json
-import os
 import re
 import unittest
 
