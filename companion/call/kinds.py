@@ -4,6 +4,7 @@ from __future__ import annotations
 
 import mmap
 import re
+import struct
 from typing import Callable, NamedTuple
 
 from . import program
@@ -11,6 +12,9 @@ from .book_file import is_book
 from .errors import CompanionError
 
 ELF_MAGIC = b"\x7fELF"
+CORE_HEAD = ELF_MAGIC + b"\1\1\1" + bytes(9) + struct.pack("<HHI", 4, 243, 1)     # of a core file of 32-bit RISC-V
+CORE_MARK = struct.pack("<III", 8, 0, 0x5a4b) + b"zelkuma\0"     # a note behind the head: other tools make core files, too
+CORE_HEAD_BYTES = 52
 PAGE_MARK = '<meta name="generator" content="zelkuma">'
 
 
@@ -42,7 +46,22 @@ def is_log(name: str) -> bool:
     return True
 
 
+def is_core(name: str) -> bool:
+    """Whether it is a whole core file of ours."""
+    with open(name, "rb") as file, mmap.mmap(file.fileno(), 0, access=mmap.ACCESS_READ) as data:
+        if not data[:len(CORE_HEAD)] == CORE_HEAD or data[CORE_HEAD_BYTES:CORE_HEAD_BYTES + len(CORE_MARK)] != CORE_MARK:
+            return False
+        first, = struct.unpack_from("<I", data, 28)
+        count, = struct.unpack_from("<H", data, 44)
+        last: int = first + 32 * (count - 1)        # the head of the last part, which is at the file's end
+        if not 0 < last <= len(data) - 32:
+            return False
+        offset, size = struct.unpack_from("<4xI8xI", data, last)
+        return bool(offset + size == len(data))
+
+
 LOG = Kind("a whole log", is_log)
+CORE = Kind("a core file of export --core", is_core)
 TURNS = Kind("a list of turns", is_book)
 PAGE = text_kind("a page of zelkuma", r'<!doctype html>\s*<html lang="en">\s*<head>\s*<meta charset="utf-8">\s*' + PAGE_MARK,
                  "</html>\n", "<!doctype html>")

@@ -14,7 +14,7 @@ from dataclasses import dataclass
 from typing import BinaryIO, NoReturn, Optional, Sequence, Tuple
 
 from .errors import REFUSED, UNREADABLE, UNWRITABLE, CompanionError
-from .kinds import ELF_MAGIC, Kind
+from .kinds import CORE, ELF_MAGIC, Kind
 from .scratch import Scratch
 from .streams import uninterrupted
 
@@ -65,7 +65,7 @@ class Target:
     def check_content(self, old: os.stat_result) -> None:
         with open(self.path, "rb") as file:
             head = file.read(len(ELF_MAGIC))
-        if head == ELF_MAGIC:
+        if head == ELF_MAGIC and self.kind is not CORE:
             self.refuse("it is an ELF file, which would be lost")
         if head and not fits(self.kind, self.path, (old.st_dev, old.st_ino, old.st_size, old.st_mtime_ns, old.st_ctime_ns)):
             self.refuse(f"it isn't {self.kind.name}, and would be lost; remove it first, or give another name")

@@ -16,11 +16,10 @@ from ..call.program import NOT_BUILT
 from ..call.text import number
 from ..questions.debugger import PACKAGE, gdb_path
 from ..recording.elf import Elf
-from ..recording.log import Log
+from ..recording.log import Log, asked_row
 from ..recording.naming import named_elf
 from ..recording.opened import HIGHEST
 from ..recording.recent import FIRST_ROWS, open_log
-from ..why.facts import asked_row
 from .memory import Memory
 from .packets import PacketStream
 from .questions import Questions

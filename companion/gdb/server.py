@@ -5,8 +5,7 @@ import re
 from typing import Callable, Optional
 
 from ..call.errors import CompanionError
-from ..recording.log import At
-from ..why.facts import asked_row
+from ..recording.log import At, asked_row
 from . import target
 from .memory import Memory
 from .motion import BEGIN, END, Motion

@@ -1,50 +1,63 @@
-"""Saves what a recording did for other tools: kcachegrind, genhtml, ui.perfetto.dev."""
+"""Saves what a recording did for other tools: kcachegrind, genhtml, ui.perfetto.dev, gdb."""
 from __future__ import annotations
 
 from typing import Callable, Dict
 
 from ..call import streams
 from ..call.errors import REFUSED, CompanionError
-from ..call.kinds import text_kind
+from ..call.kinds import CORE, text_kind
 from ..call.options import read_words
 from ..call.saving import target
 from ..call.text import number
+from ..recording.log import asked_row
 from .callgrind import callgrind
+from .core import Saved, core
 from .lcov import lcov
 from .perfetto import perfetto
 from .reading import Asked, asked_of
 
 HELP = """Saves what a recording did for other tools.
 
-    zelkuma export LOG ELF --callgrind FILE | --lcov FILE | --perfetto FILE [--names ELF] [--rows N]
+    zelkuma export LOG ELF --callgrind FILE | --lcov FILE | --perfetto FILE | --core FILE [--row HART:IC]
+                   [--names ELF] [--rows N]
 
 --callgrind  instructions by function and line, and calls with theirs: kcachegrind, callgrind_annotate
 --lcov       how often each line was done: genhtml
 --perfetto   the harts with their functions, waits, Edges and faults, in the order of `joint`: ui.perfetto.dev
+--core       an ELF core file of the end, or of the place before a row (--row): each hart is a thread: gdb ELF FILE
 --names      the same program with names and lines, if ELF was stripped
 --rows       how many of the last rows are read, 80 million without it
 
 FILE is overwritten if it is such a file. Companions show; the program proves."""
-FORM = "export LOG ELF --callgrind FILE | --lcov FILE | --perfetto FILE [--names ELF] [--rows N]"
+FORM = "export LOG ELF --callgrind FILE | --lcov FILE | --perfetto FILE | --core FILE [--row HART:IC] [--names ELF] [--rows N]"
 Maker = Callable[[Asked], str]
+ROW = "--row"
 MAKERS: Dict[str, Maker] = {"--callgrind": callgrind, "--lcov": lcov, "--perfetto": perfetto}
 # Each says that zelkuma made it: other tools make files of these kinds, too.
-KINDS = {option: text_kind(f"a file of export {option}", *known) for option, known in {
+KINDS = {**{option: text_kind(f"a file of export {option}", *known) for option, known in {
     "--callgrind": ("# callgrind format\nversion: 1\ncreator: zelkuma\n", "\n", "\ncreator: "),
     "--lcov": ("TN:zelkuma\n", "\n", "TN:"),
-    "--perfetto": (r'\{"otherData": \{"creator": "zelkuma"', "}\n", "\n")}.items()}
+    "--perfetto": (r'\{"otherData": \{"creator": "zelkuma"', "}\n", "\n")}.items()}, "--core": CORE}
 
 
 def main(words: list[str]) -> int:
     (log_name, elf_name), given = read_words(words, FORM)
-    chosen = [option for option in MAKERS if option in given]
+    chosen = [option for option in KINDS if option in given]
     if len(chosen) != 1:
-        raise CompanionError(f"one of {', '.join(MAKERS)} has to be given; the words are: {FORM}", REFUSED)
+        raise CompanionError(f"one of {', '.join(KINDS)} has to be given; the words are: {FORM}", REFUSED)
     option = chosen[0]
+    if ROW in given and option != "--core":
+        raise CompanionError(f"--row is of --core alone; the words are: {FORM}", REFUSED)
+    row = asked_row(given[ROW]) if ROW in given else None
     saved = target(given[option], KINDS[option], [log_name, elf_name, given.get("--names", "")])
     with asked_of(log_name, elf_name, given) as asked:
-        saved.save(MAKERS[option](asked).encode("utf-8", "backslashreplace"))
-        for line in asked.left_out():
+        if option == "--core":
+            made = core(asked, row)
+        else:
+            text = MAKERS[option](asked).encode("utf-8", "backslashreplace")
+            made = Saved(text, f"{number(asked.log.rows())} rows", [])
+        saved.save(made.data)
+        for line in asked.left_out() + made.missing:
             streams.say(line)
-        streams.put(f"{number(asked.log.rows())} rows to {given[option]}\n")
+        streams.put(f"{made.what} to {given[option]}\n")
     return 0

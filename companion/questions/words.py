@@ -31,25 +31,41 @@ class Change(NamedTuple):
             yield bytes_of(words)[begin:begin + size] if 0 <= begin <= 12 - size else [None] * size
 
 
-def fills_of(log: Log, first: int, end: int) -> dict[int, Deque[SystemCall]]:
-    """{hart: the `read` calls that filled some of these bytes}"""
-    found: dict[int, Deque[SystemCall]] = {}
-    for call in log.system_calls():
-        if call.kind == READ_CALL and call.size and call.address < end and first < call.address + call.size:
-            found.setdefault(call.hart, deque()).append(call)
-    return found
+class Fills:
+    """The `read` calls that fill some of the bytes from an address up to another.
+
+    left    {hart: those that are still to come}"""
+
+    def __init__(self, log: Log, first: int, end: int) -> None:
+        self.left: dict[int, Deque[SystemCall]] = {}
+        for call in log.system_calls():
+            if call.kind == READ_CALL and call.size and call.address < end and first < call.address + call.size:
+                self.left.setdefault(call.hart, deque()).append(call)
+
+    def within(self, text: bytes) -> list[tuple[int, SystemCall]]:
+        """Those whose rows are in the next chunk, with the places behind their rows' beginnings."""
+        found = []
+        for hart, fills in self.left.items():
+            last = text.rfind(b"\n%d " % hart)
+            count, at = int(text[last:last + 40].split(b" ", 2)[1]) if last >= 0 else -1, 0
+            while fills and fills[0].count <= count:
+                fill = fills.popleft()
+                at = text.find(b"\n%d %d " % (hart, fill.count), at)
+                if at >= 0:
+                    found.append((at + 1, fill))
+                at = max(at, 0)
+        return sorted(found)
 
 
 class Words:
     """Follows the words of a variable through the rows.
 
-    known    {word: its value, or None if nothing tells it}
-    fills    {hart: the `read` calls that are still to come}"""
+    known    {word: its value, or None if nothing tells it}"""
 
     def __init__(self, asked: Asked, variable: Variable) -> None:
         self.variable = variable
         self.first, self.end = variable.address & ~3, (variable.end + 3) & ~3
-        self.fills = fills_of(asked.log, variable.address, variable.end)
+        self.fills = Fills(asked.log, variable.address, variable.end)
         self.known: dict[int, Word] = {}
         for word in words_of(variable.address, variable.size):
             at_start = asked.is_whole or asked.elf.is_read_only(word)
@@ -60,7 +76,7 @@ class Words:
 
     def changes(self, text: bytes) -> Iterator[Change]:
         """The stores of a chunk, and the `read` calls in it."""
-        fills = list(self.fills_in(text))
+        fills = self.fills.within(text)
         events = [(found.end(), STORE) for found in self.stores.finditer(text)]
         if self.unknown or fills:
             events += [(found.end(), LOAD) for found in self.loads.finditer(text)]
@@ -96,17 +112,3 @@ class Words:
         for word in words_of(first, end - first):
             self.known[word] = None
             self.unknown.add(word)
-
-    def fills_in(self, text: bytes) -> Iterator[tuple[int, SystemCall]]:
-        """The `read` calls whose rows are in a chunk, with the places behind their rows' beginnings."""
-        found = []
-        for hart, fills in self.fills.items():
-            last = text.rfind(b"\n%d " % hart)
-            count, at = int(text[last:last + 40].split(b" ", 2)[1]) if last >= 0 else -1, 0
-            while fills and fills[0].count <= count:
-                fill = fills.popleft()
-                at = text.find(b"\n%d %d " % (hart, fill.count), at)
-                if at >= 0:
-                    found.append((at + 1, fill))
-                at = max(at, 0)
-        yield from sorted(found)

@@ -9,8 +9,9 @@ from functools import cached_property
 from typing import Iterator, NamedTuple
 
 from ..call import program
-from ..call.errors import BAD_LOG, NO_INTERVAL, CompanionError
+from ..call.errors import BAD_LOG, NO_INTERVAL, REFUSED, CompanionError
 from ..call.files import check_regular
+from ..call.options import whole
 
 HEADER, FIRST_LOAD, SC_OK, SC_FAILED, EDGE, END = 1, 2, 3, 4, 5, 6
 SIZES = {HEADER: 146, FIRST_LOAD: 10, SC_OK: 2, SC_FAILED: 2, EDGE: 19, END: 15}
@@ -52,6 +53,14 @@ class At:
     """An instruction: a hart and its count."""
     hart: int
     count: int
+
+
+def asked_row(row: str, option: str = "--row") -> At:
+    """The instruction that an option names."""
+    hart, colon, count = row.partition(":")
+    if not colon:
+        raise CompanionError(f"{option} has to be HART:COUNT, not {row!r}", REFUSED)
+    return At(whole(hart, 0, 255, f"the hart of {option}"), whole(count, 0, 1 << 41, f"the count of {option}"))
 
 
 @dataclass(frozen=True)

@@ -6,14 +6,14 @@ from typing import Sequence
 from ..call import streams
 from ..recording.calls import entries_of
 from ..recording.elf import Elf
-from ..recording.log import At, Log
+from ..recording.log import At, Log, asked_row
 from ..recording.naming import named_elf
 from ..recording.races import Races
 from ..recording.recent import FIRST_ROWS, MORE_ROWS, LogFile, open_log
 from ..recording.trace import Trace, read_trace
 from .control import Control
 from .earlier import earlier
-from .facts import Byte, Facts, Written, asked_row, find_starts, writer_of, written
+from .facts import Byte, Facts, Written, find_starts, writer_of, written
 from .formatted import begin_at_argument
 from .history import ADDRESS, NO_REGISTER, History
 from .origins import origins

@@ -5,11 +5,11 @@ import re
 from functools import cached_property
 from typing import NamedTuple, Sequence
 
-from ..call.errors import NO_INTERVAL, REFUSED, CompanionError
+from ..call.errors import NO_INTERVAL, CompanionError
 from ..call.options import whole
 from ..call.text import clean
 from ..recording.elf import Elf
-from ..recording.log import WRITE_CALL, At, Log, SystemCall, no_row
+from ..recording.log import WRITE_CALL, At, Log, SystemCall, asked_row, no_row
 from ..recording.members import Members
 from ..recording.naming import NO_TOOL, places_of
 from ..recording.places import Frame
@@ -221,14 +221,6 @@ def writer_of(trace: Trace, byte: Written) -> int:
     """The store that gave a byte of the output, or else the row that wrote it."""
     row = trace.rows.row_of(byte.call.hart, byte.call.count)
     return trace.writers.store_before(byte.call.address + byte.place, row) or row
-
-
-def asked_row(row: str, option: str = "--row") -> At:
-    """The instruction that an option names."""
-    hart, colon, count = row.partition(":")
-    if not colon:
-        raise CompanionError(f"{option} has to be HART:COUNT, not {row!r}", REFUSED)
-    return At(whole(hart, 0, 255, f"the hart of {option}"), whole(count, 0, 1 << 41, f"the count of {option}"))
 
 
 def is_byte(text: str) -> bool:
