@@ -5,7 +5,7 @@ import re
 import shutil
 import subprocess
 import unittest
-from typing import Any, Dict
+from typing import Any, Dict, List
 from unittest import mock
 
 import case
@@ -239,8 +239,11 @@ class TypesTest(unittest.TestCase):
     def test_parts_outside_of_their_whole_are_bytes(self):
         many: Dict[str, Any] = {"kind": "array", "name": "", "size": 80, "count": 10, "first": 0, "of": PAIR}
         self.assertEqual((bounded(PAIR), bounded(many)), (PAIR, many))
-        for wrong in ({**many, "count": 1 << 31}, {**many, "count": -1}, {**PAIR, "size": 7}, {**PAIR, "fields": [{"name": "a", "at": -4, "type": INT}]},
-                      {**PAIR, "fields": [{"name": "a", "at": 7, "type": INT, "bit": 7, "bits": 2}]}):
+        before: Dict[str, Any] = {"name": "a", "at": -4, "type": INT}
+        behind: Dict[str, Any] = {"name": "a", "at": 7, "type": INT, "bit": 7, "bits": 2}
+        wrongs: List[Dict[str, Any]] = [{**many, "count": 1 << 31}, {**many, "count": -1}, {**PAIR, "size": 7},
+                                        {**PAIR, "fields": [before]}, {**PAIR, "fields": [behind]}]
+        for wrong in wrongs:
             self.assertEqual(bounded(wrong), words_type(wrong["size"]), wrong)
         inner: Dict[str, Any] = {"kind": "fields", "name": "", "size": 80, "fields": [{"name": "a", "at": 0, "type": {**many, "count": 11}}]}
         self.assertEqual(bounded(inner)["fields"][0]["type"], words_type(80))
