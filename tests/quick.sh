@@ -1,7 +1,6 @@
 #!/usr/bin/env bash
 # Runs all scripts of the gate on a program, side by side: tests/quick.sh [PROGRAM], the shipped one unless another is
-# named. It needs no toolchain. Measured on four processors beside other work, at a load of 19: 5.6 minutes by the clock,
-# 3.5 processor minutes.
+# named. It needs no toolchain. Measured on four processors beside other work, at a load of 13: 8 minutes by the clock.
 #
 # Each script runs to its end. All that a failed one said is shown, and of the others what they skipped, and why. The last
 # line is 'N passed, N failed, N skipped', of scripts: one is skipped if it can try nothing on this machine (status 77).
