@@ -31,7 +31,7 @@ PAGES = {
     "docs/FORMAT.md": 3700,
     "docs/GDB.md": 1500,
     "docs/GUIDE.md": 7000,
-    "docs/INTERNALS.md": 3600,
+    "docs/INTERNALS.md": 3850,
     "docs/JSON.md": 1250,
     "docs/MEMORY.md": 1300,
     "docs/PROOF.md": 3050,
