@@ -27,6 +27,7 @@ from companion.triage import forms, store                     # noqa: E402
 SCRIPT, COMPANION, ELF = f"{TOP}/zelkuma", f"{TOP}/companion", f"{TOP}/examples/hand_over.elf"
 KINDS = {"LOG": kinds.LOG, "BOOK": kinds.TURNS, "page": kinds.PAGE, "json": forms.JSON, "junit": forms.JUNIT, "cache": store.CACHE,
          **export.KINDS}
+SECONDS = 600               # after which a call hangs
 WORDS = b"the of and to in is it you that was for on are as with his they at be this have from".split()
 
 
@@ -106,7 +107,7 @@ def companion_calls(name, folder):
 
 
 def is_refused(call):
-    done = subprocess.run(call, stdin=subprocess.DEVNULL, stdout=subprocess.PIPE, stderr=subprocess.PIPE, check=False, timeout=60)
+    done = subprocess.run(call, stdin=subprocess.DEVNULL, stdout=subprocess.PIPE, stderr=subprocess.PIPE, check=False, timeout=SECONDS)
     return done.returncode == 2 and done.stderr.count(b"\n") == 1 and not done.stdout
 
 

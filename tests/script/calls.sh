@@ -13,6 +13,7 @@ list) sed 1d "$2" && exit ;;
 joint) cat && exit 12 ;;
 check) exit ;;
 esac
+[ -z "${SAVES-}" ] || { sleep 100 3>.zelkuma-save-of-another & echo $! >another && exec 3>.zelkuma-save-begun; }
 echo "began $$" >>"$RT_CALLS"
 [ -z "${SLEEPS-}" ] || exec sleep "$SLEEPS"
 [ -z "${UNTIL-}" ] || until [ -e "$UNTIL" ]; do sleep 0.05; done
@@ -93,7 +94,21 @@ cp "$(type -P setpriv)" "$work/few" # (a link isn't taken: it may be a busybox)
 runs 137 signals KILL "$zelkuma" list2 LOG
 hasnt out alive
 rm "$work/few/setpriv"
-SLEEPS=
+
+what="a save that a signal ends"
+only bash stat readlink rm
+export SAVES=yes
+touch .zelkuma-save-of-old
+for signal in HUP INT TERM; do
+    for err in "$work/err" /dev/null; do
+        runs $((128 + $(kill -l "$signal"))) signals "$signal" bash -c 'exec "$0" record ELF LOG BOOK 2>"$1"' "$zelkuma" "$err"
+        [ "$(echo .zelkuma-save-*)" = ".zelkuma-save-of-another .zelkuma-save-of-old" ] || fails "there are $(echo .zelkuma-save-*)"
+        kill "$(<another)"
+    done
+done
+rm .zelkuma-save-of-*
+only bash stat readlink
+SAVES='' SLEEPS=
 terminal=("${at_terminal[@]}")
 for signal in SEGV ABRT KILL; do
     KILLED=$signal runs $((128 + $(kill -l "$signal"))) bash -c '"$0" list2 LOG; exit $?' "$zelkuma"

@@ -46,14 +46,14 @@ await_program() {
 }
 
 run() { # WORD..
-    local words=("$@") wanted=() held=() child='' shower='' caught='' signal status
+    local words=("$@") wanted=() held=() unsaved=() child='' shower='' caught='' signal status
     if [[ $1 == @(record|convert|salvage) ]]; then
         . "$top/tools/launcher/targets.sh"
         read_words
-        [ -n "$complaint" ] || { check_schedule && check_targets; }
+        [ -n "$complaint" ] || { check_schedule && check_targets && list_unsaved; }
     fi
-    # nobody reads advice there
-    [[ ! /dev/fd/2 -ef /dev/null || ${#held[@]} -gt 0 ]] || exec "$program" "${words[@]}"
+    # nobody reads advice there, and nothing is to be done after it
+    [[ ! /dev/fd/2 -ef /dev/null || ${#wanted[@]} -gt 0 ]] || exec "$program" "${words[@]}"
     for signal in HUP INT QUIT TERM USR1 USR2 ALRM; do
         # shellcheck disable=SC2064 # it is this signal
         trap "pass_on $signal" "$signal"
@@ -71,6 +71,7 @@ run() { # WORD..
     await_program
     [ -z "$shower" ] || wait "$shower"
     [ ${#held[@]} -eq 0 ] || rm -f -- "${held[@]}"
+    [[ $status -le 128 || ${#wanted[@]} -eq 0 ]] || remove_unsaved
     # whatever becomes of the advice (nobody may read err any more), the status is the program's; with format 2 a log has
     # the end of its run
     [[ $status -eq 0 || ($status == 1[01] && ${values[format]-} == 2) ]] ||

@@ -77,3 +77,29 @@ check_targets() {
     [[ ! -e $log && ${log##*/} == "${place##*/}" && $log_folder -ef $folder ]] || return 0
     stop 2 "BOOK would destroy LOG: ${names[2]@Q} and ${names[1]@Q} are one file"
 }
+
+# Sets `unsaved` to the files beside the targets in which this user's saves are made.
+list_unsaved() {
+    local name file
+    unsaved=()
+    for name in "${names[@]:1}"; do
+        [ ! -L "$name" ] || name=$(readlink -f -- "$name")
+        [[ $name == */* ]] || name=./$name
+        for file in "${name%/*}"/.zelkuma-save-*; do
+            [ ! -O "$file" ] || unsaved+=("$file")
+        done
+    done
+}
+
+# Removes what the program had begun to save when a signal ended it: what wasn't there before, and no other save has open.
+remove_unsaved() {
+    local before=" ${unsaved[*]} " file open
+    [ -d "/proc/$$/fd" ] && list_unsaved || return
+    for file in "${unsaved[@]}"; do
+        [[ $before != *" $file "* ]] || continue
+        for open in /proc/[0-9]*/fd/*; do
+            [[ ! $open -ef $file ]] || continue 2
+        done
+        rm -f -- "$file"
+    done
+}
