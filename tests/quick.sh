@@ -61,6 +61,7 @@ tries tests/script/launcher.sh "$program"
 tries tests/script/slips.py "$program"
 tries tests/pages/help.sh "$program"
 tries tests/sources/definitions.sh
+tries tests/sources/contracts.py
 tries tests/pages/prose.py
 tries tests/script/completion.sh
 tries tests/script/carry.sh "$program"
