@@ -1,12 +1,14 @@
 #!/usr/bin/env python3
-"""Compares what pages say of contracts and of planted bugs with the sources.
+"""Compares what pages say of the sources, of contracts and of planted bugs with the sources.
 
 tests/sources/promised.py
 
-docs/PROOF.md tells each field of `Runs`, names only clauses, laws and crates that are there, and
-has the sums of bench/MUTANTS.md. That page has a row for each crate with code, and names only tests
-and cases that are there.
+docs/PROOF.md tells each field of `Runs`, names only crates that are there, and has the sums of
+bench/MUTANTS.md. That page has a row for each crate with code, and names only tests and cases that
+are there. Any page names only clauses, laws, files and names of the sources that are there. The
+list of changes is no page here: what it names may be gone since.
 """
+import itertools
 import pathlib
 import re
 import sys
@@ -15,6 +17,19 @@ TOP = pathlib.Path(__file__).resolve().parents[2]
 CRATES = TOP / "crates"
 # The layers of crates.txt whose crates have no code that runs in the program.
 NO_CODE = ("laws", "tests")
+# The folders with sources beside those of the program, and with pages.
+FOLDERS = (
+    "bench",
+    "companion",
+    "debian",
+    "docs",
+    "examples",
+    "packaging",
+    "python",
+    "release",
+    "tests",
+    "tools",
+)
 
 
 def text_of(name):
@@ -88,14 +103,68 @@ def all_text(pattern):
     return "\n".join(file.read_text(encoding="utf-8") for file in CRATES.glob(pattern))
 
 
+def pages():
+    """Returns each page with its text, without its blocks of code."""
+    files = itertools.chain(TOP.glob("*.md"), *(TOP.glob(f"{folder}/*.md") for folder in FOLDERS))
+    texts = {str(file.relative_to(TOP)): text_of(file) for file in files}
+    texts.pop("CHANGELOG.md")
+    block = re.compile(r"^```.*?^```", re.M | re.S)
+    return {page: block.sub("", text) for page, text in texts.items()}
+
+
+def quoted_by_page(pattern):
+    """Returns what each page quotes of a pattern, each with its page."""
+    texts = ((page, " ".join(names_in(text))) for page, text in pages().items())
+    return [(page, name) for page, text in texts for name in set(re.findall(pattern, text))]
+
+
+def clause_names(page, text):
+    """Returns what a page calls clauses or laws, or docs/PROOF.md says to say something."""
+    called = re.findall(r"\bthe (?:clauses?|laws?) `(\w+)`(?:(?:,| and) `(\w+)`)*", text, re.I)
+    said = re.findall(r"`(\w+)` says?\b|\bsays? `(\w+)`(?: and `(\w+)`)?", text)
+    found = [*called, *said] if page == "docs/PROOF.md" else called
+    return {name for names in found for name in names if name}
+
+
 def sayings_fault():
-    """What a sentence says that a clause or a function says is one."""
-    page = text_of("docs/PROOF.md")
-    said = re.findall(r"`(\w+)` says?\b|\bsays? `(\w+)`(?: and `(\w+)`)?", page)
-    names = {name for found in said for name in found if name}
+    """What a page calls a clause or a law, or says to say something, is one."""
     sources = all_text("*/src/**/*.rt") + all_text("*/specs/**/*.antt")
-    there = set(re.findall(r"\b(?:ensures|fn|pub) (\w+)\b", sources))
-    return sorted(names - there)
+    there = set(re.findall(r"\b(?:ensures|fn|pub|record) (?=(\w+))", sources))
+    told = {page: clause_names(page, text) for page, text in pages().items()}
+    return [f"{page}: {name}" for page, names in told.items() for name in sorted(names - there)]
+
+
+def sources_text():
+    """Returns the text of all sources, the program's without comments, and all names of files."""
+    program = all_text("**/*.rt") + all_text("**/*.antt")
+    below = [file for folder in FOLDERS for file in (TOP / folder).rglob("*")]
+    texts = [file for file in below if file.is_file() and file.suffix != ".md"]
+    texts += [*CRATES.glob("*/stdin"), TOP / "zelkuma", TOP / "pyproject.toml"]
+    others = [file.read_bytes().decode("utf-8", "ignore") for file in texts]
+    stems = " ".join(file.stem for file in [*below, *CRATES.iterdir()])
+    return "\n".join([re.sub(r"(?m)^\s*(//|--).*$", "", program), *others, stems])
+
+
+def names_fault():
+    """Each name of several words that a page quotes is one of the sources."""
+    there = set(re.findall(r"\w+", sources_text()))
+    words = r"[a-z0-9]+(?:_[a-z0-9]+)+|[A-Z][a-z]+(?:[A-Z][a-z]*)+"
+    quoted = quoted_by_page(rf"(?<![\w-])(?:{words})(?![\w-])")
+    return [f"{page}: {name}" for page, name in quoted if name not in there]
+
+
+def is_there(path):
+    """Whether a path from the top, or from the folder of crates, leads to something."""
+    pattern = path.rstrip("/").replace("NAME", "*")
+    return any(TOP.glob(pattern)) or any(CRATES.glob(pattern))
+
+
+def files_fault():
+    """Each path that a page quotes, from a folder at the top or of a crate, leads to something."""
+    tops = {file.name for folder in (TOP, CRATES) for file in folder.iterdir() if file.is_dir()}
+    quoted = quoted_by_page(r"(?<![\w/.~$}-])[\w.-]+(?:/[\w.*-]+)+")
+    ours = [(page, path) for page, path in quoted if path.split("/")[0] in tops]
+    return [f"{page}: {path}" for page, path in ours if not is_there(path)]
 
 
 def crates_fault():
@@ -142,6 +211,8 @@ CHECKS = (
     clauses_fault,
     laws_fault,
     sayings_fault,
+    names_fault,
+    files_fault,
     crates_fault,
     rows_fault,
     sums_fault,
