@@ -24,7 +24,8 @@ Each run has to end with the status of a run that nothing was refused, and then 
 
 A file that isn't saved is unchanged, and unless the process is killed no further file is left.
 
-Each file that is saved takes one `sync` and one `rename`.
+Each file that is saved takes one `sync` and one `rename`, and one `open` whose refusal does no harm: that of the system's
+limits. So a new file that can't be made stops the save, and the old one isn't written to in its place.
 
 A request for room that the thread of a hart makes ends with 9 always: its run isn't made again.
 
@@ -227,6 +228,9 @@ def try_command(folder, name, words, most):
         if kind in ("sync", "rename") and plain.calls != sum(saved_by(plain)):
             wrong += 1
             print(f"{name}: {plain.calls} calls of {kind} for {sum(saved_by(plain))} saved files")
+        if kind == "open" and ended[plain.status] != sum(saved_by(plain)):
+            wrong += 1
+            print(f"{name}: {ended[plain.status]} refused calls of open did no harm, for {sum(saved_by(plain))} saved files")
         if kind == "alloc" and in_threads and not of_harts:
             wrong += 1
             print(f"{name}: no thread of a hart asked for room")
