@@ -10,6 +10,7 @@ from typing import Any, Iterator, List, NamedTuple, Optional
 from .call.errors import NO_INTERVAL, CompanionError
 from .gdb.memory import Memory
 from .gdb.session import Session, begin_session
+from .questions.at import TOLD, passes_of
 from .questions.calls import calls_of, said_arguments, said_result
 from .questions.functions import function_of
 from .questions.history import history_of
@@ -52,6 +53,13 @@ class Called(NamedTuple):
     result: Optional[str]
     rows: Optional[int]
     source: str
+
+
+class Passed(NamedTuple):
+    """A pass of a line: hart and count, and {expression: its value as text} before the line's first instruction."""
+    hart: int
+    at: int
+    values: dict[str, str]
 
 
 class State:
@@ -149,3 +157,8 @@ class Recording:
         found = calls_of(asked, function_of(asked.named, function), last)
         return [Called(int(call.hart), call.count, said_arguments(asked, call), said_result(asked, call), call.rows,
                        asked.places.where(call.source)) for call in found.told]
+
+    def at_line(self, line: str, *expressions: str, condition: str = "", last: int = TOLD) -> List[Passed]:
+        """The values of C expressions at the last passes of FILE:LINE, or at those of them at which a condition isn't 0."""
+        found = passes_of(self.asked, line, expressions, condition, last)
+        return [Passed(entry.hart, entry.count, dict(zip(expressions, entry.values))) for entry in found.told]

@@ -71,7 +71,7 @@ tries tests/program/limits.sh "$program"
 tries tests/program/threads.py "$program"
 tries tests/pages/documents.py "$program" README.md examples/README.md docs/COMMANDS.md tests/pages/examples.md
 if command -v {riscv64-unknown-elf-,riscv64-linux-gnu-,llvm-,}addr2line >/dev/null; then
-    tries tests/pages/documents.py "$program" docs/{GUIDE,WHY,SHRINK,VIEW,GDB,PYTHON}.md
+    tries tests/pages/documents.py "$program" docs/{GUIDE,WHY,SHRINK,VIEW,GDB,PYTHON,AT}.md
 else
     echo "skipped: the examples of docs/, which show lines: there is no addr2line: apt-get install binutils"
 fi

@@ -31,6 +31,7 @@ PARTS = {
     "memory": {"memory": "tells memory errors where they happen"},
     "questions": {
         "history": "lists what stored to a variable",
+        "at": "tells expressions at each pass of a line",
         "calls": "lists the calls of a function",
         "find": "lists the places at which a value occurs",
         "compare": "compares two logs of one program",

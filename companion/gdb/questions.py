@@ -11,6 +11,7 @@ from ..call.children import run
 PATIENCE = 50               # seconds; gdb waits for 60
 LONGEST = 1 << 18           # bytes of an answer
 WORDS = {"why": "monitor why [HART:COUNT]: how the run came to its end, or to a row",
+         "at": "monitor at FILE:LINE 'EXPR'..: what expressions were at its passes",
          "history": "monitor history NAME: the stores to a variable",
          "calls": "monitor calls FUNCTION: its calls", "find": "monitor find VALUE: the places of a value"}
 

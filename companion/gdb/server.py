@@ -2,6 +2,7 @@
 from __future__ import annotations
 
 import re
+import shlex
 from typing import Callable, Optional
 
 from ..call.errors import CompanionError
@@ -41,6 +42,14 @@ def number_of(text: str) -> int:
 def numbers_of(text: str) -> tuple[int, int]:
     first, second = text.split(",")
     return number_of(first), number_of(second)
+
+
+def words_of(text: str) -> list[str]:
+    """As a shell splits it: an expression has spaces. A quote without its end is a letter."""
+    try:
+        return shlex.split(text)
+    except ValueError:
+        return text.split()
 
 
 class Server:
@@ -146,7 +155,7 @@ class Server:
         return OK if self.points.change(is_set, kind, *numbers_of(place)) else UNSUPPORTED
 
     def monitor(self, text: str) -> str:
-        words = bytes.fromhex(text).decode().split()
+        words = words_of(bytes.fromhex(text).decode())
         if words == ["moved"]:
             said, self.moved = self.moved, ""
         elif words == ["where"]:

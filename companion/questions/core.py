@@ -15,10 +15,9 @@ from ..recording.elf import WRITABLE
 from ..recording.instruction import BRANCH, JUMP, NAMES, OP_JALR, Instruction
 from ..recording.log import At, is_fault, no_row
 from ..recording.memory import Memory
+from .followed import FollowedMemory
 from .reading import Asked
-from .words import Fills
 
-ACCESSES = re.compile(rb"\| (?:load|store) (\w{8})=(\w{8})")
 WRITES = re.compile(rb"\| (\w+)=(\w{8})")
 NUMBERS = {name.encode(): at for at, name in enumerate(NAMES)}
 LOWEST = 4096               # no address below is mapped
@@ -44,8 +43,7 @@ class Place:
 
     def __init__(self, asked: Asked, row: Optional[At]) -> None:
         self.asked, self.row, self.is_found = asked, row, False
-        self.memory = Memory(asked.elf, asked.is_whole)
-        self.fills = Fills(asked.log, 0, 1 << 32)
+        self.followed = FollowedMemory(asked)
         self.counts = {hart: first.start for hart, first in asked.log.first_intervals().items() if not first.start}
 
     def read(self) -> None:
@@ -58,21 +56,12 @@ class Place:
 
     def take(self, text: bytes) -> None:
         """Takes rows up to the place."""
-        begin = 0
-        for at, fill in self.fills.within(text):
-            self.tell(text, begin, at)
-            self.memory.fill(fill.address, fill.size)
-            begin = at
-        self.tell(text, begin, len(text))
+        self.followed.take(text)
+        self.followed.go_to(len(text))
         for hart in range(self.asked.log.harts):
             last = text.rfind(b"\n%d " % hart)
             if last >= 0:
                 self.counts[hart] = count_of(text[last:last + 40]) + 1
-
-    def tell(self, text: bytes, begin: int, end: int) -> None:
-        told = {int(address, 16) & ~3: int(value, 16) for address, value in ACCESSES.findall(text, begin, end)}
-        self.memory.known.update(told)
-        self.memory.filled.difference_update(told)
 
 
 class State(NamedTuple):
@@ -190,7 +179,7 @@ def core(asked: Asked, row: Optional[At]) -> Saved:
     ends = {hart: end.count for hart, end in log.ends.items()}
     states = [state_of(asked, hart, min(count, ends.get(hart, count))) for hart, count in place.counts.items()]
     states.sort(key=lambda state: (not row or state.hart != row.hart, not is_fault(state.reason), state.hart))
-    pieces = list(pieces_of(place.memory, log.memory))
+    pieces = list(pieces_of(place.followed.memory, log.memory))
     kept = pieces[:MOST_PIECES]
     size = sum(len(piece.body) for piece in kept)
     return Saved(core_file(states, kept), f"{counted(len(states), 'hart')} and {counted(size, 'byte')} of memory",

@@ -11,6 +11,8 @@ from typing import Any, Optional, Set
 
 from ..call import streams
 from ..call.children import run
+from ..call.errors import CompanionError
+from ..call.program import NOT_BUILT
 from ..recording.elf import Elf
 
 GDBS = ("gdb-multiarch", "riscv64-unknown-elf-gdb", "riscv32-unknown-elf-gdb")
@@ -30,15 +32,11 @@ def gdb_path() -> str:
     return next((name for name in ([named] if named else GDBS) if shutil.which(name)), "")
 
 
-def ask_gdb(elf: Elf, **asked: str) -> Optional[dict[str, Any]]:
-    """What gdb answers, or None if it can't be asked, which is said once."""
-    if elf.name in given_up:
-        return None
+def told_by_gdb(elf: Elf, **asked: object) -> dict[str, Any]:
+    """What gdb answers. CompanionError if it can't be asked."""
     gdb, mark = gdb_path(), f"answer {int.from_bytes(os.urandom(8), 'little'):x} "
     if not gdb:
-        given_up.add(elf.name)
-        streams.say(f"no gdb is here, so names are those of symbols, without types; Debian has it in {PACKAGE}")
-        return None
+        raise CompanionError(f"no gdb is here; Debian has it in {PACKAGE}", NOT_BUILT)
     words = [gdb, *QUIET, "-x", os.path.join(os.path.dirname(os.path.abspath(__file__)), "inside_gdb.py"), os.path.abspath(elf.name)]
     try:
         status, out = run(words, PATIENCE_S, MOST, stderr=subprocess.DEVNULL,
@@ -50,6 +48,16 @@ def ask_gdb(elf: Elf, **asked: str) -> Optional[dict[str, Any]]:
         why = f"it ended with {status}"
     except (OSError, ValueError, subprocess.TimeoutExpired) as error:
         why = str(error).split(" Command", 1)[0] if not isinstance(error, subprocess.TimeoutExpired) else "it took too long"
-    given_up.add(elf.name)
-    streams.say(f"{gdb} can't be asked: {why}; names are those of symbols, without types")
-    return None
+    raise CompanionError(f"{gdb} can't be asked: {why}", NOT_BUILT)
+
+
+def ask_gdb(elf: Elf, **asked: object) -> Optional[dict[str, Any]]:
+    """What gdb answers, or None if it can't be asked, which is said once."""
+    if elf.name in given_up:
+        return None
+    try:
+        return told_by_gdb(elf, **asked)
+    except CompanionError as error:
+        given_up.add(elf.name)
+        streams.say(f"{error}; names are those of symbols, without types")
+        return None

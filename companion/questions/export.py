@@ -50,7 +50,7 @@ def main(words: list[str]) -> int:
         raise CompanionError(f"--row is of --core alone; the words are: {FORM}", REFUSED)
     row = asked_row(given[ROW]) if ROW in given else None
     saved = target(given[option], KINDS[option], [log_name, elf_name, given.get("--names", "")])
-    with asked_of(log_name, elf_name, given) as asked:
+    with asked_of(log_name, elf_name, given, keeps_words=option == "--core") as asked:
         if option == "--core":
             made = core(asked, row)
         else:

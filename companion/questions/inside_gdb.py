@@ -7,13 +7,20 @@ import importlib
 import json
 import os
 import re
-from typing import Any
+from typing import Any, Iterator
 
 gdb: Any = importlib.import_module("gdb")     # only there inside of gdb
 MOST_PARTS, DEEPEST = 4000, 12      # of a type
 ASSEMBLY = ".s", ".sx", ".asm"      # sources whose functions have no parameters for DWARF, whatever they take
 PLAIN = {gdb.TYPE_CODE_INT: "int", gdb.TYPE_CODE_CHAR: "int", gdb.TYPE_CODE_BOOL: "bool", gdb.TYPE_CODE_FLT: "float",
          gdb.TYPE_CODE_PTR: "pointer", gdb.TYPE_CODE_REF: "pointer"}
+WHOLE = gdb.TYPE_CODE_STRUCT, gdb.TYPE_CODE_UNION, gdb.TYPE_CODE_ARRAY, gdb.TYPE_CODE_FLT      # agent bytecode has no values of these
+# Names that can be those of variables: no tag, part or type behind a point, an arrow or `$`; and literals, in which there are none.
+NAMES = re.compile(r"(?<!struct )(?<!union )(?<!enum )(?<![\w.>$])[A-Za-z_]\w*|\"(?:\\.|[^\"])*\"|'(?:\\.|[^'])*'")
+LETTER = re.compile(r"'(?:\\.|[^'\\])'")
+OPERATION = re.compile(r"^ +(\d+) +(\w+)(?: (-?\d+))?$", re.M)
+TYPE_NAME = re.compile(r"[\w \t*&:<>,()\[\]]+")        # gdb evaluates nothing of such a text
+EMPTY = "zelkuma_"
 
 
 class Types:
@@ -124,11 +131,77 @@ def own_code(symbol: Any, address: int, name: str) -> dict[str, Any]:
     return {"address": address, "inlined": False, "parameters": parameters, "result": Types().told(symbol.type.target())}
 
 
+def line(spec: str, expressions: list[str]) -> dict[str, Any]:
+    """The addresses at which a line begins, where gdb would stop, and what each expression is there."""
+    point = gdb.Breakpoint(spec, internal=True)
+    found = sorted(location.address for location in point.locations)
+    point.delete()
+    return {"places": found, "expressions": [compiled(spec, found, each) for each in expressions] if found else []}
+
+
+def compiled(spec: str, places: list[int], expression: str) -> dict[str, Any]:
+    """The type of an expression, and its bytecode at each place. The value of what is `whole` isn't given, but its address."""
+    try:
+        found = type_at(places[0], expression)
+        plain = found.strip_typedefs()
+        is_whole = plain.code in WHOLE
+        codes = dict(bytecode(spec, f"&({expression})" if is_whole else expression))
+        letters = plain.target().strip_typedefs() if plain.code in (gdb.TYPE_CODE_PTR, gdb.TYPE_CODE_ARRAY) else None
+        return {"type": Types().told(found), "whole": is_whole, "codes": {str(place): codes[place] for place in places},
+                "text": letters is not None and letters.code in (gdb.TYPE_CODE_INT, gdb.TYPE_CODE_CHAR) and letters.sizeof == 1}
+    except (gdb.error, RuntimeError, ValueError, KeyError) as error:
+        return {"error": str(error)}
+
+
+def bytecode(spec: str, expression: str) -> Iterator[tuple[int, list[tuple[int, str, int]]]]:
+    """Of each place of a line its code: place in the code, operation and operand. No process is needed for it."""
+    plain = LETTER.sub(lambda letter: str(int(gdb.parse_and_eval(letter[0]))), expression)      # gdb compiles numbers alone
+    for said in gdb.execute(f"maint agent-eval -at {spec}, {plain}", to_string=True).split("Scope: ")[1:]:
+        place, _, lines = said.partition("\n")
+        yield int(place, 16), [(int(at), name, int(operand or 0)) for at, name, operand in OPERATION.findall(lines)]
+
+
+def type_at(place: int, expression: str) -> Any:
+    """The type of an expression at a place. There is no frame, so each variable stands there as an empty one of its type."""
+    here = variables_at(place)
+
+    def empty(name: Any) -> str:
+        if name[0] not in here:
+            return str(name[0])
+        kind = here[name[0]].type.strip_typedefs().unqualified()
+        gdb.set_convenience_variable(EMPTY + name[0], gdb.Value(bytes(kind.sizeof), kind))
+        return f"${EMPTY}{name[0]}"
+
+    said = gdb.execute(f"whatis {NAMES.sub(empty, expression)}", to_string=True).strip().partition(" = ")[2]
+    if not TYPE_NAME.fullmatch(said):           # an ELF file can call a type anything
+        raise ValueError(f"its type is {said}")
+    name, bracket, rest = said.partition("[")   # gdb tells a type as text alone
+    return gdb.parse_and_eval(f"({name} (*){bracket}{rest}) 0" if bracket else f"({said} *) 0").type.target()
+
+
+def variables_at(place: int) -> dict[str, Any]:
+    """{name: symbol} of the variables that are seen at a place, but for global ones."""
+    found: dict[str, Any] = {}
+    block = gdb.block_for_pc(place)
+    while block is not None and not block.is_global:
+        for symbol in block:
+            if symbol.is_variable or symbol.is_argument:
+                found.setdefault(symbol.name, symbol)
+        block = block.superblock
+    return found
+
+
+def answer(asked: dict[str, Any]) -> dict[str, Any]:
+    if "variable" in asked:
+        return variable(asked["variable"])
+    return line(asked["line"], asked["expressions"]) if "line" in asked else function(asked["function"])
+
+
 def main() -> None:
     asked = json.loads(os.environ["ZELKUMA_ASKED"])
     gdb.execute("set language c" if asked.get("c") else "set language auto")
     try:
-        said = variable(asked["variable"]) if "variable" in asked else function(asked["function"])
+        said = answer(asked)
     except (gdb.error, RuntimeError, ValueError, AttributeError) as error:
         said = {"error": str(error)}
     print(asked["mark"] + json.dumps(said), flush=True)

@@ -15,6 +15,8 @@ from ..recording.ready import ready
 from ..recording.stacks import Stacks
 
 MOST_ROWS = 80000000        # are read without --rows
+# A word that is kept takes 110 bytes of memory here. If there can be more than two million, fewer rows are read.
+LARGE_MEMORY, MOST_ROWS_OF_LARGE = 8 << 20, 8000000
 
 
 class Asked(NamedTuple):
@@ -73,7 +75,8 @@ def read(texts: Iterable[bytes], *readers: Reader) -> None:
 
 
 @contextlib.contextmanager
-def asked_of(log_name: str, elf_name: str, given: Mapping[str, str]) -> Iterator[Asked]:
+def asked_of(log_name: str, elf_name: str, given: Mapping[str, str], keeps_words: bool = False) -> Iterator[Asked]:
     """What a call asks of: its files, --names and --rows. The most rows that can be given are all."""
     with opened(log_name, elf_name, given) as found:
-        yield Asked(found.log(MOST_ROWS), found.elf, found.named, found.places)
+        most = MOST_ROWS_OF_LARGE if keeps_words and found.source.memory() > LARGE_MEMORY else MOST_ROWS
+        yield Asked(found.log(most), found.elf, found.named, found.places)

@@ -46,6 +46,11 @@ class LogFile:
         with open(self.name, "rb") as file:
             return int.from_bytes(file.read(16)[12:], "little")
 
+    def memory(self) -> int:
+        """How many bytes of memory the run has."""
+        with open(self.name, "rb") as file:
+            return int.from_bytes(file.read(40)[36:], "little")
+
     def whole(self) -> Log:
         return load_log(self.name)
 

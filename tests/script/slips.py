@@ -82,6 +82,7 @@ why LOG heap.elf --row 500 => 2 --row has to be HART:COUNT
 gdb LOG heap.elf --at 5 => 2 --at has to be HART:COUNT
 why LOG heap.elf --output 1:0 => 14 `zelkuma output` lists them
 why LOG heap.elf --outptu 1:0 => 2 did you mean --output?
+at LOG heap.elf heap.c:75 => 2 an expression is missing
 history LOG heap.elf orderss => 4 heap.elf has no orderss; near it: orders
 calls LOG heap.elf mian => 4 heap.elf has no mian; near it: main
 seeds 1 10 --format 2 heap.elf LOG2 BOOK2 => 2 the options of record stand behind --

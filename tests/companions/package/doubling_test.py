@@ -11,9 +11,13 @@ from recordings import (A0, A1, A2, A7, DATA, ECALL, T0, T1, T2, addi, atomic, b
                         jump_to, load, lui, pc_of, store)
 
 from companion.call import words as call
+from companion.questions.at import Passes
+from companion.questions.expressions import Compiled, Expression
+from companion.questions.reading import asked_of, read
 
 SP, RA, S0, S1, ROUNDS = 2, 1, 8, 9, 28
 LEAST, MOST = 0.05, 3           # seconds that are told from none, and how much longer twice the rows may take
+COUNTED = 3                     # the word at which a round of `counters` begins
 BYTE, SWAP = 0, 1               # kinds of a load or store, and of an atomic instruction
 FAULT = [addi(T1, 0, -1), load(T2, T2)]
 COMPANIONS = "why", "view", "race", "bucket", "output", "history", "calls", "find", "compare", "memory"
@@ -91,6 +95,18 @@ def seconds(words):
     return status, sum(after[:4]) - sum(before[:4])
 
 
+def seconds_at(log, elf):
+    """The same of `at`, by code of its own, since these programs have no lines: a register and a word at each round's first row."""
+    code = [(0, "reg", S0), (1, "ref32", 0), (2, "reg", ROUNDS), (3, "add", 0), (4, "end", 0)]
+    place = pc_of(COUNTED)
+    before = os.times()
+    with asked_of(log, elf, {}) as asked:
+        found = Passes(asked, "a.c:1", Compiled([place], [Expression("x", {place: code}, {"kind": "int", "size": 4, "name": ""})]), False, 1 << 20)
+        read(asked.chunks(), found)
+    after = os.times()
+    return len(found.told), sum(after[:4]) - sum(before[:4])
+
+
 def call_of(word, family, log, elf, other):
     """What a companion is called with; `other` is a log of the same program with other turns, if it has several harts."""
     if word == "compare":
@@ -122,3 +138,12 @@ class DoublingTest(case.Case):
                         self.assertEqual((one[0], other[0]), (0, 0))
                         tries.append((one[1], other[1]))
                     self.assertTrue(any(more <= MOST * max(less, LEAST) for less, more in tries), tries)
+
+    def test_twice_the_passes(self):
+        (few, elf, _), (many, its, _) = self.recorded(counters, 20000, 0, 1), self.recorded(counters, 40000, 0, 1)
+        tries = []
+        while len(tries) < 3 and not any(more <= MOST * max(less, LEAST) for less, more in tries):
+            (one, less), (other, more) = seconds_at(few, elf), seconds_at(many, its)
+            self.assertEqual((one, other), (20000, 40000))
+            tries.append((less, more))
+        self.assertTrue(any(more <= MOST * max(less, LEAST) for less, more in tries), tries)

@@ -182,8 +182,8 @@ class NamesTest(case.Case):
     def test_without_gdb_symbols_are_known_and_it_is_said(self):
         log, elf = self.record("heap", "--seed", "1"), self.elf("heap")
         status, said, err = common.companion("history", log, elf, "orders", environment=NO_GDB)
-        self.assertEqual((status, err), (0, "zelkuma: no gdb is here, so names are those of symbols, without types; Debian has it in "
-                                            "gdb-multiarch\n"))
+        self.assertEqual((status, err), (0, "zelkuma: no gdb is here; Debian has it in gdb-multiarch; names are those of symbols, "
+                                            "without types\n"))
         self.assertIn("HISTORY of orders (256 bytes at 00011498): 400 stores; the last 100", said)
         self.assertEqual(told(said), [row[:2] for row in stores_of(log, elf, 0x11498, 256)[-100:]])
 
