@@ -59,6 +59,7 @@ tries tests/script/shipped.sh
 tries tests/script/calls.sh
 tries tests/script/launcher.sh "$program"
 tries tests/script/slips.py "$program"
+tries tests/script/own_program.sh "$program"
 tries tests/pages/help.sh "$program"
 tries tests/sources/definitions.sh
 tries tests/sources/contracts.py
@@ -71,7 +72,7 @@ tries tests/program/limits.sh "$program"
 tries tests/program/threads.py "$program"
 tries tests/pages/documents.py "$program" README.md examples/README.md docs/COMMANDS.md tests/pages/examples.md
 if command -v {riscv64-unknown-elf-,riscv64-linux-gnu-,llvm-,}addr2line >/dev/null; then
-    tries tests/pages/documents.py "$program" docs/{GUIDE,WHY,SHRINK,VIEW,GDB,PYTHON,AT}.md
+    tries tests/pages/documents.py "$program" docs/{GUIDE,WHY,SHRINK,VIEW,GDB,PYTHON,AT,RUN}.md
 else
     echo "skipped: the examples of docs/, which show lines: there is no addr2line: apt-get install binutils"
 fi

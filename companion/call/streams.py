@@ -52,6 +52,18 @@ def put_bytes(data: bytes) -> None:
         raise CompanionError(f"the output takes no more: {error.strerror or error}", UNWRITABLE)
 
 
+def put_err(data: bytes) -> None:
+    """Bytes on err, if that takes them."""
+    if Progress.latest:
+        Progress.latest.clear()
+    try:
+        sys.stderr.flush()
+        sys.stderr.buffer.write(data)
+        sys.stderr.buffer.flush()
+    except OSError:
+        pass
+
+
 def say(message: object) -> None:
     """What went wrong, in one line on err."""
     tell(f"zelkuma: {message}")

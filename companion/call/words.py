@@ -20,6 +20,7 @@ PARTS = {
     "recording": {"names": "puts function and line behind each row"},
     "why": {"why": "explains a crash", "output": "lists what the guest wrote"},
     "orders": {
+        "run": "runs a program with a recording beside it",
         "race": "groups the races of a log",
         "seeds": "searches for turns by which a program crashes",
         "shrink": "finds the shortest order of harts that still crashes",

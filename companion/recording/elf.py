@@ -33,8 +33,9 @@ class Symbol(NamedTuple):
 
 
 class Elf:
-    """parts    the loaded segments, by address
-    symbols  by address; functions are those of code, objects those of data"""
+    """parts      the loaded segments, by address
+    symbols    by address; functions are those of code, objects those of data
+    has_lines  whether lines of sources are in it, as by `-g`"""
 
     def __init__(self, name: str) -> None:
         self.name = name
@@ -48,6 +49,7 @@ class Elf:
             raise CompanionError(f"elf: {name} is no 32-bit little-endian ELF file", BAD_ELF)
         self.parts: list[Segment] = []
         self.symbols: list[Symbol] = []
+        self.has_lines = b".debug_line\0" in self.data
         try:
             self.read_segments()
         except struct.error:

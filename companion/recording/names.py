@@ -111,13 +111,12 @@ def filter_input(elf: Elf) -> int:
 def main(words: list[str]) -> int:
     names, _ = read_words(words, FORM)
     elf = Elf(names[0])
-    if not elf.symbols:
-        streams.say(f"{os.path.basename(elf.name)} has no names: it is stripped")
     if len(names) == 1:
         return filter_input(elf)
     for name in names[1:]:
         found = addresses_of(elf, name)
         if not found:
-            raise CompanionError(f"{os.path.basename(elf.name)} has no {name}", MISSING)
+            why = "" if elf.symbols else ": it is stripped"
+            raise CompanionError(f"{os.path.basename(elf.name)} has no {name}{why}", MISSING)
         streams.put_lines(f"{address:08x} {what}" for address, what in found)
     return 0

@@ -7,11 +7,10 @@ from typing import NamedTuple, Sequence
 
 from ..call.errors import NO_INTERVAL, CompanionError
 from ..call.options import whole
-from ..call.text import clean
 from ..recording.elf import Elf
 from ..recording.log import WRITE_CALL, At, Log, SystemCall, asked_row, no_row
 from ..recording.members import Members
-from ..recording.naming import NO_TOOL, places_of
+from ..recording.naming import lack_of, places_of
 from ..recording.places import Frame
 from ..recording.rows import LOADS
 from ..recording.trace import Trace
@@ -75,7 +74,8 @@ class Facts:
         self.owns: dict[int, StackFrame | None] = {}
         self.members = Members(named)
         self.earlier: dict[Asked, Earlier] = {}
-        self.notes = self.first_notes()
+        lack = lack_of(named, self.places)
+        self.notes = [lack] if lack else []
         if not trace.rows.last:
             raise CompanionError(f"the log holds no row: the records of a hart's last interval passed its --log-size "
                                  f"{log.size}; --format 2 keeps the interval of a crash", NO_INTERVAL)
@@ -92,11 +92,6 @@ class Facts:
         """Lets the report be about a row."""
         self.starts[0] = self.start = row
         self.last = self.rows.last_rows(row, LAST_ROWS)
-
-    def first_notes(self) -> list[str]:
-        if not self.named.symbols:
-            return [f"{clean(self.named.name)} has no names: --names takes the same program with its names"]
-        return [] if self.places.tool else [NO_TOOL]
 
     def close(self) -> None:
         self.places.close()

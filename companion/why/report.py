@@ -16,7 +16,7 @@ from .returned import middle_lines, null_lines
 from .stack_room import stack_lines
 from .suspect import ALONE, DID, NEW_OWNER, Suspect
 
-FIRST_SUSPECTS, MORE_SUSPECTS, LINES, MORE_LINES, ORIGINS, MORE_ORIGINS = 5, 12, 10, 40, 6, 20
+BRIEF_SUSPECTS, FIRST_SUSPECTS, MORE_SUSPECTS, LINES, MORE_LINES, ORIGINS, MORE_ORIGINS = 3, 5, 12, 10, 40, 6, 20
 ROW_WIDTH, TEXT_WIDTH, MOST_CALLS = 84, 78, 9
 SUSPECTS = "likeliest first (a load and the store that it got; what a call did to the memory; a branch)"
 
@@ -36,6 +36,13 @@ def report(facts: Analysis, more: bool = False) -> list[Part]:
     if facts.log.harts > 1:
         parts.append(race_part(facts))
     return parts + [Part("", last_lines(facts))]
+
+
+def brief(facts: Analysis) -> list[Part]:
+    """The end, and the first suspects: what each did and from where."""
+    suspects = [line for place, item in enumerate(facts.shown[:BRIEF_SUSPECTS], 1) for line in guilty(facts, place, item)]
+    return [Part(heading(facts), head_lines(facts)), *[Part("HANG", hang_lines(facts, False))] * bool(facts.loops),
+            Part(suspects_head(facts), suspects or no_suspect(facts)), Part("", unread(facts) + facts.notes + facts.places.trouble())]
 
 
 def suspects_head(facts: Analysis) -> str:
@@ -112,11 +119,19 @@ def suspect_lines(facts: Analysis, most: int) -> list[str]:
     said: list[str] = []
     for place, item in enumerate(facts.shown[:most], 1):
         said += one_suspect(facts, place, item)
-    return said or [f"none: {facts.no_row} stored the value"]
+    return said or no_suspect(facts)
+
+
+def no_suspect(facts: Analysis) -> list[str]:
+    return [f"none: {facts.no_row} stored the value"]
+
+
+def guilty(facts: Analysis, place: int, item: Suspect) -> list[str]:
+    return [f"{place}. {did(facts, item.guilty, DID[item.kind])}"] + guilty_lines(facts, item.guilty)
 
 
 def one_suspect(facts: Analysis, place: int, item: Suspect) -> list[str]:
-    said = [f"{place}. {did(facts, item.guilty, DID[item.kind])}"] + guilty_lines(facts, item.guilty)
+    said = guilty(facts, place, item)
     for words, n in item.extra:
         said += [f"   {words} {facts.own_where(n)}   {facts.own_source(n)}"] + guilty_lines(facts, n)
     if item.kind == "back":
@@ -125,8 +140,8 @@ def one_suspect(facts: Analysis, place: int, item: Suspect) -> list[str]:
         said += ["   " + did(facts, item.load, "loaded it in"),
                  "      " + short(facts.rows.text(item.load)) + data_words(facts, item.load)]
     times = f" ({number(item.rows)} such pairs)" if item.rows > 1 else ""
-    guilty = ready(facts.log.shown, facts.elf, facts.named, facts.rows.hart[item.guilty], facts.rows.count_of(item.guilty))
-    return said + ["   because: " + "; ".join([distance(item)] + item.why) + times] + ["   " + line for line in guilty]
+    commands = ready(facts.log.shown, facts.elf, facts.named, facts.rows.hart[item.guilty], facts.rows.count_of(item.guilty))
+    return said + ["   because: " + "; ".join([distance(item)] + item.why) + times] + ["   " + line for line in commands]
 
 
 def did(facts: Analysis, n: int, words: str) -> str:

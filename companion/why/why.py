@@ -3,6 +3,7 @@ from __future__ import annotations
 
 import os
 from contextlib import closing
+from typing import Mapping
 
 from ..call import streams
 from ..call.errors import REFUSED, CompanionError
@@ -14,17 +15,17 @@ from ..call.text import number
 from ..recording.answers import put_answer
 from ..recording.sources import source_folders
 from ..recording.story import STORY_HEAD, Teller, asked_story
-from .analysis import analysed
+from .analysis import Analysis, analysed
 from .answer import why_answer
 from .facts import Byte, asked_byte, is_byte
 from .memory_part import MemoryErrors
 from .output import text_in
-from .report import report
+from .report import brief, report
 
 HELP = """Explains a crash: what happened, where, and which store, call or branch is behind it, likeliest first.
 
     zelkuma why LOG ELF [--names ELF] [--source DIR] [--row HART:IC] [--output N:BYTE|TEXT] [--rows N] [--book BOOK]
-                [--input FILE] [--more] [--html FILE] [--json]
+                [--input FILE] [--brief] [--more] [--html FILE] [--json]
 
 --names   the same program with names and lines, if ELF was stripped
 --source  shows sources below this folder too, not only below ELF's and the current one; may be given several times
@@ -34,13 +35,15 @@ HELP = """Explains a crash: what happened, where, and which store, call or branc
 --rows    how many of the last rows are read; without it a million, and 2.6 million if values near the fault come from before
 --book    tells first the switches between harts, if BOOK has no more than 40 of them, as that of `zelkuma shrink`
 --input   what the run read: with BOOK it is run again, to see that this is LOG's
+--brief   the end and the first suspects alone
 --more    longer lists
 --html    saves the same text as a page, too
 --json    prints one JSON object in place of the text (docs/JSON.md)
 
 It reads the rows of `joint`, keeps some 30 bytes of each, and shows what they say; the ranking is its own judgement.
 Companions show; the program proves."""
-FORM = "why LOG ELF [--names ELF] [--source DIR] [--row HART:IC] [--output N:BYTE|TEXT] [--rows N] [--book BOOK] [--input FILE] [--more] [--html FILE] [--json]"
+FORM = "why LOG ELF [--names ELF] [--source DIR] [--row HART:IC] [--output N:BYTE|TEXT] [--rows N] [--book BOOK] [--input FILE] " \
+    "[--brief] [--more] [--html FILE] [--json]"
 
 
 def asked_output(text: str, log: str, elf: str) -> tuple[Byte, str]:
@@ -54,8 +57,22 @@ def asked_output(text: str, log: str, elf: str) -> tuple[Byte, str]:
     return Byte(found.write, found.place), times
 
 
+def parts_of(analysis: Analysis, errors: MemoryErrors, given: Mapping[str, str]) -> list[Part]:
+    """The report, with memory errors behind the fault."""
+    head, *others = brief(analysis) if "--brief" in given else report(analysis, "--more" in given)
+    return [head, *errors.parts(), *others]
+
+
+def brief_of(log: str, elf: str) -> list[str]:
+    """The lines of `why --brief`."""
+    with closing(analysed(log, elf)) as analysis:
+        return [line for part in parts_of(analysis, MemoryErrors(analysis), {"--brief": ""}) for line in part.text()]
+
+
 def main(words: list[str]) -> int:
     (log, elf), given = read_words(words, FORM)
+    if "--brief" in given and "--more" in given:
+        raise CompanionError("--brief and --more can't both be given", REFUSED)
     rows = whole(given["--rows"], 1, 1 << 41, "--rows") if "--rows" in given else 0
     byte, note = asked_output(given["--output"], log, elf) if "--output" in given else (None, "")
     names = given.get("--names", "")
@@ -64,9 +81,8 @@ def main(words: list[str]) -> int:
         analysis.notes += [note] * bool(note)
         story, teller = asked_story(given, analysis.log, elf), Teller(analysis.named, analysis.places)
         parts = [Part(STORY_HEAD, teller.story(story))] if story else []
-        head, *others = report(analysis, "--more" in given)
         errors = MemoryErrors(analysis)
-        parts += [head, *errors.parts(), *others]
+        parts += parts_of(analysis, errors, given)
         if "--json" in given:
             put_answer("why", **why_answer(analysis), memory=errors.entries(), book=teller.story_answer(story))
     if saved:

@@ -10,7 +10,7 @@ made=(tools/help/{page.txt,each.txt,words.sh} companion/call/advice.py tools/fil
 # A tree with the help's source, the document whose tables are made, and the files that are listed.
 tree=$work/tree
 mkdir -p "$tree/docs"
-cp -r "$top/tools" "$top/companion" "$top/python" "$tree"
+cp -r "$top/tools" "$top/companion" "$top/python" "$top/examples" "$tree"
 cp "$top/docs/COMMANDS.md" "$tree/docs"
 cp "$top/VERSION" "$tree"
 type -P python3 >/dev/null || end_skipped "python3 isn't here"
@@ -101,7 +101,8 @@ what="the words of the companions"
 : >"$work/err"
 if [ -d "$top/companion" ]; then
     while read -r form; do
-        grep -sqxF "FORM = \"$form\"" "$top"/companion/*/"${form%% *}.py" || fails "${form%% *}.py has another FORM than '$form'"
+        # (a long one is in two lines)
+        sed -z 's/" \\\n *"//g' "$top"/companion/*/"${form%% *}.py" | grep -qxF "FORM = \"$form\"" || fails "${form%% *}.py has another FORM than '$form'"
     done < <(read_table companions | awk -F '\t' '$2 == "entry" { print $3 }')
 else
     skips "the words of the companions, which aren't here"

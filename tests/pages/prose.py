@@ -37,6 +37,7 @@ PAGES = {
     "docs/MEMORY.md": 1300,
     "docs/PROOF.md": 3050,
     "docs/PYTHON.md": 600,
+    "docs/RUN.md": 1000,
     "docs/SHRINK.md": 700,
     "docs/VIEW.md": 1300,
     "docs/WHY.md": 1800,

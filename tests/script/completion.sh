@@ -28,6 +28,12 @@ types 'zelkuma audit mylog pro\tmylo\t --inp\tpro\t' audit mylog program.elf myl
 types 'zelkuma debug mylo\tpro\tste\t' debug mylog program.elf ste
 types 'zelkuma wh\tmylo\tpro\t--html mylo\t' why mylog program.elf --html mylog
 types 'zelkuma seeds mylo\t2 -- --log\t7 mylo\t' seeds mylo2 -- --log-size 7 mylog
+types 'zelkuma export mylo\tpro\t--call\tmylo\t--row' export mylog program.elf --callgrind mylog --row
+types 'zelkuma export mylo\tpro\t--perf\tmylo\t--name\tpro\t' export mylog program.elf --perfetto mylog --names program.elf
+types 'zelkuma compare mylo\tmylo\tpro\t' compare mylog mylog program.elf
+types 'zelkuma triage one --elf\tfol\t' triage one --elfs folder/
+types 'zelkuma run pro\t-- --har\t3' run program.elf -- --harts 3
+types 'zelkuma new --ba\tfol\t' new --bare folder/
 types 'zelkuma demo mylo\t' demo mylo
 types 'zelkuma uni\tfol\t' uninstall folder/
 types 'zelkuma --ver\t' --version

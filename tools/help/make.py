@@ -311,7 +311,7 @@ def completion_record(table: Table) -> Lines:
 
 
 def completion_options(table: Table) -> Lines:
-    return (f"{entry.first} {text}" for entry in table for text in re.findall(r"\[(-[^]]*)\]", entry.name))
+    return (f"{entry.first} {text}" for entry in table for text in re.findall(r"(?<!\S|\w)\[?(--?[a-z][a-z-]*(?: [^]| ]+)?)", entry.name))
 
 
 def lines_of(kind: str, form: str, table: str) -> str:
@@ -347,8 +347,9 @@ def renewed(name: str, text: str) -> str:
 def listed() -> str:
     """The names of the files that an installed script has in lib/zelkuma, beside the program."""
     names = ["VERSION", "release/COMMIT", "release/STAMP", *(f"tools/{name}" for name in (
-        "files.txt", "install.sh", "say.sh", "version.sh", "help/each.txt", "help/page.txt", "help/words.sh"))]
-    found = [*TOP.glob("tools/launcher/*.sh"), *(
+        "files.txt", "install.sh", "new.sh", "say.sh", "version.sh", "help/each.txt", "help/page.txt", "help/words.sh"))]
+    starters = [f"{folder}/{end}" for folder in ("bare", "lib", "picolibc") for end in ("Makefile", "*.[cSh]", "program.ld")]
+    found = [*TOP.glob("tools/launcher/*.sh"), *(file for name in starters for file in TOP.glob(f"examples/{name}")), *(
         file for ending in ("py", "html", "js", "css", "typed") for folder in ("companion", "companion/*", "companion/view/page", "python/zelkuma")
         for file in TOP.glob(f"{folder}/*.{ending}"))]
     return "".join(f"{name}\n" for name in sorted([*names, *(str(file.relative_to(TOP)) for file in found)]))

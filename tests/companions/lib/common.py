@@ -12,6 +12,7 @@ TOP = os.path.abspath(os.path.join(os.path.dirname(__file__), "..", "..", ".."))
 COMPANION = os.path.join(TOP, "companion")
 sys.path.insert(0, TOP)
 from companion.call.program import path as program_path      # noqa: E402
+from companion.recording import naming                        # noqa: E402
 from companion.recording.places import TOOLS                  # noqa: E402
 PROGRAM = program_path()
 EXAMPLES = os.path.join(TOP, "examples")
@@ -136,8 +137,12 @@ def rows(log, elf):
     return [line.split(" ") for line in output("joint", log, elf).decode().split("\n") if line[:1].isdigit()]
 
 
-def companion(*words, given=b"", environment=None, bound=None):
-    """(status, output, err) of a companion, which has to end within so many seconds."""
+def companion(*words, given=b"", environment=None, bound=None, is_whole=False):
+    """(status, output, err) of a companion, which has to end within so many seconds. Most examples are kept stripped: unless err is
+    to be whole, what it says of that is left out."""
     done = subprocess.run([sys.executable, COMPANION] + list(words), input=given, stdout=subprocess.PIPE, stderr=subprocess.PIPE,
                           env=dict(os.environ, **(environment or {})), timeout=bound)
-    return done.returncode, done.stdout.decode("utf-8", "replace"), done.stderr.decode("utf-8", "replace")
+    err = done.stderr.decode("utf-8", "replace")
+    lack = naming.NO_NAMES + "\n", naming.NO_LINES + "\n"
+    said = [line for line in err.splitlines(True) if is_whole or not line.endswith(lack)]
+    return done.returncode, done.stdout.decode("utf-8", "replace"), "".join(said)

@@ -2,7 +2,7 @@
 import resource
 
 import case
-from common import companion, example, output
+from common import companion, example, output, path
 
 ROWS, LEAST = 1000000, 300000
 
@@ -43,9 +43,21 @@ class NamesTest(case.Case):
         row = b"0 0 00010074 00002197 auipc gp,0x2 | gp=00012074\n"
         status, text, err = companion("names", elf, given=row, environment={"PATH": "/nowhere"})
         self.check("without addr2line there are symbols, and that is said", "no addr2line" in err and status == 0 and text.endswith("| _start\n"), text + err)
-        status, text, err = companion("names", example("tills"), given=row)
-        self.check("a stripped file adds nothing, and that is said",
-                   status == 0 and text.encode() == row and err == "zelkuma: tills.elf has no names: it is stripped\n", text + err)
+        status, text, err = companion("names", example("tills"), given=row, is_whole=True)
+        self.check("a stripped file adds nothing, and what to do is said", status == 0 and text.encode() == row and err.endswith(
+            "tills.elf has no names, since it was stripped: record the file from before `strip`, or give that to --names\n"), text + err)
+
+    def test_without_lines(self):
+        log, elf = self.crash("use_after_free")
+        bare = path("bare.elf")
+        with open(elf, "rb") as file, open(bare, "wb") as made:         # (a section of this name is what tells lines)
+            made.write(file.read().replace(b".debug_line\0", b".debug_none\0"))
+        for words in (("why", "--row", "0:100"), ("history", "sessions"), ("race",), ("calls", "main")):
+            _, _, err = companion(words[0], log, elf, *words[1:], "--names", bare, is_whole=True)
+            self.check(f"{words[0]} of a file without lines says what to do",
+                       err == f"zelkuma: {bare} has no lines: build it with -g, or give --names a copy that has them\n", err)
+            _, _, err = companion(words[0], log, elf, *words[1:], is_whole=True)
+            self.check(f"{words[0]} of one with lines says nothing", err == "", err)
 
     def test_speed(self):
         log, elf = self.crash("use_after_free")

@@ -183,7 +183,7 @@ class WhyTest(case.Case):
         self.check("--row asks of another row", asked.startswith("ROW\n  Asked of hart 0 at count 100"), asked[:200])
         status, text, _ = companion("why", record("bare", example("tills"), "--seed", "1", "--harts", "2"), example("tills"))
         self.check("a stripped program: addresses, and --names is told", status == 0 and "In 00010194" in text and
-                   "has no names: --names takes" in text, text[:600])
+                   "give that to --names" in text, text[:600])
         log = record("harts", example("counter"), "--harts", "16", "--seed", "3", "--log-size", "16384", "--limit", "3000")
         status, text, err = companion("why", log, example("counter"))
         self.check("16 harts with dropped records", status == 0 and "VALUES" in text, err)
