@@ -15,7 +15,6 @@ from ..call.children import Forked, Process
 from ..call.saving import take_together
 from ..recording.cause import Cause, cause_of_file
 from ..recording.elf import Elf
-from ..recording.naming import places_of
 from ..recording.places import Places
 from ..recording.recent import LogFile
 from ..triage.bucket import bucket_of
@@ -113,7 +112,7 @@ class Buckets:
         if cause not in self.lines:
             if self.opened is None:
                 elf = Elf(self.elf_name)
-                self.opened = elf, places_of(elf)
+                self.opened = elf, Places(elf)
             self.lines[cause] = bucket_of(cause, *self.opened).line()
         return self.lines[cause]
 
